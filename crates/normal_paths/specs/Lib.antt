@@ -1,0 +1,2 @@
+pub mod NormalPath
+pub mod Ways

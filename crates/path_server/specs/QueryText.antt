@@ -1,0 +1,50 @@
+-- What a query on a text answers: the first refusal that applies, or a line for each hit.
+use Rattle.std.specs.Prelude.{◌≡◌, ℕ, ◌<◌, ◌≤◌, ◌++◌, List, length, IsTrue, true, false}
+use Rattle.json_tape.specs.Tree.{Tree}
+use Rattle.json_tape.specs.Cut.{IsReadable}
+use Rattle.json_tape.specs.Verdict.{IsRefused}
+use Rattle.json_tape.specs.declared.tape.TextFault.TheVariants as text
+use Rattle.path_grammar.specs.Tree.{Segments}
+use Rattle.path_grammar.specs.Grammar.{IsQuery}
+use Rattle.path_types.specs.Validity.{is_valid}
+use Rattle.tape_select.specs.Evaluation.{exceeds_limit}
+use Rattle.path_server.specs.Hits.{hits, lines_of}
+use Rattle.path_server.specs.declared.fault.QueryTextFault.{QueryTextFault}
+use Rattle.path_server.specs.declared.fault.QueryTextFault.TheVariants.{TooLong, NotUtf8, NotJson, TooDeep, NumberLimit, LoneSurrogate, DuplicateName, QueryTooLong, NotWellFormed, NotValid, TooManyNodes, Memory}
+
+-- the document is a text within the limits, with this tree
+abbrev pub IsDocumentOf : List ℕ → Tree → Type 0
+IsDocumentOf = IsReadable
+
+abbrev pub IsAccepted : List ℕ → Type 0
+IsAccepted document = (t : Tree) × IsDocumentOf document t
+
+-- the text is a valid query with this tree
+pub record IsValidQuery (query : List ℕ) (q : Segments) : Type 0 where
+  pub short : length query ≤ 4096
+  pub spelled : IsQuery query q
+  pub valid : IsTrue (is_valid q)
+
+-- why a query on a document is refused: the first refusal that applies, in the order of the cases
+abbrev pub Refuses : (query document : List ℕ) → QueryTextFault → Type 0
+Refuses query document TooLong = IsRefused document text.TooLong
+Refuses query document NotUtf8 = IsRefused document text.NotUtf8
+Refuses query document NotJson = IsRefused document text.NotJson
+Refuses query document TooDeep = IsRefused document text.TooDeep
+Refuses query document NumberLimit = IsRefused document text.NumberLimit
+Refuses query document LoneSurrogate = IsRefused document text.LoneSurrogate
+Refuses query document DuplicateName = IsRefused document text.DuplicateName
+Refuses query document QueryTooLong = IsAccepted document × (4096 < length query)
+Refuses query document NotWellFormed = IsAccepted document × (length query ≤ 4096) × ((q : Segments) → ¬ IsQuery query q)
+Refuses query document NotValid = IsAccepted document × (length query ≤ 4096) × ((q : Segments) × IsQuery query q × (is_valid q ≡ false))
+Refuses query document TooManyNodes = (t : Tree) × (q : Segments) × IsDocumentOf document t × IsValidQuery query q × (exceeds_limit t q ≡ true)
+Refuses query document Memory = Unit {0}
+
+-- the query is answered: the lines of its hits stand behind what stood there before
+pub record Answers (query document old new : List ℕ) : Type 0 where
+  pub tree : Tree
+  pub segments : Segments
+  pub accepted : IsDocumentOf document tree
+  pub valid : IsValidQuery query segments
+  pub within : exceeds_limit tree segments ≡ false
+  pub appended : new ≡ old ++ lines_of (hits tree segments)

@@ -1,0 +1,65 @@
+//! The lines of hits.
+
+ghost use Rattle.std.specs.Prelude.{◌≡◌, ◌<◌, ◌++◌, IfOk, OnErr, length, take, map};
+ghost use Rattle.std.specs.List.{All};
+ghost use Rattle.json_tape.specs.Document.{count, node_at};
+ghost use Rattle.tape_select.specs.Nodelists.{nodes_of};
+ghost use Rattle.path_server.specs.Hits.{hit_of, line_of, lines_of};
+
+use json_tape::{Document, NodeId};
+use normal_paths::write_path;
+use std::alloc::{AllocError, Global};
+
+// Appends the line of a node; at a refusal a part of it may stand there.
+fn write_line(
+    alloc: Global,
+    document: &Document,
+    node: NodeId,
+    out: &mut Vec<u8>,
+) -> Result<(), AllocError>
+    requires { node.0 < count document.now }
+    ensures written { IfOk result (λ _. out.new.items ≡ out.old.items ++ line_of (hit_of (node_at document.now node.0))) }
+    ensures kept { take (length out.old.items) out.new.items ≡ out.old.items }
+{
+    write_path(alloc, document, node, out)?;
+    out.push(b'\t')?;
+    out.extend_from_slice(document.text(node))?;
+    out.push(b'\n')?;
+    Ok(())
+}
+
+// Appends the lines of nodes; at a refusal a part of them may stand there.
+fn write_all(
+    alloc: Global,
+    document: &Document,
+    nodes: &[NodeId],
+    out: &mut Vec<u8>,
+) -> Result<(), AllocError>
+    requires { All (λ node. node.0 < count document.now) nodes.now }
+    ensures written { IfOk result (λ _. out.new.items ≡ out.old.items ++ lines_of (map hit_of (nodes_of document.now nodes.now))) }
+    ensures kept { take (length out.old.items) out.new.items ≡ out.old.items }
+{
+    for node in nodes {
+        write_line(alloc, document, *node, out)?;
+    }
+    Ok(())
+}
+
+/// Appends the lines of nodes, in order. A refused growth leaves the vector unchanged.
+pub fn write_lines(
+    alloc: Global,
+    document: &Document,
+    nodes: &[NodeId],
+    out: &mut Vec<u8>,
+) -> Result<(), AllocError>
+    requires { All (λ node. node.0 < count document.now) nodes.now }
+    ensures written { IfOk result (λ _. out.new.items ≡ out.old.items ++ lines_of (map hit_of (nodes_of document.now nodes.now))) }
+    ensures unchanged { OnErr result (out.new.items ≡ out.old.items) }
+{
+    let before = out.len();
+    let written = write_all(alloc, document, nodes, out);
+    if written.is_err() {
+        out.truncate(before);
+    }
+    written
+}

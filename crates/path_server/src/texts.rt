@@ -1,0 +1,48 @@
+//! A query on a text.
+
+ghost use Rattle.std.specs.Prelude.{◌≡◌, ◌≤◌, ℕ, List, length, IfOk, IfErr, OnOk, OnErr};
+ghost use Rattle.path_grammar.specs.View.{query_view};
+ghost use Rattle.path_server.specs.QueryText.{IsAccepted, IsValidQuery, Refuses, Answers};
+
+use crate::fault::QueryTextFault;
+use crate::lines::write_lines;
+use json_tape::Document;
+use path_grammar::parse;
+use path_types::{ValidQuery, check};
+use std::alloc::Global;
+use tape_select::select;
+
+// The valid query that a text spells.
+fn compile(alloc: Global, query: &[u8]) -> Result<ValidQuery, QueryTextFault>
+    ensures valid { IfOk result (λ v. IsValidQuery query.now (query_view v)) }
+    ensures refused { IfErr result (λ fault. (document : List ℕ) → IsAccepted document → Refuses query.now document fault) }
+{
+    let parsed = parse(alloc, query)?;
+    match check(parsed) {
+        Ok(valid) => Ok(valid),
+        Err(_) => Err(QueryTextFault::NotValid),
+    }
+}
+
+/// Appends a line for each node that a query selects from a text, in the query's order: the normalized path (RFC 9535,
+/// section 2.7), a tab, the source bytes of the value and a line feed.
+///
+/// Refused is, in this order, what the text's verdict refuses (TooLong to DuplicateName), then what the query's does
+/// (QueryTooLong, NotWellFormed, NotValid), then TooManyNodes. Memory comes where a growth was refused. A refusal leaves the
+/// vector unchanged.
+pub fn query_text(
+    alloc: Global,
+    query: &[u8],
+    document: &[u8],
+    out: &mut Vec<u8>,
+) -> Result<(), QueryTextFault>
+    ensures answered { OnOk result (Answers query.now document.now out.old.items out.new.items) }
+    ensures refused { IfErr result (λ fault. Refuses query.now document.now fault) }
+    ensures unchanged { OnErr result (out.new.items ≡ out.old.items) }
+{
+    let document = Document::read(alloc, document)?;
+    let query = compile(alloc, query)?;
+    let nodes = select(alloc, &query, &document)?;
+    write_lines(alloc, &document, nodes.as_slice(), out)?;
+    Ok(())
+}

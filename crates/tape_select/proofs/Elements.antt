@@ -1,0 +1,73 @@
+-- The elements of an array, and those of a slice.
+use Rattle.std.proofs.Common.{◌≡◌, ◌≢◌, ℕ, zero, suc, ◌+◌, ◌-◌, Bool, true, false, List, [], ◌∷◌, length, Some, refl, sym, ap, arith}
+use Rattle.json_tape.specs.Tree.{Null, True, False, Num, Str, Tree, Leaf, Arr, Obj, Elements, NoElement, Element}
+use Rattle.json_tape.specs.Nodes.{Node, Step, elements_from, elements_of, children_of, children, elements, size}
+use Rattle.json_tape.specs.Document.{kind_of, length_of}
+use Rattle.json_tape.specs.Tape.{element_count}
+use Rattle.json_tape.specs.declared.tape.Kind.TheVariants as kinds
+use Rattle.tape_select.specs.Selection.{nth, picked, up_to, down_to}
+use Rattle.tape_select.proofs.Adding.{add_more, add_full, has_none, not_over}
+
+length_elements : (up : List Step) (i k : ℕ) (es : Elements) → length (elements_from up i k es) ≡ element_count es
+length_elements up i k NoElement = refl
+length_elements up i k (Element t es) = ap suc (length_elements up (suc i) (k + size t) es)
+
+array_children : (up : List Step) (k : ℕ) (t : Tree) → kind_of t ≡ kinds.Array → children_of up k t ≡ elements_of up k t
+array_children up k (Leaf s Null) e = cc
+array_children up k (Leaf s True) e = cc
+array_children up k (Leaf s False) e = cc
+array_children up k (Leaf s Num) e = cc
+array_children up k (Leaf s (Str cs)) e = cc
+array_children up k (Arr s es) e = refl
+array_children up k (Obj s ms) e = cc
+
+array_length : (up : List Step) (k : ℕ) (t : Tree) → kind_of t ≡ kinds.Array → length_of t ≡ Some (length (elements_of up k t))
+array_length up k (Leaf s Null) e = cc
+array_length up k (Leaf s True) e = cc
+array_length up k (Leaf s False) e = cc
+array_length up k (Leaf s Num) e = cc
+array_length up k (Leaf s (Str cs)) e = cc
+array_length up k (Arr s es) e = ap Some (sym (length_elements up 0 (suc k) es))
+array_length up k (Obj s ms) e = cc
+
+no_array : (up : List Step) (k : ℕ) (t : Tree) → (kind_of t ≡ kinds.Array → ⊥) → elements_of up k t ≡ []
+no_array up k (Leaf s c) e = refl
+no_array up k (Arr s es) e = absurd (e refl)
+no_array up k (Obj s ms) e = refl
+
+pub children_are : (n : Node) → kind_of n.tree ≡ kinds.Array → children n ≡ elements n
+children_are n e = array_children n.way_up n.number n.tree e
+
+pub total_is : (n : Node) → kind_of n.tree ≡ kinds.Array → length_of n.tree ≡ Some (length (elements n))
+total_is n e = array_length n.way_up n.number n.tree e
+
+pub none_are : (n : Node) → (kind_of n.tree ≡ kinds.Array → ⊥) → elements n ≡ []
+none_are n e = no_array n.way_up n.number n.tree e
+
+pub nth_more : (i : ℕ) (n : Node) (ns : List Node) → i ≢ 0 → nth i (n ∷ ns) ≡ nth (i - 1) ns
+nth_more zero n ns h = absurd (h refl)
+nth_more (suc i) n ns h = let e : suc i - 1 ≡ i = omega arith in rw e refl
+
+pub picked_one : (p : ℕ → Bool) (i : ℕ) (n : Node) (ns : List Node) → p i ≡ true → picked p i (n ∷ ns) ≡ n ∷ picked p (i + 1) ns
+picked_one p i n ns h = let e : i + 1 ≡ suc i = omega arith in rw (h, e) refl
+
+pub picked_not : (p : ℕ → Bool) (i : ℕ) (n : Node) (ns : List Node) → p i ≡ false → picked p i (n ∷ ns) ≡ picked p (i + 1) ns
+picked_not p i n ns h = let e : i + 1 ≡ suc i = omega arith in rw (h, e) refl
+
+pub up_one : (start stop step i : ℕ) (n : Node) (ns : List Node) → up_to start stop step i ≡ true → picked (up_to start stop step) i (n ∷ ns) ≡ n ∷ picked (up_to start stop step) (i + 1) ns
+up_one start stop step i n ns h = picked_one (up_to start stop step) i n ns h
+
+pub up_not : (start stop step i : ℕ) (n : Node) (ns : List Node) → up_to start stop step i ≡ false → picked (up_to start stop step) i (n ∷ ns) ≡ picked (up_to start stop step) (i + 1) ns
+up_not start stop step i n ns h = picked_not (up_to start stop step) i n ns h
+
+pub down_one : (start stop step i : ℕ) (n : Node) (ns : List Node) → down_to start stop step i ≡ true → picked (down_to start stop step) i (n ∷ ns) ≡ n ∷ picked (down_to start stop step) (i + 1) ns
+down_one start stop step i n ns h = picked_one (down_to start stop step) i n ns h
+
+pub down_not : (start stop step i : ℕ) (n : Node) (ns : List Node) → down_to start stop step i ≡ false → picked (down_to start stop step) i (n ∷ ns) ≡ picked (down_to start stop step) (i + 1) ns
+down_not start stop step i n ns h = picked_not (down_to start stop step) i n ns h
+
+pub ruleset arrays = (children_are, total_is, none_are)
+
+pub ruleset picking = (up_one, up_not, add_more, add_full, has_none, not_over)
+
+pub ruleset picking_down = (down_one, down_not, add_more, add_full, has_none, not_over)

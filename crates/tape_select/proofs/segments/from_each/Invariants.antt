@@ -1,0 +1,12 @@
+use Rattle.std.proofs.Common.{◌≡◌, drop}
+use Rattle.path_grammar.specs.View.{segment_view}
+use Rattle.tape_select.specs.Running.{for_each, from_run}
+use Rattle.tape_select.specs.Nodelists.{nodes_of, Sound}
+use Rattle.tape_select.proofs.segments.from_each.Given as goal
+
+abbrev pub invariant-loop-n : goal.invariant-loop-n
+invariant-loop-n l = record {
+  same : for_each (from_run (segment_view l.segment)) (nodes_of l.doc l.out.items) (nodes_of l.doc (drop l.n-index l.input))
+      ≡ for_each (from_run (segment_view l.segment)) (nodes_of l.doc l.initial.out.items) (nodes_of l.doc l.input);
+  sound : Sound l.doc l.out.items;
+}

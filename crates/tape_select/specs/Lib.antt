@@ -1,0 +1,4 @@
+pub mod Selection
+pub mod Evaluation
+pub mod Running
+pub mod Nodelists

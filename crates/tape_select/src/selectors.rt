@@ -1,0 +1,140 @@
+//! The selectors of a name, of all children and of an index.
+
+ghost use Rattle.std.specs.Prelude.{◌≡◌, ◌<◌, ◌≤◌, ◌∷◌, [], ◌++◌, ◌^◌, length, take, drop, reverse};
+ghost use Rattle.json_tape.specs.Document.{count, node_at, following, IsIn};
+ghost use Rattle.json_tape.specs.Nodes.{children, elements, is_named, visit};
+ghost use Rattle.tape_select.specs.Selection.{first_where, nth, at_index, position_in};
+ghost use Rattle.tape_select.specs.Running.{add};
+ghost use Rattle.tape_select.specs.Nodelists.{nodes_of, single, Sound, Gives};
+
+use crate::fault::SelectFault;
+use crate::nodelist::push;
+use json_tape::{Document, Kind, NodeId};
+use path_grammar::IntLit;
+
+// All children.
+#[tactic(auto, using(crate::proofs::Adding::walk))]
+pub fn wild(doc: &Document, n: NodeId, out: &mut Vec<NodeId>) -> Result<(), SelectFault>
+    requires inside { n.0 < count doc.now }
+    requires sound { Sound doc.now out.old.items }
+    ensures { Gives doc.now result out.new.items (add (nodes_of doc.now out.old.items) (children (node_at doc.now n.0))) }
+{
+    let mut child = doc.first_child(n);
+    while let Some(c) = child {
+        push(doc, out, c)?;
+        child = doc.next_sibling(c);
+    }
+    Ok(())
+}
+
+// The member of this name.
+#[tactic(auto, using(crate::proofs::Adding::walk))]
+pub fn named(
+    doc: &Document,
+    n: NodeId,
+    name: &[char],
+    out: &mut Vec<NodeId>,
+) -> Result<(), SelectFault>
+    requires inside { n.0 < count doc.now }
+    requires sound { Sound doc.now out.old.items }
+    ensures { Gives doc.now result out.new.items (add (nodes_of doc.now out.old.items) (first_where (is_named name.now) (children (node_at doc.now n.0)))) }
+{
+    let mut child = doc.first_child(n);
+    while let Some(c) = child {
+        if doc.name_is(c, name) {
+            return push(doc, out, c);
+        }
+        child = doc.next_sibling(c);
+    }
+    Ok(())
+}
+
+// The first element of an array.
+#[tactic(auto, using(crate::proofs::Elements::arrays))]
+pub fn first_element(doc: &Document, n: NodeId) -> Option<NodeId>
+    requires { n.0 < count doc.now }
+    ensures nodes { following doc.now result ≡ elements (node_at doc.now n.0) }
+    ensures inside { IsIn doc.now result }
+{
+    match doc.kind(n) {
+        Kind::Array => doc.first_child(n),
+        _ => None,
+    }
+}
+
+// How many elements there are in an array; a value that is none has none.
+#[tactic(auto, using(crate::proofs::Elements::arrays))]
+pub fn element_total(doc: &Document, n: NodeId) -> u32
+    requires { n.0 < count doc.now }
+    ensures { result ≡ length (elements (node_at doc.now n.0)) }
+{
+    match doc.kind(n) {
+        Kind::Array => match doc.length(n) {
+            Some(total) => total,
+            None => 0,
+        },
+        _ => 0,
+    }
+}
+
+// The place of an index among so many elements.
+fn position(i: i64, total: u32) -> Option<u32>
+    ensures { result ≡ position_in i total }
+{
+    let distance = i.unsigned_abs();
+    let whole = u64::from(total);
+    if 0 <= i {
+        if distance < whole {
+            Some(distance as u32)
+        } else {
+            None
+        }
+    } else if distance <= whole {
+        Some((whole - distance) as u32)
+    } else {
+        None
+    }
+}
+
+// The value so many places on.
+#[tactic(auto, using(crate::proofs::Elements::nth_more))]
+fn nth_from(doc: &Document, first: Option<NodeId>, place: u32) -> Option<NodeId>
+    requires { IsIn doc.now first }
+    ensures node { single doc.now result ≡ nth place (following doc.now first) }
+    ensures inside { IsIn doc.now result }
+{
+    let mut child = first;
+    let mut left = place;
+    while let Some(c) = child {
+        if left == 0 {
+            return Some(c);
+        }
+        left -= 1;
+        child = doc.next_sibling(c);
+    }
+    None
+}
+
+// The element with this index.
+#[tactic(auto, using(crate::proofs::Adding::walk))]
+pub fn indexed(
+    doc: &Document,
+    n: NodeId,
+    i: IntLit,
+    out: &mut Vec<NodeId>,
+) -> Result<(), SelectFault>
+    requires inside { n.0 < count doc.now }
+    requires sound { Sound doc.now out.old.items }
+    ensures { Gives doc.now result out.new.items (add (nodes_of doc.now out.old.items) (at_index i (elements (node_at doc.now n.0)))) }
+{
+    let IntLit::Within(i) = i else {
+        return Ok(());
+    };
+    let Some(place) = position(i, element_total(doc, n)) else {
+        return Ok(());
+    };
+    match nth_from(doc, first_element(doc, n), place) {
+        None => Ok(()),
+        Some(c) => push(doc, out, c),
+    }
+}
