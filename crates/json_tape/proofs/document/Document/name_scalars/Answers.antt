@@ -1,0 +1,18 @@
+use Rattle.std.specs.Str.{chars}
+use Rattle.json_tape.specs.Spelling.{scalars_in}
+use Rattle.std.proofs.Common.{ap, sym, subst, ◌∙◌}
+use Rattle.json_tape.specs.Document.{Doc, IsMember, node_at}
+use Rattle.json_tape.proofs.Spelled.{quoted_at, scalars_at}
+use Rattle.json_tape.proofs.Readers.{member_role, member_lead}
+use Rattle.json_tape.proofs.document.Document.name_scalars.Goals as goal
+
+pub unquoted-requires : goal.unquoted-requires
+unquoted-requires c =
+    let m = member_lead c.args.self.now c.entry.ensures.document c.args.n.0 c.requires.inside c.entry.result c.entry.ensures.value (member_role c.args.self.now c.entry.ensures.document c.args.n.0 c.requires.inside c.entry.result c.entry.ensures.value c.requires.named) in
+    quoted_at c.args.self.now.text c.deref.result.now c.entry.result.label m.0.source m.0.characters (c.deref.ensures ∙ ap (λ (x : Doc). x.text) c.self.view_is) m.1 m.3 m.4
+
+pub returns : goal.returns
+returns c =
+    let m = member_lead c.args.self.now c.entry.ensures.document c.args.n.0 c.requires.inside c.entry.result c.entry.ensures.value (member_role c.args.self.now c.entry.ensures.document c.args.n.0 c.requires.inside c.entry.result c.entry.ensures.value c.requires.named) in
+    let v = scalars_at c.args.self.now.text c.deref.result.now c.entry.result.label m.0.source m.0.characters (c.deref.ensures ∙ ap (λ (x : Doc). x.text) c.self.view_is) m.1 m.3 m.4 in
+    subst (λ l. IsMember l (node_at c.args.self.now c.args.n.0)) (sym (c.new.ensures ∙ ap (λ l. scalars_in (chars l)) c.unquoted.ensures ∙ v)) m.2

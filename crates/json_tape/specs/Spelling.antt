@@ -1,0 +1,38 @@
+-- The characters that the bytes of a string spell (RFC 8259, section 7), told from the bytes one after another.
+use Rattle.std.specs.Prelude.{◌≡◌, ◌≤◌, get_or, ℕ, None, zero, suc, ◌+◌, ◌-◌, ◌*◌, ◌%◌, cond, eqb, ltb, List, [], ◌∷◌, take, drop, length}
+use Rattle.std.specs.Str.{chars}
+use Rattle.std.specs.Char.{digit_value}
+use Rattle.json_tape.specs.Tree.{Spelt, Plain, Short, Unit4}
+use Rattle.json_tape.specs.Meaning.{meaning_after}
+use Rattle.json_tape.specs.declared.tape.Extent.{Extent}
+use Rattle.json_tape.specs.declared.scan.Mode.{Mode}
+use Rattle.json_tape.specs.declared.scan.Mode.TheVariants.{Between, Escape, Hex}
+
+-- the value of a hexadecimal digit of either case
+abbrev pub hex_value : ℕ → ℕ
+hex_value c = cond (ltb (digit_value c) 16) (digit_value c) 0
+
+-- The characters that these scalar values spell: between two characters, behind a backslash, or where this many
+-- hexadecimal digits and one more come, with the value u of those before them.
+abbrev pub spelt_from : Mode → ℕ → List ℕ → List Spelt
+spelt_from m u [] = []
+spelt_from Between u (c ∷ cs) = cond (eqb c 92) (spelt_from Escape 0 cs) (Plain c ∷ spelt_from Between 0 cs)
+spelt_from Escape u (c ∷ cs) = cond (eqb c 117) (spelt_from (Hex 3) 0 cs) (Short c ∷ spelt_from Between 0 cs)
+spelt_from (Hex zero) u (c ∷ cs) = Unit4 (16 * (u % 4096) + hex_value c) ∷ spelt_from Between 0 cs
+spelt_from (Hex (suc n)) u (c ∷ cs) = spelt_from (Hex n) (16 * (u % 4096) + hex_value c) cs
+
+-- without the quotes around it
+abbrev pub unquoted : List ℕ → List ℕ
+unquoted bs = take (length bs - 2) (drop 1 bs)
+
+-- the characters of a string, whose bytes include its quotes
+unfoldable pub spelt : List ℕ → List Spelt
+spelt bs = spelt_from Between 0 (chars (unquoted bs))
+
+-- the scalar values that the characters between two quotes mean
+abbrev pub scalars_in : List ℕ → List ℕ
+scalars_in cs = meaning_after None (spelt_from Between 0 cs)
+
+-- two quotes or more stand there, one at the start and one at the end
+abbrev pub IsQuoted : List ℕ → Extent → Type 0
+IsQuoted text e = (2 ≤ e.len) × (e.start + e.len ≤ length text) × (get_or text e.start 0 ≡ 34) × (get_or text (e.start + e.len - 1) 0 ≡ 34)

@@ -1,0 +1,360 @@
+//! A text that was read, and the readers of its values.
+
+ghost use Rattle.std.specs.Prelude.{◌≡◌, ℕ, ◌^◌, ◌<◌, ◌≤◌, ◌+◌, ◌-◌, ◌↔◌, ◌∷◌, length, take, drop, MatchResult, IsTrue, IsUtf8, List, slice_index_or, bytes_eq};
+ghost use Rattle.json_tape.specs.Answer.{Explains};
+ghost use Rattle.json_tape.specs.Cut.{IsReadable};
+ghost use Rattle.json_tape.specs.Tree.{Tree, source_of};
+ghost use Rattle.json_tape.specs.Verdict.{text_limit, IsWithinLimits};
+ghost use Rattle.json_tape.specs.Nodes.{Step, key, children, visit, is_named};
+ghost use Rattle.json_tape.specs.Limits.{bytes_at as stands_at};
+ghost use Rattle.json_tape.specs.Spelling.{unquoted as inside, IsQuoted};
+ghost use Rattle.json_tape.specs.Document.{tree_of, count, node_at, later, seen, following, root_of, counting, IsIn, IsDocument, IsMember, HasName, LeadIs, ParentIs, StandsIn, kind_of, length_of, string_meaning};
+
+use crate::judge::{bytes_at, has_bad_number, has_lone};
+use crate::reader::read;
+use crate::scalars::Scalars;
+use crate::tape::{BuildFault, Entry, Extent, Kind, Lead, NodeId, Role, TextFault};
+use std::alloc::Global;
+use std::marker::Model;
+
+/// The most bytes of a text.
+pub const TEXT_LIMIT: usize = 1_048_576;
+
+/// The most containers, one in the other.
+pub const DEPTH_LIMIT: usize = 128;
+
+/// A text within the limits, with an entry for each of its values. Nothing changes it.
+#[derive(Drop)]
+pub struct Document {
+    text: String,
+    entries: Vec<Entry>,
+}
+
+impl Model for Document {
+    ghost use Rattle.std.specs.String.{string_bytes};
+    ghost use Rattle.json_tape.specs.Document.{Doc, IsDocument};
+
+    ghost Value = { Doc };
+
+    ghost view = { λ d. record { text = string_bytes d.text; entries = d.entries.items } };
+
+    ghost invariant = { λ d. IsDocument (record { text = string_bytes d.text; entries = d.entries.items }) };
+}
+
+impl Document {
+    /// Reads a text (RFC 8259).
+    ///
+    /// Errors, the first that applies in this order, wherever in the text it shows: `TooLong` above 1,048,576 bytes;
+    /// `NotUtf8`; `NotJson`, where the grammar has no tree for the bytes; `TooDeep` above 128 containers in one another;
+    /// `NumberLimit`, where a number has more than 256 bytes or an exponent above 999,999,999; `LoneSurrogate`, where a
+    /// string or a name spells a surrogate without its partner; `DuplicateName`, where two names of one object mean the
+    /// same. `Memory` where a growth was refused, which comes after the first two were looked for.
+    pub fn read(alloc: Global, text: &[u8]) -> Result<Document, TextFault>
+        ensures { MatchResult result (λ d. (d.text ≡ text.now) × IsReadable text.now (tree_of d)) (λ f. Explains text.now f) }
+    {
+        if text.len() > TEXT_LIMIT {
+            return Err(TextFault::TooLong);
+        }
+        let Ok(checked) = simdutf8::basic::from_utf8(text) else {
+            return Err(TextFault::NotUtf8);
+        };
+        match read(alloc, text) {
+            Err(BuildFault::NotJson) => Err(TextFault::NotJson),
+            Err(BuildFault::Memory) => Err(TextFault::Memory),
+            Ok(tape) => {
+                if tape.depth > DEPTH_LIMIT {
+                    return Err(TextFault::TooDeep);
+                }
+                if has_bad_number(text, tape.entries.as_slice()) {
+                    return Err(TextFault::NumberLimit);
+                }
+                if has_lone(text, tape.entries.as_slice()) {
+                    return Err(TextFault::LoneSurrogate);
+                }
+                match String::from_str(alloc, checked) {
+                    Err(_) => Err(TextFault::Memory),
+                    Ok(text) => Ok(Document {
+                        text,
+                        entries: tape.entries,
+                    }),
+                }
+            }
+        }
+    }
+
+    /// All bytes of the text, as they were read.
+    pub fn source(&self) -> &[u8]
+        ensures { result.now ≡ self.now.text }
+    {
+        self.text.as_bytes()
+    }
+
+    /// How many values the text has. Their numbers are those below it.
+    pub fn node_count(&self) -> u32
+        ensures value { result ≡ count self.now }
+        ensures some { 0 < result }
+        ensures small { result < 2 ^ 31 }
+    {
+        self.entries.len() as u32
+    }
+
+    /// The value that holds all others.
+    pub fn root(&self) -> NodeId
+        ensures first { result.0 ≡ 0 }
+        ensures inside { result.0 < count self.now }
+        ensures root { node_at self.now 0 ≡ root_of self.now }
+        ensures numbered { (k : ℕ) → k < count self.now → (node_at self.now k).number ≡ k }
+        ensures small { count self.now < 2 ^ 31 }
+        ensures accepted { IsReadable self.now.text (tree_of self.now) }
+    {
+        let _ = &self.entries;
+        NodeId(0)
+    }
+
+    fn entry(&self, n: NodeId) -> Entry
+        requires { n.0 < count self.now }
+        ensures document { IsDocument self.now }
+        ensures value { result ≡ slice_index_or self.now.entries n.0 result }
+    {
+        self.entries[n.0 as usize]
+    }
+
+    /// What the value is.
+    pub fn kind(&self, n: NodeId) -> Kind
+        requires { n.0 < count self.now }
+        ensures { result ≡ kind_of (node_at self.now n.0).tree }
+    {
+        self.entry(n).kind
+    }
+
+    /// The source bytes of the value, without blanks around it.
+    pub fn text(&self, n: NodeId) -> &[u8]
+        requires { n.0 < count self.now }
+        ensures value { result.now ≡ (source_of (node_at self.now n.0).tree).bytes }
+        ensures part { StandsIn self.now.text result.now }
+        ensures number { kind_of (node_at self.now n.0).tree ≡ Kind.Number → IsWithinLimits result.now }
+    {
+        let extent = self.entry(n).source;
+        bytes_at(self.source(), extent)
+    }
+
+    /// The number of scalar values of a string, elements of an array or members of an object; `None` for other values.
+    pub fn length(&self, n: NodeId) -> Option<u32>
+        requires { n.0 < count self.now }
+        ensures { result ≡ length_of (node_at self.now n.0).tree }
+    {
+        let entry = self.entry(n);
+        match entry.kind {
+            Kind::Array | Kind::Object => Some(entry.children),
+            Kind::Text => Some(count_of(self.string_scalars(n))),
+            Kind::Null | Kind::Bool(_) | Kind::Number => None,
+        }
+    }
+
+    /// The first element or the first member's value.
+    pub fn first_child(&self, n: NodeId) -> Option<NodeId>
+        requires { n.0 < count self.now }
+        ensures nodes { following self.now result ≡ children (node_at self.now n.0) }
+        ensures inside { IsIn self.now result }
+    {
+        if self.entry(n).children == 0 {
+            None
+        } else {
+            Some(NodeId(n.0 + 1))
+        }
+    }
+
+    /// The next element or member's value of the same container.
+    pub fn next_sibling(&self, n: NodeId) -> Option<NodeId>
+        requires { n.0 < count self.now }
+        ensures nodes { following self.now result ≡ later self.now n.0 }
+        ensures inside { IsIn self.now result }
+    {
+        let entry = self.entry(n);
+        let outer = self.entry(NodeId(entry.up));
+        if entry.after < outer.after {
+            Some(NodeId(entry.after))
+        } else {
+            None
+        }
+    }
+
+    /// The number of the first value past this one and all that is in it.
+    pub fn after(&self, n: NodeId) -> u32
+        requires { n.0 < count self.now }
+        ensures nodes { seen self.now (counting n.0 (result - n.0)) ≡ visit (node_at self.now n.0) }
+        ensures past { n.0 < result }
+        ensures inside { result ≤ count self.now }
+    {
+        self.entry(n).after
+    }
+
+    /// What leads to the value from the one that it lies in.
+    pub fn lead(&self, n: NodeId) -> Lead
+        requires { n.0 < count self.now }
+        ensures { LeadIs result (node_at self.now n.0) }
+    {
+        let entry = self.entry(n);
+        match entry.role {
+            Role::Whole => Lead::Root,
+            Role::Element => Lead::Index(entry.label.start),
+            Role::Member => Lead::Name,
+        }
+    }
+
+    /// The value that it lies in; `None` for the root.
+    pub fn parent(&self, n: NodeId) -> Option<NodeId>
+        requires { n.0 < count self.now }
+        ensures node { ParentIs self.now result (node_at self.now n.0) }
+        ensures inside { IsIn self.now result }
+    {
+        let entry = self.entry(n);
+        match entry.role {
+            Role::Whole => None,
+            Role::Element | Role::Member => Some(NodeId(entry.up)),
+        }
+    }
+
+    /// Whether the value is a member's.
+    pub fn has_name(&self, n: NodeId) -> bool
+        requires { n.0 < count self.now }
+        ensures { IsTrue result ↔ HasName (node_at self.now n.0) }
+    {
+        match self.entry(n).role {
+            Role::Member => true,
+            Role::Whole | Role::Element => false,
+        }
+    }
+
+    /// Whether the value is a member's whose name means these scalar values.
+    pub fn name_is(&self, n: NodeId, name: &[char]) -> bool
+        requires { n.0 < count self.now }
+        ensures { result ≡ is_named name.now (node_at self.now n.0) }
+    {
+        if self.has_name(n) {
+            is_spelt(self.name_scalars(n), name)
+        } else {
+            false
+        }
+    }
+
+    /// The scalar values that the name of a member means.
+    pub fn name_scalars(&self, n: NodeId) -> Scalars<'_>
+        requires inside { n.0 < count self.now }
+        requires named { HasName (node_at self.now n.0) }
+        ensures { IsMember result (node_at self.now n.0) }
+    {
+        let name = self.entry(n).label;
+        Scalars::new(unquoted(&self.text, name))
+    }
+
+    /// The scalar values that a string means.
+    pub fn string_scalars(&self, n: NodeId) -> Scalars<'_>
+        requires inside { n.0 < count self.now }
+        requires string { kind_of (node_at self.now n.0).tree ≡ Kind.Text }
+        ensures value { result ≡ string_meaning (node_at self.now n.0).tree }
+        ensures short { length result ≤ text_limit }
+    {
+        let string = self.entry(n).source;
+        Scalars::new(unquoted(&self.text, string))
+    }
+}
+
+// How many scalar values are left.
+fn count_of(scalars: Scalars<'_>) -> u32
+    requires { length scalars ≤ text_limit }
+    ensures { result ≡ length scalars.entry }
+{
+    scalars.count() as u32
+}
+
+// Whether the scalar values that are left are these.
+fn is_spelt(mut scalars: Scalars<'_>, name: &[char]) -> bool
+    ensures { result ≡ bytes_eq name.now scalars.entry }
+{
+    for c in name {
+        match scalars.next() {
+            Some(scalar) if scalar == *c => {}
+            _ => return false,
+        }
+    }
+    scalars.next().is_none()
+}
+
+// What stands between the quotes of a string.
+fn unquoted(text: &str, string: Extent) -> &str
+    requires { IsQuoted text.now string }
+    ensures { result.now ≡ inside (stands_at text.now string) }
+{
+    let start = string.start as usize + 1;
+    let end = string.start as usize + string.len as usize - 1;
+    &text[start..end]
+}
+
+#[cfg(test)]
+mod tests {
+    use super::*;
+    use std::test::Fail;
+
+    fn fault(alloc: Global, text: &[u8]) -> Option<TextFault> {
+        match Document::read(alloc, text) {
+            Ok(_) => None,
+            Err(fault) => Some(fault),
+        }
+    }
+
+    #[test]
+    fn verdicts(rt: HostRuntime) -> Result<(), Fail> {
+        let alloc = rt.alloc();
+        assert_eq!(rt; fault(alloc, b"[1,]".as_slice()), Some(TextFault::NotJson));
+        assert_eq!(rt; fault(alloc, b"01".as_slice()), Some(TextFault::NotJson));
+        assert_eq!(rt; fault(alloc, b"-".as_slice()), Some(TextFault::NotJson));
+        assert_eq!(rt; fault(alloc, b"-0.50e+07".as_slice()), None);
+        assert_eq!(rt; fault(alloc, b"1e999999999".as_slice()), None);
+        assert_eq!(rt;
+            fault(alloc, b"1e-1000000000".as_slice()),
+            Some(TextFault::NumberLimit)
+        );
+        assert_eq!(rt; fault(alloc, b"\"\\ud83d\\ude00\"".as_slice()), None);
+        assert_eq!(rt;
+            fault(alloc, b"\"\\ud83d x\"".as_slice()),
+            Some(TextFault::LoneSurrogate)
+        );
+        assert_eq!(rt;
+            fault(alloc, b"{\"\\ude00\":1}".as_slice()),
+            Some(TextFault::LoneSurrogate)
+        );
+        assert_eq!(rt;
+            fault(alloc, b"\"\\x\"".as_slice()),
+            Some(TextFault::NotJson)
+        );
+        assert_eq!(rt;
+            fault(alloc, [34, 255, 34].as_slice()),
+            Some(TextFault::NotUtf8)
+        );
+        Ok(())
+    }
+
+    #[test]
+    fn depths(rt: HostRuntime) -> Result<(), Fail> {
+        let mut text = Vec::new(rt.alloc());
+        for _ in 0..128 {
+            text.push(b'[')?;
+        }
+        for _ in 0..128 {
+            text.push(b']')?;
+        }
+        assert_eq!(rt; fault(rt.alloc(), text.as_slice()), None);
+        let mut deeper = Vec::new(rt.alloc());
+        deeper.push(b'[')?;
+        for b in text.as_slice() {
+            deeper.push(*b)?;
+        }
+        deeper.push(b']')?;
+        assert_eq!(rt;
+            fault(rt.alloc(), deeper.as_slice()),
+            Some(TextFault::TooDeep)
+        );
+        Ok(())
+    }
+}

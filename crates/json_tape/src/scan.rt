@@ -1,0 +1,380 @@
+// Strings and numbers, byte by byte.
+
+ghost use Rattle.std.specs.Prelude.{IsTrue, ◌≡◌, ◌+◌, ◌<◌, ◌≤◌, length, drop, IfSome};
+ghost use Rattle.json_tape.specs.Scanning.{turn as turn_of, is_short as short, is_hex as hex, string_end};
+ghost use Rattle.json_tape.specs.Surrogates.{number_of_hex, past_char, past_unit, past_byte, lone};
+ghost use Rattle.json_tape.specs.Numbering.{pass, ends as may_end, is_digit as digit, is_number as number};
+
+/// Where a scan of a string stands: between characters, behind a backslash, or before a hexadecimal digit after which this many must come.
+#[derive(Clone, Copy, Debug, PartialEq, Eq)]
+pub enum Mode {
+    Between,
+    Escape,
+    Hex(u8),
+}
+
+/// What a byte of a string does.
+#[derive(Clone, Copy, Debug, PartialEq, Eq)]
+pub enum Turn {
+    Stop,
+    Fail,
+    Go(Mode),
+}
+
+/// Which part of a number was read last.
+#[derive(Clone, Copy, Debug, PartialEq, Eq)]
+pub enum Part {
+    Nothing,
+    Minus,
+    Zero,
+    Whole,
+    Point,
+    Fraction,
+    Letter,
+    Sign,
+    Exponent,
+}
+
+/// Where a search for a lone surrogate stands: in which part of a character, the unit so far, and whether a high surrogate ended right before.
+#[derive(Clone, Copy, Debug, PartialEq, Eq)]
+pub struct Surrogates {
+    pub mode: Mode,
+    pub unit: u32,
+    pub high: bool,
+}
+
+fn is_short(b: u8) -> bool
+    ensures { result ≡ short b }
+{
+    b == b'"'
+        || b == b'\\'
+        || b == b'/'
+        || b == b'b'
+        || b == b'f'
+        || b == b'n'
+        || b == b'r'
+        || b == b't'
+}
+
+fn is_hex(b: u8) -> bool
+    ensures { result ≡ hex b }
+{
+    (48 <= b && b <= 57) || (65 <= b && b <= 70) || (97 <= b && b <= 102)
+}
+
+fn next_turn(mode: Mode, b: u8) -> Turn
+    ensures { result ≡ turn_of mode b }
+{
+    match mode {
+        Mode::Between => {
+            if b == b'"' {
+                Turn::Stop
+            } else if b == b'\\' {
+                Turn::Go(Mode::Escape)
+            } else if b < 32 {
+                Turn::Fail
+            } else {
+                Turn::Go(Mode::Between)
+            }
+        }
+        Mode::Escape => {
+            if is_short(b) {
+                Turn::Go(Mode::Between)
+            } else if b == b'u' {
+                Turn::Go(Mode::Hex(3))
+            } else {
+                Turn::Fail
+            }
+        }
+        Mode::Hex(left) => {
+            if !is_hex(b) {
+                Turn::Fail
+            } else if left == 0 {
+                Turn::Go(Mode::Between)
+            } else {
+                Turn::Go(Mode::Hex(left - 1))
+            }
+        }
+    }
+}
+
+// Whether the byte stands for itself between two characters of a string.
+#[inline(always)]
+fn is_plain(b: u8) -> bool
+    ensures { IsTrue result → turn_of Mode.Between b ≡ Turn.Go Mode.Between }
+{
+    b != b'"' && b != b'\\' && b >= 32
+}
+
+// The place of the first byte from here on that does not stand for itself, or the end of the text.
+#[tactic(auto, using(crate::proofs::Steps::plain_step))]
+fn plain_end(text: &[u8], start: usize) -> usize
+    requires { start ≤ length text.now }
+    ensures lower_bound { start ≤ result }
+    ensures upper_bound { result ≤ length text.now }
+    ensures passed { string_end Mode.Between result (drop result text.now) ≡ string_end Mode.Between start (drop start text.now) }
+{
+    let mut k = start;
+    while k < text.len() {
+        if !is_plain(text[k]) {
+            return k;
+        }
+        k += 1;
+    }
+    k
+}
+
+/// The place past the quote that closes a string whose characters begin here.
+#[tactic(auto, using(crate::proofs::Steps::quote_step, crate::proofs::Steps::quote_over))]
+pub fn quote_end(text: &[u8], start: usize) -> Option<usize>
+    requires { start ≤ length text.now }
+    ensures value { result ≡ string_end Mode.Between start (drop start text.now) }
+    ensures bound { IfSome result (λ end. (start < end) × (end ≤ length text.now)) }
+{
+    let mut mode = Mode::Between;
+    let mut k = plain_end(text, start);
+    while k < text.len() {
+        match next_turn(mode, text[k]) {
+            Turn::Stop => return Some(k + 1),
+            Turn::Fail => return None,
+            Turn::Go(Mode::Between) => {
+                mode = Mode::Between;
+                k = plain_end(text, k + 1);
+            }
+            Turn::Go(next) => {
+                mode = next;
+                k += 1;
+            }
+        }
+    }
+    None
+}
+
+fn hex_number(b: u8) -> u32
+    ensures value { result ≡ number_of_hex b }
+    ensures small { result < 256 }
+{
+    if b <= 57 {
+        u32::from(b.saturating_sub(48))
+    } else if b <= 70 {
+        u32::from(b.saturating_sub(55))
+    } else {
+        u32::from(b.saturating_sub(87))
+    }
+}
+
+// After a character that is no unit.
+fn after_char(high: bool) -> Option<Surrogates>
+    ensures { result ≡ past_char high }
+{
+    if high {
+        return None;
+    }
+    Some(Surrogates {
+        mode: Mode::Between,
+        unit: 0,
+        high: false,
+    })
+}
+
+// After a unit.
+fn after_unit(unit: u32, high: bool) -> Option<Surrogates>
+    ensures { result ≡ past_unit unit high }
+{
+    let is_high = 0xD800 <= unit && unit <= 0xDBFF;
+    let is_low = 0xDC00 <= unit && unit <= 0xDFFF;
+    if is_low != high {
+        return None;
+    }
+    Some(Surrogates {
+        mode: Mode::Between,
+        unit: 0,
+        high: is_high,
+    })
+}
+
+fn after_byte(state: Surrogates, b: u8) -> Option<Surrogates>
+    ensures { result ≡ past_byte state.mode state.unit state.high b }
+{
+    match state.mode {
+        Mode::Between => {
+            if b == b'\\' {
+                Some(Surrogates {
+                    mode: Mode::Escape,
+                    unit: 0,
+                    high: state.high,
+                })
+            } else {
+                after_char(state.high)
+            }
+        }
+        Mode::Escape => {
+            if b == b'u' {
+                Some(Surrogates {
+                    mode: Mode::Hex(3),
+                    unit: 0,
+                    high: state.high,
+                })
+            } else {
+                after_char(state.high)
+            }
+        }
+        Mode::Hex(left) => {
+            let unit = 16 * (state.unit % 4096) + hex_number(b);
+            if left == 0 {
+                after_unit(unit, state.high)
+            } else {
+                Some(Surrogates {
+                    mode: Mode::Hex(left - 1),
+                    unit,
+                    high: state.high,
+                })
+            }
+        }
+    }
+}
+
+// The place of the first backslash, or the end.
+#[tactic(auto, using(crate::proofs::Steps::lone_plain))]
+fn first_escape(bytes: &[u8]) -> usize
+    ensures bound { result ≤ length bytes.now }
+    ensures passed { lone (drop result bytes.now) ≡ lone bytes.now }
+{
+    let mut k = 0;
+    while k < bytes.len() {
+        if bytes[k] == b'\\' {
+            return k;
+        }
+        k += 1;
+    }
+    k
+}
+
+/// Whether a surrogate of this string is lone.
+#[tactic(auto, using(crate::proofs::Steps::lone_step, crate::proofs::Steps::lone_over))]
+pub fn is_lone(bytes: &[u8]) -> bool
+    ensures { result ≡ lone bytes.now }
+{
+    let mut state = Surrogates {
+        mode: Mode::Between,
+        unit: 0,
+        high: false,
+    };
+    let escapes = &bytes[first_escape(bytes)..];
+    for b in escapes {
+        match after_byte(state, *b) {
+            None => return true,
+            Some(next) => state = next,
+        }
+    }
+    state.high
+}
+
+fn is_digit(b: u8) -> bool
+    ensures { result ≡ digit b }
+{
+    48 <= b && b <= 57
+}
+
+fn next_part(part: Part, b: u8) -> Option<Part>
+    ensures { result ≡ pass part b }
+{
+    match part {
+        Part::Nothing => {
+            if b == b'-' {
+                Some(Part::Minus)
+            } else if b == b'0' {
+                Some(Part::Zero)
+            } else if is_digit(b) {
+                Some(Part::Whole)
+            } else {
+                None
+            }
+        }
+        Part::Minus => {
+            if b == b'0' {
+                Some(Part::Zero)
+            } else if is_digit(b) {
+                Some(Part::Whole)
+            } else {
+                None
+            }
+        }
+        Part::Zero => {
+            if b == b'.' {
+                Some(Part::Point)
+            } else if b == b'e' || b == b'E' {
+                Some(Part::Letter)
+            } else {
+                None
+            }
+        }
+        Part::Whole => {
+            if is_digit(b) {
+                Some(Part::Whole)
+            } else if b == b'.' {
+                Some(Part::Point)
+            } else if b == b'e' || b == b'E' {
+                Some(Part::Letter)
+            } else {
+                None
+            }
+        }
+        Part::Point => {
+            if is_digit(b) {
+                Some(Part::Fraction)
+            } else {
+                None
+            }
+        }
+        Part::Fraction => {
+            if is_digit(b) {
+                Some(Part::Fraction)
+            } else if b == b'e' || b == b'E' {
+                Some(Part::Letter)
+            } else {
+                None
+            }
+        }
+        Part::Letter => {
+            if is_digit(b) {
+                Some(Part::Exponent)
+            } else if b == b'+' || b == b'-' {
+                Some(Part::Sign)
+            } else {
+                None
+            }
+        }
+        Part::Sign | Part::Exponent => {
+            if is_digit(b) {
+                Some(Part::Exponent)
+            } else {
+                None
+            }
+        }
+    }
+}
+
+fn ends(part: Part) -> bool
+    ensures { result ≡ may_end part }
+{
+    match part {
+        Part::Zero | Part::Whole | Part::Fraction | Part::Exponent => true,
+        Part::Nothing | Part::Minus | Part::Point | Part::Letter | Part::Sign => false,
+    }
+}
+
+/// Whether the bytes are a number.
+#[tactic(auto, using(crate::proofs::Steps::number_step, crate::proofs::Steps::number_over))]
+pub fn is_number(bytes: &[u8]) -> bool
+    ensures { result ≡ number bytes.now }
+{
+    let mut part = Part::Nothing;
+    for b in bytes {
+        match next_part(part, *b) {
+            None => return false,
+            Some(next) => part = next,
+        }
+    }
+    ends(part)
+}

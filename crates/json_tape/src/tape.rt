@@ -1,0 +1,120 @@
+//! The tape of a text: one entry for each value, depth first (Langdale and Lemire, "Parsing Gigabytes of JSON per Second").
+
+use thiserror::Error;
+
+/// What a value is.
+#[derive(Clone, Copy, Debug, PartialEq, Eq)]
+pub enum Kind {
+    Null,
+    Bool(bool),
+    Number,
+    Text,
+    Array,
+    Object,
+}
+
+/// Where a run of bytes stands in the text.
+#[derive(Clone, Copy, Debug, PartialEq, Eq)]
+pub struct Extent {
+    pub start: u32,
+    pub len: u32,
+}
+
+/// How a value lies in the one around it.
+#[derive(Clone, Copy, Debug, PartialEq, Eq)]
+pub enum Role {
+    Whole,
+    Element,
+    Member,
+}
+
+/// One value of the text.
+#[derive(Clone, Copy, Debug, PartialEq, Eq)]
+pub struct Entry {
+    pub kind: Kind,
+    pub role: Role,
+    // a member's name, or a start that is an element's index
+    pub label: Extent,
+    pub source: Extent,
+    pub up: u32,
+    pub children: u32,
+    pub after: u32,
+}
+
+const _: () = prove!(size_of::<Entry>() <= 32);
+
+/// The number of a value in its document: the root has 0, and the others follow depth first, in document order.
+#[derive(Clone, Copy, Debug, PartialEq, Eq)]
+pub struct NodeId(pub u32);
+
+/// What leads to a value from the one that it lies in.
+#[derive(Clone, Copy, Debug, PartialEq, Eq)]
+pub enum Lead {
+    /// Nothing: the value is the whole text's.
+    Root,
+    /// The index of an element, counted from 0.
+    Index(u32),
+    /// The name of a member, which `Document::name_scalars` gives.
+    Name,
+}
+
+/// Why a text has no tape.
+#[derive(Clone, Copy, Debug, PartialEq, Eq)]
+pub enum BuildFault {
+    NotJson,
+    Memory,
+}
+
+/// The two containers.
+#[derive(Clone, Copy, Debug, PartialEq, Eq)]
+pub enum Shape {
+    Array,
+    Object,
+}
+
+/// What the next value lies in.
+#[derive(Clone, Copy, Debug, PartialEq, Eq)]
+pub enum Level {
+    Root,
+    Inside(Shape),
+}
+
+/// What may come next.
+#[derive(Clone, Copy, Debug, PartialEq, Eq)]
+pub enum Want {
+    Value,
+    FirstValue,
+    Name,
+    FirstName,
+    Colon,
+    Next,
+}
+
+/// A container that is not closed yet.
+#[derive(Clone, Copy, Debug, PartialEq, Eq)]
+pub struct Open {
+    pub level: Level,
+    pub entry: u32,
+    pub children: u32,
+}
+
+/// Why a text is refused. A text that shows several gets the first in this order, wherever they stand in it.
+#[derive(Clone, Copy, Debug, PartialEq, Eq, Error)]
+pub enum TextFault {
+    #[error("the text is longer than 1048576 bytes")]
+    TooLong,
+    #[error("the text is not UTF-8")]
+    NotUtf8,
+    #[error("the text is not JSON")]
+    NotJson,
+    #[error("arrays and objects lie more than 128 deep in one another")]
+    TooDeep,
+    #[error("a number has more than 256 bytes, or an exponent above 999999999")]
+    NumberLimit,
+    #[error("a string or a name has a surrogate without its partner")]
+    LoneSurrogate,
+    #[error("an object has two members of one name")]
+    DuplicateName,
+    #[error("no memory is left")]
+    Memory,
+}
