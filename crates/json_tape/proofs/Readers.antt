@@ -315,12 +315,12 @@ module _ (d : Doc) (s : IsDocument d) where
       go (Index i) (inr a) = absurd (let b = a.1 in let c = a.2 in cc)
       go (Named x) w = refl
 
-  pub parent_is : (n : ℕ) → n < count d → (e : Entry) → e ≡ get_or d.entries n e → (e.role ≡ roles.Whole → ⊥) → (step : Step) × ((node_at d n).way_up ≡ step ∷ (node_at d e.up).way_up) × (e.up < (node_at d n).number)
+  pub parent_is : (n : ℕ) → n < count d → (e : Entry) → e ≡ get_or d.entries n e → (e.role ≡ roles.Whole → ⊥) → (step : Step) × ((node_at d n).way_up ≡ step ∷ (node_at d e.up).way_up) × (e.up < n)
   unfolding node_at
   parent_is n h e q r = let w = way_is n h e q in go w.0 (λ x. r (w.1 ∙ x)) w.3 (number_is n h)
     where
       go : (label : Label) → (role_of label ≡ roles.Whole → ⊥) → WayIn d.text (spots d) (none_there d) n e.up label (node_at d n).way_up → (node_at d n).number ≡ n
-        → (step : Step) × ((node_at d n).way_up ≡ step ∷ (node_at d e.up).way_up) × (e.up < (node_at d n).number)
+        → (step : Step) × ((node_at d n).way_up ≡ step ∷ (node_at d e.up).way_up) × (e.up < n)
       go label r (inl a) m = absurd (r (ap role_of a.0))
       go label r (inr (s, x, way, up)) m = (s, way, omega arith)
 

@@ -173,7 +173,7 @@ LeadIs leads.Name n = HasName n
 -- the node that a node lies in: none for the root
 abbrev pub ParentIs : Doc → Option NodeId → Node → Type 0
 ParentIs d None n = n.way_up ≡ []
-ParentIs d (Some p) n = (step : Step) × (n.way_up ≡ step ∷ (node_at d p.0).way_up) × (p.0 < n.number)
+ParentIs d (Some p) n = (step : Step) × (n.way_up ≡ step ∷ (node_at d p.0).way_up)
 
 -- the bytes stand somewhere in the text
 abbrev pub StandsIn : List ℕ → List ℕ → Type 0

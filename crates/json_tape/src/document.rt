@@ -1,6 +1,6 @@
 //! A text that was read, and the readers of its values.
 
-ghost use Rattle.std.specs.Prelude.{◌≡◌, ℕ, ◌^◌, ◌<◌, ◌≤◌, ◌+◌, ◌-◌, ◌↔◌, ◌∷◌, length, take, drop, MatchResult, IsTrue, IsUtf8, List, slice_index_or, bytes_eq};
+ghost use Rattle.std.specs.Prelude.{◌≡◌, IfSome, ℕ, ◌^◌, ◌<◌, ◌≤◌, ◌+◌, ◌-◌, ◌↔◌, ◌∷◌, length, take, drop, MatchResult, IsTrue, IsUtf8, List, slice_index_or, bytes_eq};
 ghost use Rattle.json_tape.specs.Answer.{Explains};
 ghost use Rattle.json_tape.specs.Cut.{IsReadable};
 ghost use Rattle.json_tape.specs.Tree.{Tree, source_of};
@@ -206,6 +206,7 @@ impl Document {
     pub fn parent(&self, n: NodeId) -> Option<NodeId>
         requires { n.0 < count self.now }
         ensures node { ParentIs self.now result (node_at self.now n.0) }
+        ensures before { IfSome result (λ p. p.0 < n.0) }
         ensures inside { IsIn self.now result }
     {
         let entry = self.entry(n);
@@ -242,7 +243,8 @@ impl Document {
     pub fn name_scalars(&self, n: NodeId) -> Scalars<'_>
         requires inside { n.0 < count self.now }
         requires named { HasName (node_at self.now n.0) }
-        ensures { IsMember result (node_at self.now n.0) }
+        ensures value { IsMember result (node_at self.now n.0) }
+        ensures short { length result ≤ TEXT_LIMIT }
     {
         let name = self.entry(n).label;
         Scalars::new(unquoted(&self.text, name))

@@ -4,11 +4,16 @@
 //! A text is walked once, byte by byte. Open containers stand in a list, so that depth costs no stack.
 #![tactic(auto)]
 
-pub mod builder;
-pub mod document;
-pub mod judge;
+mod builder;
+mod document;
+mod judge;
 pub mod laws;
-pub mod reader;
-pub mod scalars;
-pub mod scan;
-pub mod tape;
+mod reader;
+mod scalars;
+mod scan;
+mod tape;
+
+pub use document::{DEPTH_LIMIT, Document, TEXT_LIMIT};
+pub use reader::one_tree;
+pub use scalars::Scalars;
+pub use tape::{Kind, Lead, NodeId, TextFault};

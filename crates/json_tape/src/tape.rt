@@ -44,7 +44,7 @@ pub struct Entry {
 const _: () = prove!(size_of::<Entry>() <= 32);
 
 /// The number of a value in its document: the root has 0, and the others follow depth first, in document order.
-#[derive(Clone, Copy, Debug, PartialEq, Eq)]
+#[derive(Clone, Copy, Debug, Default, PartialEq, Eq)]
 pub struct NodeId(pub u32);
 
 /// What leads to a value from the one that it lies in.

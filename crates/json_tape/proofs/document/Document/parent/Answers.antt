@@ -6,7 +6,10 @@ pub returns-in-Whole-clause-node : goal.returns-in-Whole-clause-node
 returns-in-Whole-clause-node c = root_lead c.args.self.now c.entry-entry.ensures.document c.args.n.0 c.requires c.entry-entry.result c.entry-entry.ensures.value c.in-Whole.is
 
 pub returns-in-Element : goal.returns-in-Element
-returns-in-Element c = record {
-  node = parent_is c.args.self.now c.entry-entry.ensures.document c.args.n.0 c.requires c.entry-entry.result c.entry-entry.ensures.value (λ r. elim c.in-Element.is [ inl x ↦ absurd (cc) | inr x ↦ absurd (cc) ]);
-  inside = up_in c.args.self.now c.entry-entry.ensures.document c.args.n.0 c.requires c.entry-entry.result c.entry-entry.ensures.value;
-}
+returns-in-Element c =
+    let p = parent_is c.args.self.now c.entry-entry.ensures.document c.args.n.0 c.requires c.entry-entry.result c.entry-entry.ensures.value (λ r. elim c.in-Element.is [ inl x ↦ absurd (cc) | inr x ↦ absurd (cc) ]) in
+    record {
+      node = (p.0, p.1);
+      before = p.2;
+      inside = up_in c.args.self.now c.entry-entry.ensures.document c.args.n.0 c.requires c.entry-entry.result c.entry-entry.ensures.value;
+    }
