@@ -16,7 +16,9 @@ fn command<'a>(alloc: Global) -> Result<Command<'a>, AllocError> {
         .required(true)
         .action(ArgAction::Set);
     let query = Command::new(alloc, "query")
-        .about("Reads a JSON text and prints a line for each node that the query selects: its path, a tab and its text")
+        .about(
+            "Reads a JSON text and prints a line for each node that the query selects: its path, a tab and its text",
+        )
         .arg(text)?;
     Command::new(alloc, "path_server")
         .about("Keeps JSON texts and answers JSONPath queries")

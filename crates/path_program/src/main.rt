@@ -16,7 +16,11 @@ use std::rt::Env;
 // Standard input, up to one byte past the limit on texts.
 fn read_document<R: Input + AllocGlobal>(rt: &R) -> Result<Vec<u8>, Failure> {
     let mut document = Vec::new(rt.alloc());
-    match rt.reader().take(TEXT_LIMIT as u64 + 1).read_to_end(&mut document) {
+    match rt
+        .reader()
+        .take(TEXT_LIMIT as u64 + 1)
+        .read_to_end(&mut document)
+    {
         Ok(_) => Ok(document),
         Err(error) => Err(Failure::of_read(&error)),
     }
@@ -26,7 +30,12 @@ fn read_document<R: Input + AllocGlobal>(rt: &R) -> Result<Vec<u8>, Failure> {
 fn query<R: Input + Print + AllocGlobal>(rt: &R, query: &str) -> Result<(), Failure> {
     let document = read_document(rt)?;
     let mut lines = Vec::new(rt.alloc());
-    if let Err(fault) = query_text(rt.alloc(), query.as_bytes(), document.as_slice(), &mut lines) {
+    if let Err(fault) = query_text(
+        rt.alloc(),
+        query.as_bytes(),
+        document.as_slice(),
+        &mut lines,
+    ) {
         return Err(Failure::Refused(fault));
     }
     match io::writer(rt).write_all(lines.as_slice()) {

@@ -1,0 +1,7 @@
+//! Tests that cross crates: worked cases as tables, over the public calls.
+#![tactic(auto)]
+
+#[cfg(test)]
+mod queries;
+#[cfg(test)]
+mod texts;

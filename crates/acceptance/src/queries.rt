@@ -1,0 +1,95 @@
+//! Queries on texts.
+
+use path_server::{QueryTextFault, query_text};
+use std::alloc::Global;
+use std::test::Fail;
+
+// The lines of a query on a text.
+fn lines(alloc: Global, query: &str, text: &str) -> Result<Vec<u8>, QueryTextFault> {
+    let mut out = Vec::new(alloc);
+    query_text(alloc, query.as_bytes(), text.as_bytes(), &mut out)?;
+    Ok(out)
+}
+
+const FOUND: [(&str, &str, &str); 12] = [
+    ("$.a[1]", r#"{"a":[10,20]}"#, "$['a'][1]\t20\n"),
+    ("$", "null", "$\tnull\n"),
+    ("$", " [1] ", "$\t[1]\n"),
+    ("$.*", "[true,false]", "$[0]\ttrue\n$[1]\tfalse\n"),
+    ("$[*]", r#"{"b":1,"a":"x"}"#, "$['b']\t1\n$['a']\t\"x\"\n"),
+    ("$[-1]", "[1,2,3]", "$[2]\t3\n"),
+    ("$[-3]", "[1,2,3]", "$[0]\t1\n"),
+    ("$[-4]", "[1,2,3]", ""),
+    ("$[3]", "[1,2,3]", ""),
+    ("$.a", "[1]", ""),
+    ("$[0]", r#"{"0":1}"#, ""),
+    ("$ .a [ 1 ]", r#"{"a":[10, { } ]}"#, "$['a'][1]\t{ }\n"),
+];
+
+#[test]
+fn found(rt: HostRuntime) -> Result<(), Fail> {
+    for (query, text, wanted) in FOUND {
+        let found = lines(rt.alloc(), query, text)?;
+        assert_eq!(rt; found.as_slice(), wanted.as_bytes());
+    }
+    Ok(())
+}
+
+const REFUSED: [(&str, &str, QueryTextFault); 16] = [
+    ("$['a']", "[1]", QueryTextFault::NotWellFormed),
+    ("$..a", "[1]", QueryTextFault::NotWellFormed),
+    ("$[0,1]", "[1]", QueryTextFault::NotWellFormed),
+    ("$ ", "[1]", QueryTextFault::NotWellFormed),
+    ("", "[1]", QueryTextFault::NotWellFormed),
+    ("$[-0]", "[1]", QueryTextFault::NotWellFormed),
+    ("$[01]", "[1]", QueryTextFault::NotWellFormed),
+    ("$.. [0]", "[1]", QueryTextFault::NotWellFormed),
+    ("$[]", "{}", QueryTextFault::NotWellFormed),
+    ("$[9007199254740992]", "[1]", QueryTextFault::NotValid),
+    ("$[-9007199254740992]", "[1]", QueryTextFault::NotValid),
+    // The text is judged before the query, and a query's form before its validity.
+    ("$[", "[1", QueryTextFault::NotJson),
+    ("$[9007199254740992][", "[1]", QueryTextFault::NotWellFormed),
+    ("$", "", QueryTextFault::NotJson),
+    ("$", r#"{"a":"\ud83d"}"#, QueryTextFault::LoneSurrogate),
+    ("$", "1e1000000000", QueryTextFault::NumberLimit),
+];
+
+#[test]
+fn refused(rt: HostRuntime) -> Result<(), Fail> {
+    for (query, text, wanted) in REFUSED {
+        match lines(rt.alloc(), query, text) {
+            Ok(_) => return Err(Fail::from("not refused")),
+            Err(fault) => assert_eq!(rt; fault, wanted),
+        }
+    }
+    Ok(())
+}
+
+// What stands in the vector before a call stands there after it, refused or not.
+#[test]
+fn kept(rt: HostRuntime) -> Result<(), Fail> {
+    let mut out = Vec::from_slice(rt.alloc(), b"before\n")?;
+    let refused = query_text(rt.alloc(), b"$[", b"1", &mut out);
+    assert_eq!(rt; refused, Err(QueryTextFault::NotWellFormed));
+    assert_eq!(rt; out.as_slice(), b"before\n".as_slice());
+    query_text(rt.alloc(), b"$", b"1", &mut out)?;
+    assert_eq!(rt; out.as_slice(), b"before\n$\t1\n".as_slice());
+    Ok(())
+}
+
+// A query of the greatest length, and one that is longer.
+#[test]
+fn longest(rt: HostRuntime) -> Result<(), Fail> {
+    let mut query = Vec::from_slice(rt.alloc(), b"$.ab")?;
+    for _ in 0..2046 {
+        query.extend_from_slice(b".a")?;
+    }
+    let mut out = Vec::new(rt.alloc());
+    query_text(rt.alloc(), query.as_slice(), b"[7]", &mut out)?;
+    assert!(rt; out.is_empty());
+    query.push(b'a')?;
+    let refused = query_text(rt.alloc(), query.as_slice(), b"[7]", &mut out);
+    assert_eq!(rt; refused, Err(QueryTextFault::QueryTooLong));
+    Ok(())
+}
