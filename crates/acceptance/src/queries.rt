@@ -1,5 +1,7 @@
 //! Queries on texts.
 
+use json_tape::{Document, NodeId};
+use normal_paths::path_length;
 use path_server::{QueryTextFault, query_text};
 use std::alloc::Global;
 use std::test::Fail;
@@ -63,6 +65,20 @@ fn refused(rt: HostRuntime) -> Result<(), Fail> {
             Err(fault) => assert_eq!(rt; fault, wanted),
         }
     }
+    Ok(())
+}
+
+// Every kind of escape in a path (RFC 9535, section 2.7).
+#[test]
+fn escapes(rt: HostRuntime) -> Result<(), Fail> {
+    let text = r#"{"'":0,"\\":1,"\u000b":2,"\u0000":3,"\u007f":4,"\ud83d\ude00":5}"#;
+    let found = lines(rt.alloc(), "$.*", text)?;
+    let wanted = "$['\\'']\t0\n$['\\\\']\t1\n$['\\u000b']\t2\n$['\\u0000']\t3\n$['\u{7f}']\t4\n$['\u{1f600}']\t5\n";
+    assert_eq!(rt; found.as_slice(), wanted.as_bytes());
+    let document = Document::read(rt.alloc(), text.as_bytes())?;
+    assert_eq!(rt; document.node_count(), 7);
+    assert_eq!(rt; path_length(&document, NodeId(1)), 7);
+    assert_eq!(rt; path_length(&document, NodeId(6)), 9);
     Ok(())
 }
 

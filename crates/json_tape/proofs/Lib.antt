@@ -31,3 +31,4 @@ pub mod Told
 pub mod Spots
 pub mod Readers
 pub mod Names
+pub mod Meanings

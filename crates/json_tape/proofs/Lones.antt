@@ -8,7 +8,6 @@ use Rattle.json_tape.specs.Verdict.{SpellsLone}
 use Rattle.json_tape.specs.Parts.{HasPart}
 use Rattle.json_tape.specs.Surrogates.{lone, IsLoneValue, IsLoneName, HasLonePart}
 use Rattle.json_tape.specs.declared.tape.Entry.{Entry}
-use Rattle.json_tape.specs.declared.tape.Extent.{Extent}
 use Rattle.json_tape.specs.declared.tape.Role.TheVariants as roles
 use Rattle.json_tape.proofs.Parts.{part_of_at, placed}
 use Rattle.json_tape.proofs.Numbers.{entry_at, at_trans}

@@ -9,7 +9,7 @@ use Rattle.json_tape.specs.declared.tape.Extent.{Extent}
 use Rattle.json_tape.specs.declared.tape.Entry.{Entry}
 use Rattle.json_tape.specs.Machine.{State}
 use Rattle.json_tape.specs.Lexing.{Goes, stay, blank, token}
-use Rattle.json_tape.specs.Tape.{Label, Top, Index, Named, label_spot, element_count, member_count, kind_of_scalar, tape_of, tape_of_elements, tape_of_members, extent}
+use Rattle.json_tape.specs.Tape.{Label, Top, Index, Named, element_count, member_count, kind_of_scalar, tape_of, tape_of_elements, tape_of_members, extent}
 use Rattle.json_tape.specs.Nodes.{size}
 use Rattle.json_tape.proofs.Entries.{label_is}
 use Rattle.json_tape.proofs.Fits.{Lies, Fits, FitElements, FitMembers, text_fits}
@@ -17,7 +17,6 @@ use Rattle.json_tape.proofs.Chars.{chars_one}
 use Rattle.json_tape.proofs.Lexed.{goes_token, goes_blank, goes_end}
 use Rattle.json_tape.proofs.Follows.{text_goes}
 use Rattle.json_tape.proofs.Numbers.{entry_first}
-use Rattle.json_tape.specs.Tape.{entry_of}
 
 string_one : (cs ds : List Spelt) (bs : List ℕ) → IsString bs cs → IsString bs ds → cs ≡ ds
 string_one cs ds bs (a, h, e) (b, g, f) =

@@ -1,6 +1,6 @@
 -- The parts of a tree are what its numbers stand for.
 use Rattle.std.proofs.Common.{ℕ, ◌+◌}
-use Rattle.json_tape.specs.Tree.{Source, Name, Tree, Arr, Obj, Elements, Members}
+use Rattle.json_tape.specs.Tree.{Tree, Elements, Members}
 use Rattle.json_tape.specs.Parts.{IsElementOf, first_element, later_element, IsValueOf, first_value, later_value, HasPart, element, value}
 use Rattle.json_tape.specs.Parts as parts
 use Rattle.json_tape.specs.Nodes.{size}

@@ -1,24 +1,21 @@
 -- What the entries say of the nodes.
 use Rattle.std.proofs.lemmas.List.{take-append-drop}
 use Rattle.std.proofs.lemmas.Bool.{cases_lt}
-use Rattle.std.proofs.Common.{false, take, drop, ◌≡◌, ℕ, zero, suc, ◌+◌, ◌-◌, ◌≤◌, ◌<◌, ◌^◌, ◌⊎◌, inl, inr, List, [], ◌∷◌, ◌++◌, length, map, get_or, Option, Some, None, refl, sym, ap, ◌∙◌, subst, arith, append_assoc, length-append}
-use Rattle.json_tape.specs.Tree.{Spelt, Source, Name, Scalar, Null, True, False, Num, Str, Tree, source_of, Leaf, Arr, Obj, Elements, NoElement, Element, Members, NoMember, Member}
+use Rattle.std.proofs.Common.{false, take, drop, ◌≡◌, ℕ, zero, suc, ◌+◌, ◌-◌, ◌≤◌, ◌<◌, ◌^◌, ◌⊎◌, inl, inr, List, [], ◌∷◌, ◌++◌, length, map, get_or, Some, None, refl, sym, ap, ◌∙◌, subst, arith, append_assoc, length-append}
+use Rattle.json_tape.specs.Tree.{Spelt, Source, Name, Null, True, False, Num, Str, Tree, source_of, Leaf, Arr, Obj, NoElement, Element, NoMember, Member}
 use Rattle.json_tape.specs.Meaning.{meaning}
-use Rattle.json_tape.specs.Nodes.{Node, Step, key, place, size, size_of_elements, size_of_members, children, children_of, elements_from, members_from, visit, visit_from, is_named, key_is}
-use Rattle.json_tape.specs.Grammar.{IsText}
+use Rattle.json_tape.specs.Nodes.{Node, Step, key, place, size, children, children_of, elements_from, members_from, visit, is_named, key_is}
 use Rattle.json_tape.specs.Letters.{IsString}
 use Rattle.json_tape.specs.Parts.{HasPart, itself}
-use Rattle.json_tape.specs.Tape.{Label, Top, Index, Named, role_of, label_spot, extent, element_count, member_count, entry_of, tape_of}
+use Rattle.json_tape.specs.Tape.{Label, Top, Index, Named, role_of, label_spot, extent}
 use Rattle.json_tape.specs.Limits.{bytes_at}
 use Rattle.json_tape.specs.Verdict.{text_limit, IsWithinLimits}
 use Rattle.json_tape.specs.declared.tape.TextFault.TheVariants.{TooLong, NumberLimit}
 use Rattle.json_tape.proofs.Limits.{within_unless}
 use Rattle.json_tape.specs.Document.{HasName, IsMember, StandsIn, string_meaning, Doc, Spot, IsDocument, spots, spot_at, spots_from, spots_elements, spots_members, counting, kind_of, length_of, node_at, later, count, seen, root_of, tree_of}
-use Rattle.json_tape.specs.declared.tape.Kind.{Kind}
 use Rattle.json_tape.specs.declared.tape.Kind.TheVariants as kinds
 use Rattle.json_tape.specs.declared.tape.Role.TheVariants as roles
 use Rattle.json_tape.specs.declared.tape.Entry.{Entry}
-use Rattle.json_tape.specs.declared.tape.Extent.{Extent}
 use Rattle.json_tape.proofs.Entries as entries
 use Rattle.json_tape.proofs.Entries.{size_positive, child_count}
 use Rattle.json_tape.proofs.Fits.{Lies, Fits, text_fits}
@@ -60,8 +57,8 @@ next_past all pre x xs post d k e l y ys q =
     (rw (g, ← m) (at_place (pre ++ x ∷ []) y ys d), let w = ap (λ (zs : List Spot). length zs) g in omega (arith, w, length-append (pre ++ x ∷ []) (y ∷ ys), m))
 
 child_at : (all pre post : List Spot) (d : Spot) (way : List Step) (up : ℕ) (l : Label) (later : List Node) (k : ℕ) (t : Tree)
-  → all ≡ pre ++ (spots_from way up l later k t ++ post) → length pre ≡ k → (child_count t ≡ 0 → ⊥)
-  → (children_of way k t ≡ (get_or all (k + 1) d).node ∷ (get_or all (k + 1) d).later) × (k + 1 < length all)
+    → all ≡ pre ++ (spots_from way up l later k t ++ post) → length pre ≡ k → (child_count t ≡ 0 → ⊥)
+    → (children_of way k t ≡ (get_or all (k + 1) d).node ∷ (get_or all (k + 1) d).later) × (k + 1 < length all)
 child_at all pre post d way up l later k (Leaf s c) e m h = absurd (h refl)
 child_at all pre post d way up l later k (Arr s NoElement) e m h = absurd (h refl)
 child_at all pre post d way up l later k (Arr s (Element t es)) e m h =
@@ -172,7 +169,7 @@ module _ (d : Doc) (s : IsDocument d) where
       childless (spot_at d n).node.way_up (spot_at d n).node.number (spot_at d n).node.tree c
 
   child_of : (n : ℕ) → n < count d → (e : Entry) → e ≡ get_or d.entries n e → (e.children ≡ 0 → ⊥)
-    → (children (spot_at d n).node ≡ (spot_at d (n + 1)).node ∷ (spot_at d (n + 1)).later) × (n + 1 < length (spots d))
+      → (children (spot_at d n).node ≡ (spot_at d (n + 1)).node ∷ (spot_at d (n + 1)).later) × (n + 1 < length (spots d))
   child_of n h e q z =
       let g = good n h in
       let x = g.spot in
@@ -198,14 +195,14 @@ module _ (d : Doc) (s : IsDocument d) where
 
   -- the end of the spot, and that of the one that it lies in
   ends : (n : ℕ) (h : n < count d) (e : Entry) → e ≡ get_or d.entries n e → (o : Entry) → o ≡ get_or d.entries e.up o
-    → (e.after ≡ end_of (good n h).spot) × (o.after ≡ end_of (spot_at d (good n h).spot.up))
+      → (e.after ≡ end_of (good n h).spot) × (o.after ≡ end_of (spot_at d (good n h).spot.up))
   ends n h e q o p =
       let g = good n h in
       let a : e.up ≡ g.spot.up = up_spot n h e q ∙ ap (λ (x : Spot). x.up) (spot_is n g) in
       (after_spot n h e q ∙ ap end_of (spot_is n g), after_spot e.up (up_in n h e q) o p ∙ ap (λ k. end_of (spot_at d k)) a)
 
   pub next_is : (n : ℕ) → n < count d → (e : Entry) → e ≡ get_or d.entries n e → (o : Entry) → o ≡ get_or d.entries e.up o → e.after < o.after
-    → node_at d e.after ∷ later d e.after ≡ later d n
+      → node_at d e.after ∷ later d e.after ≡ later d n
   unfolding node_at later
   next_is n h e q o p l =
       let g = good n h in
@@ -217,7 +214,7 @@ module _ (d : Doc) (s : IsDocument d) where
   next_in n h e q o p l = let a = after_in e.up (up_in n h e q) o p in omega (arith, a, l)
 
   pub last_is : (n : ℕ) → n < count d → (e : Entry) → e ≡ get_or d.entries n e → (o : Entry) → o ≡ get_or d.entries e.up o → o.after ≤ e.after
-    → ◌≡◌ {A = List Node} [] (later d n)
+      → ◌≡◌ {A = List Node} [] (later d n)
   unfolding later
   last_is n h e q o p l =
       let g = good n h in
@@ -245,19 +242,20 @@ module _ (d : Doc) (s : IsDocument d) where
 
   -- how the entry shows what leads to its node
   pub way_is : (n : ℕ) → n < count d → (e : Entry) → e ≡ get_or d.entries n e
-    → (label : Label) × (e.role ≡ role_of label) × (e.label ≡ label_spot label) × WayIn d.text (spots d) (none_there d) n e.up label (node_at d n).way_up
+      → (label : Label) × (e.role ≡ role_of label) × (e.label ≡ label_spot label) × WayIn d.text (spots d) (none_there d) n e.up label (node_at d n).way_up
   unfolding node_at
   way_is n h e q =
       let g = good n h in
       let x = g.spot in
       let r = spot_is n g in
       let f : e ≡ entry_at x = entry_is n h e q ∙ ap entry_at r in
-      let u : e.up ≡ x.up = ap (λ (y : Entry). y.up) f ∙ entries.up_is x.node.tree x.up x.label x.node.number in
-      (x.label,
-      ap (λ (y : Entry). y.role) f ∙ entries.role_is x.node.tree x.up x.label x.node.number,
-      ap (λ (y : Entry). y.label) f ∙ entries.label_is x.node.tree x.up x.label x.node.number,
-      subst (λ y. WayIn d.text (spots d) (none_there d) n y x.label (spot_at d n).node.way_up) (sym u)
-      (subst (λ y. WayIn d.text (spots d) (none_there d) n x.up x.label y) (sym (ap (λ (y : Spot). y.node.way_up) r)) g.way))
+      let u : e.up ≡ x.up = ap (λ (y : Entry). y.up) f ∙ entries.up_is x.node.tree x.up x.label x.node.number in (
+        x.label,
+        ap (λ (y : Entry). y.role) f ∙ entries.role_is x.node.tree x.up x.label x.node.number,
+        ap (λ (y : Entry). y.label) f ∙ entries.label_is x.node.tree x.up x.label x.node.number,
+        subst (λ y. WayIn d.text (spots d) (none_there d) n y x.label (spot_at d n).node.way_up) (sym u)
+            (subst (λ y. WayIn d.text (spots d) (none_there d) n x.up x.label y) (sym (ap (λ (y : Spot). y.node.way_up) r)) g.way),
+      )
 
   -- the bytes of a node, and what its entry says of them
   pub fits_is : (n : ℕ) → n < count d → Fits d.text (node_at d n).tree
@@ -285,7 +283,7 @@ module _ (d : Doc) (s : IsDocument d) where
   index_lead n h e q r = let w = way_is n h e q in go w.0 (sym w.1 ∙ r) w.2 w.3
     where
       go : (label : Label) → role_of label ≡ roles.Element → e.label ≡ label_spot label → WayIn d.text (spots d) (none_there d) n e.up label (node_at d n).way_up
-        → (rest : List Step) × ((node_at d n).way_up ≡ place e.label.start ∷ rest)
+          → (rest : List Step) × ((node_at d n).way_up ≡ place e.label.start ∷ rest)
       go Top r l w = absurd (cc)
       go (Index i) r l (inl a) = absurd (let b = a.0 in cc)
       go (Index i) r l (inr a) = let rest = (get_or (spots d) e.up (none_there d)).node.way_up in (rest, a.2 ∙ ap (λ s. s ∷ rest) (a.1 ∙ ap place (sym (ap (λ x. x.start) l))))
@@ -293,11 +291,11 @@ module _ (d : Doc) (s : IsDocument d) where
 
   -- the name of a member stands where its entry says
   pub member_lead : (n : ℕ) → n < count d → (e : Entry) → e ≡ get_or d.entries n e → e.role ≡ roles.Member
-    → (name : Name) × (e.label ≡ extent name.source) × IsMember (meaning name.characters) (node_at d n) × Lies d.text name.source × IsString name.source.bytes name.characters
+      → (name : Name) × (e.label ≡ extent name.source) × IsMember (meaning name.characters) (node_at d n) × Lies d.text name.source × IsString name.source.bytes name.characters
   member_lead n h e q r = let w = way_is n h e q in go w.0 (sym w.1 ∙ r) w.2 w.3
     where
       go : (label : Label) → role_of label ≡ roles.Member → e.label ≡ label_spot label → WayIn d.text (spots d) (none_there d) n e.up label (node_at d n).way_up
-        → (name : Name) × (e.label ≡ extent name.source) × IsMember (meaning name.characters) (node_at d n) × Lies d.text name.source × IsString name.source.bytes name.characters
+          → (name : Name) × (e.label ≡ extent name.source) × IsMember (meaning name.characters) (node_at d n) × Lies d.text name.source × IsString name.source.bytes name.characters
       go Top r l w = absurd (cc)
       go (Index i) r l w = absurd (cc)
       go (Named x) r l (inl a) = absurd (let b = a.0 in cc)
@@ -320,7 +318,7 @@ module _ (d : Doc) (s : IsDocument d) where
   parent_is n h e q r = let w = way_is n h e q in go w.0 (λ x. r (w.1 ∙ x)) w.3 (number_is n h)
     where
       go : (label : Label) → (role_of label ≡ roles.Whole → ⊥) → WayIn d.text (spots d) (none_there d) n e.up label (node_at d n).way_up → (node_at d n).number ≡ n
-        → (step : Step) × ((node_at d n).way_up ≡ step ∷ (node_at d e.up).way_up) × (e.up < n)
+          → (step : Step) × ((node_at d n).way_up ≡ step ∷ (node_at d e.up).way_up) × (e.up < n)
       go label r (inl a) m = absurd (r (ap role_of a.0))
       go label r (inr (s, x, way, up)) m = (s, way, omega arith)
 
@@ -352,11 +350,11 @@ module _ (d : Doc) (s : IsDocument d) where
 
   -- the characters of a string stand where its entry says
   pub string_is : (n : ℕ) → n < count d → (e : Entry) → e ≡ get_or d.entries n e → kind_of (node_at d n).tree ≡ kinds.Text
-    → (source : Source) × (characters : List Spelt) × (e.source ≡ extent source) × (string_meaning (node_at d n).tree ≡ meaning characters) × Lies d.text source × IsString source.bytes characters
+      → (source : Source) × (characters : List Spelt) × (e.source ≡ extent source) × (string_meaning (node_at d n).tree ≡ meaning characters) × Lies d.text source × IsString source.bytes characters
   string_is n h e q k = go (node_at d n).tree k (fits_is n h) (source_is n h e q)
     where
       go : (t : Tree) → kind_of t ≡ kinds.Text → Fits d.text t → e.source ≡ extent (source_of t)
-        → (source : Source) × (characters : List Spelt) × (e.source ≡ extent source) × (string_meaning t ≡ meaning characters) × Lies d.text source × IsString source.bytes characters
+          → (source : Source) × (characters : List Spelt) × (e.source ≡ extent source) × (string_meaning t ≡ meaning characters) × Lies d.text source × IsString source.bytes characters
       go (Leaf s (Str cs)) k f x = (s, cs, x, refl, f.0, f.1)
       go (Leaf s Num) k f x = absurd (cc)
       go (Leaf s Null) k f x = absurd (cc)

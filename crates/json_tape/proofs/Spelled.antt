@@ -1,7 +1,6 @@
 -- The characters told from the bytes of a string are those of the grammar.
-use Rattle.std.proofs.Common.{Option, Some, None, ◌≡◌, ◌≢◌, ℕ, zero, suc, ◌+◌, ◌-◌, ◌*◌, ◌%◌, ◌<◌, ◌≤◌, inl, inr, Bool, true, false, cond, List, [], ◌∷◌, ◌++◌, length, take, drop, get_or, refl, sym, ap, ◌∙◌, subst, arith, append_assoc, length-append, length-drop}
-use Rattle.std.specs.Prelude.{eqb, ltb, slice_index, IsUtf8}
-use Rattle.std.specs.Char.{digit_value, IsScalar}
+use Rattle.std.proofs.Common.{Option, Some, None, ◌≡◌, ◌≢◌, ℕ, zero, suc, ◌+◌, ◌-◌, ◌*◌, ◌%◌, ◌<◌, ◌≤◌, inl, inr, Bool, true, false, cond, List, [], ◌∷◌, ◌++◌, length, drop, get_or, refl, sym, ap, ◌∙◌, subst, arith, length-append, length-drop}
+use Rattle.std.specs.Prelude.{eqb, ltb, IsUtf8}
 use Rattle.std.specs.Str.{chars, IsAscii}
 use Rattle.std.proofs.lemmas.Bool.Decides.{nat_tests}
 use Rattle.std.proofs.lemmas.List.{take_at, get_or_at, get_or-drop, get_or-take, length-take}
@@ -127,11 +126,11 @@ quoted_is text s cs l (inside, h, e) =
     let b = length-drop s.place text in
     let p : 0 < length s.bytes = omega arith in
     let start : get_or text s.place 0 ≡ 34 =
-        sym (ap (λ k. get_or text k 0) (omega arith)) ∙ sym (get_or-drop s.place text 0 0) ∙ sym (get_or-take (length s.bytes) (drop s.place text) 0 0 p) ∙ sym (ap (λ x. get_or x 0 0) l) ∙ ap (λ x. get_or x 0 0) e in
+    sym (ap (λ k. get_or text k 0) (omega arith)) ∙ sym (get_or-drop s.place text 0 0) ∙ sym (get_or-take (length s.bytes) (drop s.place text) 0 0 p) ∙ sym (ap (λ x. get_or x 0 0) l) ∙ ap (λ x. get_or x 0 0) e in
     let q : length inside + 1 < length s.bytes = omega arith in
     let end : get_or text (s.place + length s.bytes - 1) 0 ≡ 34 =
-        sym (ap (λ k. get_or text k 0) (omega arith)) ∙ sym (get_or-drop s.place text (length inside + 1) 0) ∙ sym (get_or-take (length s.bytes) (drop s.place text) (length inside + 1) 0 q) ∙ sym (ap (λ x. get_or x (length inside + 1) 0) l)
-        ∙ ap (λ x. get_or x (length inside + 1) 0) e ∙ get_or_at (34 ∷ inside) 34 [] 0 (length inside + 1) (omega arith) in
+    sym (ap (λ k. get_or text k 0) (omega arith)) ∙ sym (get_or-drop s.place text (length inside + 1) 0) ∙ sym (get_or-take (length s.bytes) (drop s.place text) (length inside + 1) 0 q) ∙ sym (ap (λ x. get_or x (length inside + 1) 0) l)
+    ∙ ap (λ x. get_or x (length inside + 1) 0) e ∙ get_or_at (34 ∷ inside) 34 [] 0 (length inside + 1) (omega arith) in
     (omega arith, omega arith, start, end)
 
 -- the string that an entry shows
@@ -166,7 +165,7 @@ meaning_short high (Short l ∷ cs) = let m = meaning_short None cs in omega ari
 meaning_short high (Unit4 u ∷ cs) = by_kind (is_high u) (is_low u) high (meaning_short (Some u) cs) (meaning_short None cs)
   where
     by_kind : (h l : Bool) (high : Option ℕ) → length (meaning_after (Some u) cs) ≤ length cs → length (meaning_after None cs) ≤ length cs
-      → length (cond h (meaning_after (Some u) cs) (cond l (paired high u (meaning_after None cs)) (u ∷ meaning_after None cs))) ≤ suc (length cs)
+        → length (cond h (meaning_after (Some u) cs) (cond l (paired high u (meaning_after None cs)) (u ∷ meaning_after None cs))) ≤ suc (length cs)
     by_kind true l high a b = omega arith
     by_kind false true None a b = omega arith
     by_kind false true (Some h) a b = omega arith

@@ -1,9 +1,9 @@
 -- Where each number stands among the spots of a tree.
-use Rattle.std.proofs.Common.{◌≡◌, ℕ, zero, suc, ◌+◌, ◌-◌, ◌≤◌, ◌<◌, ◌⊎◌, inl, inr, List, [], ◌∷◌, ◌++◌, length, map, get_or, Option, Some, None, refl, sym, ap, ◌∙◌, subst, arith, append_assoc, length-append}
+use Rattle.std.proofs.Common.{◌≡◌, ℕ, suc, ◌+◌, ◌≤◌, ◌<◌, ◌⊎◌, inl, inr, List, [], ◌∷◌, ◌++◌, length, map, get_or, refl, sym, ap, ◌∙◌, subst, arith, append_assoc, length-append}
 use Rattle.std.proofs.lemmas.Bool.{cases_lt}
-use Rattle.json_tape.specs.Tree.{Source, Name, Scalar, Tree, Leaf, Arr, Obj, Elements, NoElement, Element, Members, NoMember, Member}
+use Rattle.json_tape.specs.Tree.{Name, Tree, Leaf, Arr, Obj, Elements, NoElement, Element, Members, NoMember, Member}
 use Rattle.json_tape.specs.Meaning.{meaning}
-use Rattle.json_tape.specs.Nodes.{Node, Step, key, place, size, size_of_elements, size_of_members, children, elements_from, members_from, visit, visit_from, visit_elements, visit_members}
+use Rattle.json_tape.specs.Nodes.{Node, Step, key, place, size, size_of_elements, size_of_members, elements_from, members_from, visit_from, visit_elements, visit_members}
 use Rattle.json_tape.specs.Letters.{IsString}
 use Rattle.json_tape.specs.Parts.{HasPart, element, value, IsElementOf, first_element, later_element, IsValueOf, first_value, later_value}
 use Rattle.json_tape.specs.Tape.{Label, Top, Index, Named, entry_of, tape_of, tape_of_elements, tape_of_members, extent}
@@ -139,7 +139,7 @@ place_is all pre x xs post d k e l = rw (e, ← l) (at_place pre x (xs ++ post) 
 
 -- the first of a list of children, as a spot and what is in it
 pub one_of : (pre : List Spot) (way : List Step) (u : ℕ) (label : Label) (later : List Node) (k : ℕ) (t : Tree) (rest post : List Spot)
-  → pre ++ ((spots_from way u label later k t ++ rest) ++ post) ≡ pre ++ ((top way u label later k t ∷ inner way k t) ++ (rest ++ post))
+    → pre ++ ((spots_from way u label later k t ++ rest) ++ post) ≡ pre ++ ((top way u label later k t ∷ inner way k t) ++ (rest ++ post))
 one_of pre way u label later k t rest post = ap (λ xs. pre ++ xs) (append_assoc (spots_from way u label later k t) rest post ∙ ap (λ ys. ys ++ (rest ++ post)) (top_first way u label later k t))
 
 skip_one : (all pre a rest post : List Spot) → all ≡ pre ++ ((a ++ rest) ++ post) → all ≡ (pre ++ a) ++ (rest ++ post)
@@ -150,8 +150,8 @@ keep_one all pre a rest post e = e ∙ ap (λ xs. pre ++ xs) (append_assoc a res
 
 module _ (text : List ℕ) (root : Tree) (all : List Spot) (d : Spot) where
   next_element : (pre post : List Spot) (way : List Step) (i u k : ℕ) (es : Elements)
-    → all ≡ pre ++ (spots_elements way i u k es ++ post) → length pre ≡ k → end_of (get_or all u d) ≡ k + size_of_elements es
-    → NextIn all d k u (elements_from way i k es)
+      → all ≡ pre ++ (spots_elements way i u k es ++ post) → length pre ≡ k → end_of (get_or all u d) ≡ k + size_of_elements es
+      → NextIn all d k u (elements_from way i k es)
   next_element pre post way i u k NoElement e l f = omega (arith, f)
   next_element pre post way i u k (Element t es) e l f =
       let rest = spots_elements way (suc i) u (k + size t) es in
@@ -161,8 +161,8 @@ module _ (text : List ℕ) (root : Tree) (all : List Spot) (d : Spot) where
       (ap (λ (x : Spot). x.node) p, ap (λ (x : Spot). x.later) p, let z = size_positive t in omega (arith, f, z))
 
   next_member : (pre post : List Spot) (way : List Step) (u k : ℕ) (es : Members)
-    → all ≡ pre ++ (spots_members way u k es ++ post) → length pre ≡ k → end_of (get_or all u d) ≡ k + size_of_members es
-    → NextIn all d k u (members_from way k es)
+      → all ≡ pre ++ (spots_members way u k es ++ post) → length pre ≡ k → end_of (get_or all u d) ≡ k + size_of_members es
+      → NextIn all d k u (members_from way k es)
   next_member pre post way u k NoMember e l f = omega (arith, f)
   next_member pre post way u k (Member m t es) e l f =
       let rest = spots_members way u (k + size t) es in
@@ -172,12 +172,12 @@ module _ (text : List ℕ) (root : Tree) (all : List Spot) (d : Spot) where
       (ap (λ (x : Spot). x.node) p, ap (λ (x : Spot). x.later) p, let z = size_positive t in omega (arith, f, z))
 
   itself : (pre post : List Spot) (way : List Step) (up : ℕ) (label : Label) (later : List Node) (k : ℕ) (t : Tree)
-    → all ≡ pre ++ (spots_from way up label later k t ++ post) → length pre ≡ k → NextIn all d (k + size t) up later → up < length all → WayIn text all d k up label way → Fits text t → HasPart root t → Good text root all d k
+      → all ≡ pre ++ (spots_from way up label later k t ++ post) → length pre ≡ k → NextIn all d (k + size t) up later → up < length all → WayIn text all d k up label way → Fits text t → HasPart root t → Good text root all d k
   itself pre post way up label later k t e l n i w fits part = record { spot = top way up label later k t; pre = pre; post = post; whole = e; at = l; number = refl; next = n; up_in = i; way = w; fits = fits; part = part }
 
   under : (pre post : List Spot) (way : List Step) (up : ℕ) (label : Label) (later : List Node) (k : ℕ) (t : Tree)
-    → all ≡ pre ++ (spots_from way up label later k t ++ post) → length pre ≡ k
-    → (all ≡ (pre ++ top way up label later k t ∷ []) ++ (inner way k t ++ post)) × (length (pre ++ top way up label later k t ∷ []) ≡ suc k) × (end_of (get_or all k d) ≡ k + size t) × (k < length all) × ((get_or all k d).node.way_up ≡ way)
+      → all ≡ pre ++ (spots_from way up label later k t ++ post) → length pre ≡ k
+      → (all ≡ (pre ++ top way up label later k t ∷ []) ++ (inner way k t ++ post)) × (length (pre ++ top way up label later k t ∷ []) ≡ suc k) × (end_of (get_or all k d) ≡ k + size t) × (k < length all) × ((get_or all k d).node.way_up ≡ way)
   under pre post way up label later k t e l =
       let s = top way up label later k t in
       let g : all ≡ pre ++ ((s ∷ inner way k t) ++ post) = e ∙ ap (λ ys. pre ++ (ys ++ post)) (top_first way up label later k t) in
@@ -194,22 +194,22 @@ module _ (text : List ℕ) (root : Tree) (all : List Spot) (d : Spot) where
 
   mutual
     pub walk : (pre post : List Spot) (way : List Step) (up : ℕ) (label : Label) (later : List Node) (k : ℕ) (t : Tree)
-      → all ≡ pre ++ (spots_from way up label later k t ++ post) → length pre ≡ k → NextIn all d (k + size t) up later → up < length all → WayIn text all d k up label way → Fits text t → HasPart root t
-      → (n : ℕ) → k ≤ n → n < k + size t → Good text root all d n
+        → all ≡ pre ++ (spots_from way up label later k t ++ post) → length pre ≡ k → NextIn all d (k + size t) up later → up < length all → WayIn text all d k up label way → Fits text t → HasPart root t
+        → (n : ℕ) → k ≤ n → n < k + size t → Good text root all d n
     walk pre post way up label later k (Leaf s c) e l f i w fits part n h g = let q : k ≡ n = omega arith in subst (Good text root all d) q (itself pre post way up label later k (Leaf s c) e l f i w fits part)
     walk pre post way up label later k (Arr s es) e l f i w fits part n h g =
         let u = under pre post way up label later k (Arr s es) e l in
         choose k n (first_or_later k n h) (itself pre post way up label later k (Arr s es) e l f i w fits part)
-            (λ m. walk_elements (pre ++ top way up label later k (Arr s es) ∷ []) post way 0 k (suc k) es u.0 u.1 (u.2 ∙ omega arith) u.3 u.4 (omega arith) fits.1 (λ v x. element part x) n m (omega arith))
+        (λ m. walk_elements (pre ++ top way up label later k (Arr s es) ∷ []) post way 0 k (suc k) es u.0 u.1 (u.2 ∙ omega arith) u.3 u.4 (omega arith) fits.1 (λ v x. element part x) n m (omega arith))
     walk pre post way up label later k (Obj s es) e l f i w fits part n h g =
         let u = under pre post way up label later k (Obj s es) e l in
         choose k n (first_or_later k n h) (itself pre post way up label later k (Obj s es) e l f i w fits part)
-            (λ m. walk_members (pre ++ top way up label later k (Obj s es) ∷ []) post way k (suc k) es u.0 u.1 (u.2 ∙ omega arith) u.3 u.4 (omega arith) fits.1 (λ v x. value part x) n m (omega arith))
+        (λ m. walk_members (pre ++ top way up label later k (Obj s es) ∷ []) post way k (suc k) es u.0 u.1 (u.2 ∙ omega arith) u.3 u.4 (omega arith) fits.1 (λ v x. value part x) n m (omega arith))
 
     pub walk_elements : (pre post : List Spot) (way : List Step) (i u k : ℕ) (es : Elements)
-      → all ≡ pre ++ (spots_elements way i u k es ++ post) → length pre ≡ k → end_of (get_or all u d) ≡ k + size_of_elements es → u < length all → (get_or all u d).node.way_up ≡ way → u < k
-      → FitElements text es → ((v : Tree) → IsElementOf es v → HasPart root v)
-      → (n : ℕ) → k ≤ n → n < k + size_of_elements es → Good text root all d n
+        → all ≡ pre ++ (spots_elements way i u k es ++ post) → length pre ≡ k → end_of (get_or all u d) ≡ k + size_of_elements es → u < length all → (get_or all u d).node.way_up ≡ way → u < k
+        → FitElements text es → ((v : Tree) → IsElementOf es v → HasPart root v)
+        → (n : ℕ) → k ≤ n → n < k + size_of_elements es → Good text root all d n
     walk_elements pre post way i u k NoElement e l f v y z fits part n h g = absurd (omega arith)
     walk_elements pre post way i u k (Element t es) e l f v y z fits part n h g =
         let later = elements_from way (suc i) (k + size t) es in
@@ -219,13 +219,13 @@ module _ (text : List ℕ) (root : Tree) (all : List Spot) (d : Spot) where
         let long : length (pre ++ a) ≡ k + size t = omega (arith, length-append pre a, spot_count (place i ∷ way) u (Index i) later k t, l) in
         let f2 : end_of (get_or all u d) ≡ (k + size t) + size_of_elements es = omega (arith, f) in
         split (k + size t) n (cases_lt n (k + size t))
-            (λ m. walk pre (rest ++ post) (place i ∷ way) u (Index i) later k t (keep_one all pre a rest post e) l (next_element (pre ++ a) post way (suc i) u (k + size t) es past long f2) v (inr (place i, refl, ap (λ ws. place i ∷ ws) (sym y), z)) fits.0 (part t first_element) n h m)
-            (λ m. walk_elements (pre ++ a) post way (suc i) u (k + size t) es past long f2 v y (omega (arith, z)) fits.1 (λ w x. part w (later_element x)) n m (omega arith))
+        (λ m. walk pre (rest ++ post) (place i ∷ way) u (Index i) later k t (keep_one all pre a rest post e) l (next_element (pre ++ a) post way (suc i) u (k + size t) es past long f2) v (inr (place i, refl, ap (λ ws. place i ∷ ws) (sym y), z)) fits.0 (part t first_element) n h m)
+        (λ m. walk_elements (pre ++ a) post way (suc i) u (k + size t) es past long f2 v y (omega (arith, z)) fits.1 (λ w x. part w (later_element x)) n m (omega arith))
 
     pub walk_members : (pre post : List Spot) (way : List Step) (u k : ℕ) (es : Members)
-      → all ≡ pre ++ (spots_members way u k es ++ post) → length pre ≡ k → end_of (get_or all u d) ≡ k + size_of_members es → u < length all → (get_or all u d).node.way_up ≡ way → u < k
-      → FitMembers text es → ((v : Tree) → IsValueOf es v → HasPart root v)
-      → (n : ℕ) → k ≤ n → n < k + size_of_members es → Good text root all d n
+        → all ≡ pre ++ (spots_members way u k es ++ post) → length pre ≡ k → end_of (get_or all u d) ≡ k + size_of_members es → u < length all → (get_or all u d).node.way_up ≡ way → u < k
+        → FitMembers text es → ((v : Tree) → IsValueOf es v → HasPart root v)
+        → (n : ℕ) → k ≤ n → n < k + size_of_members es → Good text root all d n
     walk_members pre post way u k NoMember e l f v y z fits part n h g = absurd (omega arith)
     walk_members pre post way u k (Member m t es) e l f v y z fits part n h g =
         let later = members_from way (k + size t) es in
@@ -235,6 +235,6 @@ module _ (text : List ℕ) (root : Tree) (all : List Spot) (d : Spot) where
         let long : length (pre ++ a) ≡ k + size t = omega (arith, length-append pre a, spot_count (key (meaning m.characters) ∷ way) u (Named (extent m.source)) later k t, l) in
         let f2 : end_of (get_or all u d) ≡ (k + size t) + size_of_members es = omega (arith, f) in
         split (k + size t) n (cases_lt n (k + size t))
-            (λ x. walk pre (rest ++ post) (key (meaning m.characters) ∷ way) u (Named (extent m.source)) later k t (keep_one all pre a rest post e) l (next_member (pre ++ a) post way u (k + size t) es past long f2) v
-                (inr (key (meaning m.characters), (m, refl, refl, fits.0, fits.1), ap (λ ws. key (meaning m.characters) ∷ ws) (sym y), z)) fits.2 (part t first_value) n h x)
-            (λ x. walk_members (pre ++ a) post way u (k + size t) es past long f2 v y (omega (arith, z)) fits.3 (λ w y. part w (later_value y)) n x (omega arith))
+        (λ x. walk pre (rest ++ post) (key (meaning m.characters) ∷ way) u (Named (extent m.source)) later k t (keep_one all pre a rest post e) l (next_member (pre ++ a) post way u (k + size t) es past long f2) v
+        (inr (key (meaning m.characters), (m, refl, refl, fits.0, fits.1), ap (λ ws. key (meaning m.characters) ∷ ws) (sym y), z)) fits.2 (part t first_value) n h x)
+        (λ x. walk_members (pre ++ a) post way u (k + size t) es past long f2 v y (omega (arith, z)) fits.3 (λ w y. part w (later_value y)) n x (omega arith))

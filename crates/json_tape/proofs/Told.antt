@@ -1,17 +1,15 @@
 -- The tree told from the entries of a text's tree is that tree.
-use Rattle.std.proofs.Common.{◌≡◌, ◌<◌, ◌^◌, ℕ, zero, suc, ◌+◌, List, [], ◌∷◌, ◌++◌, length, take, drop, Option, Some, None, refl, sym, ap, ◌∙◌, subst, arith, append_assoc, length-append}
+use Rattle.std.proofs.Common.{◌≡◌, ◌<◌, ◌^◌, ℕ, suc, ◌+◌, List, [], ◌∷◌, ◌++◌, length, Option, Some, None, refl, sym, ap, ◌∙◌, subst, append_assoc}
 use Rattle.std.proofs.lemmas.List.{take_at, drop_at}
-use Rattle.json_tape.specs.Tree.{Spelt, Source, Name, Scalar, Null, True, False, Num, Str, Tree, Leaf, Arr, Obj, Elements, NoElement, Element, Members, NoMember, Member}
+use Rattle.json_tape.specs.Tree.{Source, Name, Scalar, Null, True, False, Num, Str, Tree, Leaf, Arr, Obj, Elements, NoElement, Element, Members, NoMember, Member}
 use Rattle.json_tape.specs.Letters.{IsString}
 use Rattle.json_tape.specs.Grammar.{IsScalar, IsText}
-use Rattle.json_tape.specs.Spelling.{spelt}
 use Rattle.json_tape.specs.Nodes.{size}
-use Rattle.json_tape.specs.Tape.{Label, Top, Index, Named, role_of, label_spot, extent, kind_of_scalar, element_count, member_count, entry_of, tape_of, tape_of_elements, tape_of_members}
+use Rattle.json_tape.specs.Tape.{Label, Top, Index, Named, role_of, label_spot, extent, kind_of_scalar, element_count, member_count, tape_of, tape_of_elements, tape_of_members}
 use Rattle.json_tape.specs.Answer.{IsJson, StandsForAll, NoneApplies}
 use Rattle.json_tape.specs.Cut.{IsReadable}
-use Rattle.json_tape.specs.Document.{IsDocument, Doc, Built, elements_built, members_built, source_in, scalar_built, tree_built, name_built, built, first_built, tree_of}
+use Rattle.json_tape.specs.Document.{IsDocument, Built, elements_built, members_built, source_in, tree_built, name_built, built, first_built, tree_of}
 use Rattle.json_tape.specs.declared.tape.Entry.{Entry}
-use Rattle.json_tape.specs.declared.tape.Kind.TheVariants as kinds
 use Rattle.json_tape.proofs.Fits.{Lies, Fits, FitElements, FitMembers, text_fits}
 use Rattle.json_tape.proofs.Spelled.{spelt_is}
 

@@ -1,6 +1,6 @@
 -- The nodes of a text: each value with the steps that lead to it from the root, children in document order (RFC 9535, sections 1.1 and 2.1), numbered depth first.
 use Rattle.std.specs.Prelude.{ℕ, suc, ◌+◌, List, [], ◌∷◌, ◌++◌, reverse, Bool, false, bytes_eq}
-use Rattle.json_tape.specs.Tree.{Source, Name, Scalar, Tree, Leaf, Arr, Obj, Elements, NoElement, Element, Members, NoMember, Member}
+use Rattle.json_tape.specs.Tree.{Tree, Leaf, Arr, Obj, Elements, NoElement, Element, Members, NoMember, Member}
 use Rattle.json_tape.specs.Meaning.{meaning}
 
 -- a step down: a member's name by its meaning, or an element's index

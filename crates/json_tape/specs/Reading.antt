@@ -1,5 +1,5 @@
 -- What a character of a string does to a reading of scalar values, one character after another.
-use Rattle.std.specs.Prelude.{◌≡◌, ℕ, IfSome, List, ◌∷◌, Option, Some, None}
+use Rattle.std.specs.Prelude.{◌≡◌, ℕ, IfSome, List, ◌∷◌, Option, None}
 use Rattle.json_tape.specs.Tree.{Spelt, Unit4}
 use Rattle.json_tape.specs.Meaning.{IsHigh, meaning_after}
 use Rattle.json_tape.specs.Spelling.{spelt_from, scalars_in}

@@ -1,5 +1,5 @@
 -- A lone surrogate of a string, byte by byte.
-use Rattle.std.specs.Prelude.{◌≡◌, ℕ, zero, suc, ◌+◌, ◌-◌, ◌*◌, ◌%◌, Bool, true, false, cond, ◌&&◌, eqb, leb, List, [], ◌∷◌, Option, Some, None}
+use Rattle.std.specs.Prelude.{◌≡◌, ℕ, zero, suc, ◌+◌, ◌-◌, ◌*◌, ◌%◌, Bool, true, false, cond, eqb, leb, List, [], ◌∷◌, Option, Some, None}
 use Rattle.json_tape.specs.declared.scan.Mode.{Mode}
 use Rattle.json_tape.specs.declared.scan.Mode.TheVariants.{Between, Escape, Hex}
 use Rattle.json_tape.specs.declared.scan.Surrogates.{Surrogates}

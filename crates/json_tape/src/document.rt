@@ -1,6 +1,6 @@
 //! A text that was read, and the readers of its values.
 
-ghost use Rattle.std.specs.Prelude.{◌≡◌, IfSome, ℕ, ◌^◌, ◌<◌, ◌≤◌, ◌+◌, ◌-◌, ◌↔◌, ◌∷◌, length, take, drop, MatchResult, IsTrue, IsUtf8, List, slice_index_or, bytes_eq};
+ghost use Rattle.std.specs.Prelude.{IfSome, ◌≡◌, ℕ, ◌^◌, ◌<◌, ◌≤◌, ◌+◌, ◌-◌, ◌↔◌, ◌∷◌, length, take, drop, MatchResult, IsTrue, IsUtf8, List, slice_index_or, bytes_eq};
 ghost use Rattle.json_tape.specs.Answer.{Explains};
 ghost use Rattle.json_tape.specs.Cut.{IsReadable};
 ghost use Rattle.json_tape.specs.Tree.{Tree, source_of};
@@ -244,7 +244,7 @@ impl Document {
         requires inside { n.0 < count self.now }
         requires named { HasName (node_at self.now n.0) }
         ensures value { IsMember result (node_at self.now n.0) }
-        ensures short { length result ≤ TEXT_LIMIT }
+        ensures short { length result ≤ text_limit }
     {
         let name = self.entry(n).label;
         Scalars::new(unquoted(&self.text, name))
@@ -291,72 +291,4 @@ fn unquoted(text: &str, string: Extent) -> &str
     let start = string.start as usize + 1;
     let end = string.start as usize + string.len as usize - 1;
     &text[start..end]
-}
-
-#[cfg(test)]
-mod tests {
-    use super::*;
-    use std::test::Fail;
-
-    fn fault(alloc: Global, text: &[u8]) -> Option<TextFault> {
-        match Document::read(alloc, text) {
-            Ok(_) => None,
-            Err(fault) => Some(fault),
-        }
-    }
-
-    #[test]
-    fn verdicts(rt: HostRuntime) -> Result<(), Fail> {
-        let alloc = rt.alloc();
-        assert_eq!(rt; fault(alloc, b"[1,]".as_slice()), Some(TextFault::NotJson));
-        assert_eq!(rt; fault(alloc, b"01".as_slice()), Some(TextFault::NotJson));
-        assert_eq!(rt; fault(alloc, b"-".as_slice()), Some(TextFault::NotJson));
-        assert_eq!(rt; fault(alloc, b"-0.50e+07".as_slice()), None);
-        assert_eq!(rt; fault(alloc, b"1e999999999".as_slice()), None);
-        assert_eq!(rt;
-            fault(alloc, b"1e-1000000000".as_slice()),
-            Some(TextFault::NumberLimit)
-        );
-        assert_eq!(rt; fault(alloc, b"\"\\ud83d\\ude00\"".as_slice()), None);
-        assert_eq!(rt;
-            fault(alloc, b"\"\\ud83d x\"".as_slice()),
-            Some(TextFault::LoneSurrogate)
-        );
-        assert_eq!(rt;
-            fault(alloc, b"{\"\\ude00\":1}".as_slice()),
-            Some(TextFault::LoneSurrogate)
-        );
-        assert_eq!(rt;
-            fault(alloc, b"\"\\x\"".as_slice()),
-            Some(TextFault::NotJson)
-        );
-        assert_eq!(rt;
-            fault(alloc, [34, 255, 34].as_slice()),
-            Some(TextFault::NotUtf8)
-        );
-        Ok(())
-    }
-
-    #[test]
-    fn depths(rt: HostRuntime) -> Result<(), Fail> {
-        let mut text = Vec::new(rt.alloc());
-        for _ in 0..128 {
-            text.push(b'[')?;
-        }
-        for _ in 0..128 {
-            text.push(b']')?;
-        }
-        assert_eq!(rt; fault(rt.alloc(), text.as_slice()), None);
-        let mut deeper = Vec::new(rt.alloc());
-        deeper.push(b'[')?;
-        for b in text.as_slice() {
-            deeper.push(*b)?;
-        }
-        deeper.push(b']')?;
-        assert_eq!(rt;
-            fault(rt.alloc(), deeper.as_slice()),
-            Some(TextFault::TooDeep)
-        );
-        Ok(())
-    }
 }

@@ -1,7 +1,11 @@
-//! JSON texts (RFC 8259) as tapes: `Document::read` accepts exactly the texts within the limits and keeps the bytes with
-//! one entry of 32 bytes for each value; the readers of `Document` tell each value's kind, bytes, children and name.
+//! JSON texts (RFC 8259) as tapes.
 //!
-//! A text is walked once, byte by byte. Open containers stand in a list, so that depth costs no stack.
+//! `Document::read` accepts exactly the texts within the limits, keeps their bytes, and has one entry of 32 bytes for each
+//! value. The readers of `Document` tell each value's kind, bytes, length, children and name, each in constant time but
+//! for those that go over the characters of a string.
+//!
+//! A text is walked once, byte by byte, and its entries are then judged. Open containers stand in a list, so that depth
+//! costs no stack. Nothing is parsed into numbers or strings: those are cut from the text where they are asked for.
 #![tactic(auto)]
 
 mod builder;
@@ -12,8 +16,9 @@ mod reader;
 mod scalars;
 mod scan;
 mod tape;
+#[cfg(test)]
+mod tests;
 
 pub use document::{DEPTH_LIMIT, Document, TEXT_LIMIT};
-pub use reader::one_tree;
 pub use scalars::Scalars;
 pub use tape::{Kind, Lead, NodeId, TextFault};

@@ -214,8 +214,3 @@ pub fn read(alloc: Global, text: &[u8]) -> Result<Tape, BuildFault>
         Err(BuildFault::NotJson)
     }
 }
-
-/// A text spells one tree at most.
-pub fn one_tree()
-    ensures { (text : List ℕ) (s t : Tree) → IsText text s → IsText text t → s ≡ t }
-{}

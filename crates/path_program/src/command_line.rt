@@ -42,3 +42,33 @@ pub fn read_request<'a>(alloc: Global, words: &'a [String]) -> Result<Request<'a
         None => Err(Failure::Words),
     }
 }
+
+#[cfg(test)]
+mod tests {
+    use super::*;
+    use std::test::Fail;
+
+    // The status that a command line of these words ends with, or none where it asks for a query.
+    fn status_of(rt: &HostRuntime, words: &[&str]) -> Result<Option<u8>, Fail> {
+        let mut owned = Vec::new(rt.alloc());
+        for word in words {
+            owned.push(String::from_str(rt.alloc(), word)?)?;
+        }
+        match read_request(rt.alloc(), owned.as_slice()) {
+            Ok(Request::Query(_)) => Ok(None),
+            Err(failure) => Ok(Some(failure.report(rt))),
+        }
+    }
+
+    #[test]
+    fn command_lines(rt: HostRuntime) -> Result<(), Fail> {
+        assert_eq!(rt; status_of(&rt, &["path_server", "query", "$.a"])?, None);
+        assert_eq!(rt; status_of(&rt, &["path_server", "--help"])?, Some(0));
+        assert_eq!(rt; status_of(&rt, &["path_server", "query", "--help"])?, Some(0));
+        assert_eq!(rt; status_of(&rt, &["path_server"])?, Some(3));
+        assert_eq!(rt; status_of(&rt, &["path_server", "query"])?, Some(3));
+        assert_eq!(rt; status_of(&rt, &["path_server", "query", "$", "$"])?, Some(3));
+        assert_eq!(rt; status_of(&rt, &["path_server", "serve", "127.0.0.1:0"])?, Some(3));
+        Ok(())
+    }
+}

@@ -86,3 +86,34 @@ fn status_of(fault: QueryTextFault) -> u8 {
         QueryTextFault::Memory => 4,
     }
 }
+
+#[cfg(test)]
+mod tests {
+    use super::*;
+
+    const STATUSES: [(QueryTextFault, u8); 12] = [
+        (QueryTextFault::TooLong, 1),
+        (QueryTextFault::NotUtf8, 1),
+        (QueryTextFault::NotJson, 1),
+        (QueryTextFault::TooDeep, 1),
+        (QueryTextFault::NumberLimit, 1),
+        (QueryTextFault::LoneSurrogate, 1),
+        (QueryTextFault::DuplicateName, 1),
+        (QueryTextFault::QueryTooLong, 2),
+        (QueryTextFault::NotWellFormed, 2),
+        (QueryTextFault::NotValid, 2),
+        (QueryTextFault::TooManyNodes, 2),
+        (QueryTextFault::Memory, 4),
+    ];
+
+    #[test]
+    fn statuses(rt: HostRuntime) {
+        for (fault, status) in STATUSES {
+            assert_eq!(rt; Failure::Refused(fault).report(&rt), status);
+        }
+        assert_eq!(rt; Failure::Words.report(&rt), 3);
+        assert_eq!(rt; Failure::Read.report(&rt), 4);
+        assert_eq!(rt; Failure::Write.report(&rt), 4);
+        assert_eq!(rt; Failure::Memory.report(&rt), 4);
+    }
+}

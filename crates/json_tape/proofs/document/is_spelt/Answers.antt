@@ -1,7 +1,6 @@
-use Rattle.std.proofs.Common.{◌≡◌, drop, length, refl, sym, ap, ◌∙◌, arith, rules}
-use Rattle.std.proofs.lemmas.List.{drop_more}
+use Rattle.std.proofs.Common.{drop, sym, ap, ◌∙◌}
 use Rattle.std.specs.Prelude.{bytes_eq}
-use Rattle.json_tape.proofs.Names.{same_more, other_next, none_next, end_some, end_none}
+use Rattle.json_tape.proofs.Names.{other_next}
 use Rattle.json_tape.proofs.document.is_spelt.Goals as goal
 
 pub returns-in_default : goal.returns-in_default

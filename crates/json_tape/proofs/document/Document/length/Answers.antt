@@ -1,6 +1,5 @@
-use Rattle.std.proofs.Common.{◌≡◌, ◌⊎◌, ◌∙◌, ap, sym, inl, inr, Some, arith}
+use Rattle.std.proofs.Common.{◌≡◌, ◌∙◌, ap, sym, Some, arith}
 use Rattle.json_tape.specs.Document.{node_at, kind_of}
-use Rattle.json_tape.specs.declared.tape.Kind.{Kind}
 use Rattle.json_tape.specs.declared.tape.Kind.TheVariants as kinds
 use Rattle.json_tape.proofs.Readers.{kind_is, length_is, string_length, no_length}
 use Rattle.json_tape.proofs.document.Document.length.Goals as goal

@@ -1,4 +1,3 @@
-use Rattle.std.proofs.Common.{arith}
 use Rattle.json_tape.proofs.Readers.{up_in, next_is, next_in, last_is}
 use Rattle.json_tape.proofs.document.Document.next_sibling.Goals as goal
 

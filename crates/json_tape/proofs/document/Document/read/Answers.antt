@@ -27,8 +27,8 @@ returns-then-has_lone c =
 pub returns-in-Ok-from_str : goal.returns-in-Ok-from_str
 returns-in-Ok-from_str c =
     let none = accepted c.args.text.now c.in-Ok-read.tape.depth (omega arith) c.in-Ok.ensures.1 c.in-Ok-read.ensures.spelt c.in-Ok-read.ensures.depth (omega arith)
-        (λ t h x. let y = (c.if-has_bad_number.ensures t h (subst (λ l. Stands l t) (sym c.as_slice.ensures.value) (c.in-Ok-read.ensures.stands t h))).1 x in cc)
-        (λ t h x. let y = (c.if-has_lone.ensures t h (subst (λ l. Stands l t) (sym c.as_slice-in-Ok-read.ensures.value) (c.in-Ok-read.ensures.stands t h))).1 x in cc) in
+    (λ t h x. let y = (c.if-has_bad_number.ensures t h (subst (λ l. Stands l t) (sym c.as_slice.ensures.value) (c.in-Ok-read.ensures.stands t h))).1 x in cc)
+    (λ t h x. let y = (c.if-has_lone.ensures t h (subst (λ l. Stands l t) (sym c.as_slice-in-Ok-read.ensures.value) (c.in-Ok-read.ensures.stands t h))).1 x in cc) in
     let same = c.in-Ok-from_str.ensures.ok ∙ c.in-Ok.ensures.0 in
     let r = readable c.args.text.now (string_bytes c.in-Ok-from_str.text) c.in-Ok-read.tape.entries.items same c.in-Ok-read.ensures.spelt c.in-Ok-read.ensures.stands none in
     (same, r)
@@ -36,7 +36,7 @@ returns-in-Ok-from_str c =
 pub invariant_of-result : goal.invariant_of-result
 invariant_of-result c =
     let none = accepted c.args.text.now c.in-Ok-read.tape.depth (omega arith) c.in-Ok.ensures.1 c.in-Ok-read.ensures.spelt c.in-Ok-read.ensures.depth (omega arith)
-        (λ t h x. let y = (c.if-has_bad_number.ensures t h (subst (λ l. Stands l t) (sym c.as_slice.ensures.value) (c.in-Ok-read.ensures.stands t h))).1 x in cc)
-        (λ t h x. let y = (c.if-has_lone.ensures t h (subst (λ l. Stands l t) (sym c.as_slice-in-Ok-read.ensures.value) (c.in-Ok-read.ensures.stands t h))).1 x in cc) in
+    (λ t h x. let y = (c.if-has_bad_number.ensures t h (subst (λ l. Stands l t) (sym c.as_slice.ensures.value) (c.in-Ok-read.ensures.stands t h))).1 x in cc)
+    (λ t h x. let y = (c.if-has_lone.ensures t h (subst (λ l. Stands l t) (sym c.as_slice-in-Ok-read.ensures.value) (c.in-Ok-read.ensures.stands t h))).1 x in cc) in
     let same = c.in-Ok-from_str.ensures.ok ∙ c.in-Ok.ensures.0 in
     document c.args.text.now (string_bytes c.in-Ok-from_str.text) c.in-Ok-read.tape.entries.items same c.in-Ok-read.ensures.spelt c.in-Ok-read.ensures.stands none c.in-Ok-read.ensures.short

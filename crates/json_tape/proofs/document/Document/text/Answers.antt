@@ -1,4 +1,4 @@
-use Rattle.std.proofs.Common.{◌∙◌, sym, subst}
+use Rattle.std.proofs.Common.{sym, subst}
 use Rattle.json_tape.specs.Document.{StandsIn}
 use Rattle.json_tape.specs.Verdict.{IsWithinLimits}
 use Rattle.json_tape.proofs.Readers.{text_is, text_part, number_within}
