@@ -4,4 +4,6 @@
 #[cfg(test)]
 mod queries;
 #[cfg(test)]
+mod segments;
+#[cfg(test)]
 mod texts;

@@ -1,15 +1,16 @@
 -- What the parser answers, from what reading gives.
-use Rattle.std.proofs.Common.{◌≡◌, ℕ, ◌≤◌, ◌<◌, ◌↔◌, List, length, Option, Some, None, Result, Ok, Err, refl, sym, ap, ◌∙◌, arith}
+use Rattle.std.proofs.Common.{◌≡◌, ℕ, ◌≤◌, ◌<◌, ◌↔◌, List, length, Option, Some, None, Result, Ok, Err, sym, ap, ◌∙◌, arith}
 use Rattle.std.specs.Prelude.{IsUtf8, chars, IfOk, IsErrOf}
 use Rattle.path_grammar.specs.Tree.{Segments}
 use Rattle.path_grammar.specs.View.{query_view}
 use Rattle.path_grammar.specs.Grammar.{IsQuery}
-use Rattle.path_grammar.specs.Reading.{Gives, query_at}
+use Rattle.path_grammar.specs.Reading.{Gives}
+use Rattle.path_grammar.specs.ReadingSegments.{query_at}
 use Rattle.path_grammar.specs.declared.ast.Query.{Query}
 use Rattle.path_grammar.specs.declared.fault.ParseFault.{ParseFault}
 use Rattle.path_grammar.specs.declared.fault.ParseFault.TheVariants.{QueryTooLong, NotWellFormed, Memory}
-use Rattle.path_grammar.proofs.Read.{query_reads}
-use Rattle.path_grammar.proofs.ReadAgain.{query_again}
+use Rattle.path_grammar.proofs.ReadSegments.{query_reads}
+use Rattle.path_grammar.proofs.AgainSegments.{query_again}
 
 same_some : {A : Type 0} (o : Option A) (x y : A) → o ≡ Some x → o ≡ Some y → x ≡ y
 same_some o x y p q = cc

@@ -1,6 +1,14 @@
 pub mod Runs
 pub mod Digits
-pub mod Loop
+pub mod Repeat
+pub mod Quoted
 pub mod Read
-pub mod ReadAgain
+pub mod ReadLists
+pub mod ReadNumbers
+pub mod ReadStrings
+pub mod ReadSegments
+pub mod Again
+pub mod AgainNumbers
+pub mod AgainStrings
+pub mod AgainSegments
 pub mod Answered

@@ -1,4 +1,11 @@
+pub mod Characters
+pub mod Lists
+pub mod Numbers
+pub mod Strings
 pub mod Tree
 pub mod View
 pub mod Grammar
 pub mod Reading
+pub mod ReadingNumbers
+pub mod ReadingStrings
+pub mod ReadingSegments

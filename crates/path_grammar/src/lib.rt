@@ -7,7 +7,11 @@
 mod ast;
 mod class;
 mod fault;
+mod numbers;
 mod reader;
+mod scan;
+mod segments;
+mod strings;
 #[cfg(test)]
 mod tests;
 

@@ -1,6 +1,7 @@
 use Rattle.std.proofs.Common.{subst}
 use Rattle.path_grammar.specs.View.{query_view}
-use Rattle.path_grammar.specs.Reading.{Gives, query_at}
+use Rattle.path_grammar.specs.Reading.{Gives}
+use Rattle.path_grammar.specs.ReadingSegments.{query_at}
 use Rattle.path_grammar.proofs.Answered.{IsAnswer, answered}
 use Rattle.path_grammar.proofs.reader.parse.Goals as goal
 

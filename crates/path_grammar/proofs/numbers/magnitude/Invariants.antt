@@ -1,6 +1,6 @@
 use Rattle.std.proofs.Common.{◌≡◌, ◌≤◌, drop, fold}
-use Rattle.path_grammar.specs.Grammar.{decimal, with_digit}
-use Rattle.path_grammar.proofs.reader.magnitude.Given as goal
+use Rattle.path_grammar.specs.Numbers.{decimal, with_digit}
+use Rattle.path_grammar.proofs.numbers.magnitude.Given as goal
 
 abbrev pub invariant-loop-c : goal.invariant-loop-c
 invariant-loop-c l = record {

@@ -1,0 +1,81 @@
+//! Reads integers.
+
+ghost use Rattle.std.specs.Prelude.{◌≡◌, Option, Some, None, if◌then◌else◌, nat_le, pos};
+ghost use Rattle.path_grammar.specs.Numbers.{decimal};
+ghost use Rattle.path_grammar.specs.Reading.{Gives};
+ghost use Rattle.path_grammar.specs.ReadingNumbers.{signed_literal, digits_at, int_at, part_at};
+
+use crate::ast::IntLit;
+use crate::class::{Class, split_run};
+use crate::fault::ParseFault;
+use crate::scan::skip_blanks;
+
+const INT_LIMIT: u64 = 9_007_199_254_740_991;
+
+// What digits spell, where it is within the limit.
+#[tactic(auto, using(crate::proofs::Digits::one_more, crate::proofs::Digits::too_large))]
+fn magnitude(digits: &[char]) -> Option<u64>
+    ensures { result ≡ (if nat_le (decimal digits.now) 9007199254740991 then Some (decimal digits.now) else None) }
+{
+    let mut n = 0u64;
+    for c in digits {
+        n = n * 10 + u64::from(u32::from(*c)).saturating_sub(48);
+        if n > INT_LIMIT {
+            return None;
+        }
+    }
+    Some(n)
+}
+
+fn literal(digits: &[char], is_negative: bool) -> IntLit
+    ensures { result ≡ signed_literal is_negative (decimal digits.now) }
+{
+    match magnitude(digits) {
+        None => IntLit::Beyond,
+        Some(n) if is_negative => IntLit::Within(-(n as i64)),
+        Some(n) => IntLit::Within(n as i64),
+    }
+}
+
+#[tactic(auto, unfolding(crate::specs::ReadingNumbers::digits_at))]
+fn digits(text: &[char], is_negative: bool) -> Result<(IntLit, &[char]), ParseFault>
+    ensures { Gives (λ x. (x.0, x.1.now)) result (digits_at is_negative text.now) }
+{
+    match text {
+        ['1'..='9', ..] => {
+            let (front, rest) = split_run(text, Class::Digit);
+            Ok((literal(front, is_negative), rest))
+        }
+        _ => Err(ParseFault::NotWellFormed),
+    }
+}
+
+#[tactic(auto, unfolding(crate::specs::ReadingNumbers::int_at))]
+fn int(text: &[char]) -> Result<(IntLit, &[char]), ParseFault>
+    ensures { Gives (λ x. (x.0, x.1.now)) result (int_at text.now) }
+{
+    let [c, rest @ ..] = text else {
+        return Err(ParseFault::NotWellFormed);
+    };
+    if *c == '0' {
+        Ok((IntLit::Within(0), rest))
+    } else if *c == '-' {
+        digits(rest, true)
+    } else {
+        digits(text, false)
+    }
+}
+
+/// The integer at the front and the blanks behind it, if one begins there.
+#[tactic(auto, unfolding(crate::specs::ReadingNumbers::part_at))]
+pub fn part(text: &[char]) -> Result<(Option<IntLit>, &[char]), ParseFault>
+    ensures { Gives (λ x. (x.0, x.1.now)) result (part_at text.now) }
+{
+    match text {
+        ['0'..='9' | '-', ..] => {
+            let (i, rest) = int(text)?;
+            Ok((Some(i), skip_blanks(rest)))
+        }
+        _ => Ok((None, text)),
+    }
+}

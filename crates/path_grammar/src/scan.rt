@@ -1,0 +1,35 @@
+//! Single characters and blanks at the front of a text.
+
+ghost use Rattle.std.specs.Prelude.{◌≡◌, option_map};
+ghost use Rattle.path_grammar.specs.Characters.{is_blank};
+ghost use Rattle.path_grammar.specs.Reading.{Gives, after_run, behind};
+
+use crate::class::{Class, split_run};
+use crate::fault::ParseFault;
+
+pub fn skip_blanks(text: &[char]) -> &[char]
+    ensures { result.now ≡ after_run is_blank text.now }
+{
+    split_run(text, Class::Blank).1
+}
+
+/// The text behind this character, where it is the first.
+#[tactic(auto, unfolding(crate::specs::Reading::behind))]
+pub fn behind(text: &[char], wanted: char) -> Option<&[char]>
+    ensures { option_map (λ t. t.now) result ≡ behind wanted text.now }
+{
+    match text {
+        [c, rest @ ..] if *c == wanted => Some(rest),
+        _ => None,
+    }
+}
+
+/// The text behind this character, which has to stand there.
+pub fn closed(text: &[char], wanted: char) -> Result<&[char], ParseFault>
+    ensures { Gives (λ t. t.now) result (behind wanted text.now) }
+{
+    match behind(text, wanted) {
+        Some(rest) => Ok(rest),
+        None => Err(ParseFault::NotWellFormed),
+    }
+}
