@@ -23,7 +23,10 @@ pub fn assert_found(rt: &HostRuntime, cases: &[(&str, &str, &str)]) -> Result<()
 }
 
 /// Each query on its text is refused by this name.
-pub fn assert_refused(rt: &HostRuntime, cases: &[(&str, &str, QueryTextFault)]) -> Result<(), Fail> {
+pub fn assert_refused(
+    rt: &HostRuntime,
+    cases: &[(&str, &str, QueryTextFault)],
+) -> Result<(), Fail> {
     for (query, text, wanted) in cases {
         match lines(rt.alloc(), query, text) {
             Ok(_) => return Err(Fail::from("not refused")),
@@ -81,7 +84,8 @@ fn refused(rt: HostRuntime) -> Result<(), Fail> {
 fn escapes(rt: HostRuntime) -> Result<(), Fail> {
     let text = r#"{"'":0,"\\":1,"\u000b":2,"\u0000":3,"\u007f":4,"\ud83d\ude00":5}"#;
     let found = lines(rt.alloc(), "$.*", text)?;
-    let wanted = "$['\\'']\t0\n$['\\\\']\t1\n$['\\u000b']\t2\n$['\\u0000']\t3\n$['\u{7f}']\t4\n$['\u{1f600}']\t5\n";
+    let wanted =
+        "$['\\'']\t0\n$['\\\\']\t1\n$['\\u000b']\t2\n$['\\u0000']\t3\n$['\u{7f}']\t4\n$['\u{1f600}']\t5\n";
     assert_eq!(rt; found.as_slice(), wanted.as_bytes());
     let document = Document::read(rt.alloc(), text.as_bytes())?;
     assert_eq!(rt; document.node_count(), 7);

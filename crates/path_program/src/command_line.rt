@@ -64,11 +64,20 @@ mod tests {
     fn command_lines(rt: HostRuntime) -> Result<(), Fail> {
         assert_eq!(rt; status_of(&rt, &["path_server", "query", "$.a"])?, None);
         assert_eq!(rt; status_of(&rt, &["path_server", "--help"])?, Some(0));
-        assert_eq!(rt; status_of(&rt, &["path_server", "query", "--help"])?, Some(0));
+        assert_eq!(rt;
+            status_of(&rt, &["path_server", "query", "--help"])?,
+            Some(0)
+        );
         assert_eq!(rt; status_of(&rt, &["path_server"])?, Some(3));
         assert_eq!(rt; status_of(&rt, &["path_server", "query"])?, Some(3));
-        assert_eq!(rt; status_of(&rt, &["path_server", "query", "$", "$"])?, Some(3));
-        assert_eq!(rt; status_of(&rt, &["path_server", "serve", "127.0.0.1:0"])?, Some(3));
+        assert_eq!(rt;
+            status_of(&rt, &["path_server", "query", "$", "$"])?,
+            Some(3)
+        );
+        assert_eq!(rt;
+            status_of(&rt, &["path_server", "serve", "127.0.0.1:0"])?,
+            Some(3)
+        );
         Ok(())
     }
 }
