@@ -1,4 +1,4 @@
-// The reader of the first stage, byte by byte.
+//! Reads a text byte by byte: finds each token and hands it to the builder.
 
 ghost use Rattle.std.specs.Prelude.{◌≡◌, ◌≢◌, ℕ, ◌+◌, ◌^◌, ◌<◌, ◌≤◌, length, drop, slice_index, IfOk, IsUtf8, IsErrOf, true, false};
 ghost use Rattle.json_tape.specs.Machine.{IsSmall, step, Took};

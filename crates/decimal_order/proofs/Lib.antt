@@ -1,0 +1,13 @@
+pub mod Digits
+pub mod Readings
+pub mod Texts
+pub mod Exponents
+pub mod Signs
+pub mod Magnitudes
+pub mod Rankings
+pub mod Words
+pub mod Lanes
+pub mod WholeNumbers
+pub mod TotalOrder
+pub mod WithinLimits
+pub mod DecimalTexts

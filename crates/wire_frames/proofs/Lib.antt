@@ -1,0 +1,2 @@
+pub mod OneSplit
+pub mod Cutting

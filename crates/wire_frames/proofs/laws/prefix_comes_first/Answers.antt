@@ -1,0 +1,5 @@
+use Rattle.wire_frames.specs.Laws.{split-append}
+use Rattle.wire_frames.proofs.laws.prefix_comes_first.Goals as goal
+
+pub returns : goal.returns
+returns c = split-append

@@ -1,0 +1,19 @@
+//! Frames of a connection's stream, requests and replies.
+//!
+//! A [`Framer`] takes a stream apart into whole frames, however it is cut into pieces: [`cuts_do_not_matter`] says so of
+//! every stream. [`read_request`] reads a frame's body, [`write_reply`] writes a reply. A body is never copied but where
+//! the crate `bytes` grows a buffer, and each call costs no more than the bytes that it is given.
+#![tactic(auto)]
+
+mod framing;
+mod laws;
+mod replies;
+mod requests;
+
+pub use framing::{AcceptFault, Framer, LONGEST_BODY, Next};
+pub use laws::{cuts_do_not_matter, nothing_follows_a_fault, prefix_comes_first, splits_one_way};
+pub use replies::{LONGEST_PAYLOAD, reply_head, write_reply};
+pub use requests::{Command, Request, RequestFault, read_request};
+
+#[cfg(test)]
+mod tests;
