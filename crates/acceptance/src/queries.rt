@@ -4,6 +4,7 @@ use json_tape::{Document, NodeId};
 use normal_paths::path_length;
 use path_server::{QueryTextFault, query_text};
 use std::alloc::Global;
+use std::process::Abort;
 use std::test::Fail;
 
 /// The lines of a query on a text.
@@ -14,7 +15,10 @@ pub fn lines(alloc: Global, query: &str, text: &str) -> Result<Vec<u8>, QueryTex
 }
 
 /// Each query gives these lines on its text.
-pub fn assert_found(rt: &HostRuntime, cases: &[(&str, &str, &str)]) -> Result<(), Fail> {
+pub fn assert_found<R: Abort + AllocGlobal>(
+    rt: &R,
+    cases: &[(&str, &str, &str)],
+) -> Result<(), Fail> {
     for (query, text, wanted) in cases {
         let found = lines(rt.alloc(), query, text)?;
         assert_eq!(rt; found.as_slice(), wanted.as_bytes());
@@ -23,8 +27,8 @@ pub fn assert_found(rt: &HostRuntime, cases: &[(&str, &str, &str)]) -> Result<()
 }
 
 /// Each query on its text is refused by this name.
-pub fn assert_refused(
-    rt: &HostRuntime,
+pub fn assert_refused<R: Abort + AllocGlobal>(
+    rt: &R,
     cases: &[(&str, &str, QueryTextFault)],
 ) -> Result<(), Fail> {
     for (query, text, wanted) in cases {
