@@ -1,0 +1,15 @@
+use Rattle.std.proofs.Common.{◌-◌, ◌<◌, length, ◌&&◌, not, get_or, arith, ap, ap₂, ◌∙◌}
+use Rattle.std.proofs.lemmas.Simd.{Each1-get_or}
+use Rattle.std.proofs.Common.{Fits, w8}
+use Rattle.bit_words.proofs.Bits.{is_set-and, is_set-complement}
+use Rattle.byte_masks.proofs.Classes.{no_control}
+use Rattle.byte_masks.proofs.classify.Goals as goal
+
+pub returns-clause-op : goal.returns-clause-op
+returns-clause-op c i h =
+    let control = c.controls-control.result in
+    let lane = get_or c.args.lanes i 0 in
+    let fits : i < length c.args.lanes = omega (arith, c.fits-lanes.0) in
+    is_set-and c.near_ops.result (18446744073709551615 - control) i
+    ∙ ap₂ (λ x y. x && y) (c.near_ops.ensures i h) (is_set-complement control i c.controls-control.type_inv h ∙ ap not (c.controls-control.ensures i h))
+    ∙ no_control lane (Each1-get_or (Fits w8) c.args.lanes i 0 fits c.fits-lanes.1).fits

@@ -1,0 +1,133 @@
+// The classes of 64 bytes, as words with a bit for each byte.
+#![tactic(auto)]
+
+ghost use Rattle.std.specs.Prelude.{◌≡◌, ℕ, ◌-◌, ◌≤◌, ◌++◌, ◌==◌, length, replicate, slice_index};
+ghost use Rattle.bit_words.specs.Words.{HasBits};
+ghost use Rattle.byte_masks.specs.Classes.{op_byte, blank_byte, control_byte, near_op};
+
+#[cfg(test)]
+mod tests;
+
+use std::simd::prelude::*;
+
+/// The classes of the bytes of a block: bit `i` of each word is of byte `i`.
+#[derive(Clone, Copy, Debug, PartialEq, Eq, Drop)]
+pub struct Block {
+    /// The bytes `"`.
+    pub quote: u64,
+    /// The bytes `\`.
+    pub backslash: u64,
+    /// The structural characters (RFC 8259, section 2): `{ } [ ] : ,`.
+    pub op: u64,
+    /// Whitespace (RFC 8259, section 2): 20, 09, 0A and 0D (hexadecimal).
+    pub blank: u64,
+    /// The control characters, which a string may not have unescaped (RFC 8259, section 7): every
+    /// byte below 20 (hexadecimal).
+    pub control: u64,
+}
+
+#[inline(always)]
+fn equal_to(lanes: u8x64, byte: u8) -> u64
+    ensures { HasBits result (λ i. slice_index lanes i == byte) }
+{
+    lanes.simd_eq(u8x64::splat(byte)).to_bitmask()
+}
+
+// Entry n is the blank whose low four bits are n, or a byte with other low bits. Each 16 lanes are
+// looked up in 16 entries of their own, so the same 16 stand there four times.
+const BLANKS: [u8; 64] = [
+    32, 0, 0, 0, 0, 0, 0, 0, 0, 9, 10, 0, 0, 13, 0, 0, 32, 0, 0, 0, 0, 0, 0, 0, 0, 9, 10, 0, 0, 13,
+    0, 0, 32, 0, 0, 0, 0, 0, 0, 0, 0, 9, 10, 0, 0, 13, 0, 0, 32, 0, 0, 0, 0, 0, 0, 0, 0, 9, 10, 0,
+    0, 13, 0, 0,
+];
+
+// Entry n is the structural character whose low four bits are n, with bit 20 (hexadecimal) set: so
+// `[` and `{`, 5B and 7B, are one entry, and so are `]` and `}`.
+const OPS: [u8; 64] = [
+    0, 0, 0, 0, 0, 0, 0, 0, 0, 0, 58, 123, 44, 125, 0, 0, 0, 0, 0, 0, 0, 0, 0, 0, 0, 0, 58, 123,
+    44, 125, 0, 0, 0, 0, 0, 0, 0, 0, 0, 0, 0, 0, 58, 123, 44, 125, 0, 0, 0, 0, 0, 0, 0, 0, 0, 0, 0,
+    0, 58, 123, 44, 125, 0, 0,
+];
+
+// The structural characters, and the control characters 0C and 1A, which differ from a comma and a
+// colon in the bit that is set. For `[`, which is 5B, and in binary:
+//
+//     byte               0101_1011
+//     low four bits      0000_1011    entry 11, which is 7B
+//     byte with the bit  0111_1011    7B
+#[inline(always)]
+fn near_ops(lanes: u8x64) -> u64
+    ensures { HasBits result (λ i. near_op (slice_index lanes i)) }
+{
+    u8x64::from_array(OPS)
+        .swizzle_dyn_within::<16>(lanes & u8x64::splat(15))
+        .simd_eq(lanes | u8x64::splat(0x20))
+        .to_bitmask()
+}
+
+#[inline(always)]
+fn blanks(lanes: u8x64) -> u64
+    ensures { HasBits result (λ i. blank_byte (slice_index lanes i)) }
+{
+    u8x64::from_array(BLANKS)
+        .swizzle_dyn_within::<16>(lanes & u8x64::splat(15))
+        .simd_eq(lanes)
+        .to_bitmask()
+}
+
+#[inline(always)]
+fn controls(lanes: u8x64) -> u64
+    ensures { HasBits result (λ i. control_byte (slice_index lanes i)) }
+{
+    lanes.simd_lt(u8x64::splat(0x20)).to_bitmask()
+}
+
+/// The classes of 64 bytes, where lane `i` is byte `i`.
+#[inline(always)]
+pub fn classify(lanes: Simd<u8, 64>) -> Block
+    ensures quote { HasBits result.quote (λ i. slice_index lanes i == 34) }
+    ensures backslash { HasBits result.backslash (λ i. slice_index lanes i == 92) }
+    ensures op { HasBits result.op (λ i. op_byte (slice_index lanes i)) }
+    ensures blank { HasBits result.blank (λ i. blank_byte (slice_index lanes i)) }
+    ensures control { HasBits result.control (λ i. control_byte (slice_index lanes i)) }
+{
+    let control = controls(lanes);
+    Block {
+        quote: equal_to(lanes, b'"'),
+        backslash: equal_to(lanes, b'\\'),
+        op: near_ops(lanes) & !control,
+        blank: blanks(lanes),
+        control,
+    }
+}
+
+/// The bytes, of which there are at most 64, and spaces after them.
+pub fn tail(bytes: &[u8]) -> Simd<u8, 64>
+    requires { length bytes.now ≤ 64 }
+    ensures { result ≡ bytes.now ++ replicate (64 - length bytes.now) 32 }
+{
+    let mut block = [b' '; 64];
+    block[..bytes.len()].copy_from_slice(bytes);
+    u8x64::from_array(block)
+}
+
+/// Whether the byte is a structural character: `{ } [ ] : ,`.
+pub fn is_op(byte: u8) -> bool
+    ensures { result ≡ op_byte byte }
+{
+    matches!(byte, b'{' | b'}' | b'[' | b']' | b':' | b',')
+}
+
+/// Whether the byte is whitespace: 20, 09, 0A or 0D (hexadecimal).
+pub fn is_blank(byte: u8) -> bool
+    ensures { result ≡ blank_byte byte }
+{
+    matches!(byte, b' ' | b'\t' | b'\n' | b'\r')
+}
+
+/// Whether the byte is a control character, below 20 (hexadecimal).
+pub fn is_control(byte: u8) -> bool
+    ensures { result ≡ control_byte byte }
+{
+    byte < 0x20
+}

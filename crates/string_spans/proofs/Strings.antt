@@ -1,0 +1,79 @@
+-- The words that `spans` makes of the parities of the real quotes.
+use Rattle.std.proofs.Common.{◌≡◌, ℕ, suc, ◌+◌, ◌/◌, ◌^◌, ◌<◌, Bool, true, false, not, ◌&&◌, ◌==◌, cond, refl, sym, ap, ap₂, ◌∙◌, arith, zero-add, one-add}
+use lib.Bits.{bit_and, bit_xor, xor_lt}
+use Rattle.bit_words.specs.Words.{is_set, is_odd, HasBits}
+use Rattle.bit_words.proofs.Bits.{xor, odd_suc, is_set-and, is_set-xor, complement, is_set-complement, top_bit, spread, is_set-spread, spread_lt}
+use Rattle.string_spans.specs.Quotes.{ones_below, parity_through, quotes_before, is_opening, is_closing, is_interior}
+use Rattle.string_spans.proofs.Folds.{parity, parity-suc}
+
+-- a block that begins within a string turns every parity
+before : (s : Bool) (n : ℕ) → is_odd (cond s 1 0 + n) ≡ xor (is_odd n) s
+before true n = ap is_odd (one-add n) ∙ odd_suc n ∙ turned (is_odd n)
+  where
+    turned : (a : Bool) → not a ≡ xor a true
+    turned true = refl
+    turned false = refl
+before false n = ap is_odd (zero-add n) ∙ same (is_odd n)
+  where
+    same : (a : Bool) → a ≡ xor a false
+    same true = refl
+    same false = refl
+
+swapped : (a b s : Bool) → xor (xor a b) s ≡ xor (xor a s) b
+swapped true true true = refl
+swapped true true false = refl
+swapped true false true = refl
+swapped true false false = refl
+swapped false true true = refl
+swapped false true false = refl
+swapped false false true = refl
+swapped false false false = refl
+
+module _ (s : Bool) (q p : ℕ) (q_lt : q < 2 ^ 64) (p_lt : p < 2 ^ 64) (folds : HasBits p (parity_through q)) where
+  -- the bytes within a string, an opening quote among them and a closing one not
+  abbrev pub within : ℕ
+  within = bit_xor p (spread s)
+
+  within_lt : within < 2 ^ 64
+  within_lt = xor_lt 64 p (spread s) p_lt (spread_lt s)
+
+  abbrev odd : ℕ → Bool
+  odd i = is_odd (quotes_before s q i)
+
+  is_within : (i : ℕ) → i < 64 → is_set within i ≡ xor (parity q (suc i)) s
+  is_within i h = is_set-xor p (spread s) i ∙ ap₂ xor (folds i h) (is_set-spread s i h)
+
+  step : (i : ℕ) → i < 64 → is_set within i ≡ xor (odd i) (is_set q i)
+  step i h =
+      is_within i h ∙ ap (λ b. xor b s) (parity-suc q i) ∙ swapped (parity q i) (is_set q i) s ∙ ap (λ b. xor b (is_set q i)) (sym (before s (ones_below q i)))
+
+  opens : (b o : Bool) → (xor o b && b) ≡ (b && not o)
+  opens true true = refl
+  opens true false = refl
+  opens false true = refl
+  opens false false = refl
+
+  closes : (b o : Bool) → (b && not (xor o b)) ≡ (b && o)
+  closes true true = refl
+  closes true false = refl
+  closes false true = refl
+  closes false false = refl
+
+  fills : (b o : Bool) → (xor o b && not b) ≡ (not b && o)
+  fills true true = refl
+  fills true false = refl
+  fills false true = refl
+  fills false false = refl
+
+  pub opening : HasBits (bit_and within q) (is_opening s q)
+  opening i h = is_set-and within q i ∙ ap (λ w. w && is_set q i) (step i h) ∙ opens (is_set q i) (odd i)
+
+  pub closing : HasBits (bit_and q (complement within)) (is_closing s q)
+  closing i h =
+      is_set-and q _ i ∙ ap (λ w. is_set q i && w) (is_set-complement within i within_lt h ∙ ap not (step i h)) ∙ closes (is_set q i) (odd i)
+
+  pub interior : HasBits (bit_and within (complement q)) (is_interior s q)
+  interior i h = is_set-and within _ i ∙ ap₂ (λ u w. u && w) (step i h) (is_set-complement q i q_lt h) ∙ fills (is_set q i) (odd i)
+
+  pub last : (within / 2 ^ 63 == 1) ≡ odd 64
+  last = top_bit within within_lt ∙ is_within 63 (omega arith) ∙ sym (before s (ones_below q 64))

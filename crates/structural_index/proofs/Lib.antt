@@ -1,0 +1,6 @@
+pub mod Controls
+pub mod Kept
+pub mod Ones
+pub mod Skips
+pub mod Steps
+pub mod Words

@@ -1,0 +1,4 @@
+pub mod Places
+pub mod Laws
+pub mod Blocks
+pub mod Bits
