@@ -60,8 +60,8 @@ xor-false false = refl
 pub unfolded : (word : ℕ) → Folded word 1 word
 unfolded word = record {
   each = λ i h.
-    let e : suc i - 1 ≡ i = omega arith in
-    sym (apart (is_set word i) (parity word i)) ∙ ap (λ b. xor b (parity word i)) (xor-comm (is_set word i) (parity word i) ∙ sym (parity-suc word i)) ∙ ap (λ k. xor (parity word (suc i)) (parity word k)) (sym e);
+      let e : suc i - 1 ≡ i = omega arith in
+      sym (apart (is_set word i) (parity word i)) ∙ ap (λ b. xor b (parity word i)) (xor-comm (is_set word i) (parity word i) ∙ sym (parity-suc word i)) ∙ ap (λ k. xor (parity word (suc i)) (parity word k)) (sym e);
 }
 
 -- a fold over n bits, folded over n bits, is one over 2 * n
