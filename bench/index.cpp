@@ -12,6 +12,8 @@
 #include <string>
 #include <vector>
 
+#include "memory.hpp"
+
 // ---- what the static library exports, and the memory that it asks for
 
 struct Indexed {
@@ -21,23 +23,8 @@ struct Indexed {
   bool refused;
 };
 
-struct Tried {
-  bool ok;
-  void *block;
-};
-
 extern "C" {
 Indexed path_bench_index(const uint8_t *text, size_t length, uint32_t *found, size_t room);
-
-Tried rattle_alloc(size_t size, size_t align) {
-  void *block = std::malloc(size != 0 ? size : align);
-  return {block != nullptr, block};
-}
-Tried rattle_realloc(void *block, size_t, size_t size, size_t align) {
-  void *moved = std::realloc(block, size != 0 ? size : align);
-  return {moved != nullptr, moved};
-}
-void rattle_dealloc(void *block) { std::free(block); }
 }
 
 // ---- the plain scanner

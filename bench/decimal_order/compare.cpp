@@ -1,16 +1,17 @@
 // Times one comparison of two number texts, in nanoseconds: the least mean of many short rounds,
 // since other work on the machine only ever adds to it.
 //
-// Links against a static library that exports `decimal_order::compare` as
-//     int32_t decimal_compare(const uint8_t *a, size_t a_len, const uint8_t *b, size_t b_len)
-// with -1, 0 or 1 for less, equal or greater:
-//     c++ -O2 -std=c++17 compare.cpp LIBRARY.a -o compare && ./compare
+// It is linked with the static library path_bench, which exports `decimal_order::compare` as decimal_compare, with -1, 0 or
+// 1 for less, equal or greater:
+//     c++ -O2 -std=c++17 bench/decimal_order/compare.cpp crates/path_bench/out/libpath_bench.a -o compare && ./compare
 #include <chrono>
 #include <cstdint>
 #include <cstdio>
 #include <cstdlib>
 #include <string>
 #include <vector>
+
+#include "../memory.hpp"
 
 extern "C" int32_t decimal_compare(const uint8_t *a, size_t a_len, const uint8_t *b, size_t b_len);
 

@@ -8,6 +8,8 @@
 #include <cstdlib>
 #include <vector>
 
+#include "../memory.hpp"
+
 // ---- what the static library exports, and the memory that it asks for
 
 struct Taken {
@@ -16,24 +18,9 @@ struct Taken {
   bool ended;  // memory was refused, or a fault came
 };
 
-struct Tried {
-  bool ok;
-  void *block;
-};
-
 extern "C" {
 // Feeds the stream in pieces of that length, and takes its frames as they become whole.
 Taken path_bench_frames(const uint8_t *stream, size_t length, size_t piece, bool read_requests);
-
-Tried rattle_alloc(size_t size, size_t align) {
-  void *block = std::malloc(size != 0 ? size : align);
-  return {block != nullptr, block};
-}
-Tried rattle_realloc(void *block, size_t, size_t size, size_t align) {
-  void *moved = std::realloc(block, size != 0 ? size : align);
-  return {moved != nullptr, moved};
-}
-void rattle_dealloc(void *block) { std::free(block); }
 }
 
 // ---- streams
