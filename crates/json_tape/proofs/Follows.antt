@@ -2,12 +2,12 @@
 use Rattle.std.proofs.Common.{◌≡◌, ℕ, suc, ◌+◌, ◌-◌, List, [], ◌∷◌, ◌++◌, length, max, Option, Some, None, true, false, refl, sym, ap, ◌∙◌, subst, arith, append_assoc, length-append}
 use Rattle.json_tape.specs.Tree.{Name, Scalar, Null, True, False, Num, Str, Tree, Elements, Members, then_element, then_member}
 use Rattle.json_tape.specs.Letters.{AreBlanks, IsString}
-use Rattle.json_tape.specs.Grammar.{IsScalar, IsValue, scalar, no_array, array, no_object, object, IsElements, one_element, next_element, IsMembers, one_member, next_member, IsMember, member, IsText}
+use Rattle.json_tape.specs.Grammar.{IsScalarText, IsValue, scalar, no_array, array, no_object, object, IsElements, one_element, next_element, IsMembers, one_member, next_member, IsMember, member, IsText}
 use Rattle.json_tape.specs.declared.tape.Role.{Role}
 use Rattle.json_tape.specs.Tape.{Label, Top, Index, Named, role_of, label_spot, deepest, deepest_element, deepest_member, element_count, member_count, kind_of_scalar, tape_of, tape_of_elements, tape_of_members, extent}
 use Rattle.json_tape.specs.Nodes.{size_of_elements, size_of_members}
 use Rattle.json_tape.specs.Lexing.{Sign, class, NoAtomFirst, IsToken, sign, text, word, Goes, stay, token, sign_at}
-use Rattle.json_tape.specs.Machine.{Token, Opening, Closing, Text, Word, State, label_for, takes_value, takes_name, first_of, closes, after_comma, kind_of_shape, with_child, spot, closed, change_at, step, root, start}
+use Rattle.json_tape.specs.Machine.{Token, Opening, Closing, Text, Word, State, label_for, takes_value, takes_name, first_of, closes, after_comma, kind_of_shape, with_child, run_at, closed, change_at, step, root, start}
 use Rattle.json_tape.specs.declared.tape.Kind.{Kind}
 use Rattle.json_tape.specs.declared.tape.Kind.TheVariants as kinds
 use Rattle.json_tape.specs.declared.tape.Extent.{Extent}
@@ -19,7 +19,7 @@ use Rattle.json_tape.specs.declared.tape.Want.{Want}
 use Rattle.json_tape.specs.declared.tape.Want.TheVariants as wants
 use Rattle.json_tape.specs.declared.tape.Open.{Open}
 use Rattle.json_tape.proofs.Snoc.{deepest-then_element, deepest-then_member, count-then_element, count-then_member, tape-then_element, tape-then_member, length-tape_elements, length-tape_members}
-use Rattle.json_tape.proofs.Complete.{goes_on, no_atom-blanks, blanks_go, number_kind}
+use Rattle.json_tape.proofs.Complete.{goes_on, no_atom-blanks, blanks_go}
 use Rattle.json_tape.proofs.Chars.{number_atoms, number_some}
 
 abbrev st : List Entry → List Open → Want → Option Extent → ℕ → State
@@ -37,12 +37,12 @@ leaf_token x False = Word x (kinds.Bool false)
 leaf_token x Num = Word x kinds.Number
 leaf_token x (Str cs) = Text x
 
-leaf_is : (p : ℕ) (bs rest : List ℕ) (s : Scalar) → IsScalar bs s → NoAtomFirst rest → IsToken p bs (leaf_token (spot p (length bs)) s) rest
-leaf_is p bs rest Null h n = subst (λ l. IsToken p l (Word (spot p (length l)) kinds.Null) rest) (sym h) (word {b = 110} {vs = 117 ∷ 108 ∷ 108 ∷ []} (refl, (refl, (refl, (refl, tt)))) n refl)
-leaf_is p bs rest True h n = subst (λ l. IsToken p l (Word (spot p (length l)) (kinds.Bool true)) rest) (sym h) (word {b = 116} {vs = 114 ∷ 117 ∷ 101 ∷ []} (refl, (refl, (refl, (refl, tt)))) n refl)
-leaf_is p bs rest False h n = subst (λ l. IsToken p l (Word (spot p (length l)) (kinds.Bool false)) rest) (sym h) (word {b = 102} {vs = 97 ∷ 108 ∷ 115 ∷ 101 ∷ []} (refl, (refl, (refl, (refl, (refl, tt))))) n refl)
+leaf_is : (p : ℕ) (bs rest : List ℕ) (s : Scalar) → IsScalarText bs s → NoAtomFirst rest → IsToken p bs (leaf_token (run_at p (length bs)) s) rest
+leaf_is p bs rest Null h n = subst (λ l. IsToken p l (Word (run_at p (length l)) kinds.Null) rest) (sym h) (word {b = 110} {vs = 117 ∷ 108 ∷ 108 ∷ []} (refl, (refl, (refl, (refl, tt)))) n refl)
+leaf_is p bs rest True h n = subst (λ l. IsToken p l (Word (run_at p (length l)) (kinds.Bool true)) rest) (sym h) (word {b = 116} {vs = 114 ∷ 117 ∷ 101 ∷ []} (refl, (refl, (refl, (refl, tt)))) n refl)
+leaf_is p bs rest False h n = subst (λ l. IsToken p l (Word (run_at p (length l)) (kinds.Bool false)) rest) (sym h) (word {b = 102} {vs = 97 ∷ 108 ∷ 115 ∷ 101 ∷ []} (refl, (refl, (refl, (refl, (refl, tt))))) n refl)
 leaf_is p [] rest Num h n = absurd (number_some [] h refl)
-leaf_is p (b ∷ bs) rest Num h n = word (number_atoms (b ∷ bs) h) n (number_kind (b ∷ bs) h)
+leaf_is p (b ∷ bs) rest Num h n = word (number_atoms (b ∷ bs) h) n h
 leaf_is p bs rest (Str cs) h n = text cs h
 
 -- the token of a scalar puts its tree on the tape
@@ -69,25 +69,25 @@ change_seam (x ∷ es) e inner f = ap (λ l. x ∷ l) (change_seam es e inner f)
 open_goes : (shape : Shape) (p c : ℕ) (rest : List ℕ) (es : List Entry) (o : Open) (os : List Open) (w : Want) (name : Option Extent) (d : ℕ)
     → sign_at p c ≡ Some (Opening shape p) → takes_value w ≡ true
     → Goes p (c ∷ rest) (st es (o ∷ os) w name d) (p + 1) rest
-    (st (es ++ record { kind = kind_of_shape shape; role = role_of (label_for o name); label = label_spot (label_for o name); source = spot p 0; up = o.entry; children = 0; after = 0 } ∷ []) (record { level = Inside shape; entry = length es; children = 0 } ∷ with_child o ∷ os) (first_of shape) None (max d (suc (length os))))
+    (st (es ++ record { kind = kind_of_shape shape; role = role_of (label_for o name); label = label_spot (label_for o name); source = run_at p 0; up = o.entry; children = 0; after = 0 } ∷ []) (record { level = Inside shape; entry = length es; children = 0 } ∷ with_child o ∷ os) (first_of shape) None (max d (suc (length os))))
 open_goes shape p c rest es o os w name d i h = token {vs = c ∷ []} refl refl (sign i) (rw h refl) (stay refl refl)
 
 entry_same : (k : Kind) (r : Role) (x : Extent) (a b b' : ℕ) (up c c' d d' : ℕ) → b ≡ b' → c ≡ c' → d ≡ d'
-    → ◌≡◌ {A = Entry} (record { kind = k; role = r; label = x; source = spot a b; up = up; children = c; after = d }) (record { kind = k; role = r; label = x; source = spot a b'; up = up; children = c'; after = d' })
+    → ◌≡◌ {A = Entry} (record { kind = k; role = r; label = x; source = run_at a b; up = up; children = c; after = d }) (record { kind = k; role = r; label = x; source = run_at a b'; up = up; children = c'; after = d' })
 entry_same k r x a b b' up c c' d d' e f g = rw (e, f, g) refl
 
 close_goes : (shape : Shape) (p q n n' m len : ℕ) (c : ℕ) (rest : List ℕ) (es inner : List Entry) (o : Open) (os : List Open) (w : Want) (label : Label) (d : ℕ)
     → sign_at q c ≡ Some (Closing shape q) → closes shape (Inside shape) w ≡ true → length inner ≡ m → q + 1 ≡ p + len → n ≡ n'
-    → Goes q (c ∷ rest) (st (es ++ record { kind = kind_of_shape shape; role = role_of label; label = label_spot label; source = spot p 0; up = o.entry; children = 0; after = 0 } ∷ inner) (record { level = Inside shape; entry = length es; children = n } ∷ with_child o ∷ os) w None d)
+    → Goes q (c ∷ rest) (st (es ++ record { kind = kind_of_shape shape; role = role_of label; label = label_spot label; source = run_at p 0; up = o.entry; children = 0; after = 0 } ∷ inner) (record { level = Inside shape; entry = length es; children = n } ∷ with_child o ∷ os) w None d)
     (q + 1) rest
-    (st (es ++ record { kind = kind_of_shape shape; role = role_of label; label = label_spot label; source = spot p len; up = o.entry; children = n'; after = length es + 1 + m } ∷ inner) (with_child o ∷ os) wants.Next None d)
+    (st (es ++ record { kind = kind_of_shape shape; role = role_of label; label = label_spot label; source = run_at p len; up = o.entry; children = n'; after = length es + 1 + m } ∷ inner) (with_child o ∷ os) wants.Next None d)
 close_goes shape p q n n' m len c rest es inner o os w label d i h lm el en =
     token {vs = c ∷ []} refl refl (sign i) (rw h (ap Some (ap (λ l. st l (with_child o ∷ os) wants.Next None d) made))) (stay refl refl)
   where
     e : Entry
-    e = record { kind = kind_of_shape shape; role = role_of label; label = label_spot label; source = spot p 0; up = o.entry; children = 0; after = 0 }
+    e = record { kind = kind_of_shape shape; role = role_of label; label = label_spot label; source = run_at p 0; up = o.entry; children = 0; after = 0 }
 
-    made : change_at (es ++ e ∷ inner) (length es) (closed q n (length (es ++ e ∷ inner))) ≡ es ++ record { kind = kind_of_shape shape; role = role_of label; label = label_spot label; source = spot p len; up = o.entry; children = n'; after = length es + 1 + m } ∷ inner
+    made : change_at (es ++ e ∷ inner) (length es) (closed q n (length (es ++ e ∷ inner))) ≡ es ++ record { kind = kind_of_shape shape; role = role_of label; label = label_spot label; source = run_at p len; up = o.entry; children = n'; after = length es + 1 + m } ∷ inner
     made =
         let len_is : q + 1 - p ≡ len = omega arith in
         let after_is : length (es ++ e ∷ inner) ≡ length es + 1 + m = omega (arith, length-append es (e ∷ inner)) in
@@ -123,7 +123,7 @@ inside_goes : (shape : Shape) (c c' p n m k len : ℕ) (s body s' rest : List �
     → ((e : Entry) → length (es ++ e ∷ []) ≡ length es + 1 → Goes (p + 1 + length s) (body ++ (s' ++ c' ∷ rest)) (st (es ++ e ∷ []) (record { level = Inside shape; entry = length es; children = 0 } ∷ with_child o ∷ os) (first_of shape) None (max d (suc (length os))))
     (p + 1 + length s + length body) (s' ++ c' ∷ rest) (st ((es ++ e ∷ []) ++ inner) (record { level = Inside shape; entry = length es; children = 0 + k } ∷ with_child o ∷ os) w' None d'))
     → Goes p (c ∷ (s ++ (body ++ (s' ++ c' ∷ rest)))) (st es (o ∷ os) w name d) (p + len) rest
-    (st (es ++ record { kind = kind_of_shape shape; role = role_of (label_for o name); label = label_spot (label_for o name); source = spot p len; up = o.entry; children = n; after = length es + 1 + m } ∷ inner) (with_child o ∷ os) wants.Next None d')
+    (st (es ++ record { kind = kind_of_shape shape; role = role_of (label_for o name); label = label_spot (label_for o name); source = run_at p len; up = o.entry; children = n; after = length es + 1 + m } ∷ inner) (with_child o ∷ os) wants.Next None d')
 inside_goes shape c c' p n m k len s body s' rest es inner o os w w' name d d' ic ic' le h cl lm en bs bs' mid =
     goes_on (open_goes shape p c (s ++ (body ++ (s' ++ c' ∷ rest))) es o os w name d (ic p) h)
     (goes_on (blanks_go s (body ++ (s' ++ c' ∷ rest)) (p + 1) _ bs)
@@ -133,7 +133,7 @@ inside_goes shape c c' p n m k len s body s' rest es inner o os w w' name d d' i
     (at_place refl qe (close_goes shape p q (0 + k) n m len c' rest es inner o os w' (label_for o name) d' (ic' q) cl lm qe en))))))
   where
     e : Entry
-    e = record { kind = kind_of_shape shape; role = role_of (label_for o name); label = label_spot (label_for o name); source = spot p 0; up = o.entry; children = 0; after = 0 }
+    e = record { kind = kind_of_shape shape; role = role_of (label_for o name); label = label_spot (label_for o name); source = run_at p 0; up = o.entry; children = 0; after = 0 }
 
     pushed : length (es ++ e ∷ []) ≡ length es + 1
     pushed = omega (arith, length-append es (e ∷ []))
@@ -171,7 +171,7 @@ length_all p front s c s' bs = simp length-append (omega arith)
 
 -- a name, and the colon after it
 name_goes : (p : ℕ) (name rest : List ℕ) (n : Name) (es : List Entry) (o : Open) (os : List Open) (w : Want) (d : ℕ) → IsString name n.characters → takes_name w ≡ true
-    → Goes p (name ++ rest) (st es (o ∷ os) w None d) (p + length name) rest (st es (o ∷ os) wants.Colon (Some (spot p (length name))) d)
+    → Goes p (name ++ rest) (st es (o ∷ os) w None d) (p + length name) rest (st es (o ∷ os) wants.Colon (Some (run_at p (length name))) d)
 name_goes p name rest n es o os w d h v = token {vs = name} refl refl (text n.characters h) (rw v refl) (stay refl refl)
 
 colon_goes : (p : ℕ) (rest : List ℕ) (es : List Entry) (os : List Open) (name : Option Extent) (d : ℕ)
@@ -188,7 +188,7 @@ mutual
   pub value_goes : {p : ℕ} {vs : List ℕ} {t : Tree} → IsValue p vs t → (rest : List ℕ) (es : List Entry) (o : Open) (os : List Open) (w : Want) (name : Option Extent) (d : ℕ) → takes_value w ≡ true → NoAtomFirst rest
       → Goes p (vs ++ rest) (st es (o ∷ os) w name d) (p + length vs) rest (st (es ++ tape_of t o.entry (label_for o name) (length es)) (with_child o ∷ os) wants.Next None (deepest t (length os) d))
   value_goes (scalar {p = p} {bs = bs} {s = s} h) rest es o os w name d v n =
-      token refl refl (leaf_is p bs rest s h n) (leaf_step (spot p (length bs)) s es o os w name d v) (stay refl refl)
+      token refl refl (leaf_is p bs rest s h n) (leaf_step (run_at p (length bs)) s es o os w name d v) (stay refl refl)
   value_goes (no_array {p = p} s b) rest es o os w name d v n =
       from_bytes (ap (λ l. 91 ∷ l) (regroup2 s 93 rest))
       (inside_goes Array 91 93 p 0 0 0 _ s [] [] rest es [] o os w wants.FirstValue name d _ (λ q. refl) (λ q. refl) (length2 s 93) v refl refl refl b tt
@@ -256,11 +256,11 @@ mutual
       from_bytes (regroup_more name s 58 s' bs rest)
       (goes_on (name_goes p name (s ++ (58 ∷ (s' ++ (bs ++ rest)))) nm es o os w d hs v)
       (goes_on (blanks_go s (58 ∷ (s' ++ (bs ++ rest))) (p + length name) _ b)
-      (goes_on (colon_goes (p + length name + length s) (s' ++ (bs ++ rest)) es (o ∷ os) (Some (spot p (length name))) d)
+      (goes_on (colon_goes (p + length name + length s) (s' ++ (bs ++ rest)) es (o ∷ os) (Some (run_at p (length name))) d)
       (goes_on (blanks_go s' (bs ++ rest) (p + length name + length s + 1) _ b')
       (at_place (sym (length_more p name s 58 s')) (length_all p name s 58 s' bs)
-      (to_state o (ap (λ x. es ++ tape_of t o.entry x (length es)) (named_for o (spot p (length name)) a) ∙ ap (λ x. es ++ tape_of t o.entry (Named x) (length es)) (sym (ap extent src))) refl refl
-      (value_goes hv rest es o os wants.Value (Some (spot p (length name))) d refl n)))))))
+      (to_state o (ap (λ x. es ++ tape_of t o.entry x (length es)) (named_for o (run_at p (length name)) a) ∙ ap (λ x. es ++ tape_of t o.entry (Named x) (length es)) (sym (ap extent src))) refl refl
+      (value_goes hv rest es o os wants.Value (Some (run_at p (length name))) d refl n)))))))
 
 -- over a whole text the builder goes from its start to the tape of the text's tree
 pub text_goes : (bytes : List ℕ) (t : Tree) → IsText bytes t

@@ -1,5 +1,6 @@
 -- From entries to parts of the tree, and back.
-use Rattle.std.proofs.Common.{ℕ, ◌<◌, List, ◌++◌, length, length-append, get_or, sym, ap, ◌∙◌, subst, arith}
+use Rattle.std.proofs.lemmas.Bool.{cases_lt}
+use Rattle.std.proofs.Common.{ℕ, zero, suc, ◌≡◌, ◌+◌, ◌<◌, List, [], ◌∷◌, inl, inr, refl, ◌++◌, length, length-append, get_or, sym, ap, ◌∙◌, subst, arith}
 use Rattle.json_tape.specs.Tree.{Tree}
 use Rattle.json_tape.specs.Tape.{Label, Top, tape_of, Stands, IsAt}
 use Rattle.json_tape.specs.Parts.{HasPart}
@@ -37,3 +38,16 @@ module _ (Bad : Entry → Type 0) (Q : Tree → Type 0) (tape : List Entry) (t :
       let p = placed h in
       let d = entry_of part p.up p.label p.number in
       none p.number d (number_below tape t part p.number p.up p.label e p.is_at) (subst Bad (sym (entry_at tape d e p.is_at)) (law part p.number p.up p.label p.is_at q))
+
+-- of the entries below a number none is bad, nor is that one
+pub none_below : (Bad : Entry → Type 0) (tape : List Entry) (n : ℕ) (e : Entry) → n < length tape → ((i : ℕ) (d : Entry) → i < n → Bad (get_or tape i d) → ⊥) → (Bad (get_or tape n e) → ⊥)
+    → (i : ℕ) (d : Entry) → i < n + 1 → Bad (get_or tape i d) → ⊥
+none_below Bad tape n e h before this i d l b = elim (cases_lt i n) [
+  | inl below ↦ before i d below b
+  | inr above ↦ (let same : i ≡ n = omega arith in this (subst Bad (get_or_any tape n d e h) (subst (λ j. Bad (get_or tape j d)) same b)))
+]
+  where
+    get_or_any : (es : List Entry) (k : ℕ) (a b : Entry) → k < length es → get_or es k a ≡ get_or es k b
+    get_or_any [] k a b h = absurd (omega arith)
+    get_or_any (x ∷ es) zero a b h = refl
+    get_or_any (x ∷ es) (suc k) a b h = get_or_any es k a b (omega arith)

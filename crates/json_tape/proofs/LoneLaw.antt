@@ -6,11 +6,12 @@ use Rattle.std.proofs.lemmas.Str.{length-encode, len_utf8_bounds}
 use lib.Utf8.{encode}
 use Rattle.json_tape.specs.Tree.{Spelt, Plain, Short, Unit4}
 use Rattle.json_tape.specs.Letters.{IsHexDigit, IsShort, IsChar, AreChars, IsString}
-use Rattle.json_tape.specs.Meaning.{IsHigh, IsLow, Means, nothing, plain, short, unit, pair, HasLone, short_value, is_high, is_low}
+use Rattle.json_tape.specs.Meaning.{IsHigh, IsLow, Means, nothing, plain, short, unit, pair, HasLone, meaning, short_value, is_high, is_low}
 use Rattle.json_tape.specs.declared.scan.Mode.TheVariants.{Between, Hex}
 use Rattle.json_tape.specs.declared.scan.Turn.TheVariants.{Go}
 use Rattle.json_tape.specs.Scanning.{turn}
 use Rattle.json_tape.specs.Surrogates.{number_of_hex, standing, past_unit, over, lone_from, lone}
+use Rattle.json_tape.proofs.Meanings.{meaning_is}
 use Rattle.json_tape.proofs.Strings.{ArePlain, plain_bytes}
 
 -- the search over characters
@@ -180,6 +181,14 @@ meant (Plain c ∷ cs) false e = let r = meant cs false e in (c ∷ r.0, plain r
 meant (Short l ∷ cs) true e = absurd (cc)
 meant (Short l ∷ cs) false e = let r = meant cs false e in (short_value l ∷ r.0, short r.1)
 meant (Unit4 u ∷ cs) high e = unit_meant u cs high e (λ g. meant cs g)
+
+-- what has no lone surrogate means what the function gives
+pub means_unless : (cs : List Spelt) → (HasLone cs → ⊥) → Means cs (meaning cs)
+means_unless cs h = go (lone_chars false cs) refl
+  where
+    go : (t : Bool) → lone_chars false cs ≡ t → Means cs (meaning cs)
+    go true e = absurd (h (λ vs m. let x = means_none m in cc))
+    go false e = let r = meant cs false e in subst (Means cs) (sym (meaning_is r.1)) r.1
 
 pub lone_sound : (bs : List ℕ) (cs : List Spelt) → IsString bs cs → lone bs ≡ true → HasLone cs
 lone_sound bs cs s h = λ vs m. let x = string_over bs cs s in let y = means_none m in cc

@@ -6,7 +6,7 @@ use Rattle.json_tape.specs.Tape.{Label, Top, Index, Named, Stands, IsAt, in_obje
 use Rattle.json_tape.specs.Limits.{bytes_at}
 use Rattle.json_tape.specs.Verdict.{SpellsLone}
 use Rattle.json_tape.specs.Parts.{HasPart}
-use Rattle.json_tape.specs.Surrogates.{lone, IsLoneValue, IsLoneName, HasLonePart}
+use Rattle.json_tape.specs.Surrogates.{lone, IsLoneValue, IsLoneName}
 use Rattle.json_tape.specs.declared.tape.Entry.{Entry}
 use Rattle.json_tape.specs.declared.tape.Role.TheVariants as roles
 use Rattle.json_tape.proofs.Parts.{part_of_at, placed}
@@ -16,6 +16,10 @@ use Rattle.json_tape.proofs.Judging.{part_with, number_below}
 use Rattle.json_tape.proofs.Entries.{role_is, label_is}
 use Rattle.json_tape.proofs.Holders.{holder, held, name_fits}
 use Rattle.json_tape.proofs.LoneLaw.{lone_sound, lone_complete}
+
+-- some part of the tree has a lone surrogate
+abbrev pub HasLonePart : Tree → Type 0
+HasLonePart t = (part : Tree) × HasPart t part × SpellsLone part
 
 value_part : (text : List ℕ) (t s : Tree) (n up : ℕ) (label : Label) → Fits text s → HasPart t s → IsLoneValue text (entry_of s up label n) → HasLonePart t
 value_part text t (Leaf s (Str cs)) n up label f p b = (Leaf s (Str cs), p, lone_sound s.bytes cs f.1 (ap lone f.0 ∙ b.1))

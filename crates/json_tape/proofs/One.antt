@@ -3,7 +3,7 @@ use Rattle.std.proofs.Common.{◌≡◌, ℕ, ◌+◌, List, [], ◌∷◌, ◌+
 use Rattle.std.proofs.lemmas.List.{append_cancel_right}
 use Rattle.json_tape.specs.Tree.{Spelt, Source, Name, Scalar, Null, True, False, Num, Str, Tree, Leaf, Arr, Obj, Elements, NoElement, Element, Members, NoMember, Member}
 use Rattle.json_tape.specs.Letters.{AreChars, IsString}
-use Rattle.json_tape.specs.Grammar.{IsScalar, IsText}
+use Rattle.json_tape.specs.Grammar.{IsScalarText, IsText}
 use Rattle.json_tape.specs.declared.tape.Kind.TheVariants as kinds
 use Rattle.json_tape.specs.declared.tape.Extent.{Extent}
 use Rattle.json_tape.specs.declared.tape.Entry.{Entry}
@@ -24,7 +24,7 @@ string_one cs ds bs (a, h, e) (b, g, f) =
     let y : b ≡ a = sym (append_cancel_right a b (34 ∷ []) x) in
     chars_one cs ds a h (subst (λ l. AreChars l ds) y g)
 
-scalar_one : (c d : Scalar) (bs : List ℕ) → kind_of_scalar c ≡ kind_of_scalar d → IsScalar bs c → IsScalar bs d → c ≡ d
+scalar_one : (c d : Scalar) (bs : List ℕ) → kind_of_scalar c ≡ kind_of_scalar d → IsScalarText bs c → IsScalarText bs d → c ≡ d
 scalar_one Null Null bs e h g = refl
 scalar_one True True bs e h g = refl
 scalar_one False False bs e h g = refl
@@ -77,7 +77,7 @@ module _ (bytes : List ℕ) where
     same_tree (Leaf s c) (Leaf s' c') up up' name name' k r r' f f' e =
         let h = head_same _ _ r r' e in
         let x = source_one bytes s s' f.0 f'.0 (ap (λ y. y.source) h) in
-        let z = scalar_one c c' s.bytes (ap (λ y. y.kind) h) f.1 (subst (λ y. IsScalar y.bytes c') (sym x) f'.1) in
+        let z = scalar_one c c' s.bytes (ap (λ y. y.kind) h) f.1 (subst (λ y. IsScalarText y.bytes c') (sym x) f'.1) in
         (ap (λ y. Leaf y c) x ∙ ap (Leaf s') z, tail_same _ _ r r' e)
     same_tree (Leaf s c) (Arr s' es') up up' name name' k r r' f f' e = absurd (no_array_kind c (ap (λ y. y.kind) (head_same _ _ r _ e)))
     same_tree (Leaf s c) (Obj s' ms') up up' name name' k r r' f f' e = absurd (no_object_kind c (ap (λ y. y.kind) (head_same _ _ r _ e)))

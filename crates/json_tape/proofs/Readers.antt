@@ -1,4 +1,6 @@
 -- What the entries say of the nodes.
+use Rattle.std.specs.List.{Contains}
+use Rattle.std.proofs.lemmas.List.Elements.{Contains-append_right}
 use Rattle.std.proofs.lemmas.List.{take-append-drop}
 use Rattle.std.proofs.lemmas.Bool.{cases_lt}
 use Rattle.std.proofs.Common.{false, take, drop, ◌≡◌, ℕ, zero, suc, ◌+◌, ◌-◌, ◌≤◌, ◌<◌, ◌^◌, ◌⊎◌, inl, inr, List, [], ◌∷◌, ◌++◌, length, map, get_or, Some, None, refl, sym, ap, ◌∙◌, subst, arith, append_assoc, length-append}
@@ -8,8 +10,8 @@ use Rattle.json_tape.specs.Nodes.{Node, Step, key, place, size, children, childr
 use Rattle.json_tape.specs.Letters.{IsString}
 use Rattle.json_tape.specs.Parts.{HasPart, itself}
 use Rattle.json_tape.specs.Tape.{Label, Top, Index, Named, role_of, label_spot, extent}
-use Rattle.json_tape.specs.Limits.{bytes_at}
-use Rattle.json_tape.specs.Verdict.{text_limit, IsWithinLimits}
+use Rattle.json_tape.specs.Limits.{bytes_at, IsLimited}
+use Rattle.json_tape.specs.Verdict.{text_limit}
 use Rattle.json_tape.specs.declared.tape.TextFault.TheVariants.{TooLong, NumberLimit}
 use Rattle.json_tape.proofs.Limits.{within_unless}
 use Rattle.json_tape.specs.Document.{HasName, IsMember, StandsIn, string_meaning, Doc, Spot, IsDocument, spots, spot_at, spots_from, spots_elements, spots_members, counting, kind_of, length_of, node_at, later, count, seen, root_of, tree_of}
@@ -96,13 +98,16 @@ module _ (d : Doc) (s : IsDocument d) where
   pub some_entry : 0 < count d
   some_entry = let z = size_positive (tree_of d) in rw count_is (omega (arith, size_is, z))
 
+  pub size_of_document : count d ≡ size (tree_of d)
+  size_of_document = count_is ∙ size_is
+
   root_spot : spot_at d 0 ≡ top [] 0 Top [] 0 (tree_of d)
   root_spot = ap (λ (xs : List Spot). get_or xs 0 (none_there d)) (top_first [] 0 Top [] 0 (tree_of d))
 
   pub good : (n : ℕ) → n < count d → Good d.text (tree_of d) (spots d) (none_there d) n
   good n h =
       let l : n < length (spots d) = rw count_is at h in
-      walk d.text (tree_of d) (spots d) (none_there d) [] [] [] 0 Top [] 0 (tree_of d) (append_nothing (spots d)) refl (ap end_of (sym root_spot)) (omega arith) (inl (refl, refl)) (text_fits d.text (tree_of d) s.accepted.0) itself n (omega arith) (omega (arith, size_is))
+      walk d.text (tree_of d) (spots d) (none_there d) [] [] [] 0 Top [] 0 (tree_of d) (append_nothing (spots d)) refl (ap end_of (sym root_spot)) (omega arith) (inl (refl, refl)) (inl refl) (text_fits d.text (tree_of d) s.accepted.0) itself n (omega arith) (omega (arith, size_is))
 
   pub spot_is : (n : ℕ) (g : Good d.text (tree_of d) (spots d) (none_there d) n) → spot_at d n ≡ g.spot
   spot_is n g =
@@ -322,6 +327,24 @@ module _ (d : Doc) (s : IsDocument d) where
       go label r (inl a) m = absurd (r (ap role_of a.0))
       go label r (inr (s, x, way, up)) m = (s, way, omega arith)
 
+  -- and the node is one of its parent's children
+  pub child_among : (n : ℕ) → n < count d → (e : Entry) → e ≡ get_or d.entries n e → (e.role ≡ roles.Whole → ⊥) → Contains (children (node_at d e.up)) (node_at d n)
+  unfolding node_at
+  child_among n h e q r =
+      let g = good n h in
+      let f = entry_is n h e q ∙ ap entry_at (spot_is n g) in
+      let x = g.spot in
+      let u : e.up ≡ x.up = ap (λ (y : Entry). y.up) f ∙ entries.up_is x.node.tree x.up x.label x.node.number in
+      let role : e.role ≡ role_of x.label = ap (λ (y : Entry). y.role) f ∙ entries.role_is x.node.tree x.up x.label x.node.number in
+      subst (λ k. Contains (children (spot_at d k).node) (spot_at d n).node) (sym u) (subst (λ (s : Spot). Contains (children (spot_at d x.up).node) s.node) (sym (spot_is n g)) (go x.label x.node (spot_at d x.up).node x.later g.child role))
+    where
+      here : (y : Node) (ys : List Node) → Contains (y ∷ ys) y
+      here y ys = (0, omega arith, refl)
+
+      go : (label : Label) (y parent : Node) (ys : List Node) → (label ≡ Top) ⊎ ((before : List Node) × (children parent ≡ before ++ (y ∷ ys))) → e.role ≡ role_of label → Contains (children parent) y
+      go label y parent ys (inl t) role = absurd (r (role ∙ ap role_of t))
+      go label y parent ys (inr (before, k)) role = subst (λ l. Contains l y) (sym k) (Contains-append_right before (y ∷ ys) y (here y ys))
+
   -- the bytes that the entry shows are the node's
   pub text_is : (n : ℕ) → n < count d → (e : Entry) → e ≡ get_or d.entries n e → (source bytes : List ℕ) → source ≡ d.text → bytes ≡ bytes_at source e.source → bytes ≡ (source_of (node_at d n).tree).bytes
   text_is n h e q source bytes f g = g ∙ ap (λ l. bytes_at l e.source) f ∙ ap (bytes_at d.text) (source_is n h e q) ∙ sym (entries.lies_in d.text (node_at d n).tree (fits_is n h))
@@ -336,11 +359,11 @@ module _ (d : Doc) (s : IsDocument d) where
           (take s.place text, drop m rest, sym (take-append-drop s.place text) ∙ ap (λ x. take s.place text ++ x) (sym (take-append-drop m rest) ∙ ap (λ x. x ++ drop m rest) (sym l)))
 
   -- a number keeps the limits
-  pub number_within : (n : ℕ) → n < count d → kind_of (node_at d n).tree ≡ kinds.Number → IsWithinLimits (source_of (node_at d n).tree).bytes
+  pub number_within : (n : ℕ) → n < count d → kind_of (node_at d n).tree ≡ kinds.Number → IsLimited (source_of (node_at d n).tree).bytes
   number_within n h k = go (node_at d n).tree k (fits_is n h) (part_is n h)
     where
-      go : (t : Tree) → kind_of t ≡ kinds.Number → Fits d.text t → HasPart (tree_of d) t → IsWithinLimits (source_of t).bytes
-      go (Leaf x Num) k f p = within_unless x.bytes f.1 (λ b. s.accepted.1 NumberLimit (omega arith) (tree_of d, Leaf x Num, s.accepted.0, p, b))
+      go : (t : Tree) → kind_of t ≡ kinds.Number → Fits d.text t → HasPart (tree_of d) t → IsLimited (source_of t).bytes
+      go (Leaf x Num) k f p = (f.1, within_unless x.bytes (λ b. s.accepted.1 NumberLimit (tree_of d, Leaf x Num, s.accepted.0, p, b)))
       go (Leaf s Null) k f p = absurd (cc)
       go (Leaf s True) k f p = absurd (cc)
       go (Leaf s False) k f p = absurd (cc)
@@ -364,7 +387,7 @@ module _ (d : Doc) (s : IsDocument d) where
       go (Obj s ms) k f x = absurd (cc)
 
   pub text_short : length d.text ≤ text_limit
-  text_short = elim (cases_lt text_limit (length d.text)) [ inl g ↦ absurd (s.accepted.1 TooLong (omega arith) g) | inr g ↦ g ]
+  text_short = elim (cases_lt text_limit (length d.text)) [ inl g ↦ absurd (s.accepted.1 TooLong g) | inr g ↦ g ]
 
 pub nameless : (n : Node) → (HasName n → ⊥) → (cs : List ℕ) → false ≡ is_named cs n
 nameless n f cs = go n.way_up (λ name rest e. f (name, (rest, e)))

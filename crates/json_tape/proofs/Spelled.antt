@@ -16,11 +16,11 @@ use Rattle.json_tape.specs.Tape.{extent}
 use Rattle.json_tape.specs.declared.scan.Mode.TheVariants.{Between}
 use Rattle.json_tape.proofs.Fits.{Lies}
 
-ascii_nil : IsAscii []
+pub ascii_nil : IsAscii []
 ascii_nil zero = omega arith
 ascii_nil (suc i) = omega arith
 
-ascii_more : (b : ℕ) (bs : List ℕ) → b < 128 → IsAscii bs → IsAscii (b ∷ bs)
+pub ascii_more : (b : ℕ) (bs : List ℕ) → b < 128 → IsAscii bs → IsAscii (b ∷ bs)
 ascii_more b bs h f zero = h
 ascii_more b bs h f (suc i) = f i
 

@@ -3,7 +3,7 @@ use Rattle.std.proofs.Common.{◌≡◌, ℕ, suc, ◌+◌, ◌≤◌, ◌<◌, 
 use Rattle.std.proofs.lemmas.Bool.{cases_lt}
 use Rattle.json_tape.specs.Tree.{Name, Tree, Leaf, Arr, Obj, Elements, NoElement, Element, Members, NoMember, Member}
 use Rattle.json_tape.specs.Meaning.{meaning}
-use Rattle.json_tape.specs.Nodes.{Node, Step, key, place, size, size_of_elements, size_of_members, elements_from, members_from, visit_from, visit_elements, visit_members}
+use Rattle.json_tape.specs.Nodes.{Node, Step, key, place, size, size_of_elements, size_of_members, children, children_of, elements_from, members_from, visit_from, visit_elements, visit_members}
 use Rattle.json_tape.specs.Letters.{IsString}
 use Rattle.json_tape.specs.Parts.{HasPart, element, value, IsElementOf, first_element, later_element, IsValueOf, first_value, later_value}
 use Rattle.json_tape.specs.Tape.{Label, Top, Index, Named, entry_of, tape_of, tape_of_elements, tape_of_members, extent}
@@ -117,6 +117,10 @@ StepOf text (Named x) s = (n : Name) × (x ≡ extent n.source) × (s ≡ key (m
 abbrev pub WayIn : (text : List ℕ) (all : List Spot) (d : Spot) (n up : ℕ) → Label → List Step → Type 0
 WayIn text all d n up label way = ((label ≡ Top) × (way ≡ [])) ⊎ ((s : Step) × StepOf text label s × (way ≡ s ∷ (get_or all up d).node.way_up) × (up < n))
 
+-- the root lies in no node; any other node and its later siblings end the children of the node that it lies in
+abbrev pub ChildIn : (all : List Spot) (d : Spot) (up : ℕ) → Label → Node → List Node → Type 0
+ChildIn all d up label node later = (label ≡ Top) ⊎ ((before : List Node) × (children (get_or all up d).node ≡ before ++ (node ∷ later)))
+
 pub record Good (text : List ℕ) (root : Tree) (all : List Spot) (d : Spot) (n : ℕ) : Type 0 where
   pub spot : Spot
   pub pre : List Spot
@@ -127,6 +131,7 @@ pub record Good (text : List ℕ) (root : Tree) (all : List Spot) (d : Spot) (n 
   pub next : NextIn all d (end_of spot) spot.up spot.later
   pub up_in : spot.up < length all
   pub way : WayIn text all d n spot.up spot.label spot.node.way_up
+  pub child : ChildIn all d spot.up spot.label spot.node spot.later
   pub fits : Fits text spot.node.tree
   pub part : HasPart root spot.node.tree
 
@@ -172,17 +177,18 @@ module _ (text : List ℕ) (root : Tree) (all : List Spot) (d : Spot) where
       (ap (λ (x : Spot). x.node) p, ap (λ (x : Spot). x.later) p, let z = size_positive t in omega (arith, f, z))
 
   itself : (pre post : List Spot) (way : List Step) (up : ℕ) (label : Label) (later : List Node) (k : ℕ) (t : Tree)
-      → all ≡ pre ++ (spots_from way up label later k t ++ post) → length pre ≡ k → NextIn all d (k + size t) up later → up < length all → WayIn text all d k up label way → Fits text t → HasPart root t → Good text root all d k
-  itself pre post way up label later k t e l n i w fits part = record { spot = top way up label later k t; pre = pre; post = post; whole = e; at = l; number = refl; next = n; up_in = i; way = w; fits = fits; part = part }
+      → all ≡ pre ++ (spots_from way up label later k t ++ post) → length pre ≡ k → NextIn all d (k + size t) up later → up < length all → WayIn text all d k up label way
+      → ChildIn all d up label (top way up label later k t).node later → Fits text t → HasPart root t → Good text root all d k
+  itself pre post way up label later k t e l n i w c fits part = record { spot = top way up label later k t; pre = pre; post = post; whole = e; at = l; number = refl; next = n; up_in = i; way = w; child = c; fits = fits; part = part }
 
   under : (pre post : List Spot) (way : List Step) (up : ℕ) (label : Label) (later : List Node) (k : ℕ) (t : Tree)
       → all ≡ pre ++ (spots_from way up label later k t ++ post) → length pre ≡ k
-      → (all ≡ (pre ++ top way up label later k t ∷ []) ++ (inner way k t ++ post)) × (length (pre ++ top way up label later k t ∷ []) ≡ suc k) × (end_of (get_or all k d) ≡ k + size t) × (k < length all) × ((get_or all k d).node.way_up ≡ way)
+      → (all ≡ (pre ++ top way up label later k t ∷ []) ++ (inner way k t ++ post)) × (length (pre ++ top way up label later k t ∷ []) ≡ suc k) × (end_of (get_or all k d) ≡ k + size t) × (k < length all) × ((get_or all k d).node.way_up ≡ way) × (children (get_or all k d).node ≡ children_of way k t)
   under pre post way up label later k t e l =
       let s = top way up label later k t in
       let g : all ≡ pre ++ ((s ∷ inner way k t) ++ post) = e ∙ ap (λ ys. pre ++ (ys ++ post)) (top_first way up label later k t) in
       let p : get_or all k d ≡ s = place_is all pre s (inner way k t) post d k g l in
-      (g ∙ sym (append_assoc pre (s ∷ []) (inner way k t ++ post)), omega (arith, length-append pre (s ∷ []), l), ap end_of p, let q = ap (λ (xs : List Spot). length xs) g in omega (arith, q, length-append pre ((s ∷ inner way k t) ++ post), l), ap (λ (x : Spot). x.node.way_up) p)
+      (g ∙ sym (append_assoc pre (s ∷ []) (inner way k t ++ post)), omega (arith, length-append pre (s ∷ []), l), ap end_of p, let q = ap (λ (xs : List Spot). length xs) g in omega (arith, q, length-append pre ((s ∷ inner way k t) ++ post), l), ap (λ (x : Spot). x.node.way_up) p, ap (λ (x : Spot). children x.node) p)
 
   choose : (k n : ℕ) → (k ≡ n) ⊎ (suc k ≤ n) → Good text root all d k → (suc k ≤ n → Good text root all d n) → Good text root all d n
   choose k n (inl q) a f = subst (Good text root all d) q a
@@ -192,26 +198,32 @@ module _ (text : List ℕ) (root : Tree) (all : List Spot) (d : Spot) where
   split e n (inl m) f g = f m
   split e n (inr m) f g = g m
 
+  -- one child further
+  one_past : {whole : List Node} (x : Node) (later : List Node) → (before : List Node) × (whole ≡ before ++ (x ∷ later)) → (before : List Node) × (whole ≡ before ++ later)
+  one_past x later (before, e) = (before ++ x ∷ [], e ∙ sym (append_assoc before (x ∷ []) later))
+
   mutual
     pub walk : (pre post : List Spot) (way : List Step) (up : ℕ) (label : Label) (later : List Node) (k : ℕ) (t : Tree)
-        → all ≡ pre ++ (spots_from way up label later k t ++ post) → length pre ≡ k → NextIn all d (k + size t) up later → up < length all → WayIn text all d k up label way → Fits text t → HasPart root t
+        → all ≡ pre ++ (spots_from way up label later k t ++ post) → length pre ≡ k → NextIn all d (k + size t) up later → up < length all → WayIn text all d k up label way
+        → ChildIn all d up label (top way up label later k t).node later → Fits text t → HasPart root t
         → (n : ℕ) → k ≤ n → n < k + size t → Good text root all d n
-    walk pre post way up label later k (Leaf s c) e l f i w fits part n h g = let q : k ≡ n = omega arith in subst (Good text root all d) q (itself pre post way up label later k (Leaf s c) e l f i w fits part)
-    walk pre post way up label later k (Arr s es) e l f i w fits part n h g =
+    walk pre post way up label later k (Leaf s c) e l f i w q fits part n h g = let j : k ≡ n = omega arith in subst (Good text root all d) j (itself pre post way up label later k (Leaf s c) e l f i w q fits part)
+    walk pre post way up label later k (Arr s es) e l f i w q fits part n h g =
         let u = under pre post way up label later k (Arr s es) e l in
-        choose k n (first_or_later k n h) (itself pre post way up label later k (Arr s es) e l f i w fits part)
-        (λ m. walk_elements (pre ++ top way up label later k (Arr s es) ∷ []) post way 0 k (suc k) es u.0 u.1 (u.2 ∙ omega arith) u.3 u.4 (omega arith) fits.1 (λ v x. element part x) n m (omega arith))
-    walk pre post way up label later k (Obj s es) e l f i w fits part n h g =
+        choose k n (first_or_later k n h) (itself pre post way up label later k (Arr s es) e l f i w q fits part)
+        (λ m. walk_elements (pre ++ top way up label later k (Arr s es) ∷ []) post way 0 k (suc k) es u.0 u.1 (u.2 ∙ omega arith) u.3 u.4 (omega arith) ([], u.5) fits.1 (λ v x. element part x) n m (omega arith))
+    walk pre post way up label later k (Obj s es) e l f i w q fits part n h g =
         let u = under pre post way up label later k (Obj s es) e l in
-        choose k n (first_or_later k n h) (itself pre post way up label later k (Obj s es) e l f i w fits part)
-        (λ m. walk_members (pre ++ top way up label later k (Obj s es) ∷ []) post way k (suc k) es u.0 u.1 (u.2 ∙ omega arith) u.3 u.4 (omega arith) fits.1 (λ v x. value part x) n m (omega arith))
+        choose k n (first_or_later k n h) (itself pre post way up label later k (Obj s es) e l f i w q fits part)
+        (λ m. walk_members (pre ++ top way up label later k (Obj s es) ∷ []) post way k (suc k) es u.0 u.1 (u.2 ∙ omega arith) u.3 u.4 (omega arith) ([], u.5) fits.1 (λ v x. value part x) n m (omega arith))
 
     pub walk_elements : (pre post : List Spot) (way : List Step) (i u k : ℕ) (es : Elements)
         → all ≡ pre ++ (spots_elements way i u k es ++ post) → length pre ≡ k → end_of (get_or all u d) ≡ k + size_of_elements es → u < length all → (get_or all u d).node.way_up ≡ way → u < k
+        → (before : List Node) × (children (get_or all u d).node ≡ before ++ elements_from way i k es)
         → FitElements text es → ((v : Tree) → IsElementOf es v → HasPart root v)
         → (n : ℕ) → k ≤ n → n < k + size_of_elements es → Good text root all d n
-    walk_elements pre post way i u k NoElement e l f v y z fits part n h g = absurd (omega arith)
-    walk_elements pre post way i u k (Element t es) e l f v y z fits part n h g =
+    walk_elements pre post way i u k NoElement e l f v y z b fits part n h g = absurd (omega arith)
+    walk_elements pre post way i u k (Element t es) e l f v y z b fits part n h g =
         let later = elements_from way (suc i) (k + size t) es in
         let a = spots_from (place i ∷ way) u (Index i) later k t in
         let rest = spots_elements way (suc i) u (k + size t) es in
@@ -219,15 +231,16 @@ module _ (text : List ℕ) (root : Tree) (all : List Spot) (d : Spot) where
         let long : length (pre ++ a) ≡ k + size t = omega (arith, length-append pre a, spot_count (place i ∷ way) u (Index i) later k t, l) in
         let f2 : end_of (get_or all u d) ≡ (k + size t) + size_of_elements es = omega (arith, f) in
         split (k + size t) n (cases_lt n (k + size t))
-        (λ m. walk pre (rest ++ post) (place i ∷ way) u (Index i) later k t (keep_one all pre a rest post e) l (next_element (pre ++ a) post way (suc i) u (k + size t) es past long f2) v (inr (place i, refl, ap (λ ws. place i ∷ ws) (sym y), z)) fits.0 (part t first_element) n h m)
-        (λ m. walk_elements (pre ++ a) post way (suc i) u (k + size t) es past long f2 v y (omega (arith, z)) fits.1 (λ w x. part w (later_element x)) n m (omega arith))
+        (λ m. walk pre (rest ++ post) (place i ∷ way) u (Index i) later k t (keep_one all pre a rest post e) l (next_element (pre ++ a) post way (suc i) u (k + size t) es past long f2) v (inr (place i, refl, ap (λ ws. place i ∷ ws) (sym y), z)) (inr b) fits.0 (part t first_element) n h m)
+        (λ m. walk_elements (pre ++ a) post way (suc i) u (k + size t) es past long f2 v y (omega (arith, z)) (one_past (top (place i ∷ way) u (Index i) later k t).node later b) fits.1 (λ w x. part w (later_element x)) n m (omega arith))
 
     pub walk_members : (pre post : List Spot) (way : List Step) (u k : ℕ) (es : Members)
         → all ≡ pre ++ (spots_members way u k es ++ post) → length pre ≡ k → end_of (get_or all u d) ≡ k + size_of_members es → u < length all → (get_or all u d).node.way_up ≡ way → u < k
+        → (before : List Node) × (children (get_or all u d).node ≡ before ++ members_from way k es)
         → FitMembers text es → ((v : Tree) → IsValueOf es v → HasPart root v)
         → (n : ℕ) → k ≤ n → n < k + size_of_members es → Good text root all d n
-    walk_members pre post way u k NoMember e l f v y z fits part n h g = absurd (omega arith)
-    walk_members pre post way u k (Member m t es) e l f v y z fits part n h g =
+    walk_members pre post way u k NoMember e l f v y z b fits part n h g = absurd (omega arith)
+    walk_members pre post way u k (Member m t es) e l f v y z b fits part n h g =
         let later = members_from way (k + size t) es in
         let a = spots_from (key (meaning m.characters) ∷ way) u (Named (extent m.source)) later k t in
         let rest = spots_members way u (k + size t) es in
@@ -236,5 +249,5 @@ module _ (text : List ℕ) (root : Tree) (all : List Spot) (d : Spot) where
         let f2 : end_of (get_or all u d) ≡ (k + size t) + size_of_members es = omega (arith, f) in
         split (k + size t) n (cases_lt n (k + size t))
         (λ x. walk pre (rest ++ post) (key (meaning m.characters) ∷ way) u (Named (extent m.source)) later k t (keep_one all pre a rest post e) l (next_member (pre ++ a) post way u (k + size t) es past long f2) v
-        (inr (key (meaning m.characters), (m, refl, refl, fits.0, fits.1), ap (λ ws. key (meaning m.characters) ∷ ws) (sym y), z)) fits.2 (part t first_value) n h x)
-        (λ x. walk_members (pre ++ a) post way u (k + size t) es past long f2 v y (omega (arith, z)) fits.3 (λ w y. part w (later_value y)) n x (omega arith))
+        (inr (key (meaning m.characters), (m, refl, refl, fits.0, fits.1), ap (λ ws. key (meaning m.characters) ∷ ws) (sym y), z)) (inr b) fits.2 (part t first_value) n h x)
+        (λ x. walk_members (pre ++ a) post way u (k + size t) es past long f2 v y (omega (arith, z)) (one_past (top (key (meaning m.characters) ∷ way) u (Named (extent m.source)) later k t).node later b) fits.3 (λ w y. part w (later_value y)) n x (omega arith))

@@ -3,11 +3,11 @@ use Rattle.std.proofs.Common.{◌≡◌, ◌<◌, ◌^◌, ℕ, suc, ◌+◌, Li
 use Rattle.std.proofs.lemmas.List.{take_at, drop_at}
 use Rattle.json_tape.specs.Tree.{Source, Name, Scalar, Null, True, False, Num, Str, Tree, Leaf, Arr, Obj, Elements, NoElement, Element, Members, NoMember, Member}
 use Rattle.json_tape.specs.Letters.{IsString}
-use Rattle.json_tape.specs.Grammar.{IsScalar, IsText}
+use Rattle.json_tape.specs.Grammar.{IsScalarText, IsText}
 use Rattle.json_tape.specs.Nodes.{size}
 use Rattle.json_tape.specs.Tape.{Label, Top, Index, Named, role_of, label_spot, extent, kind_of_scalar, element_count, member_count, tape_of, tape_of_elements, tape_of_members}
-use Rattle.json_tape.specs.Answer.{IsJson, StandsForAll, NoneApplies}
-use Rattle.json_tape.specs.Cut.{IsReadable}
+use Rattle.json_tape.specs.Answer.{IsJson, StandsForAll}
+use Rattle.json_tape.specs.Verdict.{IsFaultless, IsAccepted}
 use Rattle.json_tape.specs.Document.{IsDocument, Built, elements_built, members_built, source_in, tree_built, name_built, built, first_built, tree_of}
 use Rattle.json_tape.specs.declared.tape.Entry.{Entry}
 use Rattle.json_tape.proofs.Fits.{Lies, Fits, FitElements, FitMembers, text_fits}
@@ -20,7 +20,7 @@ append_nothing (x ∷ xs) = ap (λ ys. x ∷ ys) (append_nothing xs)
 source_told : (text : List ℕ) (s : Source) → Lies text s → source_in text (extent s) ≡ s
 source_told text s l = ap (λ b. record { place = s.place; bytes = b }) (sym l)
 
-scalar_told : (s : Source) (c : Scalar) (bs : List Built) → IsScalar s.bytes c → tree_built (kind_of_scalar c) s bs ≡ Leaf s c
+scalar_told : (s : Source) (c : Scalar) (bs : List Built) → IsScalarText s.bytes c → tree_built (kind_of_scalar c) s bs ≡ Leaf s c
 scalar_told s Null bs h = refl
 scalar_told s True bs h = refl
 scalar_told s False bs h = refl
@@ -97,15 +97,15 @@ tree_told text entries t h e =
     ap first_built (ap (built text) (e ∙ sym (append_nothing (tape_of t 0 Top 0))) ∙ built_tree text t 0 Top 0 None [] (text_fits text t h) refl)
 
 module _ (text source : List ℕ) (entries : List Entry) (same : source ≡ text) (json : IsJson text) (stands : StandsForAll text entries) where
-  pub readable : NoneApplies text 6 → IsReadable text (tree_of (record { text = source; entries = entries }))
-  readable none =
+  pub is_accepted : IsFaultless text → IsAccepted text (tree_of (record { text = source; entries = entries }))
+  is_accepted none =
       let e = ap (λ x. tree_of (record { text = x; entries = entries })) same ∙ tree_told text entries json.0 json.1 (stands json.0 json.1) in
       (subst (IsText text) (sym e) json.1, none)
 
-  pub document : NoneApplies text 6 → length entries < 2 ^ 31 → IsDocument (record { text = source; entries = entries })
+  pub document : IsFaultless text → length entries < 2 ^ 31 → IsDocument (record { text = source; entries = entries })
   document none small =
-      let r = readable none in record {
-        accepted = subst (λ x. IsReadable x (tree_of (record { text = source; entries = entries }))) (sym same) r;
+      let r = is_accepted none in record {
+        accepted = subst (λ x. IsAccepted x (tree_of (record { text = source; entries = entries }))) (sym same) r;
         tape = stands (tree_of (record { text = source; entries = entries })) r.0;
         small = small;
       }

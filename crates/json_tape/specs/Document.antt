@@ -5,7 +5,7 @@ use Rattle.json_tape.specs.Meaning.{meaning}
 use Rattle.json_tape.specs.Nodes.{Node, Step, key, place, size, elements_from, members_from}
 use Rattle.json_tape.specs.Spelling.{spelt}
 use Rattle.json_tape.specs.Tape.{Label, Top, Index, Named, extent, element_count, member_count, kind_of_scalar, tape_of}
-use Rattle.json_tape.specs.Cut.{IsReadable}
+use Rattle.json_tape.specs.Verdict.{IsAccepted}
 use Rattle.json_tape.specs.declared.tape.Kind.{Kind}
 use Rattle.json_tape.specs.declared.tape.Kind.TheVariants as kinds
 use Rattle.json_tape.specs.declared.tape.Role.{Role}
@@ -181,6 +181,6 @@ StandsIn text bytes = (before after : List ℕ) × (text ≡ before ++ (bytes ++
 
 -- The tree that the entries tell is an accepted tree of the text, the entries are its tape, and all numbers are small.
 pub record IsDocument (d : Doc) : Type 0 where
-  pub accepted : IsReadable d.text (tree_of d)
+  pub accepted : IsAccepted d.text (tree_of d)
   pub tape : d.entries ≡ tape_of (tree_of d) 0 Top 0
   pub small : length d.entries < 2 ^ 31

@@ -6,7 +6,6 @@ pub mod Nodes
 pub mod Parts
 pub mod Tape
 pub mod Verdict
-pub mod Cut
 pub mod Spelling
 pub mod Reading
 pub mod Document
@@ -14,7 +13,6 @@ pub mod Answer
 pub mod Machine
 pub mod Lexing
 pub mod Scanning
-pub mod Numbering
 pub mod Surrogates
 pub mod Limits
-pub mod Twins
+pub mod Repeats

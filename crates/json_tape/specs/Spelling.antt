@@ -1,5 +1,6 @@
 -- The characters that the bytes of a string spell (RFC 8259, section 7), told from the bytes one after another.
-use Rattle.std.specs.Prelude.{◌≡◌, ◌≤◌, get_or, ℕ, None, zero, suc, ◌+◌, ◌-◌, ◌*◌, ◌%◌, cond, eqb, ltb, List, [], ◌∷◌, take, drop, length}
+use Rattle.std.specs.Prelude.{◌≡◌, ◌≤◌, get_or, ℕ, None, Bool, nat_eq, zero, suc, ◌+◌, ◌-◌, ◌*◌, ◌%◌, cond, eqb, ltb, List, [], ◌∷◌, take, drop, length}
+use Rattle.std.specs.List.{list_any}
 use Rattle.std.specs.Str.{chars}
 use Rattle.std.specs.Char.{digit_value}
 use Rattle.json_tape.specs.Tree.{Spelt, Plain, Short, Unit4}
@@ -32,6 +33,10 @@ spelt bs = spelt_from Between 0 (chars (unquoted bs))
 -- the scalar values that the characters between two quotes mean
 abbrev pub scalars_in : List ℕ → List ℕ
 scalars_in cs = meaning_after None (spelt_from Between 0 cs)
+
+-- some byte is a backslash
+abbrev pub has_backslash : List ℕ → Bool
+has_backslash bs = list_any (λ b. nat_eq b 92) bs
 
 -- two quotes or more stand there, one at the start and one at the end
 abbrev pub IsQuoted : List ℕ → Extent → Type 0

@@ -6,11 +6,8 @@ use Rattle.json_tape.specs.declared.scan.Surrogates.{Surrogates}
 use Rattle.json_tape.specs.declared.tape.Entry.{Entry}
 use Rattle.json_tape.specs.declared.tape.Kind.TheVariants as kinds
 use Rattle.json_tape.specs.declared.tape.Role.TheVariants as roles
-use Rattle.json_tape.specs.Tree.{Tree}
 use Rattle.json_tape.specs.Meaning.{is_high, is_low}
 use Rattle.json_tape.specs.Limits.{bytes_at}
-use Rattle.json_tape.specs.Verdict.{SpellsLone}
-use Rattle.json_tape.specs.Parts.{HasPart}
 
 abbrev pub number_of_hex : ℕ → ℕ
 number_of_hex b = cond (leb b 57) (b - 48) (cond (leb b 70) (b - 55) (b - 87))
@@ -53,6 +50,3 @@ IsLoneValue text e = (e.kind ≡ kinds.Text) × (lone (bytes_at text e.source) �
 -- the entry is that of a member whose name has one
 abbrev pub IsLoneName : List ℕ → Entry → Type 0
 IsLoneName text e = (e.role ≡ roles.Member) × (lone (bytes_at text e.label) ≡ true)
-
-abbrev pub HasLonePart : Tree → Type 0
-HasLonePart t = (part : Tree) × HasPart t part × SpellsLone part

@@ -1,6 +1,6 @@
 // The tape builder: one call for each token.
 
-ghost use Rattle.std.specs.Prelude.{MatchResult, ◌≡◌, ℕ, ◌^◌, ◌<◌, ◌≤◌, length, ◌↔◌, IsTrue};
+ghost use Rattle.std.specs.Prelude.{MatchResult, ◌≡◌, ℕ, ◌^◌, ◌<◌, ◌≤◌, length, ◌↔◌, IsTrue, IsErrOf};
 ghost use Rattle.json_tape.specs.Machine.{Opening, Closing, Comma, Between, Text, Word, step, start, IsSmall, Took, takes_value as value_may_come, takes_name as name_may_come, closes as may_close, after_comma as want_after_comma, level_of, kind_of_shape, change_at, closed, first_of as want_first, label_for as label_in};
 ghost use Rattle.json_tape.specs.Tape.{role_of, label_spot};
 
@@ -117,7 +117,8 @@ impl Builder {
 
     /// A comma.
     pub fn comma(&mut self) -> Result<(), BuildFault>
-        ensures { Took (step Comma self.old) result self.new }
+        ensures took { Took (step Comma self.old) result self.new }
+        ensures no_memory { IsErrOf result BuildFault.Memory → ⊥ }
     {
         match after_comma(self.top.level, self.want) {
             None => Err(BuildFault::NotJson),
@@ -131,7 +132,8 @@ impl Builder {
 
     /// A colon.
     pub fn colon(&mut self) -> Result<(), BuildFault>
-        ensures { Took (step Between self.old) result self.new }
+        ensures took { Took (step Between self.old) result self.new }
+        ensures no_memory { IsErrOf result BuildFault.Memory → ⊥ }
     {
         match self.want {
             Want::Colon => {
@@ -208,7 +210,8 @@ impl Builder {
     pub fn close(&mut self, shape: Shape, place: u32) -> Result<(), BuildFault>
         requires small { IsSmall (2 ^ 31) self.old }
         requires near { place < 2 ^ 31 }
-        ensures { Took (step (Closing shape place) self.old) result self.new }
+        ensures took { Took (step (Closing shape place) self.old) result self.new }
+        ensures no_memory { IsErrOf result BuildFault.Memory → ⊥ }
     {
         if !closes(shape, self.top.level, self.want) {
             return Err(BuildFault::NotJson);

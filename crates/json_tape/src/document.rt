@@ -1,27 +1,28 @@
 //! A text that was read, and the readers of its values.
 
 ghost use Rattle.std.specs.Prelude.{IfSome, ◌≡◌, ℕ, ◌^◌, ◌<◌, ◌≤◌, ◌+◌, ◌-◌, ◌↔◌, ◌∷◌, length, take, drop, MatchResult, IsTrue, IsUtf8, List, slice_index_or, bytes_eq};
+ghost use Rattle.std.specs.List.{Contains};
+ghost use Rattle.std.specs.Str.{chars};
+ghost use Rattle.json_tape.specs.Spelling.{scalars_in};
+ghost use Rattle.decimal_order.specs.Number.{IsNumber};
+ghost use Rattle.decimal_order.specs.Limits.{IsWithinLimits};
 ghost use Rattle.json_tape.specs.Answer.{Explains};
-ghost use Rattle.json_tape.specs.Cut.{IsReadable};
 ghost use Rattle.json_tape.specs.Tree.{Tree, source_of};
-ghost use Rattle.json_tape.specs.Verdict.{text_limit, IsWithinLimits};
-ghost use Rattle.json_tape.specs.Nodes.{Step, key, children, visit, is_named};
-ghost use Rattle.json_tape.specs.Limits.{bytes_at as stands_at};
-ghost use Rattle.json_tape.specs.Spelling.{unquoted as inside, IsQuoted};
+ghost use Rattle.json_tape.specs.Verdict.{text_limit, IsAccepted};
+ghost use Rattle.json_tape.specs.Nodes.{Step, key, size, children, visit, is_named};
+ghost use Rattle.json_tape.specs.Tape.{Top, tape_of};
 ghost use Rattle.json_tape.specs.Document.{tree_of, count, node_at, later, seen, following, root_of, counting, IsIn, IsDocument, IsMember, HasName, LeadIs, ParentIs, StandsIn, kind_of, length_of, string_meaning};
 
-use crate::judge::{bytes_at, has_bad_number, has_lone};
+use crate::judge::{bytes_at, judge_tape};
+use crate::plain::is_spelt;
 use crate::reader::read;
-use crate::scalars::Scalars;
-use crate::tape::{BuildFault, Entry, Extent, Kind, Lead, NodeId, Role, TextFault};
+use crate::scalars::{Scalars, unquoted};
+use crate::tape::{BuildFault, Entry, Kind, Lead, NodeId, Role, TextFault};
 use std::alloc::Global;
 use std::marker::Model;
 
 /// The most bytes of a text.
 pub const TEXT_LIMIT: usize = 1_048_576;
-
-/// The most containers, one in the other.
-pub const DEPTH_LIMIT: usize = 128;
 
 /// A text within the limits, with an entry for each of its values. Nothing changes it.
 #[derive(Drop)]
@@ -50,7 +51,7 @@ impl Document {
     /// string or a name spells a surrogate without its partner; `DuplicateName`, where two names of one object mean the
     /// same. `Memory` where a growth was refused, which comes after the first two were looked for.
     pub fn read(alloc: Global, text: &[u8]) -> Result<Document, TextFault>
-        ensures { MatchResult result (λ d. (d.text ≡ text.now) × IsReadable text.now (tree_of d)) (λ f. Explains text.now f) }
+        ensures { MatchResult result (λ d. (d.text ≡ text.now) × IsAccepted text.now (tree_of d)) (λ f. Explains text.now f) }
     {
         if text.len() > TEXT_LIMIT {
             return Err(TextFault::TooLong);
@@ -58,27 +59,20 @@ impl Document {
         let Ok(checked) = simdutf8::basic::from_utf8(text) else {
             return Err(TextFault::NotUtf8);
         };
-        match read(alloc, text) {
-            Err(BuildFault::NotJson) => Err(TextFault::NotJson),
-            Err(BuildFault::Memory) => Err(TextFault::Memory),
-            Ok(tape) => {
-                if tape.depth > DEPTH_LIMIT {
-                    return Err(TextFault::TooDeep);
-                }
-                if has_bad_number(text, tape.entries.as_slice()) {
-                    return Err(TextFault::NumberLimit);
-                }
-                if has_lone(text, tape.entries.as_slice()) {
-                    return Err(TextFault::LoneSurrogate);
-                }
-                match String::from_str(alloc, checked) {
-                    Err(_) => Err(TextFault::Memory),
-                    Ok(text) => Ok(Document {
-                        text,
-                        entries: tape.entries,
-                    }),
-                }
-            }
+        let tape = match read(alloc, text) {
+            Ok(tape) => tape,
+            Err(BuildFault::NotJson) => return Err(TextFault::NotJson),
+            Err(BuildFault::Memory) => return Err(TextFault::Memory),
+        };
+        if let Err(fault) = judge_tape(alloc, checked, &tape) {
+            return Err(fault);
+        }
+        match String::from_str(alloc, checked) {
+            Err(_) => Err(TextFault::Memory),
+            Ok(text) => Ok(Document {
+                text,
+                entries: tape.entries,
+            }),
         }
     }
 
@@ -92,6 +86,7 @@ impl Document {
     /// How many values the text has. Their numbers are those below it.
     pub fn node_count(&self) -> u32
         ensures value { result ≡ count self.now }
+        ensures size { result ≡ size (tree_of self.now) }
         ensures some { 0 < result }
         ensures small { result < 2 ^ 31 }
     {
@@ -105,7 +100,8 @@ impl Document {
         ensures root { node_at self.now 0 ≡ root_of self.now }
         ensures numbered { (k : ℕ) → k < count self.now → (node_at self.now k).number ≡ k }
         ensures small { count self.now < 2 ^ 31 }
-        ensures accepted { IsReadable self.now.text (tree_of self.now) }
+        ensures accepted { IsAccepted self.now.text (tree_of self.now) }
+        ensures tape { self.now.entries ≡ tape_of (tree_of self.now) 0 Top 0 }
     {
         let _ = &self.entries;
         NodeId(0)
@@ -132,7 +128,7 @@ impl Document {
         requires { n.0 < count self.now }
         ensures value { result.now ≡ (source_of (node_at self.now n.0).tree).bytes }
         ensures part { StandsIn self.now.text result.now }
-        ensures number { kind_of (node_at self.now n.0).tree ≡ Kind.Number → IsWithinLimits result.now }
+        ensures number { kind_of (node_at self.now n.0).tree ≡ Kind.Number → IsNumber result.now × IsWithinLimits result.now }
     {
         let extent = self.entry(n).source;
         bytes_at(self.source(), extent)
@@ -206,6 +202,7 @@ impl Document {
     pub fn parent(&self, n: NodeId) -> Option<NodeId>
         requires { n.0 < count self.now }
         ensures node { ParentIs self.now result (node_at self.now n.0) }
+        ensures child { IfSome result (λ p. Contains (children (node_at self.now p.0)) (node_at self.now n.0)) }
         ensures before { IfSome result (λ p. p.0 < n.0) }
         ensures inside { IsIn self.now result }
     {
@@ -233,10 +230,21 @@ impl Document {
         ensures { result ≡ is_named name.now (node_at self.now n.0) }
     {
         if self.has_name(n) {
-            is_spelt(self.name_scalars(n), name)
+            is_spelt(self.name_inside(n), name)
         } else {
             false
         }
+    }
+
+    // What stands between the quotes of a member's name.
+    fn name_inside(&self, n: NodeId) -> &str
+        requires inside { n.0 < count self.now }
+        requires named { HasName (node_at self.now n.0) }
+        ensures value { IsMember (scalars_in (chars result.now)) (node_at self.now n.0) }
+        ensures short { length (scalars_in (chars result.now)) ≤ text_limit }
+    {
+        let name = self.entry(n).label;
+        unquoted(&self.text, name)
     }
 
     /// The scalar values that the name of a member means.
@@ -246,8 +254,7 @@ impl Document {
         ensures value { IsMember result (node_at self.now n.0) }
         ensures short { length result ≤ text_limit }
     {
-        let name = self.entry(n).label;
-        Scalars::new(unquoted(&self.text, name))
+        Scalars::new(self.name_inside(n))
     }
 
     /// The scalar values that a string means.
@@ -268,27 +275,4 @@ fn count_of(scalars: Scalars<'_>) -> u32
     ensures { result ≡ length scalars.entry }
 {
     scalars.count() as u32
-}
-
-// Whether the scalar values that are left are these.
-fn is_spelt(mut scalars: Scalars<'_>, name: &[char]) -> bool
-    ensures { result ≡ bytes_eq name.now scalars.entry }
-{
-    for c in name {
-        match scalars.next() {
-            Some(scalar) if scalar == *c => {}
-            _ => return false,
-        }
-    }
-    scalars.next().is_none()
-}
-
-// What stands between the quotes of a string.
-fn unquoted(text: &str, string: Extent) -> &str
-    requires { IsQuoted text.now string }
-    ensures { result.now ≡ inside (stands_at text.now string) }
-{
-    let start = string.start as usize + 1;
-    let end = string.start as usize + string.len as usize - 1;
-    &text[start..end]
 }

@@ -1,17 +1,21 @@
 //! JSON texts (RFC 8259) as tapes.
 //!
-//! `Document::read` accepts exactly the texts within the limits, keeps their bytes, and has one entry of 32 bytes for each
-//! value. The readers of `Document` tell each value's kind, bytes, length, children and name, each in constant time but
-//! for those that go over the characters of a string.
+//! `Document::read` accepts exactly the texts within the limits in which no object has two names that mean the same. It
+//! keeps their bytes, and has one entry of 32 bytes for each value. The readers of `Document` tell each value's kind, bytes,
+//! length, children and name, each in constant time but for those that go over the characters of a string.
 //!
 //! A text is walked once, byte by byte, and its entries are then judged. Open containers stand in a list, so that depth
-//! costs no stack. Nothing is parsed into numbers or strings: those are cut from the text where they are asked for.
+//! costs no stack. Nothing is parsed into numbers or strings: those are cut from the text where they are asked for. The
+//! names of an object are compared by what they mean: few each with each, many once they are in order.
 #![tactic(auto)]
 
 mod builder;
 mod document;
+mod duplicates;
 mod judge;
 pub mod laws;
+mod names;
+mod plain;
 mod reader;
 mod scalars;
 mod scan;
@@ -19,6 +23,7 @@ mod tape;
 #[cfg(test)]
 mod tests;
 
-pub use document::{DEPTH_LIMIT, Document, TEXT_LIMIT};
+pub use document::{Document, TEXT_LIMIT};
+pub use judge::DEPTH_LIMIT;
 pub use scalars::Scalars;
 pub use tape::{Kind, Lead, NodeId, TextFault};

@@ -2,15 +2,16 @@
 
 ghost use Rattle.std.specs.Prelude.{◌≡◌, ◌≢◌, ℕ, ◌+◌, ◌^◌, ◌<◌, ◌≤◌, length, drop, slice_index, IfOk, IsUtf8, IsErrOf, true, false};
 ghost use Rattle.json_tape.specs.Machine.{IsSmall, step, Took};
-ghost use Rattle.json_tape.specs.Lexing.{class, Blank, Quote, is_blank as blank, is_atom as atom, atom_end as end_of_atoms, word_kind as kind_of_word, sign_at, TookSign, Stepped};
+ghost use Rattle.json_tape.specs.Lexing.{class, Blank, Quote, is_blank as blank, is_atom as atom, atom_end as end_of_atoms, WordIs, sign_at, TookSign, Stepped};
 ghost use Rattle.std.specs.Prelude.{List};
 ghost use Rattle.json_tape.specs.Tree.{Tree};
 ghost use Rattle.json_tape.specs.Grammar.{IsText};
 ghost use Rattle.json_tape.specs.Answer.{IsJson, StandsForAll, HasDepth, IsNoJson};
 
 use crate::builder::Builder;
-use crate::scan::{is_number, quote_end};
+use crate::scan::quote_end;
 use crate::tape::{BuildFault, Entry, Extent, Kind, Shape};
+use decimal_order::scan;
 use std::alloc::Global;
 
 fn is_blank(b: u8) -> bool
@@ -44,9 +45,9 @@ fn atom_end(text: &[u8], start: usize) -> usize
 }
 
 fn word_kind(bytes: &[u8]) -> Option<Kind>
-    ensures { result ≡ kind_of_word bytes.now }
+    ensures { WordIs bytes.now result }
 {
-    if is_number(bytes) {
+    if scan(bytes).is_some() {
         return Some(Kind::Number);
     }
     if bytes == b"null".as_slice() {

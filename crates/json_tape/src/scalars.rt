@@ -3,10 +3,12 @@
 ghost use Rattle.std.specs.Prelude.{◌≡◌, ℕ, ◌<◌, IfSome, cond, ltb};
 ghost use Rattle.std.specs.Char.{IsScalar, digit_value};
 ghost use Rattle.json_tape.specs.Meaning.{IsHigh, IsLow, short_value as value_of_short, pair_value as value_of_pair};
-ghost use Rattle.json_tape.specs.Spelling.{hex_value as value_of_hex};
+ghost use Rattle.json_tape.specs.Limits.{bytes_at};
+ghost use Rattle.json_tape.specs.Spelling.{hex_value as value_of_hex, unquoted as inside, IsQuoted};
 ghost use Rattle.json_tape.specs.Reading.{Reads, ReadsUnit};
 
 use crate::scan::Mode;
+use crate::tape::Extent;
 use std::marker::Model;
 use std::str::Chars;
 
@@ -159,7 +161,7 @@ impl<'a> Scalars<'a> {
     ghost use Rattle.json_tape.specs.Spelling.{scalars_in};
 
     /// The scalar values of a string whose characters are these, without its quotes.
-    pub fn new(inside: &'a str) -> Scalars<'a>
+    pub(crate) fn new(inside: &'a str) -> Scalars<'a>
         ensures { result ≡ scalars_in (chars inside.now) }
     {
         Scalars {
@@ -191,4 +193,14 @@ impl<'a> Iterator for Scalars<'a> {
         }
         None
     }
+}
+
+/// What stands between the quotes of a string.
+pub fn unquoted(text: &str, string: Extent) -> &str
+    requires { IsQuoted text.now string }
+    ensures { result.now ≡ inside (bytes_at text.now string) }
+{
+    let start = string.start as usize + 1;
+    let end = string.start as usize + string.len as usize - 1;
+    &text[start..end]
 }

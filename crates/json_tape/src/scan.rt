@@ -1,9 +1,8 @@
-// Strings and numbers, byte by byte.
+// Strings, byte by byte.
 
 ghost use Rattle.std.specs.Prelude.{IsTrue, ◌≡◌, ◌+◌, ◌<◌, ◌≤◌, length, drop, IfSome};
 ghost use Rattle.json_tape.specs.Scanning.{turn as turn_of, is_short as short, is_hex as hex, string_end};
 ghost use Rattle.json_tape.specs.Surrogates.{number_of_hex, past_char, past_unit, past_byte, lone};
-ghost use Rattle.json_tape.specs.Numbering.{pass, ends as may_end, is_digit as digit, is_number as number};
 
 /// Where a scan of a string stands: between characters, behind a backslash, or before a hexadecimal digit after which this many must come.
 #[derive(Clone, Copy, Debug, PartialEq, Eq)]
@@ -19,20 +18,6 @@ pub enum Turn {
     Stop,
     Fail,
     Go(Mode),
-}
-
-/// Which part of a number was read last.
-#[derive(Clone, Copy, Debug, PartialEq, Eq)]
-pub enum Part {
-    Nothing,
-    Minus,
-    Zero,
-    Whole,
-    Point,
-    Fraction,
-    Letter,
-    Sign,
-    Exponent,
 }
 
 /// Where a search for a lone surrogate stands: in which part of a character, the unit so far, and whether a high surrogate ended right before.
@@ -268,113 +253,4 @@ pub fn is_lone(bytes: &[u8]) -> bool
         }
     }
     state.high
-}
-
-fn is_digit(b: u8) -> bool
-    ensures { result ≡ digit b }
-{
-    48 <= b && b <= 57
-}
-
-fn next_part(part: Part, b: u8) -> Option<Part>
-    ensures { result ≡ pass part b }
-{
-    match part {
-        Part::Nothing => {
-            if b == b'-' {
-                Some(Part::Minus)
-            } else if b == b'0' {
-                Some(Part::Zero)
-            } else if is_digit(b) {
-                Some(Part::Whole)
-            } else {
-                None
-            }
-        }
-        Part::Minus => {
-            if b == b'0' {
-                Some(Part::Zero)
-            } else if is_digit(b) {
-                Some(Part::Whole)
-            } else {
-                None
-            }
-        }
-        Part::Zero => {
-            if b == b'.' {
-                Some(Part::Point)
-            } else if b == b'e' || b == b'E' {
-                Some(Part::Letter)
-            } else {
-                None
-            }
-        }
-        Part::Whole => {
-            if is_digit(b) {
-                Some(Part::Whole)
-            } else if b == b'.' {
-                Some(Part::Point)
-            } else if b == b'e' || b == b'E' {
-                Some(Part::Letter)
-            } else {
-                None
-            }
-        }
-        Part::Point => {
-            if is_digit(b) {
-                Some(Part::Fraction)
-            } else {
-                None
-            }
-        }
-        Part::Fraction => {
-            if is_digit(b) {
-                Some(Part::Fraction)
-            } else if b == b'e' || b == b'E' {
-                Some(Part::Letter)
-            } else {
-                None
-            }
-        }
-        Part::Letter => {
-            if is_digit(b) {
-                Some(Part::Exponent)
-            } else if b == b'+' || b == b'-' {
-                Some(Part::Sign)
-            } else {
-                None
-            }
-        }
-        Part::Sign | Part::Exponent => {
-            if is_digit(b) {
-                Some(Part::Exponent)
-            } else {
-                None
-            }
-        }
-    }
-}
-
-fn ends(part: Part) -> bool
-    ensures { result ≡ may_end part }
-{
-    match part {
-        Part::Zero | Part::Whole | Part::Fraction | Part::Exponent => true,
-        Part::Nothing | Part::Minus | Part::Point | Part::Letter | Part::Sign => false,
-    }
-}
-
-/// Whether the bytes are a number.
-#[tactic(auto, using(crate::proofs::Steps::number_step, crate::proofs::Steps::number_over))]
-pub fn is_number(bytes: &[u8]) -> bool
-    ensures { result ≡ number bytes.now }
-{
-    let mut part = Part::Nothing;
-    for b in bytes {
-        match next_part(part, *b) {
-            None => return false,
-            Some(next) => part = next,
-        }
-    }
-    ends(part)
 }

@@ -156,6 +156,64 @@ fn wants_whole_pairs(rt: HostRuntime) -> Result<(), Fail> {
 }
 
 #[test]
+fn refuses_names_that_mean_the_same(rt: HostRuntime) -> Result<(), Fail> {
+    let alloc = rt.alloc();
+    for text in [
+        b"{\"a\":1,\"a\":2}".as_slice(),
+        b"{\"a\":1,\"b\":2,\"a\":3}".as_slice(),
+        b"{\"a\":1,\"\\u0061\":2}".as_slice(),
+        b"{\"\\/\":1,\"/\":2}".as_slice(),
+        b"{\"\":1,\"\":2}".as_slice(),
+        b"{\"\\ud83d\\ude00\":1,\"\xf0\x9f\x98\x80\":2}".as_slice(),
+        b"[0,{\"x\":[{\"k\":1,\"l\":{},\"k\":2}]}]".as_slice(),
+    ] {
+        assert_eq!(rt; fault(alloc, text), Some(TextFault::DuplicateName));
+    }
+    for text in [
+        b"{\"a\":1,\"A\":2,\"aa\":3,\"\":4}".as_slice(),
+        b"{\"a\":{\"a\":[{\"a\":1}]},\"b\":{\"a\":2}}".as_slice(),
+        b"{\"\\u0000\":1,\"\":2,\"\\\\u0000\":3}".as_slice(),
+        b"[\"a\",\"a\"]".as_slice(),
+    ] {
+        assert_eq!(rt; fault(alloc, text), None);
+    }
+    Ok(())
+}
+
+// An object of so many members, whose names are numbers from 10 on, and of one more with this name.
+fn with_last(alloc: Global, count: u8, last: &[u8]) -> Result<Vec<u8>, AllocError> {
+    let mut text = Vec::new(alloc);
+    add(&mut text, b'{', 1)?;
+    for k in 10..10 + count % 90 {
+        text.extend_from_slice(b"\"")?;
+        text.push(b'0' + k / 10)?;
+        text.push(b'0' + k % 10)?;
+        text.extend_from_slice(b"\":[],")?;
+    }
+    text.extend_from_slice(last)?;
+    text.extend_from_slice(b":0}")?;
+    Ok(text)
+}
+
+#[test]
+fn finds_one_name_among_many(rt: HostRuntime) -> Result<(), Fail> {
+    let alloc = rt.alloc();
+    for count in [2, 8, 9, 15, 16, 17, 40, 89] {
+        for last in [b"\"11\"".as_slice(), b"\"1\\u0031\"".as_slice()] {
+            let text = with_last(alloc, count, last)?;
+            assert_eq!(rt;
+                fault(alloc, text.as_slice()),
+                Some(TextFault::DuplicateName),
+                "{count}"
+            );
+        }
+        let text = with_last(alloc, count, b"\"1\\u0061\"")?;
+        assert_eq!(rt; fault(alloc, text.as_slice()), None, "{count}");
+    }
+    Ok(())
+}
+
+#[test]
 fn counts_scalar_values(rt: HostRuntime) -> Result<(), Fail> {
     let alloc = rt.alloc();
     // 62 letters, and behind them these backslashes and quotes.

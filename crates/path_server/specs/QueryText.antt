@@ -1,8 +1,7 @@
 -- What a query on a text answers: the first refusal that applies, or a line for each hit.
 use Rattle.std.specs.Prelude.{◌≡◌, ℕ, ◌<◌, ◌≤◌, ◌++◌, List, length, IsTrue, true, false}
 use Rattle.json_tape.specs.Tree.{Tree}
-use Rattle.json_tape.specs.Cut.{IsReadable}
-use Rattle.json_tape.specs.Verdict.{IsRefused}
+use Rattle.json_tape.specs.Verdict.{IsRefused, IsAccepted}
 use Rattle.json_tape.specs.declared.tape.TextFault.TheVariants as text
 use Rattle.path_grammar.specs.Tree.{Segments}
 use Rattle.path_grammar.specs.Grammar.{IsQuery}
@@ -12,12 +11,9 @@ use Rattle.path_server.specs.Hits.{hits, lines_of}
 use Rattle.path_server.specs.declared.fault.QueryTextFault.{QueryTextFault}
 use Rattle.path_server.specs.declared.fault.QueryTextFault.TheVariants.{TooLong, NotUtf8, NotJson, TooDeep, NumberLimit, LoneSurrogate, DuplicateName, QueryTooLong, NotWellFormed, NotValid, TooManyNodes, Memory}
 
--- the document is a text within the limits, with this tree
-abbrev pub IsDocumentOf : List ℕ → Tree → Type 0
-IsDocumentOf = IsReadable
-
-abbrev pub IsAccepted : List ℕ → Type 0
-IsAccepted document = (t : Tree) × IsDocumentOf document t
+-- no refusal of a text applies to the document
+abbrev pub IsDocument : List ℕ → Type 0
+IsDocument document = (t : Tree) × IsAccepted document t
 
 -- the text is a valid query with this tree
 pub record IsValidQuery (query : List ℕ) (q : Segments) : Type 0 where
@@ -34,17 +30,17 @@ Refuses query document TooDeep = IsRefused document text.TooDeep
 Refuses query document NumberLimit = IsRefused document text.NumberLimit
 Refuses query document LoneSurrogate = IsRefused document text.LoneSurrogate
 Refuses query document DuplicateName = IsRefused document text.DuplicateName
-Refuses query document QueryTooLong = IsAccepted document × (4096 < length query)
-Refuses query document NotWellFormed = IsAccepted document × (length query ≤ 4096) × ((q : Segments) → ¬ IsQuery query q)
-Refuses query document NotValid = IsAccepted document × (length query ≤ 4096) × ((q : Segments) × IsQuery query q × (is_valid q ≡ false))
-Refuses query document TooManyNodes = (t : Tree) × (q : Segments) × IsDocumentOf document t × IsValidQuery query q × (exceeds_limit t q ≡ true)
+Refuses query document QueryTooLong = IsDocument document × (4096 < length query)
+Refuses query document NotWellFormed = IsDocument document × (length query ≤ 4096) × ((q : Segments) → ¬ IsQuery query q)
+Refuses query document NotValid = IsDocument document × (length query ≤ 4096) × ((q : Segments) × IsQuery query q × (is_valid q ≡ false))
+Refuses query document TooManyNodes = (t : Tree) × (q : Segments) × IsAccepted document t × IsValidQuery query q × (exceeds_limit t q ≡ true)
 Refuses query document Memory = Unit {0}
 
 -- the query is answered: the lines of its hits stand behind what stood there before
 pub record Answers (query document old new : List ℕ) : Type 0 where
   pub tree : Tree
   pub segments : Segments
-  pub accepted : IsDocumentOf document tree
+  pub accepted : IsAccepted document tree
   pub valid : IsValidQuery query segments
   pub within : exceeds_limit tree segments ≡ false
   pub appended : new ≡ old ++ lines_of (hits tree segments)

@@ -2,7 +2,7 @@
 
 ghost use Rattle.std.specs.Prelude.{◌≡◌, ◌≤◌, ℕ, List, length, IfOk, IfErr, OnOk, OnErr};
 ghost use Rattle.path_grammar.specs.View.{query_view};
-ghost use Rattle.path_server.specs.QueryText.{IsAccepted, IsValidQuery, Refuses, Answers};
+ghost use Rattle.path_server.specs.QueryText.{IsDocument, IsValidQuery, Refuses, Answers};
 
 use crate::fault::QueryTextFault;
 use crate::lines::write_lines;
@@ -15,7 +15,7 @@ use tape_select::select;
 // The valid query that a text spells.
 fn compile(alloc: Global, query: &[u8]) -> Result<ValidQuery, QueryTextFault>
     ensures valid { IfOk result (λ v. IsValidQuery query.now (query_view v)) }
-    ensures refused { IfErr result (λ fault. (document : List ℕ) → IsAccepted document → Refuses query.now document fault) }
+    ensures refused { IfErr result (λ fault. (document : List ℕ) → IsDocument document → Refuses query.now document fault) }
 {
     let parsed = parse(alloc, query)?;
     match check(parsed) {

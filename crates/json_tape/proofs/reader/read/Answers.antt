@@ -2,7 +2,7 @@ use Rattle.json_tape.specs.declared.tape.BuildFault.TheVariants.{NotJson}
 use Rattle.std.proofs.Common.{◌≡◌, sym, ap, length, ◌∙◌, arith, rules}
 use Rattle.json_tape.proofs.Walk.{Knows, knows_start}
 use Rattle.std.proofs.Common.{subst}
-use Rattle.json_tape.proofs.ReaderLoop.{reads_blank, reads_token, reads_small, reads_err, reads_json, reads_tape, reads_depth, reads_none}
+use Rattle.json_tape.proofs.ReaderLoop.{reads_blank, token_goes_on, reads_token, reads_small, reads_err, reads_json, reads_tape, reads_depth, reads_none}
 use Rattle.json_tape.proofs.reader.read.Goals as goal
 
 pub loop-i-init : goal.loop-i-init
@@ -37,3 +37,7 @@ returns-then-is_done-clause-depth c = λ t h. c.deepest-depth.ensures ∙ reads_
 
 pub returns-then-is_done-clause-short : goal.returns-then-is_done-clause-short
 returns-then-is_done-clause-short c = let e = c.into_entries.ensures in let l = c.loop-i.invariant.small.entries in let w = c.loop-i.invariant.within in let x = c.requires.long in let y = ap length e in omega arith
+
+pub loop-i-smaller : goal.loop-i-smaller
+loop-i-smaller c =
+    let o = token_goes_on c.args.text.now c.loop-i.i c.in-Ok.end c.loop-i.builder c.token.new.builder c.in-Ok.ensures in let t = c.loop-i-test.true in omega arith

@@ -1,5 +1,5 @@
 use Rattle.std.proofs.Common.{arith}
-use Rattle.json_tape.proofs.Readers.{told, counts, some_entry, small_count}
+use Rattle.json_tape.proofs.Readers.{told, counts, some_entry, size_of_document, small_count}
 use Rattle.json_tape.proofs.document.Document.node_count.Goals as goal
 
 pub returns : goal.returns
@@ -8,4 +8,5 @@ returns c =
     let d = told _ c.args.self.now c.self.view_is c.self.invariant in
     let z = some_entry c.args.self.now d in
     let m = small_count c.args.self.now d in
-    record { value = omega (arith, k, c.len.ensures, c.self.inside.entries.ok.0); some = omega (arith, k, z, c.len.ensures, c.self.inside.entries.ok.0); small = omega (arith, k, m, c.len.ensures, c.self.inside.entries.ok.0) }
+    let t = size_of_document c.args.self.now d in
+    record { size = omega (arith, k, t, c.len.ensures, c.self.inside.entries.ok.0); value = omega (arith, k, c.len.ensures, c.self.inside.entries.ok.0); some = omega (arith, k, z, c.len.ensures, c.self.inside.entries.ok.0); small = omega (arith, k, m, c.len.ensures, c.self.inside.entries.ok.0) }

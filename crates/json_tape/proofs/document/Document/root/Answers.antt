@@ -15,3 +15,6 @@ returns-clause-small c = small_count c.args.self.now (told _ c.args.self.now c.s
 
 pub returns-clause-accepted : goal.returns-clause-accepted
 returns-clause-accepted c = (told _ c.args.self.now c.self.view_is c.self.invariant).accepted
+
+pub returns-clause-tape : goal.returns-clause-tape
+returns-clause-tape c = (told _ c.args.self.now c.self.view_is c.self.invariant).tape

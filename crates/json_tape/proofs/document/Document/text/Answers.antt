@@ -1,6 +1,6 @@
 use Rattle.std.proofs.Common.{sym, subst}
 use Rattle.json_tape.specs.Document.{StandsIn}
-use Rattle.json_tape.specs.Verdict.{IsWithinLimits}
+use Rattle.json_tape.specs.Limits.{IsLimited}
 use Rattle.json_tape.proofs.Readers.{text_is, text_part, number_within}
 use Rattle.json_tape.proofs.document.Document.text.Goals as goal
 
@@ -15,4 +15,4 @@ returns-clause-part c =
 pub returns-clause-number : goal.returns-clause-number
 returns-clause-number c = λ k.
     let v = text_is c.args.self.now c.entry.ensures.document c.args.n.0 c.requires c.entry.result c.entry.ensures.value c.source.result.now c.bytes_at.result.now c.source.ensures c.bytes_at.ensures in
-    subst IsWithinLimits (sym v) (number_within c.args.self.now c.entry.ensures.document c.args.n.0 c.requires k)
+    subst IsLimited (sym v) (number_within c.args.self.now c.entry.ensures.document c.args.n.0 c.requires k)

@@ -1,0 +1,57 @@
+-- Names without a backslash mean their own characters, so their bytes tell them apart and order them.
+use Rattle.std.proofs.Common.{◌≡◌, ℕ, true, false, Bool, ◌||◌, not, List, [], ◌∷◌, ◌++◌, refl, sym, ap, ◌∙◌, arith}
+use Rattle.std.specs.Prelude.{eqb, nat_eq, IsUtf8}
+use Rattle.std.specs.Ordering.{nat_cmp, is_eq}
+use Rattle.std.specs.Cmp.Lexicographic.{pointwise, slice_cmp, texts_ties}
+use Rattle.std.specs.Str.{chars}
+use Rattle.std.proofs.lemmas.Bool.Decides.{nat_tests}
+use Rattle.std.proofs.lemmas.Str.{encode_ascii, encodes-chars}
+use lib.Utf8.{encode, encodes}
+use Rattle.json_tape.specs.Spelling.{scalars_in, has_backslash}
+use Rattle.json_tape.proofs.Utf8Order.{encodes_order}
+
+any_back : (bs cs : List ℕ) → has_backslash (bs ++ cs) ≡ false → has_backslash cs ≡ false
+any_back [] cs h = h
+any_back (b ∷ bs) cs h = any_back bs cs (go (nat_eq b 92) h)
+  where
+    go : (t : Bool) → (t || has_backslash (bs ++ cs)) ≡ false → has_backslash (bs ++ cs) ≡ false
+    go true e = absurd (cc)
+    go false e = e
+
+first_no : (c : ℕ) (bs : List ℕ) → has_backslash (encode c ++ bs) ≡ false → eqb c 92 ≡ false
+first_no c bs h = go (eqb c 92) refl
+  where
+    go : (t : Bool) → eqb c 92 ≡ t → t ≡ false
+    go true e =
+        let f : c ≡ 92 = grind (arith, nat_tests) in
+        let g : encode c ≡ 92 ∷ [] = ap encode f ∙ encode_ascii 92 (omega arith) in
+        absurd (let x = sym (ap (λ l. has_backslash (l ++ bs)) g) ∙ h in cc)
+    go false e = refl
+
+own_characters : (cs : List ℕ) → has_backslash (encodes cs) ≡ false → scalars_in cs ≡ cs
+own_characters [] h = refl
+own_characters (c ∷ cs) h =
+    let t = first_no c (encodes cs) h in
+    let e : scalars_in (c ∷ cs) ≡ c ∷ scalars_in cs = rw t refl in
+    e ∙ ap (λ l. c ∷ l) (own_characters cs (any_back (encode c) (encodes cs) h))
+
+plain_means : (bs : List ℕ) → IsUtf8 bs → has_backslash bs ≡ false → scalars_in (chars bs) ≡ chars bs
+plain_means bs u h = own_characters (chars bs) (ap has_backslash (encodes-chars bs u) ∙ h)
+
+module _ (a b x y : List ℕ) (p q : Bool) (is_x : scalars_in (chars a) ≡ x) (is_y : scalars_in (chars b) ≡ y)
+    (a_is : IsUtf8 a × (p ≡ not (has_backslash a))) (b_is : IsUtf8 b × (q ≡ not (has_backslash b))) (plain_a : p ≡ true) (plain_b : q ≡ true) where
+  none : (t : Bool) → true ≡ not t → t ≡ false
+  none true e = absurd (cc)
+  none false e = refl
+
+  characters : (c z : List ℕ) → scalars_in (chars c) ≡ z → IsUtf8 c → has_backslash c ≡ false → encodes z ≡ c
+  characters c z e u h = ap encodes (sym e ∙ plain_means c u h) ∙ encodes-chars c u
+
+  pub plain_order : slice_cmp nat_cmp a b ≡ slice_cmp nat_cmp x y
+  plain_order =
+      let e = characters a x is_x a_is.0 (none (has_backslash a) (sym plain_a ∙ a_is.1)) in
+      let f = characters b y is_y b_is.0 (none (has_backslash b) (sym plain_b ∙ b_is.1)) in
+      sym (ap (λ l. slice_cmp nat_cmp l (encodes y)) e ∙ ap (λ l. slice_cmp nat_cmp a l) f) ∙ encodes_order x y
+
+  pub plain_same : pointwise nat_eq a b ≡ pointwise nat_eq x y
+  plain_same = texts_ties a b ∙ ap is_eq plain_order ∙ sym (texts_ties x y)

@@ -1,0 +1,11 @@
+use Rattle.std.proofs.Common.{◌≡◌, ◌≤◌, drop, length}
+use Rattle.std.specs.Prelude.{bytes_eq}
+use Rattle.std.specs.Str.{chars}
+use Rattle.json_tape.specs.Spelling.{scalars_in}
+use Rattle.json_tape.proofs.plain.is_spelt.Given as goal
+
+abbrev pub invariant-loop-i : goal.invariant-loop-i
+invariant-loop-i l = record {
+  same : bytes_eq (drop l.i l.name) (scalars_in (chars (drop l.i l.inside))) ≡ bytes_eq l.name (scalars_in (chars l.inside));
+  within : l.i ≤ length l.inside;
+}

@@ -1,0 +1,66 @@
+// Objects with two names that mean the same (RFC 8259, section 4).
+
+ghost use Rattle.std.specs.Prelude.{◌≡◌, ◌<◌, ◌^◌, ◌↔◌, ℕ, length, IsTrue, IfOk, OnOk};
+ghost use Rattle.json_tape.specs.Tree.{Members};
+ghost use Rattle.json_tape.specs.Answer.{IsJson, StandsForAll};
+ghost use Rattle.json_tape.specs.Verdict.{Applies};
+ghost use Rattle.json_tape.specs.Repeats.{meanings, IsObject};
+ghost use Rattle.json_tape.specs.declared.tape.TextFault.TheVariants.{LoneSurrogate, DuplicateName};
+
+use crate::names::{Name, has_repeated};
+use crate::scalars::unquoted;
+use crate::tape::{Entry, Kind};
+use std::alloc::{AllocError, Global};
+
+/// Whether two names of one object mean the same, in a text without lone surrogates.
+pub fn has_duplicate(alloc: Global, text: &str, tape: &[Entry]) -> Result<bool, AllocError>
+    requires spelt { IsJson text.now }
+    requires stands { StandsForAll text.now tape.now }
+    requires short { length tape.now < 2 ^ 31 }
+    requires paired { Applies text.now LoneSurrogate → ⊥ }
+    ensures { IfOk result (λ found. IsTrue found ↔ Applies text.now DuplicateName) }
+{
+    let mut names = Vec::new(alloc);
+    for (n, entry) in tape.iter().enumerate() {
+        if may_repeat(entry) {
+            collect(text, tape, n, &mut names)?;
+            if has_repeated(names.as_mut_slice()) {
+                return Ok(true);
+            }
+        }
+    }
+    Ok(false)
+}
+
+// Only an object of two members or more has two names.
+fn may_repeat(entry: &Entry) -> bool
+    ensures { IsTrue result ↔ ((entry.now.kind ≡ Kind.Object) × (1 < entry.now.children)) }
+{
+    match entry.kind {
+        Kind::Object => entry.children > 1,
+        Kind::Null | Kind::Bool(_) | Kind::Number | Kind::Text | Kind::Array => false,
+    }
+}
+
+// The names of the object with this number, in place of those that were there.
+fn collect<'a>(
+    text: &'a str,
+    tape: &[Entry],
+    n: usize,
+    names: &mut Vec<Name<'a>>,
+) -> Result<(), AllocError>
+    requires inside { n < length tape.now }
+    requires object { (ms : Members) × IsObject text.now tape.now n ms }
+    requires short { length tape.now < 2 ^ 31 }
+    ensures { OnOk result ((ms : Members) → IsObject text.now tape.now n ms → names.new.items ≡ meanings ms) }
+{
+    names.clear();
+    let end = tape[n].after as usize;
+    let mut k = n + 1;
+    while k < end {
+        let entry = tape[k];
+        names.push(Name::new(unquoted(text, entry.label)))?;
+        k = entry.after as usize;
+    }
+    Ok(())
+}
