@@ -1,10 +1,10 @@
 -- What is spelled is read again, whatever follows that could not go on with it: runs, characters and lists.
-use Rattle.std.proofs.Common.{◌≡◌, ℕ, zero, suc, ◌≤◌, ◌<◌, Bool, true, false, ◌==◌, List, [], ◌∷◌, ◌++◌, length, Option, Some, None, refl, sym, ap, subst, ◌∙◌, append_assoc, length-append, arith}
+use Rattle.std.proofs.Common.{◌≡◌, ℕ, zero, suc, ◌≤◌, ◌<◌, Bool, true, false, cond, ◌==◌, List, [], ◌∷◌, ◌++◌, length, Option, Some, None, refl, sym, ap, subst, ◌∙◌, append_assoc, length-append, arith}
 use Rattle.std.proofs.lemmas.Bool.{and_parts}
 use Rattle.std.specs.List.{list_all}
 use Rattle.path_grammar.specs.Characters.{Text, is_blank, Blanks}
 use Rattle.path_grammar.specs.Lists.{Many, none, next, OneOrMore, first}
-use Rattle.path_grammar.specs.Reading.{Reader, front_run, after_run, behind, go_on, repeat_at, list_at}
+use Rattle.path_grammar.specs.Reading.{Reader, ◌>>=◌, front_run, after_run, behind, go_on, repeat_at, list_at}
 use Rattle.path_grammar.proofs.Read.{found}
 
 -- a text that a run does not go on into
@@ -62,6 +62,30 @@ behind_same k t e = rw e refl
 pub behind_other : (k c : ℕ) (t : Text) → (c == k) ≡ false → behind k (c ∷ t) ≡ None
 unfolding behind
 behind_other k c t e = rw e refl
+
+pub stops_behind : (k : ℕ) (rest : Text) → Stops (λ c. c == k) rest → behind k rest ≡ None
+unfolding behind
+stops_behind k [] s = refl
+stops_behind k (c ∷ t) s = behind_other k c t s
+
+pub stops_narrower : (p q : ℕ → Bool) (rest : Text) → ((c : ℕ) → p c ≡ false → q c ≡ false) → Stops p rest → Stops q rest
+stops_narrower p q [] h s = tt
+stops_narrower p q (c ∷ t) h s = h c s
+
+-- ---- tests
+
+pub two_tests : {A : Type 0} (a b : Bool) (x y z : A) → a ≡ false → b ≡ true → cond a x (cond b y z) ≡ y
+two_tests true b x y z h k = absurd cc
+two_tests false true x y z h k = refl
+two_tests false false x y z h k = absurd cc
+
+pub cond_none : {A : Type 0} (b : Bool) (x : Option A) → x ≡ None → cond b x None ≡ None
+cond_none true x e = e
+cond_none false x e = refl
+
+pub bind_none : {A B : Type 0} (o : Option A) (f : A → Option B) → o ≡ None → (o >>= f) ≡ None
+bind_none (Some x) f e = absurd cc
+bind_none None f e = refl
 
 -- ---- lists, where Stop says what may follow one
 

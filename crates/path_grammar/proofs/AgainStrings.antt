@@ -6,7 +6,7 @@ use Rattle.path_grammar.specs.Characters.{Text, is_between, is_digit, is_plain}
 use Rattle.path_grammar.specs.Strings.{Hex, digit_hex, upper_hex, lower_hex, FourHex, four, Escape, quote_mark, backspace, form_feed, line_feed, carriage_return, tab, slash, backslash, non_surrogate, surrogate_pair, Inside, end, plain, escaped, StringLiteral, double_quoted, single_quoted}
 use Rattle.path_grammar.specs.ReadingStrings.{hex_of, hex_at, unit_at, low_at, whole_at, unicode_at, short_of, escape_at, character_at, inside_step, inside_at, string_at}
 use Rattle.path_grammar.proofs.Read.{found}
-use Rattle.path_grammar.proofs.Again.{behind_same, behind_other}
+use Rattle.path_grammar.proofs.Again.{Starts, behind_same, behind_other}
 
 upper_digit : (c : ℕ) → is_between 0x41 0x46 c ≡ true → is_digit c ≡ false
 upper_digit c e = grind (arith, nat_tests)
@@ -161,3 +161,7 @@ pub string_again : (t rest : Text) (cs : List ℕ) → StringLiteral t cs → st
 unfolding string_at
 string_again _ rest _ (double_quoted {t} {cs} i) = rw (close t rest 0x22) (inside_again 0x22 0x27 (length (t ++ (0x22 ∷ rest))) t rest cs double i (fits t rest 0x22))
 string_again _ rest _ (single_quoted {t} {cs} i) = rw (close t rest 0x27) (inside_again 0x27 0x22 (length (t ++ (0x27 ∷ rest))) t rest cs single i (fits t rest 0x27))
+
+pub string_starts : (t : Text) (cs : List ℕ) → StringLiteral t cs → Starts (λ c. c == 0x22 || c == 0x27) t
+string_starts _ _ (double_quoted {t} i) = record { head = 0x22; tail = t ++ (0x22 ∷ []); is = refl; passes = refl }
+string_starts _ _ (single_quoted {t} i) = record { head = 0x27; tail = t ++ (0x27 ∷ []); is = refl; passes = refl }

@@ -5,12 +5,11 @@ use Rattle.path_grammar.specs.Tree.{Segments}
 use Rattle.path_grammar.specs.View.{query_view}
 use Rattle.path_grammar.specs.Grammar.{IsQuery}
 use Rattle.path_grammar.specs.Reading.{Gives}
-use Rattle.path_grammar.specs.ReadingSegments.{query_at}
+use Rattle.path_grammar.specs.ReadingFilters.{query_at}
 use Rattle.path_grammar.specs.declared.ast.Query.{Query}
 use Rattle.path_grammar.specs.declared.fault.ParseFault.{ParseFault}
 use Rattle.path_grammar.specs.declared.fault.ParseFault.TheVariants.{QueryTooLong, NotWellFormed, Memory}
-use Rattle.path_grammar.proofs.ReadSegments.{query_reads}
-use Rattle.path_grammar.proofs.AgainSegments.{query_again}
+use Rattle.path_grammar.proofs.Queries.{query_reads, query_again}
 
 same_some : {A : Type 0} (o : Option A) (x y : A) → o ≡ Some x → o ≡ Some y → x ≡ y
 same_some o x y p q = cc

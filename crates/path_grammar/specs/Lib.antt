@@ -5,7 +5,11 @@ pub mod Strings
 pub mod Tree
 pub mod View
 pub mod Grammar
+pub mod Singular
 pub mod Reading
 pub mod ReadingNumbers
 pub mod ReadingStrings
+pub mod ReadingLiterals
 pub mod ReadingSegments
+pub mod ReadingFilters
+pub mod Laws

@@ -1,8 +1,8 @@
 -- Reading a text from left to right: what each function of the reader gives, and the readers that all others are made of.
 use Rattle.std.specs.Prelude.{◌≡◌, ℕ, zero, suc, List, [], ◌∷◌, ◌++◌, length, Bool, ◌||◌, ◌==◌, if◌then◌else◌, Option, Some, None, Result, Ok, Err}
-use Rattle.path_grammar.specs.Characters.{Text, is_blank, is_digit, is_first}
+use Rattle.path_grammar.specs.Characters.{Text, is_blank, is_digit, is_first, is_function}
 use Rattle.path_grammar.specs.declared.class.Class.{Class}
-use Rattle.path_grammar.specs.declared.class.Class.TheVariants.{Blank, Digit, Name}
+use Rattle.path_grammar.specs.declared.class.Class.TheVariants.{Blank, Digit, Name, Function}
 use Rattle.path_grammar.specs.declared.fault.ParseFault.{ParseFault}
 use Rattle.path_grammar.specs.declared.fault.ParseFault.TheVariants.{QueryTooLong, NotWellFormed, Memory}
 
@@ -34,6 +34,7 @@ abbrev pub in_class : Class → ℕ → Bool
 in_class Blank = is_blank
 in_class Digit = is_digit
 in_class Name = is_name
+in_class Function = is_function
 
 -- the run at the front of those that pass
 abbrev pub front_run : (ℕ → Bool) → Text → Text

@@ -1,4 +1,4 @@
--- Reading selectors, segments and queries from left to right.
+-- Reading selectors and segments from left to right.
 use Rattle.std.specs.Prelude.{ℕ, List, [], ◌∷◌, length, Bool, true, false, ◌||◌, ◌==◌, if◌then◌else◌, Option, Some, None}
 use Rattle.path_grammar.specs.Tree as tree
 use Rattle.path_grammar.specs.Tree.{OneSegment, segments_of, selectors_of}
@@ -36,33 +36,17 @@ index_at t = do
   x ← part_at t
   index_from x.0 x.1 (behind 0x3A x.1)
 
--- ---- Selectors
+-- ---- Names and stars
 
 unfoldable pub name_at : Reader tree.Selector
 name_at t = do
   x ← string_at t
   Some (tree.name x.0, after_run is_blank x.1)
 
-unfoldable pub selector_at : Reader tree.Selector
-selector_at [] = None
-selector_at (c ∷ t) =
-    if c == 0x2A then Some (tree.wild, after_run is_blank t)
-    else if c == 0x22 || c == 0x27 then name_at (c ∷ t)
-    else index_at (c ∷ t)
-
 unfoldable pub next_selector : Text → Option Text
 next_selector t = do
   u ← behind 0x2C t
   Some (after_run is_blank u)
-
--- what stands behind the bracket that opens
-unfoldable pub bracketed_at : Reader (List tree.Selector)
-bracketed_at t = do
-  x ← list_at next_selector selector_at (after_run is_blank t)
-  rest ← behind 0x5D x.1
-  Some (x.0, rest)
-
--- ---- Segments
 
 unfoldable pub dotted_at : Reader tree.Selector
 dotted_at [] = None
@@ -80,18 +64,6 @@ unfoldable pub opening_at : Reader Bool
 opening_at [] = None
 opening_at (c ∷ t) = if c == 0x5B then Some (false, c ∷ t) else if c == 0x2E then dots_at t else None
 
-unfoldable pub selectors_from : Text → Option Text → Option (List tree.Selector × Text)
-selectors_from t (Some u) = bracketed_at u
-selectors_from t None = do
-  x ← dotted_at t
-  Some (x.0 ∷ [], x.1)
-
-unfoldable pub segment_at : Reader OneSegment
-segment_at t = do
-  x ← opening_at t
-  ss ← selectors_from x.1 (behind 0x5B x.1)
-  Some (record { descend = x.0; selectors = selectors_of ss.0 }, ss.1)
-
 abbrev pub begins_segment : ℕ → Bool
 begins_segment c = c == 0x2E || c == 0x5B
 
@@ -103,15 +75,52 @@ at_segment (c ∷ t) = if begins_segment c then Some (c ∷ t) else None
 unfoldable pub next_segment : Text → Option Text
 next_segment t = at_segment (after_run is_blank t)
 
-unfoldable pub segments_at : Reader (List OneSegment)
-segments_at t = repeat_at next_segment segment_at (length t) t
+-- where a query in a filter begins
+abbrev pub begins_query : ℕ → Bool
+begins_query c = c == 0x24 || c == 0x40
 
--- ---- Queries
+-- ---- Selectors, segments and queries, where `condition` reads what stands in a filter
 
-unfoldable pub ended : List OneSegment → Text → Option tree.Segments
-ended ss [] = Some (segments_of ss)
-ended ss (c ∷ t) = None
+module _ (condition : Reader tree.Expr) where
+  -- what stands behind the question mark, and the blanks behind it
+  unfoldable pub filter_at : Reader tree.Selector
+  filter_at t = do
+    x ← condition (after_run is_blank t)
+    Some (tree.filter x.0, after_run is_blank x.1)
 
-unfoldable pub query_at : Text → Option tree.Segments
-query_at [] = None
-query_at (c ∷ t) = if c == 0x24 then (segments_at t >>= λ x. ended x.0 x.1) else None
+  unfoldable pub selector_at : Reader tree.Selector
+  selector_at [] = None
+  selector_at (c ∷ t) =
+      if c == 0x2A then Some (tree.wild, after_run is_blank t)
+      else if c == 0x22 || c == 0x27 then name_at (c ∷ t)
+      else if c == 0x3F then filter_at t
+      else index_at (c ∷ t)
+
+  unfoldable pub selectors_at : Reader (List tree.Selector)
+  selectors_at t = list_at next_selector selector_at t
+
+  -- what stands behind the bracket that opens
+  unfoldable pub bracketed_at : Reader (List tree.Selector)
+  bracketed_at t = do
+    x ← selectors_at (after_run is_blank t)
+    rest ← behind 0x5D x.1
+    Some (x.0, rest)
+
+  unfoldable pub selectors_from : Text → Option Text → Option (List tree.Selector × Text)
+  selectors_from t (Some u) = bracketed_at u
+  selectors_from t None = do
+    x ← dotted_at t
+    Some (x.0 ∷ [], x.1)
+
+  unfoldable pub segment_at : Reader OneSegment
+  segment_at t = do
+    x ← opening_at t
+    ss ← selectors_from x.1 (behind 0x5B x.1)
+    Some (record { descend = x.0; selectors = selectors_of ss.0 }, ss.1)
+
+  unfoldable pub segments_at : Reader (List OneSegment)
+  segments_at t = repeat_at next_segment segment_at (length t) t
+
+  unfoldable pub sub_query_at : Reader tree.Nested
+  sub_query_at [] = None
+  sub_query_at (c ∷ t) = if begins_query c then (segments_at t >>= λ x. Some (tree.nested (c == 0x24) (segments_of x.0), x.1)) else None

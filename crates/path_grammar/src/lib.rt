@@ -6,15 +6,23 @@
 
 mod ast;
 mod class;
+mod expressions;
 mod fault;
+mod laws;
+mod literals;
 mod numbers;
 mod reader;
 mod scan;
 mod segments;
+mod singular;
 mod strings;
 #[cfg(test)]
 mod tests;
 
-pub use ast::{IntLit, Query, Segment, Selector};
+pub use ast::{
+    Argument, Call, Comparable, Expr, IntLit, Literal, Op, Query, Segment, Selector, SubQuery,
+};
 pub use fault::ParseFault;
-pub use reader::{TEXT_LIMIT, parse};
+pub use laws::queries_have_one_tree;
+pub use reader::{LEVEL_LIMIT, QUERY_LIMIT, parse};
+pub use singular::is_singular;

@@ -1,14 +1,14 @@
-//! Reads integers.
+//! Reads integers, and finds the end of numbers.
 
-ghost use Rattle.std.specs.Prelude.{◌≡◌, Option, Some, None, if◌then◌else◌, nat_le, pos};
+ghost use Rattle.std.specs.Prelude.{◌≡◌, option_map, Option, Some, None, if◌then◌else◌, nat_le, pos};
 ghost use Rattle.path_grammar.specs.Numbers.{decimal};
 ghost use Rattle.path_grammar.specs.Reading.{Gives};
-ghost use Rattle.path_grammar.specs.ReadingNumbers.{signed_literal, digits_at, int_at, part_at};
+ghost use Rattle.path_grammar.specs.ReadingNumbers.{signed_literal, digits_at, int_at, part_at, digits_end, minus_zero_end, whole_end, fraction_end, sign_end, exponent_end, number_end};
 
 use crate::ast::IntLit;
 use crate::class::{Class, split_run};
 use crate::fault::ParseFault;
-use crate::scan::skip_blanks;
+use crate::scan::{behind, skip_blanks};
 
 const INT_LIMIT: u64 = 9_007_199_254_740_991;
 
@@ -78,4 +78,75 @@ pub fn part(text: &[char]) -> Result<(Option<IntLit>, &[char]), ParseFault>
         }
         _ => Ok((None, text)),
     }
+}
+
+#[tactic(auto, unfolding(crate::specs::ReadingNumbers::digits_end))]
+fn digits_end(text: &[char]) -> Result<&[char], ParseFault>
+    ensures { Gives (λ t. t.now) result (digits_end text.now) }
+{
+    match text {
+        ['0'..='9', ..] => Ok(split_run(text, Class::Digit).1),
+        _ => Err(ParseFault::NotWellFormed),
+    }
+}
+
+#[tactic(auto, unfolding(crate::specs::ReadingNumbers::minus_zero_end))]
+fn minus_zero_end(text: &[char]) -> Option<&[char]>
+    ensures { option_map (λ t. t.now) result ≡ minus_zero_end text.now }
+{
+    let rest = behind(text, '-')?;
+    behind(rest, '0')
+}
+
+#[tactic(auto, unfolding(crate::specs::ReadingNumbers::whole_end, crate::specs::ReadingNumbers::whole_from))]
+fn whole_end(text: &[char]) -> Result<&[char], ParseFault>
+    ensures { Gives (λ t. t.now) result (whole_end text.now) }
+{
+    match minus_zero_end(text) {
+        Some(rest) => Ok(rest),
+        None => {
+            let (_, rest) = int(text)?;
+            Ok(rest)
+        }
+    }
+}
+
+#[tactic(auto, unfolding(crate::specs::ReadingNumbers::fraction_end, crate::specs::ReadingNumbers::fraction_from))]
+fn fraction_end(text: &[char]) -> Result<&[char], ParseFault>
+    ensures { Gives (λ t. t.now) result (fraction_end text.now) }
+{
+    match behind(text, '.') {
+        Some(rest) => digits_end(rest),
+        None => Ok(text),
+    }
+}
+
+#[tactic(auto, unfolding(crate::specs::ReadingNumbers::sign_end))]
+fn sign_end(text: &[char]) -> &[char]
+    ensures { result.now ≡ sign_end text.now }
+{
+    match text {
+        ['+' | '-', rest @ ..] => rest,
+        _ => text,
+    }
+}
+
+#[tactic(auto, unfolding(crate::specs::ReadingNumbers::exponent_end))]
+fn exponent_end(text: &[char]) -> Result<&[char], ParseFault>
+    ensures { Gives (λ t. t.now) result (exponent_end text.now) }
+{
+    match text {
+        ['e' | 'E', rest @ ..] => digits_end(sign_end(rest)),
+        _ => Ok(text),
+    }
+}
+
+/// The text behind the number at the front.
+#[tactic(auto, unfolding(crate::specs::ReadingNumbers::number_end))]
+pub fn number_end(text: &[char]) -> Result<&[char], ParseFault>
+    ensures { Gives (λ t. t.now) result (number_end text.now) }
+{
+    let rest = whole_end(text)?;
+    let rest = fraction_end(rest)?;
+    exponent_end(rest)
 }

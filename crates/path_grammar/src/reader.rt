@@ -3,19 +3,22 @@
 ghost use Rattle.std.specs.Prelude.{◌≡◌, ◌↔◌, ◌<◌, length, IfOk, IsErrOf, IsUtf8, chars};
 ghost use Rattle.path_grammar.specs.Grammar.{IsQuery};
 ghost use Rattle.path_grammar.specs.Reading.{Gives};
-ghost use Rattle.path_grammar.specs.ReadingSegments.{query_at};
+ghost use Rattle.path_grammar.specs.ReadingFilters.{query_at};
 ghost use Rattle.path_grammar.specs.Tree.{Segments};
 ghost use Rattle.path_grammar.specs.View.{query_view};
 
 use crate::ast::Query;
+use crate::expressions::segments;
 use crate::fault::ParseFault;
-use crate::segments::segments;
 use std::alloc::Global;
 
 /// The greatest length of a query text, in bytes.
-pub const TEXT_LIMIT: usize = 4096;
+pub const QUERY_LIMIT: usize = 4096;
 
-#[tactic(auto, unfolding(crate::specs::ReadingSegments::query_at, crate::specs::ReadingSegments::ended))]
+/// The greatest number of filters, parentheses and argument lists that stand one in another.
+pub const LEVEL_LIMIT: u8 = 32;
+
+#[tactic(auto, unfolding(crate::specs::ReadingFilters::query_at, crate::specs::ReadingFilters::ended))]
 fn query(alloc: Global, text: &[char]) -> Result<Query, ParseFault>
     ensures { Gives (λ q. query_view q) result (query_at text.now) }
 {
@@ -25,7 +28,7 @@ fn query(alloc: Global, text: &[char]) -> Result<Query, ParseFault>
     if *c != '$' {
         return Err(ParseFault::NotWellFormed);
     }
-    let (segments, rest) = segments(alloc, rest)?;
+    let (segments, rest) = segments(alloc, rest, LEVEL_LIMIT)?;
     match rest {
         [] => Ok(Query { segments }),
         [_, ..] => Err(ParseFault::NotWellFormed),
@@ -45,7 +48,7 @@ fn characters(alloc: Global, bytes: &[u8]) -> Result<Vec<char>, ParseFault>
 
 /// The tree of a query text: of all its bytes, which are UTF-8 and spell one query (RFC 9535, section 2.1.1).
 ///
-/// Refused are, in this order: more than [`TEXT_LIMIT`] bytes (QueryTooLong); what spells no query (NotWellFormed). Memory
+/// Refused are, in this order: more than [`QUERY_LIMIT`] bytes (QueryTooLong); what spells no query (NotWellFormed). Memory
 /// comes where a growth was refused.
 pub fn parse(alloc: Global, text: &[u8]) -> Result<Query, ParseFault>
     ensures spelled { IfOk result (λ q. IsQuery text.now (query_view q)) }
@@ -54,7 +57,7 @@ pub fn parse(alloc: Global, text: &[u8]) -> Result<Query, ParseFault>
     ensures too_long { IsErrOf result ParseFault.QueryTooLong ↔ (4096 < length text.now) }
     ensures not_well_formed { IsErrOf result ParseFault.NotWellFormed → (q : Segments) → ¬ IsQuery text.now q }
 {
-    if text.len() > TEXT_LIMIT {
+    if text.len() > QUERY_LIMIT {
         return Err(ParseFault::QueryTooLong);
     }
     let characters = characters(alloc, text)?;

@@ -1,8 +1,8 @@
-use crate::{IntLit, ParseFault, Selector, parse};
+use crate::{Argument, Comparable, Expr, IntLit, Op, ParseFault, Selector, parse};
 use std::test::*;
 
 // Each pair is a text of the grammar and a neighbour that is not.
-const NEIGHBOURS: [(&str, &str); 24] = [
+const NEIGHBOURS: [(&str, &str); 46] = [
     ("$", ""),
     ("$.a", "$.a "),
     ("$ .a", " $.a"),
@@ -27,6 +27,28 @@ const NEIGHBOURS: [(&str, &str); 24] = [
     ("$[\"\\\"\"]", "$[\"\\'\"]"),
     ("$['\\ud83d\\ude00']", "$['\\ud83d']"),
     ("$['\\u00e9\\b\\f\\n\\r\\t\\/\\\\']", "$['\\x']"),
+    ("$[?@.a]", "$[?a]"),
+    ("$[? $ ]", "$[? ]"),
+    ("$[?@.a,?@.b]", "$[?@.a,]"),
+    ("$..[?@.a]", "$.?@.a"),
+    ("$[?!@.a]", "$[?!!@.a]"),
+    ("$[?! ( @.a ) ]", "$[?!(@.a]"),
+    ("$[?(@.a)]", "$[?((@.a)]"),
+    ("$[?@.a && @.b || !(@.c)]", "$[?@.a & @.b]"),
+    ("$[?@.a==1]", "$[?@.a=1]"),
+    ("$[?@.a == 1]", "$[?!@.a == 1]"),
+    ("$[?@['a'][0] >= @[ 1 ]]", "$[?@['a'][0] > = @[ 1 ]]"),
+    ("$[?@.a<1]", "$[?@.*<1]"),
+    ("$[?null != @[0]]", "$[?null != @[0,1]]"),
+    ("$[?true == @.a]", "$[?true]"),
+    ("$[?-0 == -0.0e+10]", "$[?-01 == 1]"),
+    ("$[?1.5E3 <= @]", "$[?1. <= @]"),
+    ("$[?1e5 == 1]", "$[?1e == 1]"),
+    ("$[?'a' == \"a\"]", "$[?'a' == \"a']"),
+    ("$[?true(@)]", "$[?true (@)]"),
+    ("$[?count(@..*) > 2]", "$[?Count(@..*) > 2]"),
+    ("$[?f_1( 1 , 'a', @.b, g(), @.a == 1 )]", "$[?f_1(1,)]"),
+    ("$[?f((@.a))]", "$[?f(@.a @.b)]"),
 ];
 
 #[test]
@@ -85,4 +107,46 @@ fn limits(rt: HostRuntime) -> Result<(), Fail> {
         )
     );
     Ok(())
+}
+
+#[test]
+fn filter_query(rt: HostRuntime) -> Result<(), Fail> {
+    let q = parse(rt.alloc(), b"$[?length(@.a) < 3 && true(@, (@)) || $..b]")?;
+    let first = q.segments.first().ok_or("segment")?;
+    let Some(Selector::Filter(condition)) = first.selectors.first() else {
+        return Err("filter".into());
+    };
+    let Expr::Any(any) = &**condition else {
+        return Err("any".into());
+    };
+    let (Some(Expr::Each(each)), Some(Expr::Test(query))) = (any.first(), any.get(1)) else {
+        return Err("operands".into());
+    };
+    assert!(rt; query.from_root);
+    assert!(rt;
+        matches!(
+            each.first(),
+            Some(Expr::Compare(Comparable::Func(_), Op::Lt, _))
+        )
+    );
+    let Some(Expr::TestCall(call)) = each.get(1) else {
+        return Err("call".into());
+    };
+    assert_eq!(rt; call.name.as_slice(), b"true".as_slice());
+    assert!(rt; matches!(call.arguments.first(), Some(Argument::Nodes(_))));
+    assert!(rt; matches!(call.arguments.get(1), Some(Argument::Logical(_))));
+    Ok(())
+}
+
+#[test]
+fn levels(rt: HostRuntime) {
+    let most = b"$[?(((((((((((((((((((((((((((((((@)))))))))))))))))))))))))))))))]";
+    assert!(rt; parse(rt.alloc(), most).is_ok());
+    let more = b"$[?((((((((((((((((((((((((((((((((@))))))))))))))))))))))))))))))))]";
+    assert!(rt; matches!(parse(rt.alloc(), more), Err(ParseFault::NotWellFormed)));
+    let mut open = [b'('; 4000];
+    open[0] = b'$';
+    open[1] = b'[';
+    open[2] = b'?';
+    assert!(rt; matches!(parse(rt.alloc(), &open), Err(ParseFault::NotWellFormed)));
 }

@@ -34,7 +34,7 @@ pub enum QueryTextFault {
     /// Two names of one object mean the same.
     #[error("DuplicateName")]
     DuplicateName,
-    /// The query has more bytes than [`path_grammar::TEXT_LIMIT`].
+    /// The query has more bytes than [`path_grammar::QUERY_LIMIT`].
     #[error("QueryTooLong")]
     QueryTooLong,
     /// The query is none of the grammar (RFC 9535, section 2.1.1).

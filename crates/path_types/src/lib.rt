@@ -1,8 +1,12 @@
 //! Which queries are valid (RFC 9535, section 2.1): a walk over the syntax tree, and a type for the trees that passed it.
 #![tactic(auto)]
 
+mod laws;
+#[cfg(test)]
+mod tests;
 mod valid;
 mod valid_query;
 
+pub use laws::judges_numbers;
 pub use valid::INT_LIMIT;
 pub use valid_query::{NotValid, ValidQuery, check};

@@ -22,11 +22,15 @@ pub struct ValidQuery {
 
 impl Model for ValidQuery {
     ghost use Rattle.std.specs.Prelude.{IsTrue};
+    ghost use Rattle.std.specs.Coded.{codes};
+    ghost use Rattle.path_grammar.specs.contracts.ast.Segment as segment;
     ghost use Rattle.path_grammar.specs.declared.ast.Query.{Query};
     ghost use Rattle.path_grammar.specs.View.{query_view};
     ghost use Rattle.path_types.specs.Validity.{is_valid};
 
     ghost Value = { Query };
+
+    ghost coded = { Prim.hlevel (codes, segment.the_row.coded) };
 
     ghost view = { λ v. v.query };
 

@@ -1,11 +1,11 @@
 -- Adding nodes one by one.
-use Rattle.std.proofs.Common.{◌≡◌, ◌≤◌, ◌<◌, Bool, true, false, List, [], ◌∷◌, ◌++◌, length, Some, None, refl, sym, ap, arith, append_assoc, length-append, cond}
+use Rattle.std.proofs.Common.{◌≡◌, ◌≤◌, ◌<◌, Bool, true, false, List, [], ◌∷◌, ◌++◌, length, Option, Some, None, refl, sym, ap, arith, append_assoc, length-append, cond}
 use Rattle.std.specs.List.{All}
 use Rattle.std.proofs.lemmas.Grind.{common_steps}
 use Rattle.std.proofs.lemmas.Bool.Decides.{nat_tests}
 use Rattle.json_tape.specs.Nodes.{Node}
 use Rattle.tape_select.specs.Evaluation.{is_over, node_limit}
-use Rattle.tape_select.specs.Running.{add}
+use Rattle.tape_select.specs.Running.{add, add_if, keep_run}
 use Rattle.json_tape.specs.Document.{Doc, node_at, count}
 use Rattle.json_tape.specs.declared.tape.NodeId.{NodeId}
 use Rattle.tape_select.specs.Nodelists.{nodes_of, Sound, Has}
@@ -54,3 +54,10 @@ pub has_none : (d : Doc) (ks : List NodeId) → Sound d ks → Has d ks (add (no
 has_none d ks s = record { nodes = sym (none_more (nodes_of d ks) (not_over d ks s.room)); sound = s }
 
 pub ruleset walk = (add_more, add_full, has_none, not_over)
+
+-- a filter keeps the first of several, or passes over it
+pub keep_more : (t : Node → Option Bool) (out o : List Node) (b : Bool) (n : Node) (ns : List Node) → t n ≡ Some b → add_if b out n ≡ Some o
+    → keep_run t o ns ≡ keep_run t out (n ∷ ns)
+keep_more t out o b n ns e f = rw (e, f) refl
+
+pub ruleset filtering = (add_more, add_full, has_none, not_over)

@@ -5,7 +5,7 @@ use Rattle.json_tape.specs.Nodes.{Node, Step, elements_from, elements_of, childr
 use Rattle.json_tape.specs.Document.{kind_of, length_of}
 use Rattle.json_tape.specs.Tape.{element_count}
 use Rattle.json_tape.specs.declared.tape.Kind.TheVariants as kinds
-use Rattle.tape_select.specs.Selection.{nth, picked, up_to, down_to}
+use Rattle.tape_select.specs.Selection.{nth, picked}
 use Rattle.tape_select.proofs.Adding.{add_more, add_full, has_none, not_over}
 
 length_elements : (up : List Step) (i k : ℕ) (es : Elements) → length (elements_from up i k es) ≡ element_count es
@@ -54,20 +54,6 @@ picked_one p i n ns h = let e : i + 1 ≡ suc i = omega arith in rw (h, e) refl
 pub picked_not : (p : ℕ → Bool) (i : ℕ) (n : Node) (ns : List Node) → p i ≡ false → picked p i (n ∷ ns) ≡ picked p (i + 1) ns
 picked_not p i n ns h = let e : i + 1 ≡ suc i = omega arith in rw (h, e) refl
 
-pub up_one : (start stop step i : ℕ) (n : Node) (ns : List Node) → up_to start stop step i ≡ true → picked (up_to start stop step) i (n ∷ ns) ≡ n ∷ picked (up_to start stop step) (i + 1) ns
-up_one start stop step i n ns h = picked_one (up_to start stop step) i n ns h
-
-pub up_not : (start stop step i : ℕ) (n : Node) (ns : List Node) → up_to start stop step i ≡ false → picked (up_to start stop step) i (n ∷ ns) ≡ picked (up_to start stop step) (i + 1) ns
-up_not start stop step i n ns h = picked_not (up_to start stop step) i n ns h
-
-pub down_one : (start stop step i : ℕ) (n : Node) (ns : List Node) → down_to start stop step i ≡ true → picked (down_to start stop step) i (n ∷ ns) ≡ n ∷ picked (down_to start stop step) (i + 1) ns
-down_one start stop step i n ns h = picked_one (down_to start stop step) i n ns h
-
-pub down_not : (start stop step i : ℕ) (n : Node) (ns : List Node) → down_to start stop step i ≡ false → picked (down_to start stop step) i (n ∷ ns) ≡ picked (down_to start stop step) (i + 1) ns
-down_not start stop step i n ns h = picked_not (down_to start stop step) i n ns h
-
 pub ruleset arrays = (children_are, total_is, none_are)
 
-pub ruleset picking = (up_one, up_not, add_more, add_full, has_none, not_over)
-
-pub ruleset picking_down = (down_one, down_not, add_more, add_full, has_none, not_over)
+pub ruleset picking = (picked_one, picked_not, add_more, add_full, has_none, not_over)

@@ -29,16 +29,16 @@ pub record Selects (d : Doc) (q : Segments) (ids : List NodeId) : Type 0 where
   pub within : exceeds_limit (tree_of d) q ≡ false
 
 pub selects_from : (d : Doc) (q : Segments) (ids : List NodeId) → node_at d 0 ≡ root_of d
-    → Has d ids (evaluated_run q (node_at d 0 ∷ [])) → Selects d q ids
+    → Has d ids (evaluated_run (node_at d 0) q (node_at d 0 ∷ [])) → Selects d q ids
 selects_from d q ids e r =
-    let g : evaluated_run q (root_of d ∷ []) ≡ Some (nodes_of d ids) = rw e at r.nodes in
-    let p = some_when (exceeds q (root_of d ∷ [])) (evaluated q (root_of d ∷ [])) (nodes_of d ids) (sym (evaluated_is q (root_of d ∷ [])) ∙ g) in
+    let g : evaluated_run (root_of d) q (root_of d ∷ []) ≡ Some (nodes_of d ids) = rw e at r.nodes in
+    let p = some_when (exceeds (root_of d) q (root_of d ∷ [])) (evaluated (root_of d) q (root_of d ∷ [])) (nodes_of d ids) (sym (evaluated_is (root_of d) q (root_of d ∷ [])) ∙ g) in
     record { nodes = sym p.1; inside = r.sound.inside; within = p.0 }
 
-pub over_from : (d : Doc) (q : Segments) → node_at d 0 ≡ root_of d → evaluated_run q (node_at d 0 ∷ []) ≡ None → exceeds_limit (tree_of d) q ≡ true
+pub over_from : (d : Doc) (q : Segments) → node_at d 0 ≡ root_of d → evaluated_run (node_at d 0) q (node_at d 0 ∷ []) ≡ None → exceeds_limit (tree_of d) q ≡ true
 over_from d q e h =
-    let g : evaluated_run q (root_of d ∷ []) ≡ None = rw e at h in
-    none_when (exceeds q (root_of d ∷ [])) (evaluated q (root_of d ∷ [])) (sym (evaluated_is q (root_of d ∷ [])) ∙ g)
+    let g : evaluated_run (root_of d) q (root_of d ∷ []) ≡ None = rw e at h in
+    none_when (exceeds (root_of d) q (root_of d ∷ [])) (evaluated (root_of d) q (root_of d ∷ [])) (sym (evaluated_is (root_of d) q (root_of d ∷ [])) ∙ g)
 
 -- the clauses of an answer
 pub record IsAnswer (d : Doc) (q : Segments) (r : Result (Vec NodeId Global) SelectFault) : Type 0 where
@@ -48,7 +48,7 @@ pub record IsAnswer (d : Doc) (q : Segments) (r : Result (Vec NodeId Global) Sel
   pub too_many_nodes : IsErrOf r TooManyNodes → exceeds_limit (tree_of d) q ≡ true
 
 pub answered : (d : Doc) (q : Segments) (r : Result (Vec NodeId Global) SelectFault) → node_at d 0 ≡ root_of d
-    → GivesList d r (evaluated_run q (node_at d 0 ∷ [])) → IsAnswer d q r
+    → GivesList d r (evaluated_run (node_at d 0) q (node_at d 0 ∷ [])) → IsAnswer d q r
 answered d q (Ok ids) e g =
     let s : Selects d q ids.items = selects_from d q ids.items e g in
     record { nodes = s.nodes; inside = s.inside; within = λ _. s.within; too_many_nodes = λ k. absurd cc }

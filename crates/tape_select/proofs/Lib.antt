@@ -4,3 +4,11 @@ pub mod Walks
 pub mod Elements
 pub mod Turned
 pub mod Ends
+pub mod SideValues
+pub mod Following
+pub mod WholeTexts
+pub mod Sizes
+pub mod Twins
+pub mod Members
+pub mod Guessing
+pub mod Leaves

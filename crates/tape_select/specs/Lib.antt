@@ -1,4 +1,11 @@
 pub mod Selection
+pub mod Places
+pub mod Comparison
+pub mod Functions
 pub mod Evaluation
 pub mod Running
 pub mod Nodelists
+pub mod Sides
+pub mod Pairs
+pub mod Contents
+pub mod Guessing

@@ -41,3 +41,7 @@ Gives d r new run = MatchResult r (λ _. Has d new run) (λ e. Stops run e)
 -- the list that is returned holds what the run gives
 abbrev pub GivesList : Doc → Result (Vec NodeId Global) SelectFault → Option (List Node) → Type 0
 GivesList d r run = MatchResult r (λ v. Has d v.items run) (λ e. Stops run e)
+
+-- the value that is returned is what the run gives
+abbrev pub GivesValue : {A : Type 0} → Result A SelectFault → Option A → Type 0
+GivesValue r run = MatchResult r (λ v. run ≡ Some v) (λ e. Stops run e)

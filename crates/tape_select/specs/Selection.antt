@@ -1,9 +1,8 @@
 -- What a selector selects from one node (RFC 9535, section 2.3).
 use Rattle.std.specs.Prelude.{ℕ, zero, suc, ◌-◌, ◌%◌, min, List, [], ◌∷◌, Bool, ◌&&◌, length, reverse, Option, Some, None, if◌then◌else◌, ℤ, pos, negsuc, nat_lt, nat_le, nat_eq}
-use Rattle.path_grammar.specs.Tree.{Selector, name, wild, index, slice}
 use Rattle.path_grammar.specs.declared.ast.IntLit.{IntLit}
 use Rattle.path_grammar.specs.declared.ast.IntLit.TheVariants.{Within, Beyond}
-use Rattle.json_tape.specs.Nodes.{Node, children, elements, is_named}
+use Rattle.json_tape.specs.Nodes.{Node}
 
 -- ---- Names (section 2.3.1)
 
@@ -79,11 +78,3 @@ sliced_by (negsuc s) start stop ns =
 
 abbrev pub sliced : (start stop step : Option IntLit) → List Node → List Node
 sliced start stop step ns = sliced_by (step_of step) start stop ns
-
--- ---- All of them
-
-abbrev pub selected_by : Selector → Node → List Node
-selected_by (name scalars) n = first_where (is_named scalars) (children n)
-selected_by wild n = children n
-selected_by (index i) n = at_index i (elements n)
-selected_by (slice start stop step) n = sliced start stop step (elements n)

@@ -28,25 +28,36 @@ pub fn wild(doc: &Document, n: NodeId, out: &mut Vec<NodeId>) -> Result<(), Sele
 }
 
 // The member of this name.
-#[tactic(auto, using(crate::proofs::Adding::walk))]
-pub fn named(
-    doc: &Document,
-    n: NodeId,
-    name: &[char],
-    out: &mut Vec<NodeId>,
-) -> Result<(), SelectFault>
-    requires inside { n.0 < count doc.now }
-    requires sound { Sound doc.now out.old.items }
-    ensures { Gives doc.now result out.new.items (add (nodes_of doc.now out.old.items) (first_where (is_named name.now) (children (node_at doc.now n.0)))) }
+pub fn member(doc: &Document, n: NodeId, name: &[char]) -> Option<NodeId>
+    requires { n.0 < count doc.now }
+    ensures node { single doc.now result ≡ first_where (is_named name.now) (children (node_at doc.now n.0)) }
+    ensures inside { IsIn doc.now result }
 {
     let mut child = doc.first_child(n);
     while let Some(c) = child {
         if doc.name_is(c, name) {
-            return push(doc, out, c);
+            return Some(c);
         }
         child = doc.next_sibling(c);
     }
-    Ok(())
+    None
+}
+
+// The node, where there is one.
+#[tactic(auto, using(crate::proofs::Adding::walk))]
+pub fn push_some(
+    doc: &Document,
+    out: &mut Vec<NodeId>,
+    node: Option<NodeId>,
+) -> Result<(), SelectFault>
+    requires inside { IsIn doc.now node }
+    requires sound { Sound doc.now out.old.items }
+    ensures { Gives doc.now result out.new.items (add (nodes_of doc.now out.old.items) (single doc.now node)) }
+{
+    match node {
+        None => Ok(()),
+        Some(n) => push(doc, out, n),
+    }
 }
 
 // The first element of an array.
@@ -116,25 +127,14 @@ fn nth_from(doc: &Document, first: Option<NodeId>, place: u32) -> Option<NodeId>
 }
 
 // The element with this index.
-#[tactic(auto, using(crate::proofs::Adding::walk))]
-pub fn indexed(
-    doc: &Document,
-    n: NodeId,
-    i: IntLit,
-    out: &mut Vec<NodeId>,
-) -> Result<(), SelectFault>
-    requires inside { n.0 < count doc.now }
-    requires sound { Sound doc.now out.old.items }
-    ensures { Gives doc.now result out.new.items (add (nodes_of doc.now out.old.items) (at_index i (elements (node_at doc.now n.0)))) }
+pub fn element(doc: &Document, n: NodeId, i: IntLit) -> Option<NodeId>
+    requires { n.0 < count doc.now }
+    ensures node { single doc.now result ≡ at_index i (elements (node_at doc.now n.0)) }
+    ensures inside { IsIn doc.now result }
 {
     let IntLit::Within(i) = i else {
-        return Ok(());
+        return None;
     };
-    let Some(place) = position(i, element_total(doc, n)) else {
-        return Ok(());
-    };
-    match nth_from(doc, first_element(doc, n), place) {
-        None => Ok(()),
-        Some(c) => push(doc, out, c),
-    }
+    let place = position(i, element_total(doc, n))?;
+    nth_from(doc, first_element(doc, n), place)
 }

@@ -3,7 +3,8 @@
 ghost use Rattle.std.specs.Prelude.{◌≡◌, ◌<◌, ◌≤◌, ◌∷◌, [], ◌++◌, ◌^◌, length, take, drop, reverse};
 ghost use Rattle.json_tape.specs.Document.{count, node_at, following, IsIn};
 ghost use Rattle.json_tape.specs.Nodes.{children, elements, is_named, visit};
-ghost use Rattle.tape_select.specs.Selection.{picked, up_to, down_to, bound_up, bound_down, bound_or, step_of, sliced};
+ghost use Rattle.tape_select.specs.Places.{is_place};
+ghost use Rattle.tape_select.specs.Selection.{picked, bound_up, bound_down, bound_or, step_of, sliced};
 ghost use Rattle.tape_select.specs.Running.{add};
 ghost use Rattle.tape_select.specs.Nodelists.{nodes_of, Sound, Gives};
 
@@ -13,68 +14,44 @@ use crate::selectors::{element_total, first_element};
 use json_tape::{Document, NodeId};
 use path_grammar::IntLit;
 
-fn is_up(start: u32, stop: u32, step: u64, i: u32) -> bool
-    requires { 0 < step }
-    ensures { result ≡ up_to start stop step i }
-{
-    start <= i && i < stop && u64::from(i - start) % step == 0
+/// The places that a slice selects: up from `start` to before `stop`, or down from below `start` to `stop`.
+#[derive(Clone, Copy)]
+pub struct Places {
+    pub up: bool,
+    pub start: u32,
+    pub stop: u32,
+    pub step: u64,
 }
 
-fn is_down(start: u32, stop: u32, step: u64, i: u32) -> bool
-    requires { 0 < step }
-    ensures { result ≡ down_to start stop step i }
+fn is_place(places: Places, i: u32) -> bool
+    requires { 0 < places.step }
+    ensures { result ≡ is_place places i }
 {
-    stop <= i && i < start && u64::from(start - 1 - i) % step == 0
-}
-
-// The elements of a slice, in document order.
-#[tactic(auto, using(crate::proofs::Elements::picking))]
-fn picked_up(
-    doc: &Document,
-    n: NodeId,
-    start: u32,
-    stop: u32,
-    step: u64,
-    out: &mut Vec<NodeId>,
-) -> Result<(), SelectFault>
-    requires step { 0 < step }
-    requires inside { n.0 < count doc.now }
-    requires sound { Sound doc.now out.old.items }
-    ensures { Gives doc.now result out.new.items (add (nodes_of doc.now out.old.items) (picked (up_to start stop step) 0 (elements (node_at doc.now n.0)))) }
-{
-    let mut child = first_element(doc, n);
-    let total = element_total(doc, n);
-    for i in 0..total {
-        if let Some(c) = child {
-            if is_up(start, stop, step, i) {
-                push(doc, out, c)?;
-            }
-            child = doc.next_sibling(c);
-        }
+    if places.up {
+        places.start <= i && i < places.stop && u64::from(i - places.start) % places.step == 0
+    } else {
+        places.stop <= i && i < places.start && u64::from(places.start - 1 - i) % places.step == 0
     }
-    Ok(())
 }
 
-// The elements of a slice with a step below 0, still in document order.
-#[tactic(auto, using(crate::proofs::Elements::picking_down))]
-fn picked_down(
+// The elements at these places, in document order.
+#[tactic(auto, using(crate::proofs::Elements::picking))]
+fn picked(
     doc: &Document,
     n: NodeId,
-    start: u32,
-    stop: u32,
-    step: u64,
+    places: Places,
     out: &mut Vec<NodeId>,
 ) -> Result<(), SelectFault>
-    requires step { 0 < step }
+    requires step { 0 < places.step }
     requires inside { n.0 < count doc.now }
     requires sound { Sound doc.now out.old.items }
-    ensures { Gives doc.now result out.new.items (add (nodes_of doc.now out.old.items) (picked (down_to start stop step) 0 (elements (node_at doc.now n.0)))) }
+    ensures { Gives doc.now result out.new.items (add (nodes_of doc.now out.old.items) (picked (is_place places) 0 (elements (node_at doc.now n.0)))) }
 {
     let mut child = first_element(doc, n);
     let total = element_total(doc, n);
     for i in 0..total {
         if let Some(c) = child {
-            if is_down(start, stop, step, i) {
+            if is_place(places, i) {
                 push(doc, out, c)?;
             }
             child = doc.next_sibling(c);
@@ -140,22 +117,21 @@ fn reverse_from(out: &mut Vec<NodeId>, from: usize)
     out[from..].reverse();
 }
 
+// The elements at these places, the last first.
 #[tactic(auto, using(crate::proofs::Turned::turned))]
 fn picked_back(
     doc: &Document,
     n: NodeId,
-    start: u32,
-    stop: u32,
-    step: u64,
+    places: Places,
     out: &mut Vec<NodeId>,
 ) -> Result<(), SelectFault>
-    requires step { 0 < step }
+    requires step { 0 < places.step }
     requires inside { n.0 < count doc.now }
     requires sound { Sound doc.now out.old.items }
-    ensures { Gives doc.now result out.new.items (add (nodes_of doc.now out.old.items) (reverse (picked (down_to start stop step) 0 (elements (node_at doc.now n.0))))) }
+    ensures { Gives doc.now result out.new.items (add (nodes_of doc.now out.old.items) (reverse (picked (is_place places) 0 (elements (node_at doc.now n.0))))) }
 {
     let from = out.len();
-    picked_down(doc, n, start, stop, step, out)?;
+    picked(doc, n, places, out)?;
     reverse_from(out, from);
     Ok(())
 }
@@ -190,22 +166,20 @@ pub fn sliced(
         return Ok(());
     }
     if 0 <= step {
-        picked_up(
-            doc,
-            n,
-            up_or(total, 0, start),
-            up_or(total, total, stop),
-            distance,
-            out,
-        )
+        let places = Places {
+            up: true,
+            start: up_or(total, 0, start),
+            stop: up_or(total, total, stop),
+            step: distance,
+        };
+        picked(doc, n, places, out)
     } else {
-        picked_back(
-            doc,
-            n,
-            down_or(total, total, start),
-            down_or(total, 0, stop),
-            distance,
-            out,
-        )
+        let places = Places {
+            up: false,
+            start: down_or(total, total, start),
+            stop: down_or(total, 0, stop),
+            step: distance,
+        };
+        picked_back(doc, n, places, out)
     }
 }

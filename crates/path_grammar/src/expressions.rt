@@ -1,0 +1,557 @@
+//! Reads what may hold filters: segments, logical expressions and calls, which call one another.
+//!
+//! `level` is the number of filters, parentheses and argument lists that may still stand one in another. No part of the text is
+//! read twice, but for a literal that begins an argument.
+
+ghost use Rattle.std.specs.Prelude.{◌≡◌, ◌∷◌, map, option_map, IfOk, IfSome, IsTrue};
+ghost use Rattle.std.specs.List.{list_all};
+ghost use Rattle.path_grammar.specs.Characters.{is_ascii};
+ghost use Rattle.path_grammar.specs.Grammar.{joined};
+ghost use Rattle.path_grammar.specs.Reading.{Gives, behind};
+ghost use Rattle.path_grammar.specs.ReadingSegments.{filter_at, selector_at, selectors_at, bracketed_at, selectors_from, segment_at, segments_at, sub_query_at};
+ghost use Rattle.path_grammar.specs.ReadingFilters.{next_operand, next_argument, opens_call, tested, is_comparable, ends_argument, is_parenthesis, argument_of, parentheses_at, call_at, side_at, negatable_at, compared_at, basic_at, basics_at, and_at, ands_at, or_at, expression_argument_at, argument_at, some_arguments_at, arguments_at, condition_in, arguments_in};
+ghost use Rattle.path_grammar.specs.Tree.{any, each};
+ghost use Rattle.path_grammar.specs.View.{selector_view, segment_view, nested_view, expr_view, comparable_view, call_view, argument_view};
+
+use crate::ast::{Argument, Call, Comparable, Expr, Op, Segment, Selector, SubQuery};
+use crate::class::{Class, is_lower, split_run};
+use crate::fault::ParseFault;
+use crate::literals::{ascii, literal, operator};
+use crate::scan::{behind, closed, skip_blanks};
+use crate::segments::{dotted, index, name, next_segment, next_selector, opening};
+use crate::singular::is_singular;
+use std::alloc::{AllocError, Global};
+
+// ---- What may stand between, before and behind expressions
+
+#[tactic(auto, unfolding(crate::specs::ReadingFilters::next_operand))]
+fn next_operand(text: &[char], half: char) -> Option<&[char]>
+    ensures { option_map (λ t. t.now) result ≡ next_operand half text.now }
+{
+    let rest = behind(skip_blanks(text), half)?;
+    let rest = behind(rest, half)?;
+    Some(skip_blanks(rest))
+}
+
+#[tactic(auto, unfolding(crate::specs::ReadingFilters::next_argument))]
+fn next_argument(text: &[char]) -> Option<&[char]>
+    ensures { option_map (λ t. t.now) result ≡ next_argument text.now }
+{
+    let rest = behind(skip_blanks(text), ',')?;
+    Some(skip_blanks(rest))
+}
+
+// The name of a call, and what stands behind its parenthesis.
+#[tactic(auto, unfolding(crate::specs::ReadingFilters::opens_call), using(crate::proofs::Runs::function_ascii))]
+fn opens_call(text: &[char]) -> Option<(&[char], &[char])>
+    ensures call { option_map (λ x. (x.0.now, x.1.now)) result ≡ opens_call text.now }
+    ensures ascii { IfSome result (λ x. IsTrue (list_all is_ascii x.0.now)) }
+{
+    let [c, ..] = text else {
+        return None;
+    };
+    if !is_lower(*c) {
+        return None;
+    }
+    let (name, rest) = split_run(text, Class::Function);
+    let inside = behind(rest, '(')?;
+    Some((name, inside))
+}
+
+#[tactic(auto, unfolding(crate::specs::ReadingFilters::ends_argument))]
+fn ends_argument(text: &[char]) -> bool
+    ensures { result ≡ ends_argument text.now }
+{
+    matches!(text, [',' | ')', ..])
+}
+
+#[tactic(auto, unfolding(crate::specs::ReadingFilters::is_parenthesis))]
+fn is_parenthesis(text: &[char]) -> bool
+    ensures { result ≡ is_parenthesis text.now }
+{
+    matches!(text, ['(', ..])
+}
+
+// ---- Trees of what was read
+
+#[tactic(auto, unfolding(crate::specs::ReadingFilters::tested))]
+fn tested(side: Comparable, text: &[char]) -> Result<(Expr, &[char]), ParseFault>
+    ensures { Gives (λ x. (expr_view x.0, x.1.now)) result (tested (comparable_view side) text.now) }
+{
+    match side {
+        Comparable::Lit(_) => Err(ParseFault::NotWellFormed),
+        Comparable::Single(query) => Ok((Expr::Test(query), text)),
+        Comparable::Func(call) => Ok((Expr::TestCall(call), text)),
+    }
+}
+
+fn is_comparable(side: &Comparable) -> bool
+    ensures { result ≡ is_comparable (comparable_view side.now) }
+{
+    match side {
+        Comparable::Lit(_) | Comparable::Func(_) => true,
+        Comparable::Single(query) => is_singular(&query.segments),
+    }
+}
+
+fn join_each(first: Expr, mut others: Vec<Expr>) -> Result<Expr, AllocError>
+    ensures { IfOk result (λ e. expr_view e ≡ joined each (expr_view first ∷ map expr_view others.items)) }
+{
+    if others.is_empty() {
+        return Ok(first);
+    }
+    others.insert(0, first)?;
+    Ok(Expr::Each(others))
+}
+
+fn join_any(first: Expr, mut others: Vec<Expr>) -> Result<Expr, AllocError>
+    ensures { IfOk result (λ e. expr_view e ≡ joined any (expr_view first ∷ map expr_view others.items)) }
+{
+    if others.is_empty() {
+        return Ok(first);
+    }
+    others.insert(0, first)?;
+    Ok(Expr::Any(others))
+}
+
+fn as_argument(alloc: Global, expr: Expr, is_parenthesised: bool) -> Result<Argument, AllocError>
+    ensures { IfOk result (λ a. argument_view a ≡ argument_of is_parenthesised (expr_view expr)) }
+{
+    if is_parenthesised {
+        return Ok(Argument::Logical(Box::new(alloc, expr)?));
+    }
+    match expr {
+        Expr::Test(query) => Ok(Argument::Nodes(query)),
+        Expr::TestCall(call) => Ok(Argument::Func(call)),
+        expr => Ok(Argument::Logical(Box::new(alloc, expr)?)),
+    }
+}
+
+// ---- A level deeper
+
+#[cycle(expressions)]
+#[tactic(auto, unfolding(crate::specs::ReadingFilters::condition_in))]
+fn condition(alloc: Global, text: &[char], level: u8) -> Result<(Expr, &[char]), ParseFault>
+    ensures { Gives (λ x. (expr_view x.0, x.1.now)) result (condition_in level text.now) }
+{
+    if level == 0 {
+        return Err(ParseFault::NotWellFormed);
+    }
+    or_expr(alloc, text, level - 1)
+}
+
+#[cycle(expressions)]
+#[tactic(auto, unfolding(crate::specs::ReadingFilters::condition_in))]
+fn arguments(
+    alloc: Global,
+    text: &[char],
+    level: u8,
+) -> Result<(Vec<Argument>, &[char]), ParseFault>
+    ensures { Gives (λ x. (map argument_view x.0.items, x.1.now)) result (arguments_in level text.now) }
+{
+    if level == 0 {
+        return Err(ParseFault::NotWellFormed);
+    }
+    argument_list(alloc, text, level - 1)
+}
+
+// ---- Selectors and segments
+
+// What stands behind a question mark.
+#[cycle(expressions)]
+#[tactic(auto, unfolding(crate::specs::ReadingSegments::filter_at))]
+fn filter(alloc: Global, text: &[char], level: u8) -> Result<(Selector, &[char]), ParseFault>
+    ensures { Gives (λ x. (selector_view x.0, x.1.now)) result (filter_at (condition_in level) text.now) }
+{
+    let (expr, rest) = condition(alloc, skip_blanks(text), level)?;
+    let expr = Box::new(alloc, expr)?;
+    Ok((Selector::Filter(expr), skip_blanks(rest)))
+}
+
+// A selector and the blanks behind it.
+#[cycle(expressions)]
+#[tactic(auto, unfolding(crate::specs::ReadingSegments::selector_at))]
+fn selector(alloc: Global, text: &[char], level: u8) -> Result<(Selector, &[char]), ParseFault>
+    ensures { Gives (λ x. (selector_view x.0, x.1.now)) result (selector_at (condition_in level) text.now) }
+{
+    let [c, rest @ ..] = text else {
+        return Err(ParseFault::NotWellFormed);
+    };
+    if *c == '*' {
+        Ok((Selector::Wild, skip_blanks(rest)))
+    } else if *c == '"' || *c == '\'' {
+        name(alloc, text)
+    } else if *c == '?' {
+        filter(alloc, rest, level)
+    } else {
+        index(text)
+    }
+}
+
+// One or more selectors.
+#[cycle(expressions)]
+fn selectors(
+    alloc: Global,
+    text: &[char],
+    level: u8,
+) -> Result<(Vec<Selector>, &[char]), ParseFault>
+    ensures { Gives (λ x. (map selector_view x.0.items, x.1.now)) result (selectors_at (condition_in level) text.now) }
+{
+    let (first, after_first) = selector(alloc, text, level)?;
+    let mut out = Vec::new(alloc);
+    out.push(first)?;
+    let mut rest = after_first;
+    for _ in 0..text.len() {
+        let Some(next) = next_selector(rest) else {
+            return Ok((out, rest));
+        };
+        let (item, after) = selector(alloc, next, level)?;
+        out.push(item)?;
+        rest = after;
+    }
+    Ok((out, rest))
+}
+
+// What stands behind the bracket that opens.
+#[cycle(expressions)]
+#[tactic(auto, unfolding(crate::specs::ReadingSegments::bracketed_at))]
+fn bracketed(
+    alloc: Global,
+    text: &[char],
+    level: u8,
+) -> Result<(Vec<Selector>, &[char]), ParseFault>
+    ensures { Gives (λ x. (map selector_view x.0.items, x.1.now)) result (bracketed_at (condition_in level) text.now) }
+{
+    let (selectors, rest) = selectors(alloc, skip_blanks(text), level)?;
+    let rest = closed(rest, ']')?;
+    Ok((selectors, rest))
+}
+
+#[cycle(expressions)]
+#[tactic(auto, unfolding(crate::specs::ReadingSegments::selectors_from))]
+fn selectors_behind(
+    alloc: Global,
+    text: &[char],
+    level: u8,
+) -> Result<(Vec<Selector>, &[char]), ParseFault>
+    ensures { Gives (λ x. (map selector_view x.0.items, x.1.now)) result (selectors_from (condition_in level) text.now (behind 0x5B text.now)) }
+{
+    match behind(text, '[') {
+        Some(rest) => bracketed(alloc, rest, level),
+        None => {
+            let (selector, rest) = dotted(alloc, text)?;
+            let mut selectors = Vec::new(alloc);
+            selectors.push(selector)?;
+            Ok((selectors, rest))
+        }
+    }
+}
+
+#[cycle(expressions)]
+#[tactic(auto, unfolding(crate::specs::ReadingSegments::segment_at))]
+fn segment(alloc: Global, text: &[char], level: u8) -> Result<(Segment, &[char]), ParseFault>
+    ensures { Gives (λ x. (segment_view x.0, x.1.now)) result (segment_at (condition_in level) text.now) }
+{
+    let (descend, rest) = opening(text)?;
+    let (selectors, rest) = selectors_behind(alloc, rest, level)?;
+    Ok((Segment { descend, selectors }, rest))
+}
+
+/// The segments at the front: each takes a character, so there are no more than that.
+#[cycle(expressions)]
+pub fn segments(
+    alloc: Global,
+    text: &[char],
+    level: u8,
+) -> Result<(Vec<Segment>, &[char]), ParseFault>
+    ensures { Gives (λ x. (map segment_view x.0.items, x.1.now)) result (segments_at (condition_in level) text.now) }
+{
+    let mut out = Vec::new(alloc);
+    let mut rest = text;
+    for _ in 0..text.len() {
+        let Some(next) = next_segment(rest) else {
+            return Ok((out, rest));
+        };
+        let (item, after) = segment(alloc, next, level)?;
+        out.push(item)?;
+        rest = after;
+    }
+    Ok((out, rest))
+}
+
+#[cycle(expressions)]
+#[tactic(auto, unfolding(crate::specs::ReadingSegments::sub_query_at))]
+fn sub_query(alloc: Global, text: &[char], level: u8) -> Result<(SubQuery, &[char]), ParseFault>
+    ensures { Gives (λ x. (nested_view x.0, x.1.now)) result (sub_query_at (condition_in level) text.now) }
+{
+    let [c, rest @ ..] = text else {
+        return Err(ParseFault::NotWellFormed);
+    };
+    if *c != '$' && *c != '@' {
+        return Err(ParseFault::NotWellFormed);
+    }
+    let from_root = *c == '$';
+    let (segments, rest) = segments(alloc, rest, level)?;
+    Ok((
+        SubQuery {
+            from_root,
+            segments,
+        },
+        rest,
+    ))
+}
+
+// ---- Sides, tests and comparisons
+
+// What stands behind a parenthesis.
+#[cycle(expressions)]
+#[tactic(auto, unfolding(crate::specs::ReadingFilters::parentheses_at, crate::specs::Reading::closing))]
+fn parentheses(alloc: Global, text: &[char], level: u8) -> Result<(Expr, &[char]), ParseFault>
+    ensures { Gives (λ x. (expr_view x.0, x.1.now)) result (parentheses_at (condition_in level) (arguments_in level) text.now) }
+{
+    let (expr, rest) = condition(alloc, skip_blanks(text), level)?;
+    let rest = closed(skip_blanks(rest), ')')?;
+    Ok((expr, rest))
+}
+
+// What stands behind the name of a call and its parenthesis.
+#[cycle(expressions)]
+#[tactic(auto, unfolding(crate::specs::ReadingFilters::call_at, crate::specs::Reading::closing))]
+fn call<'a>(
+    alloc: Global,
+    name: &[char],
+    text: &'a [char],
+    level: u8,
+) -> Result<(Call, &'a [char]), ParseFault>
+    requires { IsTrue (list_all is_ascii name.now) }
+    ensures { Gives (λ x. (call_view x.0, x.1.now)) result (call_at (condition_in level) (arguments_in level) name.now text.now) }
+{
+    let (arguments, rest) = arguments(alloc, skip_blanks(text), level)?;
+    let rest = closed(skip_blanks(rest), ')')?;
+    let name = ascii(alloc, name)?;
+    Ok((Call { name, arguments }, rest))
+}
+
+// A literal, a query or a call.
+#[cycle(expressions)]
+#[tactic(auto, unfolding(crate::specs::ReadingFilters::side_at, crate::specs::ReadingFilters::side_from))]
+fn side(alloc: Global, text: &[char], level: u8) -> Result<(Comparable, &[char]), ParseFault>
+    ensures { Gives (λ x. (comparable_view x.0, x.1.now)) result (side_at (condition_in level) (arguments_in level) text.now) }
+{
+    let [c, ..] = text else {
+        return Err(ParseFault::NotWellFormed);
+    };
+    if *c == '$' || *c == '@' {
+        let (query, rest) = sub_query(alloc, text, level)?;
+        return Ok((Comparable::Single(query), rest));
+    }
+    match opens_call(text) {
+        Some((name, inside)) => {
+            let (call, rest) = call(alloc, name, inside, level)?;
+            Ok((Comparable::Func(call), rest))
+        }
+        None => {
+            let (literal, rest) = literal(alloc, text)?;
+            Ok((Comparable::Lit(literal), rest))
+        }
+    }
+}
+
+// What may stand behind an exclamation mark.
+#[cycle(expressions)]
+#[tactic(auto, unfolding(crate::specs::ReadingFilters::negatable_at))]
+fn negatable(alloc: Global, text: &[char], level: u8) -> Result<(Expr, &[char]), ParseFault>
+    ensures { Gives (λ x. (expr_view x.0, x.1.now)) result (negatable_at (condition_in level) (arguments_in level) text.now) }
+{
+    let [c, rest @ ..] = text else {
+        return Err(ParseFault::NotWellFormed);
+    };
+    if *c == '(' {
+        parentheses(alloc, rest, level)
+    } else {
+        let (side, rest) = side(alloc, text, level)?;
+        tested(side, rest)
+    }
+}
+
+// The other side of a comparison.
+#[cycle(expressions)]
+#[tactic(auto, unfolding(crate::specs::ReadingFilters::compared_at))]
+fn compared(
+    alloc: Global,
+    left: Comparable,
+    op: Op,
+    text: &[char],
+    level: u8,
+) -> Result<(Expr, &[char]), ParseFault>
+    ensures { Gives (λ x. (expr_view x.0, x.1.now)) result (compared_at (condition_in level) (arguments_in level) (comparable_view left) op text.now) }
+{
+    let (right, rest) = side(alloc, text, level)?;
+    if is_comparable(&left) && is_comparable(&right) {
+        Ok((Expr::Compare(left, op, right), rest))
+    } else {
+        Err(ParseFault::NotWellFormed)
+    }
+}
+
+#[cycle(expressions)]
+#[tactic(auto, unfolding(crate::specs::ReadingFilters::basic_at, crate::specs::ReadingFilters::basic_from))]
+fn basic(alloc: Global, text: &[char], level: u8) -> Result<(Expr, &[char]), ParseFault>
+    ensures { Gives (λ x. (expr_view x.0, x.1.now)) result (basic_at (condition_in level) (arguments_in level) text.now) }
+{
+    let [c, rest @ ..] = text else {
+        return Err(ParseFault::NotWellFormed);
+    };
+    if *c == '!' {
+        let (operand, rest) = negatable(alloc, skip_blanks(rest), level)?;
+        let operand = Box::new(alloc, operand)?;
+        return Ok((Expr::Not(operand), rest));
+    }
+    if *c == '(' {
+        return parentheses(alloc, rest, level);
+    }
+    let (left, rest) = side(alloc, text, level)?;
+    match operator(skip_blanks(rest)) {
+        Some((op, right)) => compared(alloc, left, op, skip_blanks(right), level),
+        None => tested(left, rest),
+    }
+}
+
+// ---- Operands
+
+// The first operand, and the others: most expressions have none, and then no list is made.
+#[cycle(expressions)]
+fn basics(alloc: Global, text: &[char], level: u8) -> Result<(Expr, Vec<Expr>, &[char]), ParseFault>
+    ensures { Gives (λ x. (expr_view x.0 ∷ map expr_view x.1.items, x.2.now)) result (basics_at (condition_in level) (arguments_in level) text.now) }
+{
+    let (first, after_first) = basic(alloc, text, level)?;
+    let mut others = Vec::new(alloc);
+    let mut rest = after_first;
+    for _ in 0..text.len() {
+        let Some(next) = next_operand(rest, '&') else {
+            return Ok((first, others, rest));
+        };
+        let (item, after) = basic(alloc, next, level)?;
+        others.push(item)?;
+        rest = after;
+    }
+    Ok((first, others, rest))
+}
+
+#[cycle(expressions)]
+#[tactic(auto, unfolding(crate::specs::ReadingFilters::and_at))]
+fn and_expr(alloc: Global, text: &[char], level: u8) -> Result<(Expr, &[char]), ParseFault>
+    ensures { Gives (λ x. (expr_view x.0, x.1.now)) result (and_at (condition_in level) (arguments_in level) text.now) }
+{
+    let (first, others, rest) = basics(alloc, text, level)?;
+    Ok((join_each(first, others)?, rest))
+}
+
+#[cycle(expressions)]
+fn and_exprs(
+    alloc: Global,
+    text: &[char],
+    level: u8,
+) -> Result<(Expr, Vec<Expr>, &[char]), ParseFault>
+    ensures { Gives (λ x. (expr_view x.0 ∷ map expr_view x.1.items, x.2.now)) result (ands_at (condition_in level) (arguments_in level) text.now) }
+{
+    let (first, after_first) = and_expr(alloc, text, level)?;
+    let mut others = Vec::new(alloc);
+    let mut rest = after_first;
+    for _ in 0..text.len() {
+        let Some(next) = next_operand(rest, '|') else {
+            return Ok((first, others, rest));
+        };
+        let (item, after) = and_expr(alloc, next, level)?;
+        others.push(item)?;
+        rest = after;
+    }
+    Ok((first, others, rest))
+}
+
+#[cycle(expressions)]
+#[tactic(auto, unfolding(crate::specs::ReadingFilters::or_at))]
+fn or_expr(alloc: Global, text: &[char], level: u8) -> Result<(Expr, &[char]), ParseFault>
+    ensures { Gives (λ x. (expr_view x.0, x.1.now)) result (or_at (condition_in level) (arguments_in level) text.now) }
+{
+    let (first, others, rest) = and_exprs(alloc, text, level)?;
+    Ok((join_any(first, others)?, rest))
+}
+
+// ---- Arguments
+
+#[cycle(expressions)]
+#[tactic(auto, unfolding(crate::specs::ReadingFilters::expression_argument_at))]
+fn expression_argument(
+    alloc: Global,
+    text: &[char],
+    level: u8,
+) -> Result<(Argument, &[char]), ParseFault>
+    ensures { Gives (λ x. (argument_view x.0, x.1.now)) result (expression_argument_at (condition_in level) (arguments_in level) text.now) }
+{
+    let (expr, rest) = or_expr(alloc, text, level)?;
+    let argument = as_argument(alloc, expr, is_parenthesis(text))?;
+    Ok((argument, rest))
+}
+
+// A literal that is the whole argument, or else an expression.
+#[cycle(expressions)]
+#[tactic(auto, unfolding(crate::specs::ReadingFilters::argument_at, crate::specs::ReadingFilters::argument_from))]
+fn argument(alloc: Global, text: &[char], level: u8) -> Result<(Argument, &[char]), ParseFault>
+    ensures { Gives (λ x. (argument_view x.0, x.1.now)) result (argument_at (condition_in level) (arguments_in level) text.now) }
+{
+    match literal(alloc, text) {
+        Ok((literal, rest)) => {
+            if ends_argument(skip_blanks(rest)) {
+                Ok((Argument::Lit(literal), rest))
+            } else {
+                expression_argument(alloc, text, level)
+            }
+        }
+        Err(ParseFault::Memory) => Err(ParseFault::Memory),
+        Err(_) => expression_argument(alloc, text, level),
+    }
+}
+
+#[cycle(expressions)]
+fn some_arguments(
+    alloc: Global,
+    text: &[char],
+    level: u8,
+) -> Result<(Vec<Argument>, &[char]), ParseFault>
+    ensures { Gives (λ x. (map argument_view x.0.items, x.1.now)) result (some_arguments_at (condition_in level) (arguments_in level) text.now) }
+{
+    let (first, after_first) = argument(alloc, text, level)?;
+    let mut out = Vec::new(alloc);
+    out.push(first)?;
+    let mut rest = after_first;
+    for _ in 0..text.len() {
+        let Some(next) = next_argument(rest) else {
+            return Ok((out, rest));
+        };
+        let (item, after) = argument(alloc, next, level)?;
+        out.push(item)?;
+        rest = after;
+    }
+    Ok((out, rest))
+}
+
+// What stands before the parenthesis that closes.
+#[cycle(expressions)]
+#[tactic(auto, unfolding(crate::specs::ReadingFilters::arguments_at))]
+fn argument_list(
+    alloc: Global,
+    text: &[char],
+    level: u8,
+) -> Result<(Vec<Argument>, &[char]), ParseFault>
+    ensures { Gives (λ x. (map argument_view x.0.items, x.1.now)) result (arguments_at (condition_in level) (arguments_in level) text.now) }
+{
+    let [c, ..] = text else {
+        return Err(ParseFault::NotWellFormed);
+    };
+    if *c == ')' {
+        Ok((Vec::new(alloc), text))
+    } else {
+        some_arguments(alloc, text, level)
+    }
+}

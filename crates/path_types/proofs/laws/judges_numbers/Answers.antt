@@ -1,0 +1,5 @@
+use Rattle.path_types.proofs.Numbers as numbers
+use Rattle.path_types.proofs.laws.judges_numbers.Goals as goal
+
+pub returns : goal.returns
+returns c = numbers.judges_numbers
