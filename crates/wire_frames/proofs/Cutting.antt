@@ -1,10 +1,10 @@
 -- Whatever is taken at what time, the frames of a stream are taken in order, and what waits has the others.
 use Rattle.std.specs.Prelude.{◌≡◌, ◌≢◌, ℕ, List, [], ◌∷◌, ◌++◌, Bool, true, false, IsTrue, refl}
 use Rattle.std.proofs.Common.{sym, ap, ◌∙◌, append_assoc, append-nil}
-use Rattle.wire_frames.specs.Frames.{Front, Whole, Wait, Fault, front, is_whole, is_fault, is_broken, split, Split, frames, rest}
+use Rattle.wire_frames.specs.Frames.{Front, Whole, Wait, Fault, front, is_whole, is_fault, is_broken, split, Split, after_frames, frames, rest}
 use Rattle.wire_frames.specs.Framing.{Framing, fresh, IsClosedByFault, after_at}
 use Rattle.wire_frames.specs.Cuts.{Step, Accept, Take, stream_of, taken, taken_at, left, accepted_by}
-use Rattle.wire_frames.specs.Laws.{front-append, split_whole, split_fault, fault-append, split_left, split-append, after_frames}
+use Rattle.wire_frames.proofs.Splits.{front-append, split_whole, split_fault, fault-append, split_left, split-append}
 
 KeepsFrames : Framing → List Step → Type 0
 KeepsFrames framing steps = taken framing steps ++ frames (left framing steps).waiting ≡ frames (framing.waiting ++ stream_of steps)

@@ -7,7 +7,7 @@ use Rattle.std.proofs.lemmas.List.{take_at, drop_at, take-append-drop}
 use Rattle.std.proofs.lemmas.List.Elements.{recursion_from_All, All-nil, All-cons, All-take, All-drop}
 use Rattle.std.proofs.lemmas.Nat.{from_be_bytes-to_be_bytes_4, be_bytes_4}
 use Rattle.wire_frames.specs.Frames.{Front, Whole, Wait, Fault, front, body_length, longest_body, frame, IsByte, HoldsNone, IsSplit, split, Split, and_then, frames, rest}
-use Rattle.wire_frames.specs.Laws.{IsWhole, whole_front, front_whole, front_shorter, split_whole, split_wait, split_fault, IsLeft, split_left}
+use Rattle.wire_frames.proofs.Splits.{IsWhole, whole_front, front_whole, front_shorter, split_whole, split_wait, split_fault, IsLeft, split_left}
 
 -- a whole frame at the front, from its parts
 front_of : (stream head body more : List ℕ) → stream ≡ head ++ (body ++ more) → length head ≡ 4 → from_be_bytes w32 head ≡ length body → length body ≤ longest_body → front stream ≡ Whole body more

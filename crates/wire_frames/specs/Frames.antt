@@ -84,3 +84,7 @@ rest stream = (split stream).rest
 -- whether what is left begins with a length above the limit; otherwise it waits for more
 abbrev pub is_broken : List ℕ → Bool
 is_broken stream = is_fault (front (rest stream))
+
+-- these frames first
+abbrev pub after_frames : List (List ℕ) → Split → Split
+after_frames bodies s = record { frames = bodies ++ s.frames; rest = s.rest }

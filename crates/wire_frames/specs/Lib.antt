@@ -1,5 +1,4 @@
 pub mod Frames
-pub mod Laws
 pub mod Framing
 pub mod NextFrame
 pub mod Looks

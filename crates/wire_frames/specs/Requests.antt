@@ -63,7 +63,8 @@ asked_at command fields =
     else (if command == 4 then (whole_collection_at fields >>= λ c. Some (ListNames c))
     else (if command == 5 then (name_at is_collection_name fields >>= λ c. Some (Query c.0 c.1))
     else (if command == 6 then (whole_collection_at fields >>= λ c. Some (DropCollection c))
-    else (if length fields == 0 then Some Usage else None))))))
+    else (if command == 7 then (if length fields == 0 then Some Usage else None)
+    else None))))))
 
 -- 1 PUT, 2 GET, 3 REMOVE, 4 LIST, 5 QUERY, 6 DROP, 7 USAGE
 abbrev pub is_known : ℕ → Bool

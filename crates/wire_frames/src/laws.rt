@@ -2,7 +2,7 @@
 ghost use Rattle.std.specs.Prelude.{◌≡◌, ℕ, List, ◌++◌, IsTrue, IsFalse};
 ghost use Rattle.std.specs.List.{All};
 ghost use Rattle.wire_frames.specs.Frames.{IsByte, IsSplit, front, is_whole, split, frames, rest, is_broken};
-ghost use Rattle.wire_frames.specs.Laws.{after_frames};
+ghost use Rattle.wire_frames.specs.Frames.{after_frames};
 ghost use Rattle.wire_frames.specs.Framing.{fresh};
 ghost use Rattle.wire_frames.specs.Cuts.{Step, stream_of, taken, left};
 

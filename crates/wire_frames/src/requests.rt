@@ -169,10 +169,11 @@ fn read_fields(command: u8, fields: &[u8]) -> Option<Command<'_>>
             let collection = read_whole_collection(fields)?;
             Some(Command::DropCollection { collection })
         }
-        _ => {
+        USAGE => {
             read_end(fields)?;
             Some(Command::Usage)
         }
+        _ => None,
     }
 }
 

@@ -1,10 +1,10 @@
--- Laws of splitting a stream: what a piece more does to what a stream begins with and to its frames.
+-- Splitting a stream: what a piece more does to what a stream begins with and to its frames.
 use Rattle.std.specs.Prelude.{◌≡◌, ◌≢◌, ℕ, zero, suc, ◌<◌, ◌≤◌, List, [], ◌++◌, length, take, drop, nat_lt, Bool, true, false, refl}
 use Rattle.std.proofs.Common.{sym, ap, ◌∙◌, subst, arith, length-drop, length-append, cond}
 use Rattle.std.proofs.lemmas.List.{take-append-le, drop-append-le}
 use Rattle.std.proofs.lemmas.Bool.Decides.{nat_tests}
 use Rattle.std.specs.Int.{w32, from_be_bytes}
-use Rattle.wire_frames.specs.Frames.{Front, Whole, Wait, Fault, front, body_length, longest_body, split_within, split, split_by, and_then, Split, frames, rest}
+use Rattle.wire_frames.specs.Frames.{Front, Whole, Wait, Fault, front, body_length, longest_body, split_within, split, split_by, and_then, Split, after_frames, frames, rest}
 
 -- what a whole frame at the front means
 pub record IsWhole (stream body more : List ℕ) : Type 0 where
@@ -89,10 +89,6 @@ split_wait stream h = split_suc stream ∙ ap (λ f. split_by f stream (split_wi
 
 pub split_fault : (stream : List ℕ) → front stream ≡ Fault → split stream ≡ record { frames = []; rest = stream }
 split_fault stream h = split_suc stream ∙ ap (λ f. split_by f stream (split_within (length stream))) h
-
--- these frames first
-abbrev pub after_frames : List (List ℕ) → Split → Split
-after_frames bodies s = record { frames = bodies ++ s.frames; rest = s.rest }
 
 IsMore : List ℕ → List ℕ → Type 0
 IsMore more stream = split (stream ++ more) ≡ after_frames (frames stream) (split (rest stream ++ more))
