@@ -2,6 +2,10 @@
 #![tactic(auto)]
 
 #[cfg(test)]
+mod filters;
+#[cfg(test)]
+mod grammar;
+#[cfg(test)]
 mod queries;
 #[cfg(test)]
 mod segments;

@@ -14,14 +14,26 @@ pub fn lines(alloc: Global, query: &str, text: &str) -> Result<Vec<u8>, QueryTex
     Ok(out)
 }
 
-/// Each query gives these lines on its text.
+/// Each query gives these lines on its text, and each path, asked as a query, its own line alone.
 pub fn assert_found<R: Abort + AllocGlobal>(
     rt: &R,
     cases: &[(&str, &str, &str)],
 ) -> Result<(), Fail> {
     for (query, text, wanted) in cases {
         let found = lines(rt.alloc(), query, text)?;
-        assert_eq!(rt; found.as_slice(), wanted.as_bytes());
+        assert_eq!(rt; found.as_slice(), wanted.as_bytes(), "{query}");
+        assert_paths(rt, wanted, text)?;
+    }
+    Ok(())
+}
+
+fn assert_paths<R: Abort + AllocGlobal>(rt: &R, hits: &str, text: &str) -> Result<(), Fail> {
+    for hit in hits.split_inclusive('\n') {
+        let Some((path, _)) = hit.split_once('\t') else {
+            return Err(Fail::from("no path"));
+        };
+        let found = lines(rt.alloc(), path, text)?;
+        assert_eq!(rt; found.as_slice(), hit.as_bytes(), "{path}");
     }
     Ok(())
 }
@@ -60,8 +72,7 @@ fn found(rt: HostRuntime) -> Result<(), Fail> {
     assert_found(&rt, &FOUND)
 }
 
-const REFUSED: [(&str, &str, QueryTextFault); 14] = [
-    ("$[?@.a]", "[1]", QueryTextFault::NotWellFormed),
+const REFUSED: [(&str, &str, QueryTextFault); 13] = [
     ("$ ", "[1]", QueryTextFault::NotWellFormed),
     ("", "[1]", QueryTextFault::NotWellFormed),
     ("$[-0]", "[1]", QueryTextFault::NotWellFormed),
@@ -91,6 +102,7 @@ fn escapes(rt: HostRuntime) -> Result<(), Fail> {
     let wanted =
         "$['\\'']\t0\n$['\\\\']\t1\n$['\\u000b']\t2\n$['\\u0000']\t3\n$['\u{7f}']\t4\n$['\u{1f600}']\t5\n";
     assert_eq!(rt; found.as_slice(), wanted.as_bytes());
+    assert_paths(&rt, wanted, text)?;
     let document = Document::read(rt.alloc(), text.as_bytes())?;
     assert_eq!(rt; document.node_count(), 7);
     assert_eq!(rt; path_length(&document, NodeId(1)), 7);
