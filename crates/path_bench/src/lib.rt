@@ -1,69 +1,12 @@
-// What the benchmarks call: the crates' work on byte slices, exported to C.
+//! What the benchmarks call: the crates' work on byte slices, exported to C.
 #![tactic(auto)]
 
-ghost use Rattle.std.specs.Prelude.{◌≡◌, ◌+◌, ◌≤◌, ◌^◌, length, IsFalse};
-ghost use Rattle.decimal_order.specs.Limits.{IsWithinLimits};
-ghost use Rattle.decimal_order.specs.Number.{IsNumber};
-ghost use Rattle.structural_index.specs.Places.{places};
+mod frames;
+mod numbers;
+mod places;
+mod queries;
 
-use decimal_order::compare;
-use std::alloc::Global;
-use std::cmp::Ordering;
-use structural_index::index;
-
-/// What `path_bench_index` answers.
-#[repr(C)]
-#[derive(Clone, Copy, Drop)]
-pub struct Indexed {
-    /// The number of places, or 0 where memory was refused.
-    pub count: usize,
-    pub unclosed: bool,
-    pub control_inside: bool,
-    /// Whether memory was refused.
-    pub refused: bool,
-}
-
-/// The index of `text`. Its places are written to `found` where they are as many as that has room
-/// for, so that an empty slice asks for the work alone.
-#[unsafe(no_mangle)]
-pub extern "C" fn path_bench_index(alloc: Global, text: &[u8], found: &mut [u32]) -> Indexed
-    requires { length text.now + 64 ≤ 2 ^ 32 }
-    ensures count { IsFalse result.refused → result.count ≡ length (places text.now) }
-    ensures found { IsFalse result.refused → length found.old ≡ result.count
-        → found.new ≡ places text.now }
-{
-    match index(alloc, text) {
-        Ok(made) => {
-            if made.places.len() == found.len() {
-                found.copy_from_slice(&made.places);
-            }
-            Indexed {
-                count: made.places.len(),
-                unclosed: made.unclosed,
-                control_inside: made.control_inside,
-                refused: false,
-            }
-        }
-        Err(_) => Indexed {
-            count: 0,
-            unclosed: false,
-            control_inside: false,
-            refused: true,
-        },
-    }
-}
-
-/// How two number texts compare: -1, 0 or 1 for less, equal or greater.
-#[unsafe(no_mangle)]
-pub extern "C" fn decimal_compare(left: &[u8], right: &[u8]) -> i32
-    requires left_number { IsNumber left.now }
-    requires left_within_limits { IsWithinLimits left.now }
-    requires right_number { IsNumber right.now }
-    requires right_within_limits { IsWithinLimits right.now }
-{
-    match compare(left, right) {
-        Ordering::Less => -1,
-        Ordering::Equal => 0,
-        Ordering::Greater => 1,
-    }
-}
+pub use frames::{Taken, path_bench_frames};
+pub use numbers::decimal_compare;
+pub use places::{Indexed, path_bench_index};
+pub use queries::{Counted, path_bench_compile, path_bench_read, path_bench_select};
