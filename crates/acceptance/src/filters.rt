@@ -1,8 +1,8 @@
 //! Filters, comparisons and functions: the worked cases of RFC 9535, sections 1.5, 2.2 to 2.4, without `match` and `search`.
 
 use crate::queries::{assert_found, assert_refused, lines};
+use crate::segments::zeros;
 use path_server::QueryTextFault;
-use std::alloc::{AllocError, Global};
 use std::process::Abort;
 use std::test::Fail;
 
@@ -370,16 +370,6 @@ const MORE_FILTERS: [(&str, &str, &str); 15] = [
 #[test]
 fn more_filters(rt: HostRuntime) -> Result<(), Fail> {
     assert_found(&rt, &MORE_FILTERS)
-}
-
-// An array of so many zeros.
-fn zeros(alloc: Global, count: usize) -> Result<String, AllocError> {
-    let mut text = String::from_str(alloc, "[0")?;
-    for _ in 1..count {
-        text.push_str(",0")?;
-    }
-    text.push_str("]")?;
-    Ok(text)
 }
 
 // A nodelist inside a filter counts, also where the other operand has decided already.

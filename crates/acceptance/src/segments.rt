@@ -166,8 +166,8 @@ fn refused(rt: HostRuntime) -> Result<(), Fail> {
     assert_refused(&rt, &REFUSED)
 }
 
-// An array of so many zeros.
-fn zeros(alloc: Global, count: usize) -> Result<String, AllocError> {
+/// An array of so many zeros.
+pub fn zeros(alloc: Global, count: usize) -> Result<String, AllocError> {
     let mut text = String::from_str(alloc, "[0")?;
     for _ in 1..count {
         text.push_str(",0")?;
