@@ -66,9 +66,10 @@ static std::string joined(size_t n, const std::string &open, const std::string &
   return text + close;
 }
 
+// Six digits, each number once, in no order that a sort could profit from.
 static std::string digits(size_t i) {
   char made[16];
-  std::snprintf(made, sizeof made, "%06zu", i);
+  std::snprintf(made, sizeof made, "%06zu", i * 619573 % 1000000);
   return made;
 }
 
@@ -92,6 +93,7 @@ static const Shape shapes[] = {
     {"members of one object", 16000, [](size_t n) { return joined(n, "{", "}", [](size_t i) { return "\"" + digits(i) + "\":0"; }); }},
     {"members with a long common prefix", 4000, [](size_t n) { return joined(n, "{", "}", [](size_t i) { return "\"" + std::string(40, 'x') + digits(i) + "\":0"; }); }},
     {"members spelt by escapes", 4000, [](size_t n) { return joined(n, "{", "}", [](size_t i) { return "\"" + spelt(i) + "\":0"; }); }},
+    {"members of which each other one is spelt by escapes", 6000, [](size_t n) { return joined(n, "{", "}", [](size_t i) { return "\"" + (i % 2 == 0 ? digits(i) : spelt(i)) + "\":0"; }); }},
     {"small objects", 12000, [](size_t n) { return joined(n, "[", "]", [](size_t) { return std::string("{\"a\":0,\"b\":1}"); }); }},
     {"small numbers", 60000, [](size_t n) { return joined(n, "[", "]", [](size_t) { return std::string("1"); }); }},
     {"empty arrays", 60000, [](size_t n) { return joined(n, "[", "]", [](size_t) { return std::string("[]"); }); }},
