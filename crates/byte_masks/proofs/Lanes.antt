@@ -1,14 +1,24 @@
 -- From lanes to the bits of a mask.
-use Rattle.std.proofs.Common.{◌≡◌, ℕ, ◌+◌, ◌*◌, ◌/◌, ◌%◌, ◌^◌, ◌<◌, Bool, true, false, cond, List, length, get_or, replicate, map, refl, sym, ap, ap₂, ◌∙◌, arith, ◌==◌, w8, Fits, zero-add}
-use Rattle.std.proofs.lemmas.Simd.{tops_compared, mask_l-mod, bit_mask_l, length-zip2, get_or-zip2, length-replicate, get_or-replicate, Each1-get_or, Each1-from_get_or, SwzOk, SwzOk-from_below, swz_l, length-swz_l, get_or-swz_l_below}
-use lib.Bits.{bit_and, mask_lt}
-use lib.Lanes.{mask_l, top, zip2, Each1}
+use Rattle.std.proofs.Common.{◌≡◌, ℕ, ◌+◌, ◌-◌, ◌*◌, ◌/◌, ◌%◌, ◌^◌, ◌<◌, ◌≤◌, ◌⊎◌, inl, inr, Bool, true, false, not, cond, if◌then◌else◌, nat_lt, List, length, get_or, replicate, map, refl, sym, ap, ap₂, subst, ◌∙◌, arith, ◌==◌, ◌||◌, ◌++◌, w8, Fits, zero-add}
+use Rattle.std.specs.List.{range_with_len}
+use Rattle.std.proofs.lemmas.Simd.{tops_compared, mask_l-mod, mask_l-lt, bit_mask_l, length-zip2, get_or-zip2, length-replicate, get_or-replicate, Each1-get_or, Each1-from_get_or, SwzOk, SwzOk-from_Each1, swz_l, get_or-swz_l, get_or-chunk, pick_l-range_with_len, pick_l_left}
+use Rattle.std.proofs.lemmas.Nat.Bits.{bit_at_above}
+use Rattle.std.proofs.lemmas.Bool.{cases_lt}
+use Rattle.std.proofs.lemmas.Bool.Decides.{nat_tests}
+use lib.Bits.{bit_and, bit_or}
+use lib.Dec.{T, ltb}
+use lib.Lanes.{mask_l, top, zip2, Each1, pick_l, all_below}
+use mir.Val.{zeroes}
 use Rattle.bit_words.specs.Words.{is_set, HasBits}
+use Rattle.bit_words.proofs.Bits.{is_set-or, shifted, is_set-shifted, is_set-shifted_low}
+use Rattle.bit_words.proofs.Tables.{each}
+use Rattle.byte_masks.specs.Classes.{found}
 
 -- `to_bitmask` of a comparison
-pub compared : (t : ℕ → ℕ → Bool) (xs ys : List ℕ) → length xs ≡ 64 → length ys ≡ 64 → HasBits (mask_l (map (top 7) (zip2 (λ a b. cond (t a b) 255 0) xs ys)) % 2 ^ 64) (λ i. t (get_or xs i 0) (get_or ys i 0))
+pub compared_at : (t : ℕ → ℕ → Bool) (n : ℕ) (xs ys : List ℕ) → n ≤ 64 → length xs ≡ n → length ys ≡ n → (i : ℕ) → i < n
+    → is_set (mask_l (map (top 7) (zip2 (λ a b. cond (t a b) 255 0) xs ys)) % 2 ^ 64) i ≡ t (get_or xs i 0) (get_or ys i 0)
 unfolding is_set
-compared t xs ys lx ly i h =
+compared_at t n xs ys few lx ly i h =
     let long = length-zip2 t xs ys (lx ∙ sym ly) in
     ap (λ ms. is_set (mask_l ms % 2 ^ 64) i) (tops_compared w8 t xs ys)
     ∙ ap (λ n. is_set n i) (mask_l-mod (zip2 t xs ys) 64 (omega arith))
@@ -20,49 +30,139 @@ compared t xs ys lx ly i h =
     one true = refl
     one false = refl
 
--- the same with one byte in each lane
+pub compared_lt : (t : ℕ → ℕ → Bool) (n : ℕ) (xs ys : List ℕ) → n ≤ 64 → length xs ≡ n → length ys ≡ n → mask_l (map (top 7) (zip2 (λ a b. cond (t a b) 255 0) xs ys)) % 2 ^ 64 < 2 ^ n
+compared_lt t n xs ys few lx ly =
+    let long = length-zip2 t xs ys (lx ∙ sym ly) ∙ lx in
+    let same = ap (λ ms. mask_l ms % 2 ^ 64) (tops_compared w8 t xs ys) ∙ mask_l-mod (zip2 t xs ys) 64 (omega (arith, long)) in
+    subst (λ m. m < 2 ^ n) (sym same) (subst (λ k. mask_l (zip2 t xs ys) < 2 ^ k) long (mask_l-lt (zip2 t xs ys)))
+
+-- the same with one byte in each of 64 lanes
 pub compared_with : (t : ℕ → ℕ → Bool) (xs : List ℕ) (byte : ℕ) → length xs ≡ 64 → HasBits (mask_l (map (top 7) (zip2 (λ a b. cond (t a b) 255 0) xs (replicate 64 byte))) % 2 ^ 64) (λ i. t (get_or xs i 0) byte)
-compared_with t xs byte lx i h = compared t xs (replicate 64 byte) lx (length-replicate {A = ℕ} 64 byte) i h ∙ ap (t (get_or xs i 0)) (get_or-replicate 64 i byte 0 h)
+compared_with t xs byte lx i h = compared_at t 64 xs (replicate 64 byte) (omega arith) lx (length-replicate {A = ℕ} 64 byte) i h ∙ ap (t (get_or xs i 0)) (get_or-replicate 64 i byte 0 h)
 
--- ---- a table with four times the same 16 entries, read at the low four bits of each lane
+-- an operator with one byte in each lane
+pub masked : (f : ℕ → ℕ → ℕ) (lanes : List ℕ) (n mask i : ℕ) → length lanes ≡ n → i < n → get_or (zip2 f lanes (replicate n mask)) i 0 ≡ f (get_or lanes i 0) mask
+masked f lanes n mask i long h =
+    let m = length-replicate {A = ℕ} n mask in
+    get_or-zip2 f lanes (replicate n mask) i 0 0 0 (omega arith) (omega arith) ∙ ap (f (get_or lanes i 0)) (get_or-replicate n i mask 0 h)
 
-module _ (lanes : List ℕ) (long : length lanes ≡ 64) (bytes : Each1 (Fits w8) lanes) where
-  abbrev lane : ℕ → ℕ
-  lane i = get_or lanes i 0
+pub byte_at : (lanes : List ℕ) (i : ℕ) → i < length lanes → Each1 (Fits w8) lanes → get_or lanes i 0 < 256
+byte_at lanes i h bytes = (Each1-get_or (Fits w8) lanes i 0 h bytes).fits
 
-  abbrev lows : List ℕ
-  lows = zip2 (λ a b. bit_and a b) lanes (replicate 64 15)
+-- ---- a table of 16, looked up at the bits of each lane that are read
 
-  lows_long : length lows ≡ 64
-  lows_long = length-zip2 (λ a b. bit_and a b) lanes (replicate 64 15) (long ∙ sym (length-replicate {A = ℕ} 64 15)) ∙ long
+abbrev pub spot : ℕ → ℕ
+spot c = bit_and c 0x8f
 
-  pub masked : (f : ℕ → ℕ → ℕ) (mask i : ℕ) → i < 64 → get_or (zip2 f lanes (replicate 64 mask)) i 0 ≡ f (lane i) mask
-  masked f mask i h =
-      let n = length-replicate {A = ℕ} 64 mask in
-      get_or-zip2 f lanes (replicate 64 mask) i 0 0 0 (omega arith) (omega arith) ∙ ap (f (lane i)) (get_or-replicate 64 i mask 0 h)
+spot_inside : (c : ℕ) → c < 256 → T (zeroes 16 w8 (spot c) || ltb (spot c) 16)
+spot_inside c h = subst T (sym (each (λ c. zeroes 16 w8 (spot c) || ltb (spot c) 16) (λ c. true) 256 refl c h)) tt
 
-  low_at : (i : ℕ) → i < 64 → get_or lows i 0 ≡ bit_and (lane i) 15
-  low_at i h = masked (λ a b. bit_and a b) 15 i h
+-- the look-up of one byte
+looked_up : (table : List ℕ) (c : ℕ) → c < 256 → cond (zeroes 16 w8 (spot c)) 0 (get_or table (spot c) 0) ≡ found table c
+looked_up table c h =
+    ap (λ z. cond z 0 (get_or table (spot c) 0)) (each (λ c. zeroes 16 w8 (spot c)) (λ c. not (nat_lt c 128)) 256 refl c h) ∙ go (nat_lt c 128) (each (λ c. cond (nat_lt c 128) (spot c == c % 16) true) (λ c. true) 256 refl c h)
+  where
+    go : (low : Bool) → cond low (spot c == c % 16) true ≡ true → cond (not low) 0 (get_or table (spot c) 0) ≡ (if low then get_or table (c % 16) 0 else 0)
+    go true e = let same : spot c ≡ c % 16 = grind (arith, nat_tests) in ap (λ n. get_or table n 0) same
+    go false e = refl
 
-  low_lt : (i : ℕ) → i < 64 → get_or lows i 0 < 16
-  low_lt i h = let e = low_at i h in let lt = mask_lt (lane i) 4 in omega arith
+module _ (lanes : List ℕ) (long : length lanes ≡ 16) (bytes : Each1 (Fits w8) lanes) where
+  abbrev spots : List ℕ
+  spots = zip2 (λ a b. bit_and a b) lanes (replicate 16 0x8f)
 
-  pub in_table : SwzOk w8 16 64 0 lows
+  pub spots_long : length spots ≡ 16
+  spots_long = length-zip2 (λ a b. bit_and a b) lanes (replicate 16 0x8f) long ∙ long
+
+  spot_at : (i : ℕ) → i < 16 → get_or spots i 0 ≡ spot (get_or lanes i 0)
+  spot_at i h = masked (λ a b. bit_and a b) lanes 16 0x8f i long h
+
+  byte : (i : ℕ) → i < 16 → get_or lanes i 0 < 256
+  byte i h = byte_at lanes i (omega arith) bytes
+
+  pub in_table : SwzOk w8 16 16 0 spots
   in_table =
-      SwzOk-from_below w8 16 4 64 0 lows refl (omega (arith, lows_long)) (Each1-from_get_or (λ j. j < 16) lows 0 (λ i h. low_lt i (omega (arith, lows_long))))
+      SwzOk-from_Each1 w8 16 1 16 0 spots refl (omega (arith, spots_long))
+      (Each1-from_get_or (λ j. T (zeroes 16 w8 j || ltb j 16)) spots 0
+      (λ i h. let inside : i < 16 = omega (arith, h, spots_long) in
+      subst (λ j. T (zeroes 16 w8 j || ltb j 16)) (sym (spot_at i inside)) (spot_inside (get_or lanes i 0) (byte i inside))))
 
-  -- where each quarter of the table finds the bytes of a class, the mask is that of the class
-  pub found : (table : List ℕ) (f : ℕ → ℕ) (class : ℕ → Bool) → ((quarter : ℕ) → quarter < 4 → (c : ℕ) → c < 256 → (get_or table (16 * quarter + bit_and c 15) 0 == f c) ≡ class c)
-      → (others : List ℕ) → length others ≡ 64 → ((i : ℕ) → i < 64 → get_or others i 0 ≡ f (lane i))
-      → HasBits (mask_l (map (top 7) (zip2 (λ a b. cond (a == b) 255 0) (swz_l w8 16 table 0 lows) others)) % 2 ^ 64) (λ i. class (lane i))
-  found table f class finds others others_long other i h =
-      compared (λ a b. a == b) (swz_l w8 16 table 0 lows) others (length-swz_l w8 16 table 0 lows ∙ lows_long) others_long i h
-      ∙ ap₂ (λ a b. a == b) looked_up (other i h) ∙ finds (i / 16) (omega arith) (lane i) byte
+  pub found_at : (table : List ℕ) (i : ℕ) → i < 16 → get_or (swz_l w8 16 table 0 spots) i 0 ≡ found table (get_or lanes i 0)
+  found_at table i h =
+      let first : 16 * ((0 + i) / 16) ≡ 0 = omega arith in
+      get_or-swz_l w8 16 table 0 spots i (omega (arith, spots_long))
+      ∙ ap₂ (λ k s. cond (zeroes 16 w8 s) 0 (get_or table (k + s) 0)) first (spot_at i h)
+      ∙ ap (λ n. cond (zeroes 16 w8 (spot (get_or lanes i 0))) 0 (get_or table n 0)) (zero-add (spot (get_or lanes i 0)))
+      ∙ looked_up table (get_or lanes i 0) (byte i h)
+
+-- ---- 64 lanes by 16
+
+-- `extract`
+abbrev pub taken : List ℕ → ℕ → List ℕ
+taken lanes at = pick_l 0 (lanes ++ lanes) (range_with_len at 16)
+
+pub taken_at : (lanes : List ℕ) (at i : ℕ) → length lanes ≡ 64 → T (all_below 64 (range_with_len at 16)) → at + 16 ≤ 64 → i < 16 → get_or (taken lanes at) i 0 ≡ get_or lanes (at + i) 0
+taken_at lanes at i long below inside h =
+    ap (λ l. get_or l i 0) (pick_l_left 0 lanes lanes 64 (range_with_len at 16) long below ∙ pick_l-range_with_len 0 lanes at 16 (omega arith)) ∙ get_or-chunk at 16 lanes i 0 h
+
+module _ (test : ℕ → Bool) (a b c d : ℕ) (la : a < 2 ^ 16) (lb : b < 2 ^ 16) (lc : c < 2 ^ 16) where
+  high : (x i : ℕ) → x < 2 ^ 16 → 16 ≤ i → is_set x i ≡ false
+  unfolding is_set
+  high x i fits le = ap (λ n. n == 1) (bit_at_above x 16 i fits le)
+
+  past : (x k i : ℕ) → x < 2 ^ 16 → k + 16 ≤ i → i < 64 → is_set (shifted x k) i ≡ false
+  past x k i fits le within =
+      let e : k + (i - k) ≡ i = omega arith in
+      ap (is_set (shifted x k)) (sym e) ∙ is_set-shifted x k (i - k) (omega arith) ∙ high x (i - k) fits (omega arith)
+
+  inside : (x k i : ℕ) → k ≤ i → i < 64 → ((j : ℕ) → j < 16 → is_set x j ≡ test (k + j)) → i < k + 16 → is_set (shifted x k) i ≡ test i
+  inside x k i le within bits lt =
+      let e : k + (i - k) ≡ i = omega arith in
+      ap (is_set (shifted x k)) (sym e) ∙ is_set-shifted x k (i - k) (omega arith) ∙ bits (i - k) (omega arith) ∙ ap test e
+
+  all : (i : ℕ) → is_set (bit_or (bit_or (bit_or a (shifted b 16)) (shifted c 32)) (shifted d 48)) i ≡ (((is_set a i || is_set (shifted b 16) i) || is_set (shifted c 32) i) || is_set (shifted d 48) i)
+  all i =
+      is_set-or (bit_or (bit_or a (shifted b 16)) (shifted c 32)) (shifted d 48) i
+      ∙ ap (λ p. p || is_set (shifted d 48) i) (is_set-or (bit_or a (shifted b 16)) (shifted c 32) i ∙ ap (λ p. p || is_set (shifted c 32) i) (is_set-or a (shifted b 16) i))
+
+  values : (p q r s : Bool) (i : ℕ) → is_set a i ≡ p → is_set (shifted b 16) i ≡ q → is_set (shifted c 32) i ≡ r → is_set (shifted d 48) i ≡ s
+      → is_set (bit_or (bit_or (bit_or a (shifted b 16)) (shifted c 32)) (shifted d 48)) i ≡ (((p || q) || r) || s)
+  values p q r s i ep eq er es = all i ∙ ap₂ (λ x y. x || y) (ap₂ (λ x y. x || y) (ap₂ (λ x y. x || y) ep eq) er) es
+
+  or-false : (p : Bool) → (p || false) ≡ p
+  or-false true = refl
+  or-false false = refl
+
+  -- four words of 16 bits, one behind the other
+  pub joined : ((j : ℕ) → j < 16 → is_set a j ≡ test j) → ((j : ℕ) → j < 16 → is_set b j ≡ test (16 + j)) → ((j : ℕ) → j < 16 → is_set c j ≡ test (32 + j)) → ((j : ℕ) → j < 16 → is_set d j ≡ test (48 + j))
+      → HasBits (bit_or (bit_or (bit_or a (shifted b 16)) (shifted c 32)) (shifted d 48)) test
+  joined ba bb bc bd i within = quarter (cases_lt i 16)
     where
-      looked_up : get_or (swz_l w8 16 table 0 lows) i 0 ≡ get_or table (16 * (i / 16) + bit_and (lane i) 15) 0
-      looked_up =
-          let within : i < length lows = omega (arith, lows_long) in
-          get_or-swz_l_below w8 16 table 0 lows i within (low_lt i h) ∙ ap₂ (λ k n. get_or table (16 * (k / 16) + n) 0) (zero-add i) (low_at i h)
+      first : i < 16 → is_set (bit_or (bit_or (bit_or a (shifted b 16)) (shifted c 32)) (shifted d 48)) i ≡ test i
+      first lt =
+          values (test i) false false false i (ba i lt) (is_set-shifted_low b 16 i lt within) (is_set-shifted_low c 32 i (omega arith) within) (is_set-shifted_low d 48 i (omega arith) within)
+          ∙ or-false _ ∙ or-false _ ∙ or-false _
 
-      byte : lane i < 256
-      byte = (Each1-get_or (Fits w8) lanes i 0 (omega arith) bytes).fits
+      second : 16 ≤ i → i < 32 → is_set (bit_or (bit_or (bit_or a (shifted b 16)) (shifted c 32)) (shifted d 48)) i ≡ test i
+      second le lt =
+          values false (test i) false false i (high a i la le) (inside b 16 i le within bb lt) (is_set-shifted_low c 32 i lt within) (is_set-shifted_low d 48 i (omega arith) within)
+          ∙ or-false _ ∙ or-false _
+
+      third : 32 ≤ i → i < 48 → is_set (bit_or (bit_or (bit_or a (shifted b 16)) (shifted c 32)) (shifted d 48)) i ≡ test i
+      third le lt =
+          values false false (test i) false i (high a i la (omega arith)) (past b 16 i lb le within) (inside c 32 i le within bc lt) (is_set-shifted_low d 48 i lt within)
+          ∙ or-false _
+
+      fourth : 48 ≤ i → is_set (bit_or (bit_or (bit_or a (shifted b 16)) (shifted c 32)) (shifted d 48)) i ≡ test i
+      fourth le = values false false false (test i) i (high a i la (omega arith)) (past b 16 i lb (omega arith) within) (past c 32 i lc le within) (inside d 48 i le within bd (omega arith))
+
+      last : (i < 48) ⊎ (48 ≤ i) → 32 ≤ i → is_set (bit_or (bit_or (bit_or a (shifted b 16)) (shifted c 32)) (shifted d 48)) i ≡ test i
+      last (inl lt) le = third le lt
+      last (inr far) le = fourth far
+
+      middle : (i < 32) ⊎ (32 ≤ i) → 16 ≤ i → is_set (bit_or (bit_or (bit_or a (shifted b 16)) (shifted c 32)) (shifted d 48)) i ≡ test i
+      middle (inl lt) le = second le lt
+      middle (inr far) le = last (cases_lt i 48) far
+
+      quarter : (i < 16) ⊎ (16 ≤ i) → is_set (bit_or (bit_or (bit_or a (shifted b 16)) (shifted c 32)) (shifted d 48)) i ≡ test i
+      quarter (inl lt) = first lt
+      quarter (inr le) = middle (cases_lt i 32) le

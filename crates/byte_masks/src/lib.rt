@@ -1,9 +1,9 @@
 // The classes of 64 bytes, as words with a bit for each byte.
 #![tactic(auto)]
 
-ghost use Rattle.std.specs.Prelude.{◌≡◌, ℕ, ◌-◌, ◌≤◌, ◌++◌, ◌==◌, length, replicate, slice_index};
-ghost use Rattle.bit_words.specs.Words.{HasBits};
-ghost use Rattle.byte_masks.specs.Classes.{op_byte, blank_byte, control_byte, near_op};
+ghost use Rattle.std.specs.Prelude.{◌≡◌, ℕ, ◌^◌, ◌<◌, ◌-◌, ◌≤◌, ◌++◌, ◌==◌, length, replicate, slice_index};
+ghost use Rattle.bit_words.specs.Words.{is_set, HasBits};
+ghost use Rattle.byte_masks.specs.Classes.{op_byte, blank_byte, control_byte, found, near_op};
 
 #[cfg(test)]
 mod tests;
@@ -33,21 +33,39 @@ fn equal_to(lanes: u8x64, byte: u8) -> u64
     lanes.simd_eq(u8x64::splat(byte)).to_bitmask()
 }
 
-// Entry n is the blank whose low four bits are n, or a byte with other low bits. Each 16 lanes are
-// looked up in 16 entries of their own, so the same 16 stand there four times.
-const BLANKS: [u8; 64] = [
-    32, 0, 0, 0, 0, 0, 0, 0, 0, 9, 10, 0, 0, 13, 0, 0, 32, 0, 0, 0, 0, 0, 0, 0, 0, 9, 10, 0, 0, 13,
-    0, 0, 32, 0, 0, 0, 0, 0, 0, 0, 0, 9, 10, 0, 0, 13, 0, 0, 32, 0, 0, 0, 0, 0, 0, 0, 0, 9, 10, 0,
-    0, 13, 0, 0,
-];
+// A byte is looked up by its low four bits, and gives 0 where its highest is set. The processor reads no other bits of it.
+const LOOKED_UP: u8 = 0x8f;
+
+// Where the table gives for a lane what the other vector has there, for 16 lanes: as many as the processor looks up at once.
+#[inline(always)]
+fn found_among(table: [u8; 16], lanes: u8x16, others: u8x16) -> u64
+    ensures bits { (i : ℕ) → i < 16
+        → is_set result i ≡ (found table (slice_index lanes i) == slice_index others i) }
+    ensures small { result < 2 ^ 16 }
+{
+    u8x16::from_array(table)
+        .swizzle_dyn_within::<16>(lanes & u8x16::splat(LOOKED_UP))
+        .simd_eq(others)
+        .to_bitmask()
+}
+
+#[inline(always)]
+fn found_in(table: [u8; 16], lanes: u8x64, others: u8x64) -> u64
+    ensures { HasBits result (λ i. found table (slice_index lanes i) == slice_index others i) }
+{
+    let first = found_among(table, lanes.extract::<0, 16>(), others.extract::<0, 16>());
+    let second = found_among(table, lanes.extract::<16, 16>(), others.extract::<16, 16>());
+    let third = found_among(table, lanes.extract::<32, 16>(), others.extract::<32, 16>());
+    let fourth = found_among(table, lanes.extract::<48, 16>(), others.extract::<48, 16>());
+    first | (second << 16) | (third << 32) | (fourth << 48)
+}
+
+// Entry n is the blank whose low four bits are n, or a byte with other low bits.
+const BLANKS: [u8; 16] = [32, 0, 0, 0, 0, 0, 0, 0, 0, 9, 10, 0, 0, 13, 0, 0];
 
 // Entry n is the structural character whose low four bits are n, with bit 20 (hexadecimal) set: so
 // `[` and `{`, 5B and 7B, are one entry, and so are `]` and `}`.
-const OPS: [u8; 64] = [
-    0, 0, 0, 0, 0, 0, 0, 0, 0, 0, 58, 123, 44, 125, 0, 0, 0, 0, 0, 0, 0, 0, 0, 0, 0, 0, 58, 123,
-    44, 125, 0, 0, 0, 0, 0, 0, 0, 0, 0, 0, 0, 0, 58, 123, 44, 125, 0, 0, 0, 0, 0, 0, 0, 0, 0, 0, 0,
-    0, 58, 123, 44, 125, 0, 0,
-];
+const OPS: [u8; 16] = [0, 0, 0, 0, 0, 0, 0, 0, 0, 0, 58, 123, 44, 125, 0, 0];
 
 // The structural characters, and the control characters 0C and 1A, which differ from a comma and a
 // colon in the bit that is set. For `[`, which is 5B, and in binary:
@@ -59,20 +77,14 @@ const OPS: [u8; 64] = [
 fn near_ops(lanes: u8x64) -> u64
     ensures { HasBits result (λ i. near_op (slice_index lanes i)) }
 {
-    u8x64::from_array(OPS)
-        .swizzle_dyn_within::<16>(lanes & u8x64::splat(15))
-        .simd_eq(lanes | u8x64::splat(0x20))
-        .to_bitmask()
+    found_in(OPS, lanes, lanes | u8x64::splat(0x20))
 }
 
 #[inline(always)]
 fn blanks(lanes: u8x64) -> u64
     ensures { HasBits result (λ i. blank_byte (slice_index lanes i)) }
 {
-    u8x64::from_array(BLANKS)
-        .swizzle_dyn_within::<16>(lanes & u8x64::splat(15))
-        .simd_eq(lanes)
-        .to_bitmask()
+    found_in(BLANKS, lanes, lanes)
 }
 
 #[inline(always)]

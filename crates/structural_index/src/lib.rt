@@ -20,7 +20,7 @@ pub use laws::places_skip_blanks;
 pub use looks::Looks;
 use std::alloc::{AllocError, Global};
 use std::simd::prelude::*;
-use writer::write;
+use writer::{ROOM, write};
 
 // The places of the whole blocks of `text`, and what they say of the byte behind them.
 fn whole_blocks(found: &mut Vec<u32>, text: &[u8]) -> Result<Carry, AllocError>
@@ -31,19 +31,20 @@ fn whole_blocks(found: &mut Vec<u32>, text: &[u8]) -> Result<Carry, AllocError>
 {
     let mut carry = START;
     // A block's places are written after the next block is looked at, so that neither waits for
-    // the other.
+    // the other. Room is asked for those of both: a room that did not tell of the next block would
+    // let the compiler look at it after the writing.
     let mut waiting = 0;
     let mut base = 0;
     'blocks: for k in 0..text.len() / 64 {
         let at = k * 64;
         let (places, next) = carry.through(u8x64::from_slice(&text[at..]));
-        found.reserve(64 + places.count_ones() as usize)?;
+        found.reserve(ROOM + places.count_ones() as usize)?;
         write(found, base, waiting);
         waiting = places;
         base = at as u32;
         carry = next;
     }
-    found.reserve(64)?;
+    found.reserve(ROOM)?;
     write(found, base, waiting);
     Ok(carry)
 }
@@ -58,7 +59,7 @@ fn last_block(found: &mut Vec<u32>, text: &[u8], carry: Carry) -> Result<Carry, 
     if at == text.len() {
         return Ok(carry);
     }
-    found.reserve(64)?;
+    found.reserve(ROOM)?;
     let (places, end) = carry.through(tail(&text[at..]));
     write(found, at as u32, places);
     Ok(end)

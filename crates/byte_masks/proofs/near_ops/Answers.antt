@@ -1,18 +1,13 @@
-use Rattle.std.proofs.Common.{ℕ, replicate, ◌∙◌, sym}
-use Rattle.std.proofs.lemmas.Simd.{length-zip2, length-replicate}
+use Rattle.std.proofs.Common.{◌==◌, get_or, ap, ◌∙◌, arith}
 use lib.Bits.{bit_or}
-use Rattle.byte_masks.specs.Classes.{near_op}
+use Rattle.byte_masks.specs.Classes.{found}
 use Rattle.byte_masks.specs.declared.TheConstants.{OPS}
-use Rattle.byte_masks.proofs.Classes.{ops_find}
-use Rattle.byte_masks.proofs.Lanes.{in_table, found, masked}
+use Rattle.byte_masks.proofs.Classes.{ops_found}
+use Rattle.byte_masks.proofs.Lanes.{masked, byte_at}
 use Rattle.byte_masks.proofs.near_ops.Goals as goal
 
-pub swizzle : goal.swizzle
-swizzle c = in_table c.args.lanes c.fits-lanes.0 c.fits-lanes.1
-
 pub returns : goal.returns
-returns c =
+returns c i h =
     let lanes = c.args.lanes in
-    let long = c.fits-lanes.0 in
-    found lanes long c.fits-lanes.1 OPS (λ b. bit_or b 32) near_op ops_find _ (length-zip2 (λ a b. bit_or a b) lanes (replicate 64 32) (long ∙ sym (length-replicate {A = ℕ} 64 32)) ∙ long)
-    (masked lanes long c.fits-lanes.1 (λ a b. bit_or a b) 32)
+    c.found_in.ensures i h ∙ ap (λ n. found OPS (get_or lanes i 0) == n) (masked (λ a b. bit_or a b) lanes 64 0x20 i c.fits-lanes.0 h)
+    ∙ ops_found (get_or lanes i 0) (byte_at lanes i (omega (arith, c.fits-lanes.0)) c.fits-lanes.1)
