@@ -1,11 +1,10 @@
 -- The decimal text of a whole number, as a number.
-use Rattle.std.proofs.Common.{◌≡◌, ℕ, zero, suc, ◌+◌, ◌^◌, ◌<◌, ◌≤◌, false, List, [], ◌∷◌, ◌++◌, length, get_or, inl, inr, refl, sym, ap, ◌∙◌, arith, append-nil, pos}
+use Rattle.std.proofs.Common.{ℕ, zero, suc, ◌^◌, ◌<◌, false, List, [], ◌∷◌, get_or, inl, inr, refl, sym, ◌∙◌, arith, append-nil}
 use Rattle.std.proofs.lemmas.Fmt.{decimal_digit, first_decimal, digits_decimal, digits_value-decimal, length-decimal-le}
 use Rattle.std.proofs.lemmas.Str.Parse.{IsNumeralModel, numerals_by_weight}
 use Rattle.std.specs.Fmt.{decimal}
-use Rattle.decimal_order.specs.Number.{AreDigits, IsInt, IsNumber}
-use Rattle.decimal_order.specs.Value.{digits_value, value}
-use Rattle.decimal_order.specs.Limits.{IsWithinLimits}
+use Rattle.decimal_order.specs.Number.{AreDigits, IsInt}
+use Rattle.decimal_order.specs.Value.{digits_value}
 use Rattle.decimal_order.specs.Parts.{HasParts}
 use Rattle.decimal_order.specs.Laws.{WritesWholeNumbers}
 use Rattle.decimal_order.proofs.Texts.{number_of_parts, value_is, exponent_size_is}

@@ -8,7 +8,7 @@ use Rattle.decimal_order.specs.Number.{IsDigit, AreDigits}
 use Rattle.decimal_order.specs.Value.{digits_value}
 use Rattle.decimal_order.specs.Places.{digit, made}
 
-made-head : (f : ℕ → ℕ) (k : ℕ) → made f (suc k) ≡ f 0 * 10 ^ k + made (λ i. f (suc i)) k
+pub made-head : (f : ℕ → ℕ) (k : ℕ) → made f (suc k) ≡ f 0 * 10 ^ k + made (λ i. f (suc i)) k
 made-head f zero = omega arith
 made-head f (suc k) = let h = made-head f k in let e : 10 ^ suc k ≡ 10 * 10 ^ k = omega (arith, pow-suc 10 k) in rw e (omega arith)
 

@@ -7,7 +7,12 @@ pub mod Magnitudes
 pub mod Rankings
 pub mod Words
 pub mod Lanes
+pub mod Bytes
+pub mod Marks
+pub mod FixedPoint
 pub mod WholeNumbers
+pub mod PlainTexts
+pub mod WordLoads
 pub mod TotalOrder
 pub mod WithinLimits
 pub mod DecimalTexts

@@ -178,7 +178,7 @@ filter_exp bytes t (d ∷ ds) h = rw h.5 (filter_sign h.1 t (d ∷ ds) h.3 h.4)
 
 -- ---- the value
 
-regroup : (a b c d : List ℕ) → a ++ (b ++ (c ++ d)) ≡ (a ++ (b ++ c)) ++ d
+pub regroup : (a b c d : List ℕ) → a ++ (b ++ (c ++ d)) ≡ (a ++ (b ++ c)) ++ d
 regroup a b c d = simp append_assoc
 
 significand_no_e : {text : List ℕ} {p : Parts} (h : HasParts text p) → Fails is_e (h.minus ++ (p.int ++ h.frac))

@@ -1,7 +1,6 @@
 -- Digits, eight at a time: words of bytes, the highest first, compare as the numbers that the digits write.
-use Rattle.std.proofs.Common.{◌≡◌, ℕ, zero, suc, ◌+◌, ◌-◌, ◌*◌, ◌^◌, ◌<◌, ◌≤◌, List, [], ◌∷◌, ◌++◌, length, length-append, length-take, length-drop, get_or, take, drop, ⊎_elim, nat_cmp, refl, sym, ap, ap₂, ◌∙◌, arith, w64}
+use Rattle.std.proofs.Common.{◌≡◌, ℕ, zero, suc, ◌+◌, ◌-◌, ◌*◌, ◌^◌, ◌<◌, ◌≤◌, List, [], ◌∷◌, ◌++◌, length, length-append, length-take, length-drop, get_or, take, drop, nat_cmp, refl, sym, ap, ap₂, ◌∙◌, arith, w64}
 use Rattle.std.proofs.lemmas.List.{take-append-drop}
-use Rattle.std.proofs.lemmas.Bool.{cases_lt}
 use Rattle.std.proofs.Math.Nat.{mul-le-mul_left}
 use Rattle.std.proofs.lemmas.Nat.{pow-add}
 use Rattle.std.specs.Int.{from_be_bytes}
@@ -12,46 +11,27 @@ use Rattle.decimal_order.specs.Number.{IsDigit, AreDigits}
 use Rattle.decimal_order.specs.Value.{digits_value}
 use Rattle.decimal_order.specs.Places.{digit, made, Ranks}
 use Rattle.decimal_order.proofs.Digits.{value_is_made, value_bound, digit_inside, digit_low, digit_high}
+use Rattle.decimal_order.specs.Words.{bytes_number}
+use Rattle.decimal_order.proofs.Bytes.{AreNines, digits_same, digits_below}
 use Rattle.decimal_order.proofs.Rankings.{ranks_apart}
-
--- the number that the first k of the bytes f 0, f 1, .. make
-abbrev word : (ℕ → ℕ) → ℕ → ℕ
-word f zero = 0
-word f (suc k) = 256 * word f k + f k
 
 abbrev DigitsBelow : (ℕ → ℕ) → ℕ → Type 0
 DigitsBelow f n = (i : ℕ) → i < n → IsDigit (f i)
 
-below_less : (f : ℕ → ℕ) (n : ℕ) → DigitsBelow f (suc n) → DigitsBelow f n
-below_less f n h i l = h i (omega arith)
+above_zero : (f : ℕ → ℕ) (n : ℕ) → DigitsBelow f n → bytes_number f n ≡ bytes_number (λ i. f i - 48) n + bytes_number (λ _. 48) n
+above_zero f zero h = refl
+above_zero f (suc n) h = let s = above_zero f n (λ i l. h i (omega arith)) in let a = (h n (omega arith)).0 in omega arith
 
-word_same : (f g : ℕ → ℕ) (n : ℕ) → DigitsBelow f n → DigitsBelow g n → word f n ≡ word g n → made (λ i. f i - 48) n ≡ made (λ i. g i - 48) n
-word_same f g zero h k e = refl
-word_same f g (suc n) h k e =
-    let a = (h n (omega arith)).1 in
-    let b = (k n (omega arith)).1 in
-    let s = word_same f g n (below_less f n h) (below_less g n k) (omega arith) in
-    let t : f n ≡ g n = omega arith in
-    omega arith
+nines : (f : ℕ → ℕ) (n : ℕ) → DigitsBelow f n → AreNines (λ i. f i - 48) n
+nines f n h i l = let a = (h i l).1 in omega arith
 
-word_below : (f g : ℕ → ℕ) (n : ℕ) → DigitsBelow f n → DigitsBelow g n → word f n < word g n → made (λ i. f i - 48) n < made (λ i. g i - 48) n
-word_below f g zero h k l = absurd (omega arith)
-word_below f g (suc n) h k l =
-    let a = h n (omega arith) in
-    let b = k n (omega arith) in
-    let a0 = a.0 in let a1 = a.1 in let b0 = b.0 in let b1 = b.1 in
-    ⊎_elim
-    (λ (p : word f n < word g n). let s = word_below f g n (below_less f n h) (below_less g n k) p in omega arith)
-    (λ (p : word g n ≤ word f n). let s = word_same f g n (below_less f n h) (below_less g n k) (omega arith) in let t : f n < g n = omega arith in omega arith)
-    (cases_lt (word f n) (word g n))
-
-made_same : (f g : ℕ → ℕ) (n : ℕ) → ((i : ℕ) → i < n → f i ≡ g i) → made f n ≡ made g n
+pub made_same : (f g : ℕ → ℕ) (n : ℕ) → ((i : ℕ) → i < n → f i ≡ g i) → made f n ≡ made g n
 made_same f g zero h = refl
 made_same f g (suc n) h = let s = made_same f g n (λ i l. h i (omega arith)) in let t = h n (omega arith) in omega arith
 
 -- ---- eight bytes
 
-word_is : (bs : List ℕ) → from_be_bytes w64 bs ≡ word (λ i. get_or bs i 0) 8
+word_is : (bs : List ℕ) → from_be_bytes w64 bs ≡ bytes_number (λ i. get_or bs i 0) 8
 word_is bs = omega arith
 
 digits_are : (bs : List ℕ) → length bs ≡ 8 → digits_value bs ≡ made (λ i. get_or bs i 0 - 48) 8
@@ -60,11 +40,24 @@ digits_are bs l = value_is_made bs ∙ ap (made (digit bs)) l ∙ made_same (dig
 all_digits : (bs : List ℕ) → AreDigits bs → length bs ≡ 8 → DigitsBelow (λ i. get_or bs i 0) 8
 all_digits bs h l i g = (digit_low bs h i (omega arith), digit_high bs h i (omega arith))
 
-eight_same : (xs ys : List ℕ) → AreDigits xs → AreDigits ys → length xs ≡ 8 → length ys ≡ 8 → from_be_bytes w64 xs ≡ from_be_bytes w64 ys → digits_value xs ≡ digits_value ys
-eight_same xs ys h k l m e = digits_are xs l ∙ word_same (λ i. get_or xs i 0) (λ i. get_or ys i 0) 8 (all_digits xs h l) (all_digits ys k m) (sym (word_is xs) ∙ e ∙ word_is ys) ∙ sym (digits_are ys m)
+module _ (xs ys : List ℕ) (h : AreDigits xs) (k : AreDigits ys) (l : length xs ≡ 8) (m : length ys ≡ 8) where
+  abbrev x : ℕ → ℕ
+  x i = get_or xs i 0
 
-eight_below : (xs ys : List ℕ) → AreDigits xs → AreDigits ys → length xs ≡ 8 → length ys ≡ 8 → from_be_bytes w64 xs < from_be_bytes w64 ys → digits_value xs < digits_value ys
-eight_below xs ys h k l m e = rw (digits_are xs l, digits_are ys m) (word_below (λ i. get_or xs i 0) (λ i. get_or ys i 0) 8 (all_digits xs h l) (all_digits ys k m) (rw (← word_is xs, ← word_is ys) e))
+  abbrev y : ℕ → ℕ
+  y i = get_or ys i 0
+
+  eight_same : from_be_bytes w64 xs ≡ from_be_bytes w64 ys → digits_value xs ≡ digits_value ys
+  eight_same e =
+      let a = above_zero x 8 (all_digits xs h l) in
+      let b = above_zero y 8 (all_digits ys k m) in
+      digits_are xs l ∙ digits_same (λ i. x i - 48) (λ i. y i - 48) 8 (nines x 8 (all_digits xs h l)) (nines y 8 (all_digits ys k m)) (omega (arith, word_is xs, word_is ys)) ∙ sym (digits_are ys m)
+
+  eight_below : from_be_bytes w64 xs < from_be_bytes w64 ys → digits_value xs < digits_value ys
+  eight_below e =
+      let a = above_zero x 8 (all_digits xs h l) in
+      let b = above_zero y 8 (all_digits ys k m) in
+      rw (digits_are xs l, digits_are ys m) (digits_below (λ i. x i - 48) (λ i. y i - 48) 8 (nines x 8 (all_digits xs h l)) (nines y 8 (all_digits ys k m)) (omega (arith, word_is xs, word_is ys)))
 
 -- ---- eight bytes and the rest
 
@@ -91,10 +84,10 @@ eight_and_eight text left first last b v l f g h t = (
   (λ d. t.1 (rw g (digits_drop (length left - 8) left (v.1 d)))),
 )
 
-distribute : (d a b v w : ℕ) → d * (a * b) + (v * b + w) ≡ (d * a + v) * b + w
+pub distribute : (d a b v w : ℕ) → d * (a * b) + (v * b + w) ≡ (d * a + v) * b + w
 distribute d a b v w = omega arith
 
-value-append : (xs ys : List ℕ) → digits_value (xs ++ ys) ≡ digits_value xs * 10 ^ length ys + digits_value ys
+pub value-append : (xs ys : List ℕ) → digits_value (xs ++ ys) ≡ digits_value xs * 10 ^ length ys + digits_value ys
 value-append [] ys = omega arith
 value-append (x ∷ xs) ys = rw (length-append xs ys, pow-add 10 (length xs) (length ys), value-append xs ys) (distribute (x - 48) (10 ^ length xs) (10 ^ length ys) (digits_value xs) (digits_value ys))
 

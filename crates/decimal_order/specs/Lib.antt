@@ -6,3 +6,4 @@ pub mod Laws
 pub mod Parts
 pub mod Reading
 pub mod Places
+pub mod Words

@@ -12,7 +12,9 @@ mod magnitude;
 mod number;
 mod order;
 mod parts;
+mod short;
 
+pub use laws::writes_whole_numbers;
 pub use limits::within_limits;
 pub use number::{Decimal, scan};
 pub use order::compare;

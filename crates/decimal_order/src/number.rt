@@ -29,6 +29,7 @@ impl<'a> Model for Decimal<'a> {
 ///
 /// `None` is answered for bytes that are no number, and for no others. Length and exponent are
 /// not limited here: ask [`within_limits`](crate::within_limits).
+#[inline(always)]
 pub fn scan(text: &[u8]) -> Option<Decimal<'_>>
     ensures not_number { IfNone result (¬ IsNumber text.now) }
     ensures number { OnSome result (IsNumber text.now) }

@@ -7,6 +7,7 @@ ghost use Rattle.decimal_order.specs.Parts.{AreWithinLimits, parts_value};
 use crate::integers::compare_integers;
 use crate::magnitude::{compare_magnitudes, is_zero};
 use crate::parts::{Parts, split};
+use crate::short::compare_short;
 use std::cmp::Ordering;
 
 fn compare_parts(x: &Parts, y: &Parts) -> Ordering
@@ -31,7 +32,7 @@ fn compare_parts(x: &Parts, y: &Parts) -> Ordering
     }
 }
 
-// Kept out of line, so that `compare` needs no room for the parts where it compares integers.
+// Kept out of line, so that `compare_long` needs no room for the parts where it compares integers.
 #[inline(never)]
 fn compare_by_parts(a: &[u8], b: &[u8]) -> Ordering
     requires a_number { IsNumber a.now }
@@ -43,6 +44,21 @@ fn compare_by_parts(a: &[u8], b: &[u8]) -> Ordering
     let Some(x) = split(a) else { unreachable!() };
     let Some(y) = split(b) else { unreachable!() };
     compare_parts(&x, &y)
+}
+
+// Kept out of line, so that `compare` is short where it compares short numbers.
+#[inline(never)]
+fn compare_long(a: &[u8], b: &[u8]) -> Ordering
+    requires a_number { IsNumber a.now }
+    requires a_within_limits { IsWithinLimits a.now }
+    requires b_number { IsNumber b.now }
+    requires b_within_limits { IsWithinLimits b.now }
+    ensures { result ≡ number_cmp a.now b.now }
+{
+    match compare_integers(a, b) {
+        Some(order) => order,
+        None => compare_by_parts(a, b),
+    }
 }
 
 /// Compares two numbers by their exact values.
@@ -58,8 +74,8 @@ pub fn compare(a: &[u8], b: &[u8]) -> Ordering
     requires b_within_limits { IsWithinLimits b.now }
     ensures { result ≡ number_cmp a.now b.now }
 {
-    match compare_integers(a, b) {
-        Some(order) => order,
-        None => compare_by_parts(a, b),
+    if let Some(order) = compare_short(a, b) {
+        return order;
     }
+    compare_long(a, b)
 }

@@ -120,7 +120,8 @@ fn exponent(text: &[u8]) -> Option<(bool, &[u8])>
     }
 }
 
-// The parts of a number text.
+// The parts of a number text. Put into its callers, it makes no more of them than they use.
+#[inline(always)]
 pub(crate) fn split(text: &[u8]) -> Option<Parts<'_>>
     ensures { MatchOption result (¬ IsNumber text.now) (λ parts. HasParts text.now parts) }
 {

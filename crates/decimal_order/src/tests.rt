@@ -35,6 +35,54 @@ static FAR_PAIRS: &str = "
 100000000000000000000 < 1e999999999
 1e-999999999 < 0.00000000000000000001";
 
+// In ascending order, as Python's decimal numbers compare, with texts of one value on one line.
+static ASCENDING: &str = "\
+-12345678
+-10 -1e1
+-9.5
+-1
+0 -0 0.0 0.000000 0.00000000 -0.000000 0e5
+0.000000001
+0.0000001
+0.000001
+0.12345
+0.123456 0.1234560
+0.1234567
+5e-1 0.5
+1 1.0 1e0
+1.5 1.50 1.500000 1.5000000
+9
+9.499999
+9.5 9.50
+9.5000001
+10 10.0 1e1 10.000000
+10.01
+12
+12.5
+12.9
+12.95
+12.99 12.990
+13
+99
+100 1E2
+250
+484
+545
+545.7
+545.78 545.780
+123456.7 123456.70
+123456.71
+1234567
+1234567.8
+9999999
+12345678
+12345679
+123456789
+999999999
+1234567890
+123456789012345678
+123456789012345679";
+
 // None unless both are numbers within the limits.
 fn order(a: &[u8], b: &[u8]) -> Option<Ordering> {
     let x = scan(a)?;
@@ -68,6 +116,29 @@ fn orders_of_pairs(rt: HostRuntime) {
     assert_eq!(rt; pairs::PAIRS.lines().count(), 237);
     compare_lines(&rt, pairs::PAIRS);
     compare_lines(&rt, FAR_PAIRS);
+}
+
+fn compare_with_each(rt: &impl Abort, a: &str, line: &str, expected: Ordering) {
+    for b in line.split(' ') {
+        assert_eq!(rt; order(a.as_bytes(), b.as_bytes()), Some(expected));
+    }
+}
+
+fn compare_with_lines(rt: &impl Abort, a: &str, place: usize) {
+    for (i, line) in ASCENDING.lines().enumerate() {
+        compare_with_each(rt, a, line, place.cmp(&i));
+    }
+}
+
+// Up to eight bytes and beyond, with fractions of unlike lengths, signs and exponents.
+#[test]
+fn orders_of_short_numbers(rt: HostRuntime) {
+    assert_eq!(rt; ASCENDING.lines().count(), 45);
+    for (place, line) in ASCENDING.lines().enumerate() {
+        for a in line.split(' ') {
+            compare_with_lines(&rt, a, place);
+        }
+    }
 }
 
 // Numbers of 256 bytes, with the last digit that differs, and with one value spelt twice.
