@@ -18,6 +18,7 @@ pub mod Chars
 pub mod Depths
 pub mod Verdicts
 pub mod Limits
+pub mod ShortNumbers
 pub mod LoneLaw
 pub mod Holders
 pub mod Lones
@@ -30,6 +31,7 @@ pub mod Readers
 pub mod Comparing
 pub mod Repeats
 pub mod MembersLeft
+pub mod MembersSeen
 pub mod TwinNames
 pub mod Utf8Order
 pub mod PlainNames

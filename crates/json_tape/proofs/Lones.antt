@@ -1,11 +1,15 @@
 -- Entries with a lone surrogate, and the parts of the tree.
-use Rattle.std.proofs.Common.{◌≡◌, ℕ, ◌+◌, ◌<◌, inl, inr, true, List, length, get_or, refl, sym, ap, ◌∙◌, subst}
+use Rattle.std.proofs.Common.{◌≡◌, ℕ, zero, suc, ◌+◌, ◌<◌, inl, inr, true, false, List, [], ◌∷◌, length, take, drop, get_or, refl, sym, ap, ◌∙◌, subst}
 use Rattle.json_tape.specs.Tree.{Null, True, False, Num, Str, Tree, Leaf, Arr, Obj}
 use Rattle.json_tape.specs.Grammar.{IsText}
 use Rattle.json_tape.specs.Tape.{Label, Top, Index, Named, Stands, IsAt, in_object, entry_of, extent, role_of}
 use Rattle.json_tape.specs.Limits.{bytes_at}
 use Rattle.json_tape.specs.Verdict.{SpellsLone}
 use Rattle.json_tape.specs.Parts.{HasPart}
+use Rattle.std.specs.Prelude.{nat_eq}
+use Rattle.json_tape.specs.Spelling.{has_backslash}
+use Rattle.json_tape.specs.declared.tape.Extent.{Extent}
+use Rattle.json_tape.proofs.Repeats.{neither}
 use Rattle.json_tape.specs.Surrogates.{lone, IsLoneValue, IsLoneName}
 use Rattle.json_tape.specs.declared.tape.Entry.{Entry}
 use Rattle.json_tape.specs.declared.tape.Role.TheVariants as roles
@@ -74,3 +78,27 @@ lone_none text tape t h e none (part, h', q) = let p = placed h' in by_part part
     by_part (Leaf s False) n up label a q = absurd q
     by_part (Leaf s Num) n up label a q = absurd q
     by_part (Arr s es) n up label a q = absurd q
+
+-- where no byte is a backslash, no surrogate is spelt
+lone_slashless : (bs : List ℕ) → has_backslash bs ≡ false → lone bs ≡ false
+lone_slashless [] h = refl
+lone_slashless (b ∷ bs) h = let n = neither (nat_eq b 92) (has_backslash bs) h in let e = n.0 in rw e (lone_slashless bs n.1)
+
+drop_slashless : (k : ℕ) (bs : List ℕ) → has_backslash bs ≡ false → has_backslash (drop k bs) ≡ false
+drop_slashless zero bs h = h
+drop_slashless (suc k) [] h = refl
+drop_slashless (suc k) (b ∷ bs) h = drop_slashless k bs (neither (nat_eq b 92) (has_backslash bs) h).1
+
+take_slashless : (k : ℕ) (bs : List ℕ) → has_backslash bs ≡ false → has_backslash (take k bs) ≡ false
+take_slashless zero bs h = refl
+take_slashless (suc k) [] h = refl
+take_slashless (suc k) (b ∷ bs) h =
+    let n = neither (nat_eq b 92) (has_backslash bs) h in
+    let e = n.0 in
+    rw e (take_slashless k bs n.1)
+
+pub slashless_none : (text : List ℕ) → has_backslash text ≡ false → (e : Entry) → (IsLoneValue text e → ⊥) × (IsLoneName text e → ⊥)
+slashless_none text h e = ((λ b. let x = b.1 in let y = none e.source in absurd (cc)), (λ b. let x = b.1 in let y = none e.label in absurd (cc)))
+  where
+    none : (x : Extent) → lone (bytes_at text x) ≡ false
+    none x = lone_slashless (bytes_at text x) (take_slashless x.len (drop x.start text) (drop_slashless x.start text h))

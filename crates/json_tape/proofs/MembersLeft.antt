@@ -1,7 +1,7 @@
 -- The members of an object, from one entry to the next.
-use Rattle.std.proofs.Common.{◌≡◌, ℕ, ◌+◌, ◌<◌, ◌≤◌, List, [], ◌∷◌, ◌++◌, length, get_or, refl, sym, ap, ◌∙◌, subst, arith, append_assoc, length-append}
+use Rattle.std.proofs.Common.{◌≡◌, ℕ, ◌+◌, ◌<◌, ◌≤◌, List, [], ◌∷◌, ◌++◌, length, map, get_or, refl, sym, ap, ◌∙◌, subst, arith, append_assoc, length-append}
 use Rattle.std.proofs.lemmas.List.{get_or_at}
-use Rattle.json_tape.specs.Tree.{Name, Obj, Members, NoMember, Member}
+use Rattle.json_tape.specs.Tree.{Name, Tree, Obj, Members, NoMember, Member}
 use Rattle.json_tape.specs.Letters.{IsString}
 use Rattle.json_tape.specs.Meaning.{meaning}
 use Rattle.json_tape.specs.Nodes.{size, size_of_members}
@@ -51,7 +51,8 @@ pub record Next (text : List ℕ) (tape : List Entry) (up k end : ℕ) (ms : Mem
   pub name : Name
   pub others : Members
   pub inside : k < length tape
-  pub meant : meanings ms ≡ meaning name.characters ∷ meanings others
+  pub value : Tree
+  pub whole : ms ≡ Member name value others
   pub label : (get_or tape k no_entry).label ≡ extent name.source
   pub lies : Lies text name.source
   pub string : IsString name.source.bytes name.characters
@@ -75,7 +76,8 @@ next_left text tape up k end (Member m v ms) l h =
       name = m;
       others = ms;
       inside = (let a = ap length whole in let b = length-append l.front (own ++ (rest ++ l.back)) in let c = length-append own (rest ++ l.back) in let g = l.long in omega arith);
-      meant = refl;
+      value = v;
+      whole = refl;
       label = ap (λ (x : Entry). x.label) here ∙ label_is v up lab k;
       lies = l.fits.0;
       string = l.fits.1;
@@ -90,28 +92,42 @@ next_left text tape up k end (Member m v ms) l h =
       });
     }
 
--- the names that were met, with those of the members that are left, are all names
-abbrev pub IsMet : List ℕ → List Entry → ℕ → ℕ → ℕ → List (List ℕ) → Type 0
-IsMet text tape n k end met = (ms : Members) → IsObject text tape n ms → (left : Members) × Left text tape n k end left × (met ++ meanings left ≡ meanings ms)
+module _ {A : Type 0} (each : List ℕ → A) where
+  -- what each member's name gives
+  abbrev pub given : Members → List A
+  given NoMember = []
+  given (Member n t ms) = each (meaning n.characters) ∷ given ms
 
-pub met_none : (text : List ℕ) (tape : List Entry) (n : ℕ) → IsMet text tape n (n + 1) (get_or tape n no_entry).after []
-met_none text tape n ms o = (ms, all_left text tape n ms o, refl)
+  -- what the names that were met gave, with what those of the members that are left give, is what all names give
+  abbrev pub IsMet : List ℕ → List Entry → ℕ → ℕ → ℕ → List A → Type 0
+  IsMet text tape n k end met = (ms : Members) → IsObject text tape n ms → (left : Members) × Left text tape n k end left × (met ++ given left ≡ given ms)
 
-pub met_more : (text : List ℕ) (tape : List Entry) (n k end : ℕ) (met : List (List ℕ)) (name : List ℕ) → k < end
-    → ((ms : Members) → IsObject text tape n ms → (left : Members) → (x : Next text tape n k end left) → name ≡ meaning x.name.characters)
-    → IsMet text tape n k end met → IsMet text tape n (get_or tape k no_entry).after end (met ++ name ∷ [])
-met_more text tape n k end met name h same before ms o =
-    let b = before ms o in
-    let x = next_left text tape n k end b.0 b.1 h in
-    (x.others, x.left, append_assoc met (name ∷ []) (meanings x.others) ∙ ap (λ y. met ++ (y ∷ meanings x.others)) (same ms o b.0 x) ∙ ap (λ y. met ++ y) (sym x.meant) ∙ b.2)
+  pub met_none : (text : List ℕ) (tape : List Entry) (n : ℕ) → IsMet text tape n (n + 1) (get_or tape n no_entry).after []
+  met_none text tape n ms o = (ms, all_left text tape n ms o, refl)
 
-pub met_all : (text : List ℕ) (tape : List Entry) (n k end : ℕ) (met : List (List ℕ)) → end ≤ k → IsMet text tape n k end met → (ms : Members) → IsObject text tape n ms → met ≡ meanings ms
-met_all text tape n k end met h before ms o = let b = before ms o in go b.0 b.1 b.2
-  where
-    append_nothing : (xs : List (List ℕ)) → xs ++ [] ≡ xs
-    append_nothing [] = refl
-    append_nothing (x ∷ xs) = ap (λ ys. x ∷ ys) (append_nothing xs)
+  pub met_more : (text : List ℕ) (tape : List Entry) (n k end : ℕ) (met : List A) (one : A) → k < end
+      → ((ms : Members) → IsObject text tape n ms → (left : Members) → (x : Next text tape n k end left) → one ≡ each (meaning x.name.characters))
+      → IsMet text tape n k end met → IsMet text tape n (get_or tape k no_entry).after end (met ++ one ∷ [])
+  met_more text tape n k end met one h same before ms o =
+      let b = before ms o in
+      let x = next_left text tape n k end b.0 b.1 h in
+      (x.others, x.left, append_assoc met (one ∷ []) (given x.others) ∙ ap (λ y. met ++ (y ∷ given x.others)) (same ms o b.0 x) ∙ ap (λ l. met ++ given l) (sym x.whole) ∙ b.2)
 
-    go : (left : Members) → Left text tape n k end left → met ++ meanings left ≡ meanings ms → met ≡ meanings ms
-    go NoMember l e = sym (append_nothing met) ∙ e
-    go (Member m v others) l e = absurd (let z = size_positive v in let f = l.ends in omega arith)
+  pub met_all : (text : List ℕ) (tape : List Entry) (n k end : ℕ) (met : List A) → end ≤ k → IsMet text tape n k end met → (ms : Members) → IsObject text tape n ms → met ≡ given ms
+  met_all text tape n k end met h before ms o = let b = before ms o in go b.0 b.1 b.2
+    where
+      append_nothing : (xs : List A) → xs ++ [] ≡ xs
+      append_nothing [] = refl
+      append_nothing (x ∷ xs) = ap (λ ys. x ∷ ys) (append_nothing xs)
+
+      go : (left : Members) → Left text tape n k end left → met ++ given left ≡ given ms → met ≡ given ms
+      go NoMember l e = sym (append_nothing met) ∙ e
+      go (Member m v others) l e = absurd (let z = size_positive v in let f = l.ends in omega arith)
+
+  pub given_is : (ms : Members) → given ms ≡ map each (meanings ms)
+  given_is NoMember = refl
+  given_is (Member n t ms) = ap (λ xs. each (meaning n.characters) ∷ xs) (given_is ms)
+
+pub given_names : (ms : Members) → given (λ x. x) ms ≡ meanings ms
+given_names NoMember = refl
+given_names (Member n t ms) = ap (λ xs. meaning n.characters ∷ xs) (given_names ms)

@@ -1,12 +1,16 @@
 -- Bytes that are characters by themselves and stand for themselves.
-use Rattle.std.proofs.Common.{◌≡◌, ◌≢◌, ℕ, zero, suc, ◌+◌, ◌<◌, ◌≤◌, true, false, List, [], ◌∷◌, length, get_or, drop, refl, sym, ap, ◌∙◌, arith}
-use Rattle.std.specs.Prelude.{bytes_eq, eqb}
-use Rattle.std.specs.Str.{chars, IsAscii}
+use Rattle.std.proofs.Common.{◌≡◌, ◌≢◌, ℕ, zero, suc, ◌+◌, ◌*◌, ◌%◌, ◌<◌, ◌≤◌, Bool, true, false, ◌&&◌, cond, None, List, [], ◌∷◌, length, get_or, drop, refl, ap, ◌∙◌, arith, sym, subst}
+use Rattle.std.specs.Prelude.{bytes_eq, eqb, IsUtf8}
+use Rattle.std.specs.Str.{chars}
 use Rattle.std.proofs.lemmas.List.{drop_more, drop_all}
-use Rattle.std.proofs.lemmas.Str.{chars-nil, chars-append, chars-IsAscii, IsUtf8-from_ascii}
+use Rattle.std.proofs.lemmas.Str.{chars-nil, chars-append, chars-IsAscii, IsUtf8-from_ascii, length-le-encodes, encodes-chars}
 use Rattle.std.proofs.lemmas.Bool.Decides.{nat_tests}
-use Rattle.json_tape.specs.Spelling.{scalars_in}
-use Rattle.json_tape.proofs.Spelled.{ascii_nil, ascii_more}
+use Rattle.json_tape.specs.Tree.{Spelt, Plain, Short}
+use Rattle.json_tape.specs.Spelling.{hex_value, spelt_from, scalars_in}
+use Rattle.json_tape.specs.declared.scan.Mode.{Mode}
+use Rattle.json_tape.specs.declared.scan.Mode.TheVariants.{Between, Escape, Hex}
+use Rattle.json_tape.specs.Repeats.{next_hash, hash_from}
+use Rattle.json_tape.proofs.Spelled.{ascii_nil, ascii_more, meaning_short}
 
 chars_first : (b : ℕ) (bs : List ℕ) → b < 128 → chars (b ∷ bs) ≡ b ∷ chars bs
 chars_first b bs h =
@@ -48,3 +52,57 @@ pub plain_longer : (name inside : List ℕ) (i : ℕ) → length name ≤ i → 
 plain_longer name inside i k l h n = rw (plain_at inside i l h n, drop_all i name k) refl
 
 pub ruleset comparing = (plain_same, plain_other, plain_short, plain_end, plain_longer)
+
+-- ---- More characters than a string has bytes
+
+by_test : (t : Bool) (xs : List Spelt) (y : Spelt) (ys : List Spelt) (n : ℕ) → length xs ≤ n → length ys ≤ n → length (cond t xs (y ∷ ys)) ≤ suc n
+by_test true xs y ys n h g = omega arith
+by_test false xs y ys n h g = omega arith
+
+spelt_short : (m : Mode) (u : ℕ) (cs : List ℕ) → length (spelt_from m u cs) ≤ length cs
+spelt_short m u [] = omega arith
+spelt_short Between u (c ∷ cs) = by_test (eqb c 92) (spelt_from Escape 0 cs) (Plain c) (spelt_from Between 0 cs) (length cs) (spelt_short Escape 0 cs) (spelt_short Between 0 cs)
+spelt_short Escape u (c ∷ cs) = by_test (eqb c 117) (spelt_from (Hex 3) 0 cs) (Short c) (spelt_from Between 0 cs) (length cs) (spelt_short (Hex 3) 0 cs) (spelt_short Between 0 cs)
+spelt_short (Hex zero) u (c ∷ cs) = let a = spelt_short Between 0 cs in omega arith
+spelt_short (Hex (suc n)) u (c ∷ cs) = let a = spelt_short (Hex n) (16 * (u % 4096) + hex_value c) cs in omega arith
+
+inside_short : (inside : List ℕ) → IsUtf8 inside → length (scalars_in (chars inside)) ≤ length inside
+inside_short inside u =
+    let a = meaning_short None (spelt_from Between 0 (chars inside)) in
+    let b = spelt_short Between 0 (chars inside) in
+    let c = length-le-encodes (chars inside) in
+    let d = ap length (encodes-chars inside u) in
+    omega arith
+
+fewer_left : (xs ys : List ℕ) → length ys < length xs → bytes_eq xs ys ≡ false
+fewer_left [] ys h = absurd (omega arith)
+fewer_left (x ∷ xs) [] h = refl
+fewer_left (x ∷ xs) (y ∷ ys) h = go (eqb x y) (fewer_left xs ys (omega arith))
+  where
+    go : (t : Bool) → bytes_eq xs ys ≡ false → (t && bytes_eq xs ys) ≡ false
+    go true e = e
+    go false e = refl
+
+pub fewer : (name inside : List ℕ) → IsUtf8 inside → length inside < length name → bytes_eq name (scalars_in (chars inside)) ≡ false
+fewer name inside u h = fewer_left name (scalars_in (chars inside)) (let a = inside_short inside u in omega arith)
+
+pub first_other : (name inside : List ℕ) → 0 < length name → 0 < length inside → get_or inside 0 0 < 128 → get_or inside 0 0 ≢ 92 → get_or name 0 0 ≢ get_or inside 0 0
+    → bytes_eq name (scalars_in (chars inside)) ≡ false
+first_other name inside k l h n e = plain_other name inside 0 k l h n e
+
+pub ruleset other_beginning = (fewer, first_other)
+
+-- ---- The hash of what the bytes from a place on mean
+
+hash_plain : (inside : List ℕ) (i h : ℕ) → i < length inside → get_or inside i 0 < 128 → get_or inside i 0 ≢ 92
+    → hash_from (next_hash h (get_or inside i 0)) (scalars_in (chars (drop (i + 1) inside))) ≡ hash_from h (scalars_in (chars (drop i inside)))
+hash_plain inside i h l k n = sym (ap (hash_from h) (plain_at inside i l k n))
+
+pub hash_over : (inside bytes : List ℕ) (i h u v : ℕ) → bytes ≡ inside → i < length bytes → get_or bytes i 0 < 128 → get_or bytes i 0 ≢ 92 → u ≡ get_or bytes i 0 → v ≡ next_hash h u
+    → hash_from v (scalars_in (chars (drop (i + 1) inside))) ≡ hash_from h (scalars_in (chars (drop i inside)))
+hash_over inside bytes i h u v e l k n f g =
+    subst (λ bs. hash_from v (scalars_in (chars (drop (i + 1) bs))) ≡ hash_from h (scalars_in (chars (drop i bs)))) e
+    (ap (λ w. hash_from w (scalars_in (chars (drop (i + 1) bytes)))) (g ∙ ap (next_hash h) f) ∙ hash_plain bytes i h l k n)
+
+pub hash_end : (inside : List ℕ) (i h : ℕ) → length inside ≤ i → hash_from h (scalars_in (chars (drop i inside))) ≡ h
+hash_end inside i h l = ap (hash_from h) (nothing inside i l)

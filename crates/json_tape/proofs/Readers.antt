@@ -114,7 +114,7 @@ module _ (d : Doc) (s : IsDocument d) where
       place_is (spots d) g.pre g.spot (inner g.spot.node.way_up g.spot.node.number g.spot.node.tree) g.post (none_there d) n
       (g.whole ∙ ap (λ xs. g.pre ++ (xs ++ g.post)) (top_first g.spot.node.way_up g.spot.up g.spot.label g.spot.later g.spot.node.number g.spot.node.tree)) g.at
 
-  entry_is : (n : ℕ) → n < count d → (e : Entry) → e ≡ get_or d.entries n e → e ≡ entry_at (spot_at d n)
+  pub entry_is : (n : ℕ) → n < count d → (e : Entry) → e ≡ get_or d.entries n e → e ≡ entry_at (spot_at d n)
   entry_is n h e q =
       let l : n < length (spots d) = rw count_is at h in
       q ∙ ap (λ (xs : List Entry). get_or xs n e) entries_are ∙ get_map entry_at (spots d) n (none_there d) e l

@@ -158,7 +158,7 @@ chars_short bs (c ∷ cs) (one, others, h, g, e) =
     let m = chars_short others cs g in
     omega arith
 
-meaning_short : (high : Option ℕ) (cs : List Spelt) → length (meaning_after high cs) ≤ length cs
+pub meaning_short : (high : Option ℕ) (cs : List Spelt) → length (meaning_after high cs) ≤ length cs
 meaning_short high [] = omega arith
 meaning_short high (Plain c ∷ cs) = let m = meaning_short None cs in omega arith
 meaning_short high (Short l ∷ cs) = let m = meaning_short None cs in omega arith

@@ -128,6 +128,11 @@ abbrev pub following : Doc → Option NodeId → List Node
 following d None = []
 following d (Some n) = node_at d n.0 ∷ later d n.0
 
+-- the node of this number alone, or no node
+abbrev pub single : Doc → Option NodeId → List Node
+single d None = []
+single d (Some n) = node_at d n.0 ∷ []
+
 -- the number is that of a node
 abbrev pub IsIn : Doc → Option NodeId → Type 0
 IsIn d None = Unit {0}

@@ -1,5 +1,5 @@
 -- What the names of an object mean, and whether one of them comes again.
-use Rattle.std.specs.Prelude.{ℕ, Bool, false, ◌||◌, List, [], ◌∷◌, nat_eq}
+use Rattle.std.specs.Prelude.{ℕ, ◌+◌, ◌*◌, ◌%◌, ◌^◌, Bool, false, ◌||◌, List, [], ◌∷◌, nat_eq}
 use Rattle.std.specs.List.{list_any}
 use Rattle.std.specs.Cmp.Lexicographic.{pointwise}
 use Rattle.json_tape.specs.Tree.{Source, Tree, Obj, Members, NoMember, Member}
@@ -16,19 +16,42 @@ meanings (Member n t ms) = meaning n.characters ∷ meanings ms
 abbrev pub is_same : List ℕ → List ℕ → Bool
 is_same x y = pointwise nat_eq x y
 
--- one of them stands among those after it
+-- one of them is the same as one after it
+abbrev pub repeats_by : {K : Type 0} → (K → K → Bool) → List K → Bool
+repeats_by same [] = false
+repeats_by same (x ∷ xs) = list_any (λ y. same y x) xs || repeats_by same xs
+
+abbrev pub begins_by : {K : Type 0} → (K → K → Bool) → K → List K → Bool
+begins_by same x [] = false
+begins_by same x (y ∷ ys) = same x y
+
+-- one of them is the same as the next one
+abbrev pub repeats_next_by : {K : Type 0} → (K → K → Bool) → List K → Bool
+repeats_next_by same [] = false
+repeats_next_by same (x ∷ xs) = begins_by same x xs || repeats_next_by same xs
+
 abbrev pub repeats : List (List ℕ) → Bool
-repeats [] = false
-repeats (x ∷ xs) = list_any (λ y. is_same y x) xs || repeats xs
+repeats xs = repeats_by is_same xs
 
-abbrev pub begins_with : List ℕ → List (List ℕ) → Bool
-begins_with x [] = false
-begins_with x (y ∷ ys) = is_same x y
-
--- one of them stands right before itself
 abbrev pub repeats_next : List (List ℕ) → Bool
-repeats_next [] = false
-repeats_next (x ∷ xs) = begins_with x xs || repeats_next xs
+repeats_next xs = repeats_next_by is_same xs
+
+abbrev pub hashes_repeat : List ℕ → Bool
+hashes_repeat xs = repeats_by nat_eq xs
+
+abbrev pub hashes_repeat_next : List ℕ → Bool
+hashes_repeat_next xs = repeats_next_by nat_eq xs
+
+-- A hash of scalar values. No fact of a text rests on which hash it is; only steps speak of it.
+unfoldable pub next_hash : ℕ → ℕ → ℕ
+next_hash h c = ((h * 0x9E3779B97F4A7C15) % (2 ^ 64) + c) % (2 ^ 64)
+
+abbrev pub hash_from : ℕ → List ℕ → ℕ
+hash_from h [] = h
+hash_from h (c ∷ cs) = hash_from (next_hash h c) cs
+
+abbrev pub hash_of : List ℕ → ℕ
+hash_of cs = hash_from 1 cs
 
 -- the entry with the number n is that of an object with these members
 pub record IsObject (text : List ℕ) (tape : List Entry) (n : ℕ) (ms : Members) : Type 0 where

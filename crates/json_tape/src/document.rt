@@ -9,12 +9,12 @@ ghost use Rattle.decimal_order.specs.Limits.{IsWithinLimits};
 ghost use Rattle.json_tape.specs.Answer.{Explains};
 ghost use Rattle.json_tape.specs.Tree.{Tree, source_of};
 ghost use Rattle.json_tape.specs.Verdict.{text_limit, IsAccepted};
-ghost use Rattle.json_tape.specs.Nodes.{Step, key, size, children, visit, is_named};
+ghost use Rattle.json_tape.specs.Nodes.{Step, key, size, children, visit, is_named, first_where};
 ghost use Rattle.json_tape.specs.Tape.{Top, tape_of};
-ghost use Rattle.json_tape.specs.Document.{tree_of, count, node_at, later, seen, following, root_of, counting, IsIn, IsDocument, IsMember, HasName, LeadIs, ParentIs, StandsIn, kind_of, length_of, string_meaning};
+ghost use Rattle.json_tape.specs.Document.{tree_of, count, node_at, later, seen, following, single, root_of, counting, IsIn, IsDocument, IsMember, HasName, LeadIs, ParentIs, StandsIn, kind_of, length_of, string_meaning};
 
 use crate::judge::{bytes_at, judge_tape};
-use crate::plain::is_spelt;
+use crate::plain::is_meant_by;
 use crate::reader::read;
 use crate::scalars::{Scalars, unquoted};
 use crate::tape::{BuildFault, Entry, Kind, Lead, NodeId, Role, TextFault};
@@ -229,11 +229,45 @@ impl Document {
         requires { n.0 < count self.now }
         ensures { result ≡ is_named name.now (node_at self.now n.0) }
     {
-        if self.has_name(n) {
-            is_spelt(self.name_inside(n), name)
-        } else {
-            false
+        let entry = self.entry(n);
+        match entry.role {
+            Role::Member => is_meant_by(&self.text, entry.label, name),
+            Role::Whole | Role::Element => false,
         }
+    }
+
+    /// The value of the object's member whose name means these scalar values; `None` where there is none or the value is
+    /// no object.
+    pub fn member(&self, n: NodeId, name: &[char]) -> Option<NodeId>
+        requires { n.0 < count self.now }
+        ensures node { single self.now result ≡ first_where (is_named name.now) (children (node_at self.now n.0)) }
+        ensures inside { IsIn self.now result }
+    {
+        let value = self.entry(n);
+        match value.kind {
+            Kind::Object => self.first_named(n, name),
+            Kind::Null | Kind::Bool(_) | Kind::Number | Kind::Text | Kind::Array => None,
+        }
+    }
+
+    // The first of an object's members whose name means these scalar values.
+    fn first_named(&self, n: NodeId, name: &[char]) -> Option<NodeId>
+        requires inside { n.0 < count self.now }
+        requires object { kind_of (node_at self.now n.0).tree ≡ Kind.Object }
+        ensures node { single self.now result ≡ first_where (is_named name.now) (children (node_at self.now n.0)) }
+        ensures inside { IsIn self.now result }
+    {
+        let object = self.entry(n);
+        let end = object.after;
+        let mut k = n.0 + 1;
+        while k < end {
+            let entry = self.entry(NodeId(k));
+            if is_meant_by(&self.text, entry.label, name) {
+                return Some(NodeId(k));
+            }
+            k = entry.after;
+        }
+        None
     }
 
     // What stands between the quotes of a member's name.

@@ -1,12 +1,13 @@
 // Objects with two names that mean the same (RFC 8259, section 4).
 
-ghost use Rattle.std.specs.Prelude.{◌≡◌, ◌<◌, ◌^◌, ◌↔◌, ℕ, length, IsTrue, IfOk, OnOk};
+ghost use Rattle.std.specs.Prelude.{◌≡◌, ◌<◌, ◌^◌, ◌↔◌, ℕ, length, map, IsTrue, IfOk, OnOk};
 ghost use Rattle.json_tape.specs.Tree.{Members};
 ghost use Rattle.json_tape.specs.Answer.{IsJson, StandsForAll};
 ghost use Rattle.json_tape.specs.Verdict.{Applies};
-ghost use Rattle.json_tape.specs.Repeats.{meanings, IsObject};
+ghost use Rattle.json_tape.specs.Repeats.{meanings, repeats, hash_of, IsObject};
 ghost use Rattle.json_tape.specs.declared.tape.TextFault.TheVariants.{LoneSurrogate, DuplicateName};
 
+use crate::hashes::{has_repeated_hash, hash};
 use crate::names::{Name, has_repeated};
 use crate::scalars::unquoted;
 use crate::tape::{Entry, Kind};
@@ -20,11 +21,11 @@ pub fn has_duplicate(alloc: Global, text: &str, tape: &[Entry]) -> Result<bool, 
     requires paired { Applies text.now LoneSurrogate → ⊥ }
     ensures { IfOk result (λ found. IsTrue found ↔ Applies text.now DuplicateName) }
 {
-    let mut names = Vec::new(alloc);
+    let mut hashes = Vec::new(alloc);
     for (n, entry) in tape.iter().enumerate() {
         if may_repeat(entry) {
-            collect(text, tape, n, &mut names)?;
-            if has_repeated(names.as_mut_slice()) {
+            let found = repeats_in(alloc, text, tape, n, &mut hashes)?;
+            if found {
                 return Ok(true);
             }
         }
@@ -40,6 +41,52 @@ fn may_repeat(entry: &Entry) -> bool
         Kind::Object => entry.children > 1,
         Kind::Null | Kind::Bool(_) | Kind::Number | Kind::Text | Kind::Array => false,
     }
+}
+
+// Whether two names of the object with this number mean the same. The names are looked at only where a hash comes again.
+fn repeats_in(
+    alloc: Global,
+    text: &str,
+    tape: &[Entry],
+    n: usize,
+    hashes: &mut Vec<u64>,
+) -> Result<bool, AllocError>
+    requires inside { n < length tape.now }
+    requires object { (ms : Members) × IsObject text.now tape.now n ms }
+    requires short { length tape.now < 2 ^ 31 }
+    ensures { IfOk result (λ found. (ms : Members) → IsObject text.now tape.now n ms → found ≡ repeats (meanings ms)) }
+{
+    collect_hashes(text, tape, n, hashes)?;
+    if has_repeated_hash(hashes.as_mut_slice()) {
+        let mut names = Vec::new(alloc);
+        collect(text, tape, n, &mut names)?;
+        Ok(has_repeated(names.as_mut_slice()))
+    } else {
+        Ok(false)
+    }
+}
+
+// The hashes of the names of the object with this number, in place of those that were there.
+fn collect_hashes(
+    text: &str,
+    tape: &[Entry],
+    n: usize,
+    hashes: &mut Vec<u64>,
+) -> Result<(), AllocError>
+    requires inside { n < length tape.now }
+    requires object { (ms : Members) × IsObject text.now tape.now n ms }
+    requires short { length tape.now < 2 ^ 31 }
+    ensures { OnOk result ((ms : Members) → IsObject text.now tape.now n ms → hashes.new.items ≡ map hash_of (meanings ms)) }
+{
+    hashes.clear();
+    let end = tape[n].after as usize;
+    let mut next = n + 1;
+    while next < end {
+        let entry = tape[next];
+        hashes.push(hash(unquoted(text, entry.label)))?;
+        next = entry.after as usize;
+    }
+    Ok(())
 }
 
 // The names of the object with this number, in place of those that were there.

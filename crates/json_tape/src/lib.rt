@@ -6,12 +6,13 @@
 //!
 //! A text is walked once, byte by byte, and its entries are then judged. Open containers stand in a list, so that depth
 //! costs no stack. Nothing is parsed into numbers or strings: those are cut from the text where they are asked for. The
-//! names of an object are compared by what they mean: few each with each, many once they are in order.
+//! names of an object are told apart by hashes of what they mean, and compared by what they mean where a hash comes again.
 #![tactic(auto)]
 
 mod builder;
 mod document;
 mod duplicates;
+mod hashes;
 mod judge;
 pub mod laws;
 mod names;

@@ -23,6 +23,9 @@ fn is_blank(b: u8) -> bool
 fn is_atom(b: u8) -> bool
     ensures { result ≡ atom b }
 {
+    if b'0' <= b && b <= b'9' {
+        return true;
+    }
     let is_sign = b == b'[' || b == b']' || b == b'{' || b == b'}' || b == b',' || b == b':';
     !(is_blank(b) || is_sign || b == b'"')
 }

@@ -88,7 +88,7 @@ fn next_turn(mode: Mode, b: u8) -> Turn
 fn is_plain(b: u8) -> bool
     ensures { IsTrue result → turn_of Mode.Between b ≡ Turn.Go Mode.Between }
 {
-    b != b'"' && b != b'\\' && b >= 32
+    b > b'\\' || (b != b'"' && b != b'\\' && b >= 32)
 }
 
 // The place of the first byte from here on that does not stand for itself, or the end of the text.

@@ -114,6 +114,11 @@ fn limits_numbers(rt: HostRuntime) -> Result<(), Fail> {
         (b"1e999999999".as_slice(), None),
         (b"1e-0999999999".as_slice(), None),
         (b"1e1000000000".as_slice(), Some(TextFault::NumberLimit)),
+        (
+            b"12.345678901E+1000000000".as_slice(),
+            Some(TextFault::NumberLimit),
+        ),
+        (b"12.345678901234567890".as_slice(), None),
         (b"0e1000000000".as_slice(), Some(TextFault::NumberLimit)),
     ] {
         assert_eq!(rt; fault(alloc, text), want);
@@ -209,6 +214,31 @@ fn finds_one_name_among_many(rt: HostRuntime) -> Result<(), Fail> {
         }
         let text = with_last(alloc, count, b"\"1\\u0061\"")?;
         assert_eq!(rt; fault(alloc, text.as_slice()), None, "{count}");
+    }
+    Ok(())
+}
+
+// Two names of one hash, and behind them this name.
+const ONE_HASH: &[u8] =
+    b"\"\\u7000\\u7000\\u7000\\u7000\\u7000\":1,\"\\u70a3\\u7314\\u7b22\\u648a\\u7ae5\"";
+
+#[test]
+fn tells_names_of_one_hash_apart(rt: HostRuntime) -> Result<(), Fail> {
+    let alloc = rt.alloc();
+    for count in [1, 8, 17, 40] {
+        let text = with_last(alloc, count, ONE_HASH)?;
+        assert_eq!(rt; fault(alloc, text.as_slice()), None, "{count}");
+        for last in [b":2,\"10\"".as_slice(), b":2,\"\\u0031\\u0030\"".as_slice()] {
+            let mut names = Vec::new(alloc);
+            names.extend_from_slice(ONE_HASH)?;
+            names.extend_from_slice(last)?;
+            let text = with_last(alloc, count, names.as_slice())?;
+            assert_eq!(rt;
+                fault(alloc, text.as_slice()),
+                Some(TextFault::DuplicateName),
+                "{count}"
+            );
+        }
     }
     Ok(())
 }
@@ -376,5 +406,36 @@ fn shows_names(rt: HostRuntime) -> Result<(), Fail> {
     assert!(rt; document.kind(NodeId(1)) == Kind::Text);
     let scalars: Vec<char> = document.string_scalars(NodeId(1)).collect(alloc)?;
     assert_eq!(rt; scalars.as_slice(), ['\u{1f600}', '\n'].as_slice());
+    Ok(())
+}
+
+#[test]
+fn finds_members(rt: HostRuntime) -> Result<(), Fail> {
+    let alloc = rt.alloc();
+    let text =
+        b"{\"ab\":{\"b\":0},\"b\":[1],\"\":2,\"\\u0061\":3,\"a\xc3\xa9\":4,\"\\\\\":5}".as_slice();
+    let document = Document::read(alloc, text)?;
+    assert!(rt; document.node_count() == 9);
+    let rows: [(&[char], Option<NodeId>); 9] = [
+        (['a', 'b'].as_slice(), some(1)),
+        (['b'].as_slice(), some(3)),
+        ([].as_slice(), some(5)),
+        (['a'].as_slice(), some(6)),
+        (['a', '\u{e9}'].as_slice(), some(7)),
+        (['\\'].as_slice(), some(8)),
+        (['a', 'c'].as_slice(), None),
+        (['a', 'b', 'c'].as_slice(), None),
+        (['\u{e9}'].as_slice(), None),
+    ];
+    for (name, want) in rows {
+        assert_eq!(rt; document.member(document.root(), name), want);
+    }
+    for k in [2, 3, 4, 8] {
+        assert!(rt;
+            document.member(NodeId(k), ['b'].as_slice()).is_none(),
+            "{k}"
+        );
+    }
+    assert_eq!(rt; document.member(NodeId(1), ['b'].as_slice()), some(2));
     Ok(())
 }

@@ -2,12 +2,12 @@ use Rattle.std.proofs.Common.{◌∙◌, refl, sym, ap, subst, arith}
 use Rattle.std.specs.Str.{chars}
 use Rattle.json_tape.specs.Spelling.{scalars_in}
 use Rattle.json_tape.proofs.Spelled.{quoted_at, scalars_at}
-use Rattle.json_tape.proofs.MembersLeft.{IsMet, next_left, met_none, met_more, met_all}
+use Rattle.json_tape.proofs.MembersLeft.{IsMet, next_left, met_none, met_more, met_all, given_names}
 use Rattle.json_tape.proofs.duplicates.collect.Goals as goal
 
 pub loop-k-init : goal.loop-k-init
 loop-k-init c =
-    subst (IsMet c.args.text.now c.args.tape.now c.args.n _ _) (sym c.clear.ensures.items) (met_none c.args.text.now c.args.tape.now c.args.n)
+    subst (IsMet (λ x. x) c.args.text.now c.args.tape.now c.args.n _ _) (sym c.clear.ensures.items) (met_none (λ x. x) c.args.text.now c.args.tape.now c.args.n)
 
 pub bounds-tape-k : goal.bounds-tape-k
 bounds-tape-k c =
@@ -31,10 +31,10 @@ loop-k-smaller c =
 
 pub loop-k-preserved : goal.loop-k-preserved
 loop-k-preserved c =
-    subst (IsMet c.args.text.now c.args.tape.now c.args.n _ _) (sym c.in_ok-push.ensures.items)
-    (met_more c.args.text.now c.args.tape.now c.args.n c.loop-k.k _ c.loop-k.names.items c.new.result c.loop-k-test.true
+    subst (IsMet (λ x. x) c.args.text.now c.args.tape.now c.args.n _ _) (sym c.in_ok-push.ensures.items)
+    (met_more (λ x. x) c.args.text.now c.args.tape.now c.args.n c.loop-k.k _ c.loop-k.names.items c.new.result c.loop-k-test.true
     (λ ms o left x. c.new.ensures ∙ ap (λ l. scalars_in (chars l)) c.unquoted.ensures ∙ scalars_at c.args.text.now c.args.text.now _ x.name.source x.name.characters refl x.label x.lies x.string)
     c.loop-k.invariant)
 
 pub returns : goal.returns
-returns c = met_all c.args.text.now c.args.tape.now c.args.n c.loop-k.k _ c.loop-k.names.items c.loop-k-test.false c.loop-k.invariant
+returns c = λ ms o. met_all (λ x. x) c.args.text.now c.args.tape.now c.args.n c.loop-k.k _ c.loop-k.names.items c.loop-k-test.false c.loop-k.invariant ms o ∙ given_names ms
