@@ -1,18 +1,21 @@
 -- A segment of one name or one index gives one node at most, so it is never over the limit.
-use Rattle.std.proofs.Common.{◌≡◌, ℕ, ◌+◌, ◌<◌, ◌≤◌, Bool, true, false, ◌&&◌, List, [], ◌∷◌, length, get_or, drop, Option, Some, None, refl, ap, ◌∙◌, arith}
+use Rattle.std.proofs.Common.{◌≡◌, ℕ, ◌+◌, ◌<◌, ◌≤◌, Bool, true, false, ◌&&◌, List, [], ◌∷◌, length, get_or, drop, Option, Some, None, refl, sym, ap, ◌∙◌, arith, cond}
 use Rattle.std.specs.Prelude.{IsTrue}
 use Rattle.std.proofs.lemmas.List.{drop_more}
 use Rattle.path_grammar.specs.Tree as tree
-use Rattle.path_grammar.specs.Tree.{Segments, no_segments, segment, selector, OneSegment}
+use Rattle.path_grammar.specs.Tree.{Segments, no_segments, segment, Selectors, no_selectors, selector, name, wild, index, filter, slice, OneSegment}
 use Rattle.path_grammar.specs.View.{segments_view, selectors_view, selector_view, segment_view}
 use Rattle.path_grammar.specs.declared.ast.Segment.{Segment}
 use Rattle.path_grammar.specs.declared.ast.Selector.{Selector}
 use Rattle.path_types.specs.Validity.{is_singular, is_one}
-use Rattle.json_tape.specs.Nodes.{Node}
-use Rattle.json_tape.specs.Document.{Doc}
+use Rattle.json_tape.specs.Nodes.{Node, children, elements, is_named, first_where}
+use Rattle.json_tape.specs.Document.{Doc, single}
 use Rattle.json_tape.specs.declared.tape.NodeId.{NodeId}
-use Rattle.tape_select.specs.Running.{add, for_each, from_run, selected_run, evaluated_run}
-use Rattle.tape_select.specs.Nodelists.{single}
+use Rattle.tape_select.specs.Running.{next, add, for_each, from_run, selected_run, evaluated_run}
+use Rattle.tape_select.specs.Evaluation.{is_over}
+use Rattle.tape_select.specs.Selection.{at_index}
+use Rattle.tape_select.proofs.Adding.{not_over}
+use Rattle.tape_select.proofs.Walks.{each_more, next_some}
 
 pub single_added : (d : Doc) (found : Option NodeId) → add [] (single d found) ≡ Some (single d found)
 single_added d None = refl
@@ -70,3 +73,28 @@ pub followed_on : (root n : Node) (found : List Node) (ss : List Segment) (i : �
 followed_on root n found ss i item lt e child f =
     ap (λ (xs : List Segment). evaluated_run root (segments_view xs) (n ∷ [])) (drop_more ss i item lt)
     ∙ rw (← e, segment_from_one root n (segment_view item) found child f) refl
+
+-- ---- Several nodes, one after the other
+
+adds_found : (xs found out : List Node) → next (add [] xs) (λ o. Some o) ≡ Some found → next (add out xs) (λ o. Some o) ≡ add out found
+adds_found xs found out e = go (is_over xs) refl (sym (next_some (add [] xs)) ∙ e)
+  where
+    go : (b : Bool) → is_over xs ≡ b → cond (is_over xs) None (Some xs) ≡ Some found → next (add out xs) (λ o. Some o) ≡ add out found
+    go true b e = absurd cc
+    go false b e = let f : xs ≡ found = cc in rw (← f) (next_some (add out xs))
+
+module _ (root n : Node) where
+  one_adds : (ss : Selectors) (found out : List Node) → IsTrue (is_one ss) → selected_run root ss [] n ≡ Some found → selected_run root ss out n ≡ add out found
+  one_adds no_selectors found out h e = absurd cc
+  one_adds (selector (name scalars) no_selectors) found out h e = adds_found (first_where (is_named scalars) (children n)) found out e
+  one_adds (selector (index i) no_selectors) found out h e = adds_found (at_index i (elements n)) found out e
+  one_adds (selector (name scalars) (selector s others)) found out h e = absurd cc
+  one_adds (selector (index i) (selector s others)) found out h e = absurd cc
+  one_adds (selector wild others) found out h e = absurd cc
+  one_adds (selector (filter x) others) found out h e = absurd cc
+  one_adds (selector (slice from to step) others) found out h e = absurd cc
+
+  pub step_adds : (s : OneSegment) (found out : List Node) → s.descend ≡ false → IsTrue (is_one s.selectors) → selected_run root s.selectors [] n ≡ Some found → from_run root s out n ≡ add out found
+  step_adds s found out c h e = rw c (next_some (selected_run root s.selectors out n) ∙ one_adds s.selectors found out h e)
+
+pub ruleset stepping = (each_more, step_adds, not_over)

@@ -1,18 +1,20 @@
 -- A value without children: no selector selects anything from it.
-use Rattle.std.proofs.Common.{◌≡◌, ℕ, zero, suc, ◌+◌, ◌-◌, ◌<◌, Bool, false, List, [], ◌∷◌, ◌++◌, length, Option, Some, None, ℤ, pos, negsuc, refl, sym, ap, ◌∙◌}
-use Rattle.std.specs.Prelude.{reverse}
+use Rattle.std.proofs.Common.{◌≡◌, ℕ, zero, suc, ◌+◌, ◌-◌, ◌<◌, ◌≢◌, false, List, [], ◌∷◌, length, Option, Some, None, ℤ, pos, negsuc, refl, sym, ◌∙◌}
 use Rattle.path_grammar.specs.Tree.{Selectors, no_selectors, selector, Selector, name, wild, index, filter, slice}
+use Rattle.path_grammar.specs.View.{selector_view, selectors_view}
+use Rattle.path_grammar.specs.declared.ast.Selector as code
+use Rattle.tape_select.specs.Names.{is_lone_name}
 use Rattle.path_grammar.specs.declared.ast.IntLit.{IntLit}
 use Rattle.path_grammar.specs.declared.ast.IntLit.TheVariants.{Within, Beyond}
-use Rattle.json_tape.specs.Tree.{Tree, Leaf, Arr, Obj, NoElement, Element}
+use Rattle.json_tape.specs.Tree.{Tree, Leaf, Arr, Obj}
 use Rattle.json_tape.specs.Nodes.{Node, Step, children, elements, children_of, elements_of}
 use Rattle.json_tape.specs.Document.{Doc, seen, node_at, counting}
-use Rattle.tape_select.specs.Selection.{at_index, nth_if, position_in, step_of, sliced_by, sliced}
+use Rattle.tape_select.specs.Selection.{at_index, nth_if, position_in, step_of, sliced_by}
 use Rattle.tape_select.specs.Evaluation.{is_over}
-use Rattle.tape_select.specs.Running.{next, add, selected_run, selected_by_run, selected_from_run}
+use Rattle.tape_select.specs.Running.{selected_run, selected_by_run, selected_from_run}
 use Rattle.tape_select.proofs.Runs.{none_more}
 use Rattle.tape_select.proofs.Adding.{not_over}
-use Rattle.tape_select.proofs.Walks.{visit_more}
+use Rattle.tape_select.proofs.Walks.{visit_more, next_some}
 
 no_elements : (up : List Step) (k : ℕ) (t : Tree) → children_of up k t ≡ [] → elements_of up k t ≡ []
 no_elements up k (Leaf s c) e = refl
@@ -51,3 +53,17 @@ leaf_passed root ss d out k e lt c o =
     sym (visit_more root ss d out k e lt ∙ rw s refl)
 
 pub ruleset visiting = (visit_more, leaf_passed, not_over)
+
+pub not_one_name : (ss : List code.Selector) → length ss ≢ 1 → is_lone_name (selectors_view ss) ≡ false
+not_one_name [] h = refl
+not_one_name (s ∷ []) h = absurd (h refl)
+not_one_name (s ∷ u ∷ ss) h = two (selector_view s)
+  where
+    two : (x : Selector) → is_lone_name (selector x (selector (selector_view u) (selectors_view ss))) ≡ false
+    two (name scalars) = refl
+    two wild = refl
+    two (index i) = refl
+    two (filter e) = refl
+    two (slice start stop step) = refl
+
+pub ruleset naming = (visit_more, next_some, not_over)

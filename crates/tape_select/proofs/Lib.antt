@@ -6,9 +6,9 @@ pub mod Turned
 pub mod Ends
 pub mod SideValues
 pub mod Following
-pub mod WholeTexts
 pub mod Sizes
 pub mod Twins
 pub mod Members
 pub mod Guessing
 pub mod Leaves
+pub mod Operands

@@ -6,6 +6,8 @@ pub mod Evaluation
 pub mod Running
 pub mod Nodelists
 pub mod Sides
+pub mod Plain
+pub mod Names
 pub mod Pairs
 pub mod Contents
 pub mod Guessing

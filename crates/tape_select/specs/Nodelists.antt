@@ -1,5 +1,5 @@
 -- What a list of numbers of nodes stands for in a document, and what a step of the evaluation answers.
-use Rattle.std.specs.Prelude.{◌≡◌, ◌<◌, ◌≤◌, List, [], ◌∷◌, length, map, Result, MatchResult, Option, Some, None}
+use Rattle.std.specs.Prelude.{◌≡◌, ◌<◌, ◌≤◌, List, length, map, Result, MatchResult, Option, Some, None}
 use Rattle.std.specs.List.{All}
 use Rattle.std.specs.declared.vec.Vec.{Vec}
 use Rattle.std.specs.declared.alloc.Global.{Global}
@@ -13,11 +13,6 @@ use Rattle.tape_select.specs.declared.fault.SelectFault.TheVariants.{TooManyNode
 -- the nodes of these numbers
 abbrev pub nodes_of : Doc → List NodeId → List Node
 nodes_of d ids = map (λ id. node_at d id.0) ids
-
--- the node of this number alone, or no node
-abbrev pub single : Doc → Option NodeId → List Node
-single d None = []
-single d (Some id) = node_at d id.0 ∷ []
 
 -- numbers of nodes, no more than the limit allows
 pub record Sound (d : Doc) (ids : List NodeId) : Type 0 where

@@ -3,8 +3,8 @@
 use Rattle.std.specs.Prelude.{List, [], ◌∷◌, ◌++◌, Bool, true, false, ◌&&◌, ◌||◌, Option, Some, None, if◌then◌else◌}
 use Rattle.std.specs.Prelude.{not as opposite}
 use Rattle.path_grammar.specs.Tree.{Segments, no_segments, segment, Selectors, no_selectors, selector, Selector, name, wild, index, filter, slice, Expr, any, each, not, compare, test, test_call, Exprs, no_exprs, expr, Nested, nested, Comparable, lit, single, func, Call, call, no_arguments, argument, Argument, lit_argument, nodes_argument, func_argument, logical_argument, OneSegment}
-use Rattle.json_tape.specs.Nodes.{Node, children, elements, is_named}
-use Rattle.tape_select.specs.Selection.{first_where, at_index, sliced}
+use Rattle.json_tape.specs.Nodes.{Node, children, elements, is_named, first_where}
+use Rattle.tape_select.specs.Selection.{at_index, sliced}
 use Rattle.tape_select.specs.Comparison.{Value, literal_value, compared}
 use Rattle.tape_select.specs.Functions.{Argued, a_value, a_nodelist, only_value, applied}
 use Rattle.tape_select.specs.Evaluation.{starts, start, is_empty, is_over}

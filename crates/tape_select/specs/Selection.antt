@@ -4,13 +4,6 @@ use Rattle.path_grammar.specs.declared.ast.IntLit.{IntLit}
 use Rattle.path_grammar.specs.declared.ast.IntLit.TheVariants.{Within, Beyond}
 use Rattle.json_tape.specs.Nodes.{Node}
 
--- ---- Names (section 2.3.1)
-
--- the first for which a test holds
-abbrev pub first_where : (Node → Bool) → List Node → List Node
-first_where p [] = []
-first_where p (n ∷ ns) = if p n then n ∷ [] else first_where p ns
-
 -- ---- Indexes (section 2.3.3)
 
 -- element i

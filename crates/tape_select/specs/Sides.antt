@@ -1,9 +1,10 @@
 -- What the sides of a comparison stand for.
-use Rattle.std.specs.Prelude.{◌≡◌, ◌<◌, Option, Some, None, IsTrue, Result, MatchResult}
+use Rattle.std.specs.Prelude.{◌≡◌, ℕ, ◌<◌, List, Option, Some, None, IsTrue, Result, MatchResult}
 use Rattle.path_grammar.specs.View.{literal_view}
 use Rattle.path_types.specs.Validity.{is_literal}
 use Rattle.json_tape.specs.Document.{Doc, node_at, count}
-use Rattle.tape_select.specs.Comparison.{Value, value_of, literal_value}
+use Rattle.tape_select.specs.Comparison.{Value, a_number, value_of, literal_value}
+use Rattle.tape_select.specs.Contents.{IsNumberText}
 use Rattle.tape_select.specs.Functions.{whole_number}
 use Rattle.tape_select.specs.Nodelists.{Stops}
 use Rattle.tape_select.specs.declared.fault.SelectFault.{SelectFault}
@@ -22,6 +23,22 @@ IsSide d sides.Nothing = Unit {0}
 IsSide d (sides.Node n) = n.0 < count d
 IsSide d (sides.Literal l) = IsTrue (is_literal (literal_view l.now))
 IsSide d (sides.Whole n) = Unit {0}
+
+abbrev pub number_text : Value → Option (List ℕ)
+number_text (a_number text) = Some text
+number_text v = None
+
+-- the text of a number that the text or the query writes; lengths and counts are written nowhere
+abbrev pub written : Doc → Side → Option (List ℕ)
+written d sides.Nothing = None
+written d (sides.Node n) = number_text (value_of (node_at d n.0).tree)
+written d (sides.Literal l) = number_text (literal_value (literal_view l.now))
+written d (sides.Whole n) = None
+
+-- the side is a number of this text
+pub record IsNumberSide (d : Doc) (s : Side) (text : List ℕ) : Type 0 where
+  pub value : side_value d s ≡ Some (a_number text)
+  pub number : IsNumberText text
 
 -- the run gives this side
 pub record IsSideOf (d : Doc) (run : Option (Option Value)) (s : Side) : Type 0 where

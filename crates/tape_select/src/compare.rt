@@ -1,19 +1,23 @@
 //! Comparisons of a filter (RFC 9535, section 2.3.5.2.2).
 
-ghost use Rattle.std.specs.Prelude.{◌≡◌, Some, IsTrue};
+ghost use Rattle.std.specs.Prelude.{◌≡◌, Some, None, IsTrue, MatchOption};
 ghost use Rattle.path_grammar.specs.View.{literal_view};
 ghost use Rattle.path_types.specs.Validity.{is_literal};
-ghost use Rattle.tape_select.specs.Comparison.{literal_value, equal_results, less_results, compared};
+ghost use Rattle.tape_select.specs.Comparison.{a_number, literal_value, equal_results, less_results, compared};
 ghost use Rattle.tape_select.specs.Contents.{content_value, IsContent, IsNumberText};
-ghost use Rattle.tape_select.specs.Sides.{side_value, IsSide};
+ghost use Rattle.tape_select.specs.Functions.{whole_number};
+ghost use Rattle.tape_select.specs.Sides.{side_value, written, IsSide, IsNumberSide};
 
-use crate::digits::Digits;
+use crate::digits::{Digits, whole_text};
 use crate::letters::Letters;
 use crate::sides::Side;
-use crate::values::{Content, equal_contents, less_contents, value_content};
-use json_tape::Document;
+use crate::values::{Content, equal_contents, less_contents, number_text, value_content};
+use decimal_order::compare as order;
+use itoa::Buffer;
+use json_tape::{Document, Kind};
 use path_grammar::{Literal, Op};
 use path_types::judges_numbers;
+use std::cmp::Ordering;
 
 // What a literal is.
 fn literal_content<'a>(doc: &Document, literal: &'a Literal) -> Content<'a>
@@ -61,18 +65,79 @@ fn less(doc: &Document, left: &Side<'_>, right: &Side<'_>) -> bool
     less_contents(doc, side_content(doc, left), side_content(doc, right))
 }
 
+/// Whether a comparison holds, whatever the sides are.
+#[inline(never)]
+pub fn compare_contents(doc: &Document, op: Op, left: Side<'_>, right: Side<'_>) -> bool
+    requires left { IsSide doc.now left }
+    requires right { IsSide doc.now right }
+    ensures { result ≡ compared op (side_value doc.now left.entry) (side_value doc.now right.entry) }
+{
+    match op {
+        Op::Eq => equal(doc, &left, &right),
+        Op::Ne => !equal(doc, &left, &right),
+        Op::Lt => less(doc, &left, &right),
+        Op::Gt => less(doc, &right, &left),
+        Op::Le => less(doc, &left, &right) || equal(doc, &left, &right),
+        Op::Ge => less(doc, &right, &left) || equal(doc, &right, &left),
+    }
+}
+
+/// The text of a number that is written in the text or in the query.
+#[inline(always)]
+pub fn written<'a>(doc: &'a Document, side: &Side<'a>) -> Option<&'a [u8]>
+    requires { IsSide doc.now side.now }
+    ensures { MatchOption result (written doc.now side.now ≡ None) (λ text. IsNumberSide doc.now side.now text.now) }
+{
+    judges_numbers();
+    match side {
+        Side::Node(n) => match doc.kind(*n) {
+            Kind::Number => Some(number_text(doc, *n)),
+            _ => None,
+        },
+        Side::Literal(Literal::Number(digits)) => Some(digits.as_slice()),
+        Side::Nothing | Side::Literal(_) | Side::Whole(_) => None,
+    }
+}
+
+/// Whether a comparison of numbers holds. They are compared once.
+#[inline(always)]
+pub fn compare_numbers(op: Op, a: &[u8], b: &[u8]) -> bool
+    requires left { IsNumberText a.now }
+    requires right { IsNumberText b.now }
+    ensures { result ≡ compared op (Some (a_number a.now)) (Some (a_number b.now)) }
+{
+    match op {
+        Op::Eq => order(a, b) == Ordering::Equal,
+        Op::Ne => order(a, b) != Ordering::Equal,
+        Op::Lt => order(a, b) == Ordering::Less,
+        Op::Gt => order(b, a) == Ordering::Less,
+        Op::Le => order(a, b) != Ordering::Greater,
+        Op::Ge => order(b, a) != Ordering::Greater,
+    }
+}
+
+// Whether a comparison of a whole number with a written one holds.
+fn compare_whole(op: Op, n: usize, b: &[u8]) -> bool
+    requires { IsNumberText b.now }
+    ensures { result ≡ compared op (Some (whole_number n)) (Some (a_number b.now)) }
+{
+    let mut buffer = Buffer::new();
+    compare_numbers(op, whole_text(&mut buffer, n), b)
+}
+
 /// Whether a comparison holds. It takes no memory.
-pub fn compare(doc: &Document, op: Op, left: &Side<'_>, right: &Side<'_>) -> bool
+pub fn compare<'a>(doc: &'a Document, op: Op, left: &Side<'a>, right: &Side<'a>) -> bool
     requires left { IsSide doc.now left.now }
     requires right { IsSide doc.now right.now }
     ensures { result ≡ compared op (side_value doc.now left.now) (side_value doc.now right.now) }
 {
-    match op {
-        Op::Eq => equal(doc, left, right),
-        Op::Ne => !equal(doc, left, right),
-        Op::Lt => less(doc, left, right),
-        Op::Gt => less(doc, right, left),
-        Op::Le => less(doc, left, right) || equal(doc, left, right),
-        Op::Ge => less(doc, right, left) || equal(doc, right, left),
+    if let Some(b) = written(doc, right) {
+        if let Side::Whole(n) = left {
+            return compare_whole(op, *n, b);
+        }
+        if let Some(a) = written(doc, left) {
+            return compare_numbers(op, a, b);
+        }
     }
+    compare_contents(doc, op, *left, *right)
 }

@@ -4,7 +4,7 @@ ghost use Rattle.std.specs.Prelude.{◌≡◌, decimal};
 ghost use Rattle.decimal_order.specs.Order.{number_cmp};
 ghost use Rattle.tape_select.specs.Contents.{digits_text, AreDigits, IsNumberText};
 
-use decimal_order::compare;
+use decimal_order::{compare, writes_whole_numbers};
 use itoa::Buffer;
 use std::cmp::Ordering;
 
@@ -17,11 +17,12 @@ pub enum Digits<'a> {
     Whole(usize),
 }
 
-// The digits of a whole number.
-fn whole_text(buffer: &mut Buffer, n: usize) -> &[u8]
+/// The digits of a whole number.
+pub fn whole_text(buffer: &mut Buffer, n: usize) -> &[u8]
     ensures text { result.now ≡ decimal n }
     ensures number { IsNumberText result.now }
 {
+    writes_whole_numbers();
     buffer.format(n).as_bytes()
 }
 

@@ -6,28 +6,32 @@ ghost use Rattle.json_tape.specs.Document.{tree_of, count, node_at};
 ghost use Rattle.json_tape.specs.Nodes.{children, visit};
 ghost use Rattle.path_grammar.specs.Tree.{call, exprs_of, arguments_of};
 ghost use Rattle.path_grammar.specs.View.{selector_view, segment_view, segments_view, selectors_view, expr_view, nested_view, comparable_view, call_view, argument_view, query_view};
-ghost use Rattle.path_types.specs.Validity.{is_valid, are_valid, is_valid_selector, is_valid_expr, are_valid_exprs, is_valid_nested, is_valid_comparable, is_valid_call, are_valid_arguments, is_valid_argument, is_singular_query};
-ghost use Rattle.tape_select.specs.Evaluation.{nodes_selected, exceeds_limit, is_empty, start};
-ghost use Rattle.tape_select.specs.Functions.{only_value, applied, a_nodelist};
+ghost use Rattle.path_types.specs.Validity.{is_valid, are_valid, is_valid_selector, is_valid_expr, are_valid_exprs, is_valid_nested, is_valid_comparable, is_valid_call, are_valid_arguments, is_valid_argument};
+ghost use Rattle.tape_select.specs.Evaluation.{nodes_selected, exceeds_limit, is_empty};
+ghost use Rattle.tape_select.specs.Functions.{applied, a_nodelist};
 ghost use Rattle.tape_select.specs.Running.{for_each, keep_run, evaluated_run, selected_run, selected_from_run, selected_by_run, from_run, holds_run, some_run, all_run, nodes_run, result_run, called_run, argued_run, then_some};
 ghost use Rattle.tape_select.specs.Nodelists.{nodes_of, Sound, Gives, GivesList, GivesValue, Stops};
-ghost use Rattle.tape_select.specs.Sides.{IsSideOf, GivesSide};
+ghost use Rattle.tape_select.specs.Sides.{GivesSide};
 
 use crate::compare::compare;
 use crate::fault::SelectFault;
 use crate::functions::{of_nodes, of_value};
+use crate::names::{lone_name, named};
 use crate::nodelist::{lone, none, push};
-use crate::selectors::{element, member, push_some, wild};
+use crate::plain::{filtered_plain, is_plain};
+use crate::selectors::{element, push_some, wild};
 use crate::sides::{Side, only_node};
-use crate::singular::followed;
+use crate::singular::{followed, start, stepped, value_at};
 use crate::slices::sliced;
 use json_tape::{Document, NodeId};
 use path_grammar::{Argument, Call, Comparable, Expr, Segment, Selector, SubQuery, is_singular};
 use path_types::ValidQuery;
 use std::alloc::Global;
+use std::slice::from_ref;
 
 // The children for which an expression holds.
 #[cycle(evaluation)]
+#[inline(never)]
 #[tactic(auto, using(crate::proofs::Adding::filtering))]
 fn filtered(
     alloc: Global,
@@ -65,10 +69,16 @@ fn selected_by(
     ensures { Gives doc.now result out.new.items (selected_by_run (node_at doc.now 0) (selector_view selector.now) (nodes_of doc.now out.old.items) (node_at doc.now n.0)) }
 {
     match selector {
-        Selector::Name(name) => push_some(doc, out, member(doc, n, name)),
+        Selector::Name(name) => push_some(doc, out, doc.member(n, name)),
         Selector::Wild => wild(doc, n, out),
         Selector::Index(i) => push_some(doc, out, element(doc, n, *i)),
-        Selector::Filter(condition) => filtered(alloc, doc, condition, n, out),
+        Selector::Filter(condition) => {
+            if is_plain(condition) {
+                filtered_plain(doc, condition, n, out)
+            } else {
+                filtered(alloc, doc, condition, n, out)
+            }
+        }
         Selector::Slice { start, stop, step } => sliced(doc, n, *start, *stop, *step, out),
     }
 }
@@ -117,6 +127,26 @@ fn visited(
     Ok(())
 }
 
+// The same, where a lone name takes a loop of its own.
+#[cycle(evaluation)]
+fn descended(
+    alloc: Global,
+    doc: &Document,
+    selectors: &[Selector],
+    n: NodeId,
+    out: &mut Vec<NodeId>,
+) -> Result<(), SelectFault>
+    requires inside { n.0 < count doc.now }
+    requires valid { IsTrue (are_valid (selectors_view selectors.now)) }
+    requires sound { Sound doc.now out.old.items }
+    ensures { Gives doc.now result out.new.items (selected_from_run (node_at doc.now 0) (selectors_view selectors.now) (nodes_of doc.now out.old.items) (visit (node_at doc.now n.0))) }
+{
+    match lone_name(selectors) {
+        Some(name) => named(doc, name, n, out),
+        None => visited(alloc, doc, selectors, n, out),
+    }
+}
+
 #[cycle(evaluation)]
 #[tactic(auto, using(crate::proofs::Walks::next_some))]
 fn from_node(
@@ -132,7 +162,7 @@ fn from_node(
     ensures { Gives doc.now result out.new.items (from_run (node_at doc.now 0) (segment_view segment.now) (nodes_of doc.now out.old.items) (node_at doc.now n.0)) }
 {
     if segment.descend {
-        visited(alloc, doc, &segment.selectors, n, out)
+        descended(alloc, doc, &segment.selectors, n, out)
     } else {
         selected(alloc, doc, &segment.selectors, n, out)
     }
@@ -170,7 +200,11 @@ fn after_segment(
     ensures { GivesList doc.now result (for_each (from_run (node_at doc.now 0) (segment_view segment.now)) [] (nodes_of doc.now input.now)) }
 {
     let mut out = none(alloc, doc);
-    from_each(alloc, doc, segment, input, &mut out)?;
+    if is_singular(from_ref(segment)) {
+        stepped(doc, segment, input, &mut out)?;
+    } else {
+        from_each(alloc, doc, segment, input, &mut out)?;
+    }
     Ok(out)
 }
 
@@ -191,15 +225,6 @@ fn evaluated(
         nodes = after_segment(alloc, doc, segment, &nodes)?;
     }
     Ok(nodes)
-}
-
-// Where a query in a filter begins.
-fn start(doc: &Document, from_root: bool, child: NodeId) -> NodeId
-    requires { child.0 < count doc.now }
-    ensures inside { result.0 < count doc.now }
-    ensures start { node_at doc.now result.0 ≡ start (node_at doc.now 0) from_root (node_at doc.now child.0) }
-{
-    if from_root { doc.root() } else { child }
 }
 
 // Whether a query in a filter selects any node.
@@ -223,20 +248,9 @@ fn is_any(
     }
 }
 
-// The value of a singular query.
-fn value_at<'a>(doc: &Document, query: &SubQuery, child: NodeId) -> Side<'a>
-    requires inside { child.0 < count doc.now }
-    requires singular { IsTrue (is_singular_query (nested_view query.now)) }
-    ensures { IsSideOf doc.now (then_some only_value (nodes_run (node_at doc.now 0) (nested_view query.now) (node_at doc.now child.0))) result }
-{
-    match followed(doc, &query.segments, start(doc, query.from_root, child)) {
-        None => Side::Nothing,
-        Some(n) => Side::Node(n),
-    }
-}
-
 // A side of a comparison.
 #[cycle(evaluation)]
+#[inline(always)]
 fn side_of<'a>(
     alloc: Global,
     doc: &Document,

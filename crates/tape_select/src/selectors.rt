@@ -1,11 +1,11 @@
-//! The selectors of a name, of all children and of an index.
+//! The selectors of all children and of an index.
 
 ghost use Rattle.std.specs.Prelude.{◌≡◌, ◌<◌, ◌≤◌, ◌∷◌, [], ◌++◌, ◌^◌, length, take, drop, reverse};
-ghost use Rattle.json_tape.specs.Document.{count, node_at, following, IsIn};
-ghost use Rattle.json_tape.specs.Nodes.{children, elements, is_named, visit};
-ghost use Rattle.tape_select.specs.Selection.{first_where, nth, at_index, position_in};
+ghost use Rattle.json_tape.specs.Document.{count, node_at, following, single, IsIn};
+ghost use Rattle.json_tape.specs.Nodes.{children, elements};
+ghost use Rattle.tape_select.specs.Selection.{nth, at_index, position_in};
 ghost use Rattle.tape_select.specs.Running.{add};
-ghost use Rattle.tape_select.specs.Nodelists.{nodes_of, single, Sound, Gives};
+ghost use Rattle.tape_select.specs.Nodelists.{nodes_of, Sound, Gives};
 
 use crate::fault::SelectFault;
 use crate::nodelist::push;
@@ -25,22 +25,6 @@ pub fn wild(doc: &Document, n: NodeId, out: &mut Vec<NodeId>) -> Result<(), Sele
         child = doc.next_sibling(c);
     }
     Ok(())
-}
-
-// The member of this name.
-pub fn member(doc: &Document, n: NodeId, name: &[char]) -> Option<NodeId>
-    requires { n.0 < count doc.now }
-    ensures node { single doc.now result ≡ first_where (is_named name.now) (children (node_at doc.now n.0)) }
-    ensures inside { IsIn doc.now result }
-{
-    let mut child = doc.first_child(n);
-    while let Some(c) = child {
-        if doc.name_is(c, name) {
-            return Some(c);
-        }
-        child = doc.next_sibling(c);
-    }
-    None
 }
 
 // The node, where there is one.

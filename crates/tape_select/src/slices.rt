@@ -147,6 +147,7 @@ fn step_or_one(step: Option<IntLit>) -> i64
 }
 
 // The elements of a slice.
+#[inline(never)]
 pub fn sliced(
     doc: &Document,
     n: NodeId,

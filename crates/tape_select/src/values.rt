@@ -27,8 +27,9 @@ pub enum Content<'a> {
     Object(NodeId),
 }
 
-// The text of a number.
-fn number_text(doc: &Document, n: NodeId) -> &[u8]
+/// The text of a number.
+#[inline(always)]
+pub fn number_text(doc: &Document, n: NodeId) -> &[u8]
     requires inside { n.0 < count doc.now }
     requires number { kind_of (node_at doc.now n.0).tree ≡ Kind.Number }
     ensures value { result.now ≡ (source_of (node_at doc.now n.0).tree).bytes }

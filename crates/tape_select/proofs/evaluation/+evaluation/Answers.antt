@@ -1,9 +1,11 @@
 use Rattle.std.proofs.Common.{rules, sym, ◌∙◌, [], ◌∷◌}
 use Rattle.std.proofs.lemmas.Result.{err_from_is_err_and}
+use Rattle.path_grammar.specs.Tree.{no_segments}
 use Rattle.path_grammar.specs.View.{segment_view, segments_view}
 use Rattle.json_tape.specs.Document.{node_at}
 use Rattle.tape_select.specs.Running.{for_each, from_run, evaluated_run}
 use Rattle.tape_select.specs.Nodelists.{nodes_of}
+use Rattle.tape_select.proofs.Following.{first_is}
 use Rattle.tape_select.proofs.Walks.{evaluated_step, evaluated_stop, rest_valid, rest_valid_exprs, some_step, all_step, not_one_argument, from_parts, stops_from}
 use Rattle.tape_select.proofs.evaluation.+evaluation.Goals as goal
 use Rattle.tape_select.proofs.evaluation.+evaluation.Goals.{of_arguments-in_default-via-then-arguments-lt1, of_arguments-in_default-via-else-arguments-lt1+else-arguments-lt2}
@@ -49,5 +51,11 @@ of_arguments-returns-in_default t c = elim c.in_default.branch [
 
 pub from_node-returns-then-segment : goal.from_node-returns-then-segment
 from_node-returns-then-segment t c =
-    let ran = rw c.deref.ensures.value at c.visited.ensures in
+    let ran = rw c.deref.ensures.value at c.descended.ensures in
     rw (from_parts (node_at c.args.doc.now 0) c.args.segment.now (nodes_of c.args.doc.now c.args.out.now.items) (node_at c.args.doc.now c.args.n.0) c.if-segment.true) ran
+
+pub after_segment-stepped-requires : goal.after_segment-stepped-requires
+after_segment-stepped-requires t c =
+    let known = rw c.from_ref.ensures.value at c.is_singular.ensures in
+    let first = first_is (segment_view c.args.segment.now) no_segments (sym known ∙ c.if-is_singular.true) in
+    record { child = first.child; one = first.one; from = c.requires.from; sound = c.none-out.ensures.sound }

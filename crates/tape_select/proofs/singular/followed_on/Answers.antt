@@ -2,7 +2,7 @@ use Rattle.std.proofs.Common.{sym, ◌∙◌, ◌+◌, [], ◌∷◌, drop}
 use Rattle.path_grammar.specs.View.{segments_view}
 use Rattle.json_tape.specs.Document.{node_at}
 use Rattle.tape_select.proofs.Following.{first_of, followed_on, nothing_from_nothing}
-use Rattle.tape_select.proofs.singular.followed.Goals as goal
+use Rattle.tape_select.proofs.singular.followed_on.Goals as goal
 
 pub loop-segment-preserved : goal.loop-segment-preserved
 loop-segment-preserved c =

@@ -4,7 +4,7 @@ use Rattle.path_grammar.specs.View.{segments_view}
 use Rattle.path_types.specs.Validity.{is_singular}
 use Rattle.json_tape.specs.Document.{node_at, count}
 use Rattle.tape_select.specs.Running.{evaluated_run}
-use Rattle.tape_select.proofs.singular.followed.Given as goal
+use Rattle.tape_select.proofs.singular.followed_on.Given as goal
 
 abbrev pub invariant-loop-segment : goal.invariant-loop-segment
 invariant-loop-segment l = record {
