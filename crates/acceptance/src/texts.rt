@@ -5,8 +5,8 @@ use std::alloc::{AllocError, Global};
 use std::process::Abort;
 use std::test::Fail;
 
-// The refusal of a text, or none.
-fn verdict(alloc: Global, text: &[u8]) -> Option<TextFault> {
+/// The refusal of a text, or none.
+pub fn verdict(alloc: Global, text: &[u8]) -> Option<TextFault> {
     match Document::read(alloc, text) {
         Ok(_) => None,
         Err(fault) => Some(fault),

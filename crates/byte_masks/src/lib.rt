@@ -5,9 +5,6 @@ ghost use Rattle.std.specs.Prelude.{◌≡◌, ℕ, ◌^◌, ◌<◌, ◌-◌, �
 ghost use Rattle.bit_words.specs.Words.{is_set, HasBits};
 ghost use Rattle.byte_masks.specs.Classes.{op_byte, blank_byte, control_byte, found, near_op};
 
-#[cfg(test)]
-mod tests;
-
 use std::simd::prelude::*;
 
 /// The classes of the bytes of a block: bit `i` of each word is of byte `i`.

@@ -18,6 +18,3 @@ pub use laws::writes_whole_numbers;
 pub use limits::within_limits;
 pub use number::{Decimal, scan};
 pub use order::compare;
-
-#[cfg(test)]
-mod tests;

@@ -5,9 +5,6 @@ ghost use Rattle.std.specs.Prelude.{◌≡◌};
 ghost use Rattle.bit_words.specs.Words.{HasBits};
 ghost use Rattle.escape_runs.specs.Runs.{is_escaped};
 
-#[cfg(test)]
-mod tests;
-
 // Bits 1, 3, 5 and so on.
 const ODD: u64 = 0xaaaa_aaaa_aaaa_aaaa;
 

@@ -21,8 +21,6 @@ mod reader;
 mod scalars;
 mod scan;
 mod tape;
-#[cfg(test)]
-mod tests;
 
 pub use document::{Document, TEXT_LIMIT};
 pub use judge::DEPTH_LIMIT;

@@ -16,8 +16,6 @@ mod scan;
 mod segments;
 mod singular;
 mod strings;
-#[cfg(test)]
-mod tests;
 
 pub use ast::{
     Argument, Call, Comparable, Expr, IntLit, Literal, Op, Query, Segment, Selector, SubQuery,

@@ -6,8 +6,6 @@ ghost use Rattle.bit_words.specs.Words.{is_odd, HasBits};
 ghost use Rattle.string_spans.specs.Quotes.{parity_through, quotes_before, is_opening, is_closing, is_interior};
 
 mod answer;
-#[cfg(test)]
-mod tests;
 
 pub use answer::Spans;
 

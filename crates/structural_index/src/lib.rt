@@ -9,8 +9,6 @@ mod answer;
 mod blocks;
 mod laws;
 mod looks;
-#[cfg(test)]
-mod tests;
 mod writer;
 
 pub use answer::Index;

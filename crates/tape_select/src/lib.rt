@@ -22,8 +22,6 @@ mod selectors;
 mod sides;
 mod singular;
 mod slices;
-#[cfg(test)]
-mod tests;
 mod values;
 
 pub use evaluation::select;

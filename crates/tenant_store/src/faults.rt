@@ -59,23 +59,3 @@ impl StoreFault {
         self as u8
     }
 }
-
-#[cfg(test)]
-mod tests {
-    use super::*;
-
-    #[test]
-    fn has_the_protocols_statuses(rt: HostRuntime) {
-        let statuses = [
-            (StoreFault::TooLong, 0x05),
-            (StoreFault::DuplicateName, 0x0b),
-            (StoreFault::TooManyBytes, 0x0e),
-            (StoreFault::NotFound, 0x0f),
-            (StoreFault::TooManyNodes, 0x13),
-            (StoreFault::NoMemory, 0x15),
-        ];
-        for (fault, status) in statuses {
-            assert_eq!(rt; fault.status(), status);
-        }
-    }
-}

@@ -1,4 +1,6 @@
-use super::*;
+//! Numbers: their texts, limits and order.
+
+use decimal_order::{compare, scan, within_limits};
 use std::cmp::Ordering;
 use std::process::Abort;
 

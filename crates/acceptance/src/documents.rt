@@ -1,16 +1,9 @@
 //! Texts with their verdicts, and one document seen through every reader.
 
-use crate::document::Document;
-use crate::tape::{Kind, Lead, NodeId, TextFault};
+use crate::texts::verdict;
+use json_tape::{Document, Kind, Lead, NodeId, TextFault};
 use std::alloc::{AllocError, Global};
 use std::test::Fail;
-
-fn fault(alloc: Global, text: &[u8]) -> Option<TextFault> {
-    match Document::read(alloc, text) {
-        Ok(_) => None,
-        Err(fault) => Some(fault),
-    }
-}
 
 fn add(text: &mut Vec<u8>, byte: u8, count: usize) -> Result<(), AllocError> {
     for _ in 0..count {
@@ -60,7 +53,7 @@ fn reads_exactly_json(rt: HostRuntime) -> Result<(), Fail> {
         b"\"\\u12g4\"".as_slice(),
         [239, 187, 191, 49].as_slice(),
     ] {
-        assert_eq!(rt; fault(alloc, text), Some(TextFault::NotJson));
+        assert_eq!(rt; verdict(alloc, text), Some(TextFault::NotJson));
     }
     for text in [
         b"{\"a\": [1]}".as_slice(),
@@ -70,11 +63,11 @@ fn reads_exactly_json(rt: HostRuntime) -> Result<(), Fail> {
         b"\"\\u00E9\\u00e9\\n\\/\\\"\"".as_slice(),
         b"[true,false,null]".as_slice(),
     ] {
-        assert_eq!(rt; fault(alloc, text), None);
+        assert_eq!(rt; verdict(alloc, text), None);
     }
-    assert_eq!(rt; fault(alloc, [255].as_slice()), Some(TextFault::NotUtf8));
+    assert_eq!(rt; verdict(alloc, [255].as_slice()), Some(TextFault::NotUtf8));
     assert_eq!(rt;
-        fault(alloc, [91, 49, 44, 255].as_slice()),
+        verdict(alloc, [91, 49, 44, 255].as_slice()),
         Some(TextFault::NotUtf8)
     );
     Ok(())
@@ -90,12 +83,12 @@ fn counts_depth(rt: HostRuntime) -> Result<(), Fail> {
         (500_000, 500_000, Some(TextFault::TooDeep)),
     ] {
         let text = nested(alloc, opened, closed)?;
-        assert_eq!(rt; fault(alloc, text.as_slice()), want, "{opened} {closed}");
+        assert_eq!(rt; verdict(alloc, text.as_slice()), want, "{opened} {closed}");
     }
     let mut text = nested(alloc, 129, 0)?;
     add(&mut text, b'1', 257)?;
     add(&mut text, b']', 129)?;
-    assert_eq!(rt; fault(alloc, text.as_slice()), Some(TextFault::TooDeep));
+    assert_eq!(rt; verdict(alloc, text.as_slice()), Some(TextFault::TooDeep));
     Ok(())
 }
 
@@ -104,10 +97,10 @@ fn limits_numbers(rt: HostRuntime) -> Result<(), Fail> {
     let alloc = rt.alloc();
     let mut digits = Vec::new(alloc);
     add(&mut digits, b'1', 256)?;
-    assert_eq!(rt; fault(alloc, digits.as_slice()), None);
+    assert_eq!(rt; verdict(alloc, digits.as_slice()), None);
     add(&mut digits, b'1', 1)?;
     assert_eq!(rt;
-        fault(alloc, digits.as_slice()),
+        verdict(alloc, digits.as_slice()),
         Some(TextFault::NumberLimit)
     );
     for (text, want) in [
@@ -121,7 +114,7 @@ fn limits_numbers(rt: HostRuntime) -> Result<(), Fail> {
         (b"12.345678901234567890".as_slice(), None),
         (b"0e1000000000".as_slice(), Some(TextFault::NumberLimit)),
     ] {
-        assert_eq!(rt; fault(alloc, text), want);
+        assert_eq!(rt; verdict(alloc, text), want);
     }
     Ok(())
 }
@@ -134,11 +127,11 @@ fn limits_texts(rt: HostRuntime) -> Result<(), Fail> {
         add(&mut text, b'"', 1)?;
         add(&mut text, b'x', letters)?;
         add(&mut text, b'"', 1)?;
-        assert_eq!(rt; fault(alloc, text.as_slice()), want, "{letters}");
+        assert_eq!(rt; verdict(alloc, text.as_slice()), want, "{letters}");
     }
     let mut text = Vec::new(alloc);
     add(&mut text, 255, 1_048_577)?;
-    assert_eq!(rt; fault(alloc, text.as_slice()), Some(TextFault::TooLong));
+    assert_eq!(rt; verdict(alloc, text.as_slice()), Some(TextFault::TooLong));
     Ok(())
 }
 
@@ -155,7 +148,7 @@ fn wants_whole_pairs(rt: HostRuntime) -> Result<(), Fail> {
         b"{\"\\ude00\":1}".as_slice(),
         b"{\"a\":1,\"a\":\"\\ud83d\"}".as_slice(),
     ] {
-        assert_eq!(rt; fault(alloc, text), Some(TextFault::LoneSurrogate));
+        assert_eq!(rt; verdict(alloc, text), Some(TextFault::LoneSurrogate));
     }
     Ok(())
 }
@@ -172,7 +165,7 @@ fn refuses_names_that_mean_the_same(rt: HostRuntime) -> Result<(), Fail> {
         b"{\"\\ud83d\\ude00\":1,\"\xf0\x9f\x98\x80\":2}".as_slice(),
         b"[0,{\"x\":[{\"k\":1,\"l\":{},\"k\":2}]}]".as_slice(),
     ] {
-        assert_eq!(rt; fault(alloc, text), Some(TextFault::DuplicateName));
+        assert_eq!(rt; verdict(alloc, text), Some(TextFault::DuplicateName));
     }
     for text in [
         b"{\"a\":1,\"A\":2,\"aa\":3,\"\":4}".as_slice(),
@@ -180,7 +173,7 @@ fn refuses_names_that_mean_the_same(rt: HostRuntime) -> Result<(), Fail> {
         b"{\"\\u0000\":1,\"\":2,\"\\\\u0000\":3}".as_slice(),
         b"[\"a\",\"a\"]".as_slice(),
     ] {
-        assert_eq!(rt; fault(alloc, text), None);
+        assert_eq!(rt; verdict(alloc, text), None);
     }
     Ok(())
 }
@@ -207,34 +200,33 @@ fn finds_one_name_among_many(rt: HostRuntime) -> Result<(), Fail> {
         for last in [b"\"11\"".as_slice(), b"\"1\\u0031\"".as_slice()] {
             let text = with_last(alloc, count, last)?;
             assert_eq!(rt;
-                fault(alloc, text.as_slice()),
+                verdict(alloc, text.as_slice()),
                 Some(TextFault::DuplicateName),
                 "{count}"
             );
         }
         let text = with_last(alloc, count, b"\"1\\u0061\"")?;
-        assert_eq!(rt; fault(alloc, text.as_slice()), None, "{count}");
+        assert_eq!(rt; verdict(alloc, text.as_slice()), None, "{count}");
     }
     Ok(())
 }
 
 // Two names of one hash, and behind them this name.
-const ONE_HASH: &[u8] =
-    b"\"\\u7000\\u7000\\u7000\\u7000\\u7000\":1,\"\\u70a3\\u7314\\u7b22\\u648a\\u7ae5\"";
+const ONE_HASH: &[u8] = b"\"n~~~Q~~q1\":1,\"~E@y~-%~ \"";
 
 #[test]
 fn tells_names_of_one_hash_apart(rt: HostRuntime) -> Result<(), Fail> {
     let alloc = rt.alloc();
     for count in [1, 8, 17, 40] {
         let text = with_last(alloc, count, ONE_HASH)?;
-        assert_eq!(rt; fault(alloc, text.as_slice()), None, "{count}");
+        assert_eq!(rt; verdict(alloc, text.as_slice()), None, "{count}");
         for last in [b":2,\"10\"".as_slice(), b":2,\"\\u0031\\u0030\"".as_slice()] {
             let mut names = Vec::new(alloc);
             names.extend_from_slice(ONE_HASH)?;
             names.extend_from_slice(last)?;
             let text = with_last(alloc, count, names.as_slice())?;
             assert_eq!(rt;
-                fault(alloc, text.as_slice()),
+                verdict(alloc, text.as_slice()),
                 Some(TextFault::DuplicateName),
                 "{count}"
             );
@@ -270,12 +262,12 @@ fn refuses_each_prefix(rt: HostRuntime) -> Result<(), Fail> {
     let alloc = rt.alloc();
     for end in 0..SAMPLE.len() {
         assert_eq!(rt;
-            fault(alloc, &SAMPLE[..end]),
+            verdict(alloc, &SAMPLE[..end]),
             Some(TextFault::NotJson),
             "{end}"
         );
     }
-    assert_eq!(rt; fault(alloc, SAMPLE), None);
+    assert_eq!(rt; verdict(alloc, SAMPLE), None);
     Ok(())
 }
 

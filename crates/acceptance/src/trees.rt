@@ -1,5 +1,8 @@
-use crate::{Argument, Comparable, Expr, IntLit, Op, ParseFault, Selector, parse};
-use std::test::*;
+//! Query texts, the trees that they spell, and whether those are valid.
+
+use path_grammar::{Argument, Comparable, Expr, IntLit, Op, ParseFault, Selector, parse};
+use path_types::check;
+use std::test::Fail;
 
 // Each pair is a text of the grammar and a neighbour that is not.
 const NEIGHBOURS: [(&str, &str); 46] = [
@@ -149,4 +152,16 @@ fn levels(rt: HostRuntime) {
     open[1] = b'[';
     open[2] = b'?';
     assert!(rt; matches!(parse(rt.alloc(), &open), Err(ParseFault::NotWellFormed)));
+}
+
+#[test]
+fn filter_queries(rt: HostRuntime) -> Result<(), Fail> {
+    let valid = parse(
+        rt.alloc(),
+        b"$[?length(@.a) < 1e3 && count(@.*) == value($..b)]",
+    )?;
+    assert!(rt; check(valid).is_ok());
+    let refused = parse(rt.alloc(), b"$[?length(@.*) < 3]")?;
+    assert!(rt; check(refused).is_err());
+    Ok(())
 }

@@ -1,6 +1,6 @@
 use Rattle.std.proofs.Common.{length}
 use Rattle.json_tape.specs.Document.{following, IsIn}
-use Rattle.tape_select.proofs.tests.first_failure.Given as goal
+use Rattle.acceptance.proofs.comparisons.first_failure.Given as goal
 
 abbrev pub invariant-loop-row : goal.invariant-loop-row
 invariant-loop-row l = IsIn l.document l.row

@@ -1,9 +1,11 @@
+//! The places of texts, at and around the edges of blocks.
+
 ghost use Rattle.std.specs.Prelude.{◌≤◌, length};
 
-use crate::{Looks, index};
 use std::alloc::Global;
 use std::process::Abort;
 use std::test::Fail;
+use structural_index::{Looks, index};
 
 // The index of a text has these places and flags.
 fn expect(

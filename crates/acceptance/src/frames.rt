@@ -1,7 +1,10 @@
 //! Streams, requests and replies as bytes, written out by hand from the tables of the protocol.
-use super::*;
+
 use std::alloc::Global;
 use std::test::Fail;
+use wire_frames::{
+    AcceptFault, Command, Framer, Next, RequestFault, read_request, reply_head, write_reply,
+};
 
 /// The tenant `00112233..ff` puts `1` under c/d, number 1, and asks `$` of c, number 2.
 const TWO_FRAMES: &[u8] = b"\

@@ -4,13 +4,12 @@
 ghost use Rattle.std.specs.Prelude.{◌<◌};
 ghost use Rattle.json_tape.specs.Document.{count};
 
-use crate::evaluation::select;
-use crate::values::{equal_values, less_values};
 use json_tape::{Document, Kind, NodeId};
 use path_grammar::parse;
 use path_types::check;
 use std::alloc::Global;
 use std::test::Fail;
+use tape_select::{equal_values, less_values, select};
 
 // In each row two values, whether they are equal, and whether the first comes before the second.
 const ROWS: &str = r#"[
