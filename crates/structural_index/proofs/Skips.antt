@@ -12,13 +12,13 @@ or_cases true b h = inl refl
 or_cases false b h = inr h
 
 -- a blank is no op and no quote
-abbrev Plain : ℕ → Type 0
+abbrev pub Plain : ℕ → Type 0
 Plain c = (op_byte c ≡ false) × ((c == 34) ≡ false)
 
 plain_at : (c k : ℕ) → (c == k) ≡ true → Plain k → Plain c
 plain_at c k h p = let e = eqb-true c k h in (ap op_byte e ∙ p.0, ap (λ x. x == 34) e ∙ p.1)
 
-blank_plain : (c : ℕ) → blank_byte c ≡ true → Plain c
+pub blank_plain : (c : ℕ) → blank_byte c ≡ true → Plain c
 blank_plain c h = elim (or_cases (((c == 32) || (c == 9)) || (c == 10)) (c == 13) h) [
   | inl a ↦ elim (or_cases ((c == 32) || (c == 9)) (c == 10) a) [
     | inl b ↦ elim (or_cases (c == 32) (c == 9) b) [ inl x ↦ plain_at c 32 x (refl, refl) | inr x ↦ plain_at c 9 x (refl, refl) ]

@@ -1,7 +1,7 @@
 // The index of a JSON text: where its structure shows, found 64 bytes at a time.
 #![tactic(auto)]
 
-ghost use Rattle.std.specs.Prelude.{◌≡◌, ◌+◌, ◌*◌, ◌/◌, ◌≤◌, ◌^◌, ◌↔◌, [], length, IfOk, IsTrue};
+ghost use Rattle.std.specs.Prelude.{◌≡◌, ◌+◌, ◌*◌, ◌/◌, ◌≤◌, ◌^◌, ◌↔◌, length, vec_len, vec_capacity, IfOk, IsTrue};
 ghost use Rattle.structural_index.specs.Places.{places, IsUnclosed, HasControlInside};
 ghost use Rattle.structural_index.specs.Blocks.{IsIndexedTo, IsIndexedWhole};
 
@@ -20,47 +20,61 @@ use std::alloc::{AllocError, Global};
 use std::simd::prelude::*;
 use writer::{ROOM, write};
 
-// The places of the whole blocks of `text`, and what they say of the byte behind them.
-fn whole_blocks(found: &mut Vec<u32>, text: &[u8]) -> Result<Carry, AllocError>
-    requires text { length text.now + 64 ≤ 2 ^ 32 }
-    requires found { found.old.items ≡ [] }
-    ensures { IfOk result
-        (λ end. IsIndexedTo text.now (length text.now / 64 * 64) found.new.items end) }
+// The list with room for the places of one more block. It comes and goes by value, out of line:
+// where the loop over blocks lent it, its length would stay in memory, and each block would branch
+// on whether anything is cut off.
+#[cold]
+#[inline(never)]
+fn with_room(list: Vec<u32>) -> Result<Vec<u32>, AllocError>
+    ensures items { IfOk result (λ larger. larger.items ≡ list.items) }
+    ensures room { IfOk result (λ larger. vec_len larger + 70 ≤ vec_capacity larger) }
 {
+    let mut larger = list;
+    larger.reserve(ROOM)?;
+    Ok(larger)
+}
+
+// The places of the whole blocks of `text`, and what they say of the byte behind them.
+fn whole_blocks(alloc: Global, text: &[u8]) -> Result<(Vec<u32>, Carry), AllocError>
+    requires { length text.now + 64 ≤ 2 ^ 32 }
+    ensures { IfOk result
+        (λ r. IsIndexedTo text.now (length text.now / 64 * 64) r.0.items r.1) }
+{
+    let mut found = Vec::with_capacity(alloc, text.len() / 4 + 64)?;
     let mut carry = START;
-    // A block's places are written after the next block is looked at, so that neither waits for
-    // the other. Room is asked for those of both: a room that did not tell of the next block would
-    // let the compiler look at it after the writing.
+    // A block's places are written once the next block is loaded, which is faster than at once.
     let mut waiting = 0;
     let mut base = 0;
     'blocks: for k in 0..text.len() / 64 {
         let at = k * 64;
         let (places, next) = carry.through(u8x64::from_slice(&text[at..]));
-        found.reserve(ROOM + places.count_ones() as usize)?;
-        write(found, base, waiting);
+        if found.capacity() - found.len() < ROOM {
+            found = with_room(found)?;
+        }
+        write(&mut found, base, waiting);
         waiting = places;
         base = at as u32;
         carry = next;
     }
-    found.reserve(ROOM)?;
-    write(found, base, waiting);
-    Ok(carry)
+    found = with_room(found)?;
+    write(&mut found, base, waiting);
+    Ok((found, carry))
 }
 
-// The places of the bytes that are left, which spaces fill to a block.
-fn last_block(found: &mut Vec<u32>, text: &[u8], carry: Carry) -> Result<Carry, AllocError>
+// The places with those of the bytes that are left, which spaces fill to a block.
+fn last_block(list: Vec<u32>, text: &[u8], carry: Carry) -> Result<(Vec<u32>, Carry), AllocError>
     requires text { length text.now + 64 ≤ 2 ^ 32 }
-    requires before { IsIndexedTo text.now (length text.now / 64 * 64) found.old.items carry }
-    ensures { IfOk result (λ end. IsIndexedWhole text.now found.new.items end) }
+    requires before { IsIndexedTo text.now (length text.now / 64 * 64) list.items carry }
+    ensures { IfOk result (λ r. IsIndexedWhole text.now r.0.items r.1) }
 {
     let at = text.len() / 64 * 64;
     if at == text.len() {
-        return Ok(carry);
+        return Ok((list, carry));
     }
-    found.reserve(ROOM)?;
+    let mut found = with_room(list)?;
     let (places, end) = carry.through(tail(&text[at..]));
-    write(found, at as u32, places);
-    Ok(end)
+    write(&mut found, at as u32, places);
+    Ok((found, end))
 }
 
 /// The index of `text`, a JSON text or not. Errs only where memory is refused, which its list of
@@ -72,11 +86,10 @@ pub fn index(alloc: Global, text: &[u8]) -> Result<Index, AllocError>
     ensures control_inside { IfOk result
         (λ x. IsTrue x.control_inside ↔ HasControlInside text.now) }
 {
-    let mut found = Vec::with_capacity(alloc, text.len() / 4 + 64)?;
-    let carry = whole_blocks(&mut found, text)?;
-    let end = last_block(&mut found, text, carry)?;
+    let (found, carry) = whole_blocks(alloc, text)?;
+    let (places, end) = last_block(found, text, carry)?;
     Ok(Index {
-        places: found,
+        places,
         unclosed: end.inside,
         control_inside: end.controls != 0,
     })
