@@ -7,10 +7,13 @@ pub mod Walk
 pub mod Change
 pub mod Tokens
 pub mod Steps
+pub mod PlainLanes
+pub mod Wholes
 pub mod Calls
 pub mod ReaderLoop
 pub mod Numbers
 pub mod Fits
+pub mod Shown
 pub mod One
 pub mod Judging
 pub mod Strings
@@ -37,3 +40,5 @@ pub mod Utf8Order
 pub mod PlainNames
 pub mod Meanings
 pub mod PlainBytes
+pub mod ShortHashes
+pub mod Marks

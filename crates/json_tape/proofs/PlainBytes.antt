@@ -6,7 +6,7 @@ use Rattle.std.proofs.lemmas.List.{drop_more, drop_all}
 use Rattle.std.proofs.lemmas.Str.{chars-nil, chars-append, chars-IsAscii, IsUtf8-from_ascii, length-le-encodes, encodes-chars}
 use Rattle.std.proofs.lemmas.Bool.Decides.{nat_tests}
 use Rattle.json_tape.specs.Tree.{Spelt, Plain, Short}
-use Rattle.json_tape.specs.Spelling.{hex_value, spelt_from, scalars_in}
+use Rattle.json_tape.specs.Spelling.{hex_value, spelt_from, scalars_in, SpellPlainly}
 use Rattle.json_tape.specs.declared.scan.Mode.{Mode}
 use Rattle.json_tape.specs.declared.scan.Mode.TheVariants.{Between, Escape, Hex}
 use Rattle.json_tape.specs.Repeats.{next_hash, hash_from}
@@ -17,7 +17,7 @@ chars_first b bs h =
     let a = ascii_more b [] h ascii_nil in
     chars-append (b ∷ []) bs (IsUtf8-from_ascii (b ∷ []) a) ∙ rw (chars-IsAscii (b ∷ []) a) refl
 
-plain_first : (b : ℕ) (bs : List ℕ) → b < 128 → b ≢ 92 → scalars_in (chars (b ∷ bs)) ≡ b ∷ scalars_in (chars bs)
+pub plain_first : (b : ℕ) (bs : List ℕ) → b < 128 → b ≢ 92 → scalars_in (chars (b ∷ bs)) ≡ b ∷ scalars_in (chars bs)
 plain_first b bs h n =
     let t : eqb b 92 ≡ false = grind (arith, nat_tests) in
     rw (chars_first b bs h, t) refl
@@ -50,6 +50,17 @@ plain_end name inside i k l = rw (nothing inside i l, drop_all i name k) refl
 pub plain_longer : (name inside : List ℕ) (i : ℕ) → length name ≤ i → i < length inside → get_or inside i 0 < 128 → get_or inside i 0 ≢ 92
     → bytes_eq (drop i name) (scalars_in (chars (drop i inside))) ≡ false
 plain_longer name inside i k l h n = rw (plain_at inside i l h n, drop_all i name k) refl
+
+-- many of them
+pub plain_run : (name inside : List ℕ) (n : ℕ) → n ≤ length name → length name ≤ length inside → SpellPlainly inside name 0 n
+    → bytes_eq (drop n name) (scalars_in (chars (drop n inside))) ≡ bytes_eq name (scalars_in (chars inside))
+plain_run name inside zero k l h = refl
+plain_run name inside (suc n) k l h =
+    let s = h n (omega arith) (omega arith) in
+    let next : n + 1 ≡ suc n = omega arith in
+    subst (λ j. bytes_eq (drop j name) (scalars_in (chars (drop j inside))) ≡ bytes_eq (drop n name) (scalars_in (chars (drop n inside)))) next
+    (plain_same name inside n (omega arith) (omega arith) s.0 s.1 s.2)
+    ∙ plain_run name inside n (omega arith) l (λ j from to. h j from (omega arith))
 
 pub ruleset comparing = (plain_same, plain_other, plain_short, plain_end, plain_longer)
 

@@ -21,6 +21,8 @@ use Rattle.json_tape.specs.declared.tape.Entry.{Entry}
 use Rattle.json_tape.proofs.Entries as entries
 use Rattle.json_tape.proofs.Entries.{size_positive, child_count}
 use Rattle.json_tape.proofs.Fits.{Lies, Fits, text_fits}
+use Rattle.json_tape.proofs.Shown.{part_ends}
+use Rattle.json_tape.specs.declared.tape.Extent.{Extent}
 use Rattle.json_tape.proofs.Spots.{entry_at, node_of, tape_is, visit_is, spot_count, top, inner, top_first, at_place, end_of, NextIn, own, one_of, Good, walk, place_is, WayIn}
 
 get_map : {A B : Type 0} (f : A → B) (xs : List A) (n : ℕ) (a : A) (b : B) → n < length xs → get_or (map f xs) n b ≡ f (get_or xs n a)
@@ -348,6 +350,16 @@ module _ (d : Doc) (s : IsDocument d) where
   -- the bytes that the entry shows are the node's
   pub text_is : (n : ℕ) → n < count d → (e : Entry) → e ≡ get_or d.entries n e → (source bytes : List ℕ) → source ≡ d.text → bytes ≡ bytes_at source e.source → bytes ≡ (source_of (node_at d n).tree).bytes
   text_is n h e q source bytes f g = g ∙ ap (λ l. bytes_at l e.source) f ∙ ap (bytes_at d.text) (source_is n h e q) ∙ sym (entries.lies_in d.text (node_at d n).tree (fits_is n h))
+
+  pub text_ends : (n : ℕ) → n < count d → (e : Entry) → e ≡ get_or d.entries n e → (source : List ℕ) → source ≡ d.text → e.source.start + e.source.len ≤ length source
+  text_ends n h e q source f =
+      let t = (node_at d n).tree in
+      let x = source_is n h e q in
+      let start : e.source.start ≡ (source_of t).place = ap (λ (y : Extent). y.start) x in
+      let len : e.source.len ≡ length (source_of t).bytes = ap (λ (y : Extent). y.len) x in
+      let within = part_ends d.text (tree_of d) t s.accepted.0 (part_is n h) (entries.lies_in d.text t (fits_is n h)) in
+      let same = ap length f in
+      omega arith
 
   pub text_part : (n : ℕ) → n < count d → StandsIn d.text (source_of (node_at d n).tree).bytes
   text_part n h = stands_in d.text (source_of (node_at d n).tree) (entries.lies_in d.text (node_at d n).tree (fits_is n h))

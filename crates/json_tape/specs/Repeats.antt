@@ -1,5 +1,5 @@
 -- What the names of an object mean, and whether one of them comes again.
-use Rattle.std.specs.Prelude.{ℕ, ◌+◌, ◌*◌, ◌%◌, ◌^◌, Bool, false, ◌||◌, List, [], ◌∷◌, nat_eq}
+use Rattle.std.specs.Prelude.{ℕ, ◌+◌, ◌*◌, ◌%◌, ◌^◌, Bool, false, cond, ltb, ◌||◌, List, [], ◌∷◌, nat_eq}
 use Rattle.std.specs.List.{list_any}
 use Rattle.std.specs.Cmp.Lexicographic.{pointwise}
 use Rattle.json_tape.specs.Tree.{Source, Tree, Obj, Members, NoMember, Member}
@@ -42,16 +42,17 @@ hashes_repeat xs = repeats_by nat_eq xs
 abbrev pub hashes_repeat_next : List ℕ → Bool
 hashes_repeat_next xs = repeats_next_by nat_eq xs
 
--- A hash of scalar values. No fact of a text rests on which hash it is; only steps speak of it.
+-- A hash of scalar values: those of up to eight bytes, one behind the other, and with more of them mixed. No fact of a text
+-- rests on which hash it is; only steps speak of it.
 unfoldable pub next_hash : ℕ → ℕ → ℕ
-next_hash h c = ((h * 0x9E3779B97F4A7C15) % (2 ^ 64) + c) % (2 ^ 64)
+next_hash h c = ((h * cond (ltb h 0x100000000000000) 256 0x9E3779B97F4A7C15) % (2 ^ 64) + c) % (2 ^ 64)
 
 abbrev pub hash_from : ℕ → List ℕ → ℕ
 hash_from h [] = h
 hash_from h (c ∷ cs) = hash_from (next_hash h c) cs
 
 abbrev pub hash_of : List ℕ → ℕ
-hash_of cs = hash_from 1 cs
+hash_of cs = hash_from 0 cs
 
 -- the entry with the number n is that of an object with these members
 pub record IsObject (text : List ℕ) (tape : List Entry) (n : ℕ) (ms : Members) : Type 0 where

@@ -1,5 +1,5 @@
 -- The characters that the bytes of a string spell (RFC 8259, section 7), told from the bytes one after another.
-use Rattle.std.specs.Prelude.{◌≡◌, ◌≤◌, get_or, ℕ, None, Bool, nat_eq, zero, suc, ◌+◌, ◌-◌, ◌*◌, ◌%◌, cond, eqb, ltb, List, [], ◌∷◌, take, drop, length}
+use Rattle.std.specs.Prelude.{◌≡◌, ◌≢◌, ◌<◌, ◌≤◌, get_or, ℕ, None, Bool, nat_eq, zero, suc, ◌+◌, ◌-◌, ◌*◌, ◌%◌, cond, eqb, ltb, List, [], ◌∷◌, take, drop, length}
 use Rattle.std.specs.List.{list_any}
 use Rattle.std.specs.Str.{chars}
 use Rattle.std.specs.Char.{digit_value}
@@ -41,3 +41,7 @@ has_backslash bs = list_any (λ b. nat_eq b 92) bs
 -- two quotes or more stand there, one at the start and one at the end
 abbrev pub IsQuoted : List ℕ → Extent → Type 0
 IsQuoted text e = (2 ≤ e.len) × (e.start + e.len ≤ length text) × (get_or text e.start 0 ≡ 34) × (get_or text (e.start + e.len - 1) 0 ≡ 34)
+
+-- from the first place to before the second each byte is an ASCII character, no backslash, and the scalar value that stands there
+abbrev pub SpellPlainly : List ℕ → List ℕ → ℕ → ℕ → Type 0
+SpellPlainly bytes scalars from to = (k : ℕ) → from ≤ k → k < to → (get_or bytes k 0 < 128) × (get_or bytes k 0 ≢ 92) × (get_or scalars k 0 ≡ get_or bytes k 0)

@@ -160,6 +160,7 @@ impl Builder {
     }
 
     /// An opening bracket or brace.
+    #[inline(always)]
     pub fn open(&mut self, shape: Shape, place: u32) -> Result<(), BuildFault>
         requires { IsSmall (2 ^ 31) self.old }
         ensures { Took (step (Opening shape place) self.old) result self.new }

@@ -13,8 +13,8 @@ ghost use Rattle.json_tape.specs.Nodes.{Step, key, size, children, visit, is_nam
 ghost use Rattle.json_tape.specs.Tape.{Top, tape_of};
 ghost use Rattle.json_tape.specs.Document.{tree_of, count, node_at, later, seen, following, single, root_of, counting, IsIn, IsDocument, IsMember, HasName, LeadIs, ParentIs, StandsIn, kind_of, length_of, string_meaning};
 
-use crate::judge::{bytes_at, judge_tape};
-use crate::plain::is_meant_by;
+use crate::judge::{judge_tape, part_at};
+use crate::plain::{is_meant_by, is_meant_plainly};
 use crate::reader::read;
 use crate::scalars::{Scalars, unquoted};
 use crate::tape::{BuildFault, Entry, Kind, Lead, NodeId, Role, TextFault};
@@ -131,7 +131,7 @@ impl Document {
         ensures number { kind_of (node_at self.now n.0).tree ≡ Kind.Number → IsNumber result.now × IsWithinLimits result.now }
     {
         let extent = self.entry(n).source;
-        bytes_at(self.source(), extent)
+        part_at(self.source(), extent)
     }
 
     /// The number of scalar values of a string, elements of an array or members of an object; `None` for other values.
@@ -250,7 +250,8 @@ impl Document {
         }
     }
 
-    // The first of an object's members whose name means these scalar values.
+    // The first of an object's members whose name means these scalar values. Names are compared byte by byte; where those of
+    // one do not tell, all are looked at anew.
     fn first_named(&self, n: NodeId, name: &[char]) -> Option<NodeId>
         requires inside { n.0 < count self.now }
         requires object { kind_of (node_at self.now n.0).tree ≡ Kind.Object }
@@ -262,10 +263,32 @@ impl Document {
         let mut k = n.0 + 1;
         while k < end {
             let entry = self.entry(NodeId(k));
-            if is_meant_by(&self.text, entry.label, name) {
-                return Some(NodeId(k));
+            match is_meant_plainly(&self.text, entry.label, name) {
+                Some(true) => return Some(NodeId(k)),
+                Some(false) => k = entry.after,
+                None => return self.first_meant(n, name),
             }
-            k = entry.after;
+        }
+        None
+    }
+
+    // The same by what the names mean.
+    #[inline(never)]
+    fn first_meant(&self, n: NodeId, name: &[char]) -> Option<NodeId>
+        requires inside { n.0 < count self.now }
+        requires object { kind_of (node_at self.now n.0).tree ≡ Kind.Object }
+        ensures node { single self.now result ≡ first_where (is_named name.now) (children (node_at self.now n.0)) }
+        ensures inside { IsIn self.now result }
+    {
+        let object = self.entry(n);
+        let end = object.after;
+        let mut next = n.0 + 1;
+        while next < end {
+            let entry = self.entry(NodeId(next));
+            if is_meant_by(&self.text, entry.label, name) {
+                return Some(NodeId(next));
+            }
+            next = entry.after;
         }
         None
     }

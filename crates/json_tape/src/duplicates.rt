@@ -83,7 +83,7 @@ fn collect_hashes(
     let mut next = n + 1;
     while next < end {
         let entry = tape[next];
-        hashes.push(hash(unquoted(text, entry.label)))?;
+        hashes.push(hash(text, entry.label))?;
         next = entry.after as usize;
     }
     Ok(())

@@ -4,7 +4,7 @@
 //! keeps their bytes, and has one entry of 32 bytes for each value. The readers of `Document` tell each value's kind, bytes,
 //! length, children and name, each in constant time but for those that go over the characters of a string.
 //!
-//! A text is walked once, byte by byte, and its entries are then judged. Open containers stand in a list, so that depth
+//! A text is walked once, token by token, and its entries are then judged. Open containers stand in a list, so that depth
 //! costs no stack. Nothing is parsed into numbers or strings: those are cut from the text where they are asked for. The
 //! names of an object are told apart by hashes of what they mean, and compared by what they mean where a hash comes again.
 #![tactic(auto)]

@@ -1,12 +1,13 @@
 //! Comparing the characters of a string with scalar values.
 
-ghost use Rattle.std.specs.Prelude.{◌≡◌, ◌≤◌, IsTrue, false, length, bytes_eq};
+ghost use Rattle.std.specs.Prelude.{◌≡◌, ◌+◌, ◌≤◌, IsTrue, IfSome, false, length, drop, bytes_eq};
 ghost use Rattle.std.specs.Str.{chars};
 ghost use Rattle.json_tape.specs.Limits.{bytes_at};
-ghost use Rattle.json_tape.specs.Spelling.{scalars_in, unquoted as inside, IsQuoted};
+ghost use Rattle.json_tape.specs.Spelling.{scalars_in, unquoted as inside, IsQuoted, SpellPlainly};
 
 use crate::scalars::{Scalars, unquoted};
 use crate::tape::Extent;
+use std::simd::prelude::*;
 
 // Whether the scalar values that are left are these.
 #[inline(never)]
@@ -40,40 +41,113 @@ fn may_spell(inside: &str, name: &[char]) -> bool
     u32::from(name[0]) == u32::from(byte) || byte >= 128 || byte == b'\\'
 }
 
-// The characters are compared byte by byte as far as each byte is ASCII and no backslash; only behind such a run are they
-// decoded, from the start.
+// So many characters are compared at once.
+const FOUR: usize = 4;
+
+// Whether the four bytes at this place stand for themselves and are these four scalar values.
 #[inline(always)]
-#[tactic(auto, using(crate::proofs::PlainBytes::comparing))]
-fn spells(inside: &str, name: &[char]) -> bool
-    requires { length name.now ≤ length inside.now }
-    ensures { result ≡ bytes_eq name.now (scalars_in (chars inside.now)) }
+fn are_same(bytes: &[u8], name: &[char], at: usize) -> bool
+    requires bytes { at + FOUR ≤ length bytes.now }
+    requires name { at + FOUR ≤ length name.now }
+    ensures { IsTrue result → SpellPlainly bytes.now name.now at (at + FOUR) }
 {
-    let bytes = inside.as_bytes();
-    for i in 0..name.len() {
-        let byte = bytes[i];
-        if byte >= 128 || byte == b'\\' {
-            return is_meant(Scalars::new(inside), name);
-        }
-        if u32::from(name[i]) != u32::from(byte) {
+    let lanes = u8x4::from_slice(&bytes[at..]).cast::<u32>();
+    let letters = u32x4::from_array([
+        u32::from(name[at]),
+        u32::from(name[at + 1]),
+        u32::from(name[at + 2]),
+        u32::from(name[at + 3]),
+    ]);
+    let stops = lanes.simd_ne(letters)
+        | lanes.simd_eq(u32x4::splat(92))
+        | lanes.simd_ge(u32x4::splat(128));
+    stops.to_bitmask() == 0
+}
+
+// Whether all scalar values stand there as plain bytes, four at a time, the last four of them over some that were seen.
+#[inline(always)]
+fn begins_plainly(bytes: &[u8], name: &[char]) -> bool
+    requires { length name.now ≤ length bytes.now }
+    ensures { IsTrue result → SpellPlainly bytes.now name.now 0 (length name.now) }
+{
+    if name.len() < FOUR {
+        return false;
+    }
+    let last = name.len() - FOUR;
+    let mut k = 0;
+    while k < last {
+        if !are_same(bytes, name, k) {
             return false;
         }
+        k += FOUR;
     }
+    are_same(bytes, name, last)
+}
+
+// Whether the characters end behind these scalar values, with which they begin. `None` where a byte does not tell.
+#[inline(always)]
+#[tactic(auto, using(crate::proofs::PlainBytes::comparing))]
+fn ends_plainly(inside: &str, name: &[char]) -> Option<bool>
+    requires long { length name.now ≤ length inside.now }
+    requires begins { bytes_eq (drop (length name.now) name.now) (scalars_in (chars (drop (length name.now) inside.now))) ≡ bytes_eq name.now (scalars_in (chars inside.now)) }
+    ensures { IfSome result (λ same. same ≡ bytes_eq name.now (scalars_in (chars inside.now))) }
+{
+    let bytes = inside.as_bytes();
     if bytes.len() == name.len() {
-        return true;
+        return Some(true);
     }
     let byte = bytes[name.len()];
     if byte >= 128 || byte == b'\\' {
-        return is_meant(Scalars::new(inside), name);
+        None
+    } else {
+        Some(false)
     }
-    false
+}
+
+// The characters are compared as far as each byte is ASCII and no backslash. `None` where one is not.
+#[inline(always)]
+#[tactic(auto, using(crate::proofs::PlainBytes::plain_run, crate::proofs::PlainBytes::comparing))]
+fn spells_plainly(inside: &str, name: &[char]) -> Option<bool>
+    requires { length name.now ≤ length inside.now }
+    ensures { IfSome result (λ same. same ≡ bytes_eq name.now (scalars_in (chars inside.now))) }
+{
+    let bytes = inside.as_bytes();
+    if begins_plainly(bytes, name) {
+        return ends_plainly(inside, name);
+    }
+    for i in 0..name.len() {
+        let byte = bytes[i];
+        if byte >= 128 || byte == b'\\' {
+            return None;
+        }
+        if u32::from(name[i]) != u32::from(byte) {
+            return Some(false);
+        }
+    }
+    ends_plainly(inside, name)
+}
+
+/// Whether a string that stands there means these scalar values, where its bytes tell; `None` where they do not.
+#[inline(always)]
+pub fn is_meant_plainly(text: &str, string: Extent, name: &[char]) -> Option<bool>
+    requires { IsQuoted text.now string }
+    ensures { IfSome result (λ same. same ≡ bytes_eq name.now (scalars_in (chars (inside (bytes_at text.now string))))) }
+{
+    let characters = unquoted(text, string);
+    if may_spell(characters, name) {
+        spells_plainly(characters, name)
+    } else {
+        Some(false)
+    }
 }
 
 /// Whether a string that stands there means these scalar values.
-#[inline(always)]
 pub fn is_meant_by(text: &str, string: Extent, name: &[char]) -> bool
     requires { IsQuoted text.now string }
     ensures { result ≡ bytes_eq name.now (scalars_in (chars (inside (bytes_at text.now string)))) }
 {
-    let characters = unquoted(text, string);
-    may_spell(characters, name) && spells(characters, name)
+    match is_meant_plainly(text, string, name) {
+        Some(same) => same,
+        None => is_meant(Scalars::new(unquoted(text, string)), name),
+    }
 }

@@ -1,11 +1,10 @@
-//! Reads a text byte by byte: finds each token and hands it to the builder.
+//! Reads a text token by token: finds each and hands it to the builder.
 
-ghost use Rattle.std.specs.Prelude.{◌≡◌, ◌≢◌, ℕ, ◌+◌, ◌^◌, ◌<◌, ◌≤◌, length, drop, slice_index, IfOk, IsUtf8, IsErrOf, true, false};
-ghost use Rattle.json_tape.specs.Machine.{IsSmall, step, Took};
-ghost use Rattle.json_tape.specs.Lexing.{class, Blank, Quote, is_blank as blank, is_atom as atom, atom_end as end_of_atoms, WordIs, sign_at, TookSign, Stepped};
-ghost use Rattle.std.specs.Prelude.{List};
-ghost use Rattle.json_tape.specs.Tree.{Tree};
-ghost use Rattle.json_tape.specs.Grammar.{IsText};
+ghost use Rattle.std.specs.Prelude.{◌≡◌, ◌+◌, ◌^◌, ◌<◌, ◌≤◌, length, drop, slice_index, IfOk, IsUtf8, IsErrOf, IsTrue, true, false};
+ghost use Rattle.json_tape.specs.Machine.{IsSmall};
+ghost use Rattle.json_tape.specs.Lexing.{is_blank as blank, is_atom as atom, atom_end as end_of_atoms, WordIs, Stepped, ended, Marked, DigitsStand};
+ghost use Rattle.json_tape.specs.Limits.{AreShort};
+ghost use Rattle.decimal_order.specs.Number.{IsNumber};
 ghost use Rattle.json_tape.specs.Answer.{IsJson, StandsForAll, HasDepth, IsNoJson};
 
 use crate::builder::Builder;
@@ -47,6 +46,39 @@ fn atom_end(text: &[u8], start: usize) -> usize
     k
 }
 
+// The place past the digits that stand here.
+#[inline(always)]
+#[tactic(auto, using(crate::proofs::Wholes::digit_step))]
+fn digits_end(text: &[u8], start: usize) -> usize
+    requires { start ≤ length text.now }
+    ensures lower_bound { start ≤ result }
+    ensures upper_bound { result ≤ length text.now }
+    ensures digits { DigitsStand text.now start result }
+    ensures atoms { end_of_atoms result (drop result text.now) ≡ end_of_atoms start (drop start text.now) }
+{
+    let mut k = start;
+    while k < text.len() {
+        if !text[k].is_ascii_digit() {
+            return k;
+        }
+        k += 1;
+    }
+    k
+}
+
+// Whether these bytes, of which so many at the beginning are digits, are a whole number without a sign.
+#[inline(always)]
+#[tactic(auto, using(crate::proofs::Wholes::whole_number))]
+fn is_whole(bytes: &[u8], digits: usize) -> bool
+    requires { DigitsStand bytes.now 0 digits }
+    ensures { IsTrue result → IsNumber bytes.now }
+{
+    if digits == 0 || digits != bytes.len() {
+        return false;
+    }
+    bytes[0] != b'0'
+}
+
 fn word_kind(bytes: &[u8]) -> Option<Kind>
     ensures { WordIs bytes.now result }
 {
@@ -65,43 +97,26 @@ fn word_kind(bytes: &[u8]) -> Option<Kind>
     None
 }
 
-// The call for a token of one byte, if the byte is one.
-fn put_sign(builder: &mut Builder, b: u8, place: u32) -> Result<(), BuildFault>
-    requires small { IsSmall (2 ^ 31) builder.old }
-    requires near { place < 2 ^ 31 }
-    ensures { TookSign (sign_at place b) builder.old result builder.new }
+// The kind of a word or a number, of whose bytes so many at the beginning are digits.
+#[inline(always)]
+fn kind_of(bytes: &[u8], digits: usize) -> Option<Kind>
+    requires { DigitsStand bytes.now 0 digits }
+    ensures { WordIs bytes.now result }
 {
-    if b == b'[' {
-        return builder.open(Shape::Array, place);
+    if is_whole(bytes, digits) {
+        Some(Kind::Number)
+    } else {
+        word_kind(bytes)
     }
-    if b == b']' {
-        return builder.close(Shape::Array, place);
-    }
-    if b == b'{' {
-        return builder.open(Shape::Object, place);
-    }
-    if b == b'}' {
-        return builder.close(Shape::Object, place);
-    }
-    if b == b',' {
-        return builder.comma();
-    }
-    if b == b':' {
-        return builder.colon();
-    }
-    Err(BuildFault::NotJson)
 }
 
-// A token of one byte.
-fn sign(text: &[u8], i: usize, builder: &mut Builder) -> Result<usize, BuildFault>
-    requires in_text { i < length text.now }
-    requires near { length text.now < 2 ^ 31 }
-    requires small { IsSmall (2 ^ 31) builder.old }
-    requires no_atom { atom (slice_index text.now i) ≡ false }
-    requires no_quote { slice_index text.now i ≢ 34 }
-    ensures { Stepped text.now i builder.old result builder.new }
+// Where the token of one byte at i ends, if the builder took it.
+#[inline(always)]
+fn past_sign(taken: Result<(), BuildFault>, i: usize) -> Result<usize, BuildFault>
+    requires { i < 2 ^ 31 }
+    ensures { result ≡ ended (i + 1) taken }
 {
-    match put_sign(builder, text[i], i as u32) {
+    match taken {
         Ok(()) => Ok(i + 1),
         Err(fault) => Err(fault),
     }
@@ -131,16 +146,29 @@ fn string(text: &[u8], i: usize, builder: &mut Builder) -> Result<usize, BuildFa
     }
 }
 
+// A number of no more bytes is within the limits.
+const SHORT: usize = 10;
+
 // A word or a number.
-fn word(text: &[u8], i: usize, builder: &mut Builder) -> Result<usize, BuildFault>
+fn word(
+    text: &[u8],
+    i: usize,
+    builder: &mut Builder,
+    has_long: &mut bool,
+) -> Result<usize, BuildFault>
     requires in_text { i < length text.now }
     requires near { length text.now < 2 ^ 31 }
     requires small { IsSmall (2 ^ 31) builder.old }
     requires is_atom { atom (slice_index text.now i) ≡ true }
-    ensures { Stepped text.now i builder.old result builder.new }
+    ensures stepped { Stepped text.now i builder.old result builder.new }
+    ensures marked { Marked text.now i has_long.old result has_long.new }
 {
-    let end = atom_end(text, i);
-    match word_kind(&text[i..end]) {
+    let digits = digits_end(text, i);
+    let end = atom_end(text, digits);
+    if end - i > SHORT {
+        *has_long = true;
+    }
+    match kind_of(&text[i..end], digits - i) {
         None => Err(BuildFault::NotJson),
         Some(kind) => {
             let source = Extent {
@@ -155,29 +183,39 @@ fn word(text: &[u8], i: usize, builder: &mut Builder) -> Result<usize, BuildFaul
     }
 }
 
-// The token at i, which is no blank.
-fn token(text: &[u8], i: usize, builder: &mut Builder) -> Result<usize, BuildFault>
+// The token at i, which is no blank. Marks where a word is long.
+fn token(
+    text: &[u8],
+    i: usize,
+    builder: &mut Builder,
+    has_long: &mut bool,
+) -> Result<usize, BuildFault>
     requires in_text { i < length text.now }
     requires near { length text.now < 2 ^ 31 }
     requires small { IsSmall (2 ^ 31) builder.old }
     requires utf8 { IsUtf8 text.now }
-    ensures { Stepped text.now i builder.old result builder.new }
+    requires no_blank { blank (slice_index text.now i) ≡ false }
+    ensures stepped { Stepped text.now i builder.old result builder.new }
+    ensures marked { Marked text.now i has_long.old result has_long.new }
 {
-    let b = text[i];
-    if b == b'"' {
-        string(text, i, builder)
-    } else if is_atom(b) {
-        word(text, i, builder)
-    } else {
-        sign(text, i, builder)
+    match text[i] {
+        b'"' => string(text, i, builder),
+        b'[' => past_sign(builder.open(Shape::Array, i as u32), i),
+        b']' => past_sign(builder.close(Shape::Array, i as u32), i),
+        b'{' => past_sign(builder.open(Shape::Object, i as u32), i),
+        b'}' => past_sign(builder.close(Shape::Object, i as u32), i),
+        b',' => past_sign(builder.comma(), i),
+        b':' => past_sign(builder.colon(), i),
+        _ => word(text, i, builder, has_long),
     }
 }
 
-/// The tape of a text, and how many containers of it lie in one another at most.
+/// The tape of a text, how many containers of it lie in one another at most, and whether a number of it may be long.
 #[derive(Drop)]
 pub struct Tape {
     pub entries: Vec<Entry>,
     pub depth: usize,
+    pub has_long: bool,
 }
 
 // Room is made for one value in so many bytes; most texts have fewer values.
@@ -193,16 +231,18 @@ pub fn read(alloc: Global, text: &[u8]) -> Result<Tape, BuildFault>
     ensures stands { IfOk result (λ tape. StandsForAll text.now tape.entries.items) }
     ensures short { IfOk result (λ tape. length tape.entries.items < 2 ^ 31) }
     ensures depth { IfOk result (λ tape. HasDepth text.now tape.depth) }
+    ensures numbers { IfOk result (λ tape. tape.has_long ≡ false → AreShort tape.entries.items) }
     // Unless memory runs out, a text is refused only where it spells no tree.
     ensures refused { IsErrOf result BuildFault.NotJson → IsNoJson text.now }
 {
     let mut builder = Builder::new(alloc, text.len() / BYTES_PER_ENTRY + 1)?;
+    let mut has_long = false;
     let mut i = 0;
     while i < text.len() {
         if is_blank(text[i]) {
             i += 1;
         } else {
-            match token(text, i, &mut builder) {
+            match token(text, i, &mut builder, &mut has_long) {
                 Ok(end) => i = end,
                 Err(fault) => return Err(fault),
             }
@@ -213,6 +253,7 @@ pub fn read(alloc: Global, text: &[u8]) -> Result<Tape, BuildFault>
         Ok(Tape {
             entries: builder.into_entries(),
             depth,
+            has_long,
         })
     } else {
         Err(BuildFault::NotJson)

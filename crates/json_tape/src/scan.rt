@@ -1,8 +1,10 @@
-// Strings, byte by byte.
+// Strings: runs of bytes that stand for themselves, and what is between them byte by byte.
 
 ghost use Rattle.std.specs.Prelude.{IsTrue, ◌≡◌, ◌+◌, ◌<◌, ◌≤◌, length, drop, IfSome};
-ghost use Rattle.json_tape.specs.Scanning.{turn as turn_of, is_short as short, is_hex as hex, string_end};
+ghost use Rattle.json_tape.specs.Scanning.{turn as turn_of, is_short as short, is_hex as hex, string_end, first_set as first_stop, ArePlain};
 ghost use Rattle.json_tape.specs.Surrogates.{number_of_hex, past_char, past_unit, past_byte, lone};
+
+use std::simd::prelude::*;
 
 /// Where a scan of a string stands: between characters, behind a backslash, or before a hexadecimal digit after which this many must come.
 #[derive(Clone, Copy, Debug, PartialEq, Eq)]
@@ -91,9 +93,39 @@ fn is_plain(b: u8) -> bool
     b > b'\\' || (b != b'"' && b != b'\\' && b >= 32)
 }
 
+// How many bytes are looked at in one load.
+const LANES: usize = 16;
+
+// How many bytes of a load, from its first, stand for themselves.
+#[inline(always)]
+fn plain_run(text: &[u8], at: usize) -> usize
+    requires { at + LANES ≤ length text.now }
+    ensures few { result ≤ LANES }
+    ensures plain { ArePlain text.now at (at + result) }
+{
+    let lanes = u8x16::from_slice(&text[at..]);
+    let stops = lanes.simd_eq(u8x16::splat(b'"'))
+        | lanes.simd_eq(u8x16::splat(b'\\'))
+        | lanes.simd_lt(u8x16::splat(32));
+    first_set(stops.to_bitmask(), LANES)
+}
+
+/// The place of the lowest bit that is set, or how many lanes there are.
+#[inline(always)]
+pub fn first_set(mask: u64, lanes: usize) -> usize
+    ensures { result ≡ first_stop mask lanes }
+{
+    if mask == 0 {
+        lanes
+    } else {
+        mask.trailing_zeros() as usize
+    }
+}
+
 // The place of the first byte from here on that does not stand for itself, or the end of the text.
+#[inline(always)]
 #[tactic(auto, using(crate::proofs::Steps::plain_step))]
-fn plain_end(text: &[u8], start: usize) -> usize
+fn plain_end_slowly(text: &[u8], start: usize) -> usize
     requires { start ≤ length text.now }
     ensures lower_bound { start ≤ result }
     ensures upper_bound { result ≤ length text.now }
@@ -109,15 +141,50 @@ fn plain_end(text: &[u8], start: usize) -> usize
     k
 }
 
+// The same, many bytes at a time while there are as many.
+#[inline(always)]
+#[tactic(auto, using(crate::proofs::PlainLanes::plain_steps))]
+fn plain_end(text: &[u8], start: usize) -> usize
+    requires { start ≤ length text.now }
+    ensures lower_bound { start ≤ result }
+    ensures upper_bound { result ≤ length text.now }
+    ensures passed { string_end Mode.Between result (drop result text.now) ≡ string_end Mode.Between start (drop start text.now) }
+{
+    let mut k = start;
+    while text.len() - k >= LANES {
+        let run = plain_run(text, k);
+        k += run;
+        if run < LANES {
+            return k;
+        }
+    }
+    plain_end_slowly(text, k)
+}
+
 /// The place past the quote that closes a string whose characters begin here.
-#[tactic(auto, using(crate::proofs::Steps::quote_step, crate::proofs::Steps::quote_over))]
+#[tactic(auto, using(crate::proofs::Steps::quote_step))]
 pub fn quote_end(text: &[u8], start: usize) -> Option<usize>
     requires { start ≤ length text.now }
     ensures value { result ≡ string_end Mode.Between start (drop start text.now) }
     ensures bound { IfSome result (λ end. (start < end) × (end ≤ length text.now)) }
 {
+    let k = plain_end(text, start);
+    if k < text.len() && text[k] == b'"' {
+        return Some(k + 1);
+    }
+    quote_end_past(text, k)
+}
+
+// The same, one part of a character after the other.
+#[inline(never)]
+#[tactic(auto, using(crate::proofs::Steps::quote_step, crate::proofs::Steps::quote_over))]
+fn quote_end_past(text: &[u8], start: usize) -> Option<usize>
+    requires { start ≤ length text.now }
+    ensures value { result ≡ string_end Mode.Between start (drop start text.now) }
+    ensures bound { IfSome result (λ end. (start < end) × (end ≤ length text.now)) }
+{
     let mut mode = Mode::Between;
-    let mut k = plain_end(text, start);
+    let mut k = start;
     while k < text.len() {
         match next_turn(mode, text[k]) {
             Turn::Stop => return Some(k + 1),

@@ -1,6 +1,4 @@
 use Rattle.std.proofs.Common.{◌∙◌, refl, sym, ap, subst, arith}
-use Rattle.std.specs.Str.{chars}
-use Rattle.json_tape.specs.Spelling.{scalars_in}
 use Rattle.json_tape.specs.Repeats.{hash_of}
 use Rattle.json_tape.proofs.Spelled.{quoted_at, scalars_at}
 use Rattle.json_tape.proofs.MembersLeft.{IsMet, next_left, met_none, met_more, met_all, given_is}
@@ -16,8 +14,8 @@ bounds-tape-next c =
     let b = c.loop-next.invariant o.0 o.1 in
     (next_left c.args.text.now c.args.tape.now c.args.n c.loop-next.next _ b.0 b.1 c.loop-next-test.true).inside
 
-pub unquoted-requires : goal.unquoted-requires
-unquoted-requires c =
+pub hash-requires : goal.hash-requires
+hash-requires c =
     let o = c.requires.object in
     let b = c.loop-next.invariant o.0 o.1 in
     let x = next_left c.args.text.now c.args.tape.now c.args.n c.loop-next.next _ b.0 b.1 c.loop-next-test.true in
@@ -34,7 +32,7 @@ pub loop-next-preserved : goal.loop-next-preserved
 loop-next-preserved c =
     subst (IsMet hash_of c.args.text.now c.args.tape.now c.args.n _ _) (sym c.in_ok-push.ensures.items)
     (met_more hash_of c.args.text.now c.args.tape.now c.args.n c.loop-next.next _ c.loop-next.hashes.items c.hash.result c.loop-next-test.true
-    (λ ms o left x. c.hash.ensures ∙ ap (λ l. hash_of (scalars_in (chars l))) c.unquoted.ensures ∙ ap hash_of (scalars_at c.args.text.now c.args.text.now _ x.name.source x.name.characters refl x.label x.lies x.string))
+    (λ ms o left x. c.hash.ensures ∙ ap hash_of (scalars_at c.args.text.now c.args.text.now _ x.name.source x.name.characters refl x.label x.lies x.string))
     c.loop-next.invariant)
 
 pub returns : goal.returns

@@ -18,19 +18,19 @@ loop-k-init c = all_rest c.args.self.now c.entry-object.ensures.document c.args.
 pub entry-entry-requires : goal.entry-entry-requires
 entry-entry-requires c = (next_seen c.args.self.now c.entry-object.ensures.document c.args.name.now c.args.n.0 c.loop-k.k c.entry-object.result.after c.loop-k.invariant c.loop-k-test.true).inside
 
-pub is_meant_by-requires : goal.is_meant_by-requires
-is_meant_by-requires c =
+pub is_meant_plainly-requires : goal.is_meant_plainly-requires
+is_meant_plainly-requires c =
     let x = next_seen c.args.self.now c.entry-object.ensures.document c.args.name.now c.args.n.0 c.loop-k.k c.entry-object.result.after c.loop-k.invariant c.loop-k-test.true in
     quoted_at c.args.self.now.text c.deref.result.now c.entry-entry.result.label x.member.source x.member.characters (c.deref.ensures ∙ ap (λ (x : Doc). x.text) c.self.view_is) (x.label c.entry-entry.result c.entry-entry.ensures.value) x.lies x.string
 
-pub returns-then-is_meant_by-clause-node : goal.returns-then-is_meant_by-clause-node
-returns-then-is_meant_by-clause-node c =
+pub returns-in-Some-true-clause-node : goal.returns-in-Some-true-clause-node
+returns-in-Some-true-clause-node c =
     let x = next_seen c.args.self.now c.entry-object.ensures.document c.args.name.now c.args.n.0 c.loop-k.k c.entry-object.result.after c.loop-k.invariant c.loop-k-test.true in
     let v = scalars_at c.args.self.now.text c.deref.result.now c.entry-entry.result.label x.member.source x.member.characters (c.deref.ensures ∙ ap (λ (x : Doc). x.text) c.self.view_is) (x.label c.entry-entry.result c.entry-entry.ensures.value) x.lies x.string in
-    x.found (sym (c.is_meant_by.ensures ∙ ap (bytes_eq c.args.name.now) v) ∙ c.if-is_meant_by.true)
+    x.found (sym (c.in-Some-true.ensures ∙ ap (bytes_eq c.args.name.now) v) ∙ c.in-Some-true.field-0-test)
 
-pub returns-then-is_meant_by-clause-inside : goal.returns-then-is_meant_by-clause-inside
-returns-then-is_meant_by-clause-inside c = (next_seen c.args.self.now c.entry-object.ensures.document c.args.name.now c.args.n.0 c.loop-k.k c.entry-object.result.after c.loop-k.invariant c.loop-k-test.true).inside
+pub returns-in-Some-true-clause-inside : goal.returns-in-Some-true-clause-inside
+returns-in-Some-true-clause-inside c = (next_seen c.args.self.now c.entry-object.ensures.document c.args.name.now c.args.n.0 c.loop-k.k c.entry-object.result.after c.loop-k.invariant c.loop-k-test.true).inside
 
 pub loop-k-smaller : goal.loop-k-smaller
 loop-k-smaller c =
@@ -43,7 +43,7 @@ pub loop-k-preserved : goal.loop-k-preserved
 loop-k-preserved c =
     let x = next_seen c.args.self.now c.entry-object.ensures.document c.args.name.now c.args.n.0 c.loop-k.k c.entry-object.result.after c.loop-k.invariant c.loop-k-test.true in
     let v = scalars_at c.args.self.now.text c.deref.result.now c.entry-entry.result.label x.member.source x.member.characters (c.deref.ensures ∙ ap (λ (x : Doc). x.text) c.self.view_is) (x.label c.entry-entry.result c.entry-entry.ensures.value) x.lies x.string in
-    x.passed (sym (c.is_meant_by.ensures ∙ ap (bytes_eq c.args.name.now) v) ∙ c.if-is_meant_by.false) c.entry-entry.result c.entry-entry.ensures.value
+    x.passed (sym (c.in-Some-false.ensures ∙ ap (bytes_eq c.args.name.now) v) ∙ c.in-Some-false.field-0-test) c.entry-entry.result c.entry-entry.ensures.value
 
 pub returns-clause-node : goal.returns-clause-node
 returns-clause-node c = none_left c.args.self.now c.args.name.now c.args.n.0 c.loop-k.k c.entry-object.result.after c.loop-k.invariant c.loop-k-test.false

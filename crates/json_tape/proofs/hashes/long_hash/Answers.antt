@@ -1,6 +1,6 @@
 use Rattle.std.proofs.Common.{◌≤◌, length, ◌∙◌, sym, ap, arith}
 use Rattle.json_tape.proofs.PlainBytes.{hash_over, hash_end}
-use Rattle.json_tape.proofs.hashes.hash.Goals as goal
+use Rattle.json_tape.proofs.hashes.long_hash.Goals as goal
 
 pub loop-i-preserved : goal.loop-i-preserved
 loop-i-preserved c =
