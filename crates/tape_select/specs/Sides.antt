@@ -2,10 +2,11 @@
 use Rattle.std.specs.Prelude.{◌≡◌, ℕ, ◌<◌, List, Option, Some, None, IsTrue, Result, MatchResult}
 use Rattle.path_grammar.specs.View.{literal_view}
 use Rattle.path_types.specs.Validity.{is_literal}
-use Rattle.json_tape.specs.Document.{Doc, node_at, count}
+use Rattle.json_tape.specs.Document.{Doc, node_at, count, single}
+use Rattle.json_tape.specs.declared.tape.NodeId.{NodeId}
 use Rattle.tape_select.specs.Comparison.{Value, a_number, value_of, literal_value}
 use Rattle.tape_select.specs.Contents.{IsNumberText}
-use Rattle.tape_select.specs.Functions.{whole_number}
+use Rattle.tape_select.specs.Functions.{whole_number, only_value}
 use Rattle.tape_select.specs.Nodelists.{Stops}
 use Rattle.tape_select.specs.declared.fault.SelectFault.{SelectFault}
 use Rattle.tape_select.specs.declared.sides.Side.{Side}
@@ -38,6 +39,11 @@ written d (sides.Whole n) = None
 -- the side is a number of this text
 pub record IsNumberSide (d : Doc) (s : Side) (text : List ℕ) : Type 0 where
   pub value : side_value d s ≡ Some (a_number text)
+  pub number : IsNumberText text
+
+-- what was found is a number of this text
+pub record IsNumberFound (d : Doc) (found : Option NodeId) (text : List ℕ) : Type 0 where
+  pub value : only_value (single d found) ≡ Some (a_number text)
   pub number : IsNumberText text
 
 -- the run gives this side

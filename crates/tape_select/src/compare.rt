@@ -1,12 +1,13 @@
 //! Comparisons of a filter (RFC 9535, section 2.3.5.2.2).
 
-ghost use Rattle.std.specs.Prelude.{◌≡◌, Some, None, IsTrue, MatchOption};
+ghost use Rattle.std.specs.Prelude.{◌≡◌, Some, None, IsTrue, MatchOption, IfSome};
 ghost use Rattle.path_grammar.specs.View.{literal_view};
 ghost use Rattle.path_types.specs.Validity.{is_literal};
+ghost use Rattle.json_tape.specs.Document.{single, IsIn};
 ghost use Rattle.tape_select.specs.Comparison.{a_number, literal_value, equal_results, less_results, compared};
 ghost use Rattle.tape_select.specs.Contents.{content_value, IsContent, IsNumberText};
-ghost use Rattle.tape_select.specs.Functions.{whole_number};
-ghost use Rattle.tape_select.specs.Sides.{side_value, written, IsSide, IsNumberSide};
+ghost use Rattle.tape_select.specs.Functions.{whole_number, only_value};
+ghost use Rattle.tape_select.specs.Sides.{side_value, written, IsSide, IsNumberSide, IsNumberFound};
 
 use crate::digits::{Digits, whole_text};
 use crate::letters::Letters;
@@ -14,7 +15,7 @@ use crate::sides::Side;
 use crate::values::{Content, equal_contents, less_contents, number_text, value_content};
 use decimal_order::compare as order;
 use itoa::Buffer;
-use json_tape::{Document, Kind};
+use json_tape::{Document, Kind, NodeId};
 use path_grammar::{Literal, Op};
 use path_types::judges_numbers;
 use std::cmp::Ordering;
@@ -125,6 +126,57 @@ fn compare_whole(op: Op, n: usize, b: &[u8]) -> bool
     compare_numbers(op, whole_text(&mut buffer, n), b)
 }
 
+// Whether a comparison of a written number with a whole one holds.
+fn compare_with_whole(op: Op, a: &[u8], n: usize) -> bool
+    requires { IsNumberText a.now }
+    ensures { result ≡ compared op (Some (a_number a.now)) (Some (whole_number n)) }
+{
+    let mut buffer = Buffer::new();
+    compare_numbers(op, a, whole_text(&mut buffer, n))
+}
+
+// Whether a comparison of a node's value, or of Nothing, with a literal holds, whatever they are.
+#[inline(never)]
+fn compare_any(doc: &Document, found: Option<NodeId>, op: Op, literal: &Literal) -> bool
+    requires inside { IsIn doc.now found }
+    requires literal { IsTrue (is_literal (literal_view literal.now)) }
+    ensures { result ≡ compared op (only_value (single doc.now found)) (Some (literal_value (literal_view literal.now))) }
+{
+    match found {
+        None => compare_contents(doc, op, Side::Nothing, Side::Literal(literal)),
+        Some(n) => compare_contents(doc, op, Side::Node(n), Side::Literal(literal)),
+    }
+}
+
+// The text of a node's value that is a number.
+#[inline(always)]
+fn number_found(doc: &Document, found: Option<NodeId>) -> Option<&[u8]>
+    requires inside { IsIn doc.now found }
+    ensures { IfSome result (λ text. IsNumberFound doc.now found text.now) }
+{
+    match found {
+        None => None,
+        Some(n) => match doc.kind(n) {
+            Kind::Number => Some(number_text(doc, n)),
+            _ => None,
+        },
+    }
+}
+
+/// Whether a comparison of a node's value, or of Nothing, with a literal holds. Most are of numbers.
+#[inline(always)]
+pub fn compare_found(doc: &Document, found: Option<NodeId>, op: &Op, literal: &Literal) -> bool
+    requires inside { IsIn doc.now found }
+    requires literal { IsTrue (is_literal (literal_view literal.now)) }
+    ensures { result ≡ compared op.now (only_value (single doc.now found)) (Some (literal_value (literal_view literal.now))) }
+{
+    judges_numbers();
+    match (number_found(doc, found), literal) {
+        (Some(a), Literal::Number(b)) => compare_numbers(*op, a, b),
+        _ => compare_any(doc, found, *op, literal),
+    }
+}
+
 /// Whether a comparison holds. It takes no memory.
 pub fn compare<'a>(doc: &'a Document, op: Op, left: &Side<'a>, right: &Side<'a>) -> bool
     requires left { IsSide doc.now left.now }
@@ -137,6 +189,10 @@ pub fn compare<'a>(doc: &'a Document, op: Op, left: &Side<'a>, right: &Side<'a>)
         }
         if let Some(a) = written(doc, left) {
             return compare_numbers(op, a, b);
+        }
+    } else if let Side::Whole(n) = right {
+        if let Some(a) = written(doc, left) {
+            return compare_with_whole(op, a, *n);
         }
     }
     compare_contents(doc, op, *left, *right)

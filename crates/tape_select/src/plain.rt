@@ -2,24 +2,25 @@
 //!
 //! No nodelist of theirs is over the limit, so that operands which cannot change the answer are passed by.
 
-ghost use Rattle.std.specs.Prelude.{◌≡◌, ◌<◌, Some, IsTrue, map};
+ghost use Rattle.std.specs.Prelude.{◌≡◌, ◌<◌, Some, IsTrue, IfSome, map};
 ghost use Rattle.json_tape.specs.Document.{count, node_at};
 ghost use Rattle.json_tape.specs.Nodes.{children};
-ghost use Rattle.path_grammar.specs.Tree.{compare, exprs_of};
-ghost use Rattle.path_grammar.specs.View.{expr_view, comparable_view};
-ghost use Rattle.path_types.specs.Validity.{is_valid_expr, are_valid_exprs, is_valid_comparable};
-ghost use Rattle.tape_select.specs.Plain.{is_plain, are_plain, is_plain_side};
+ghost use Rattle.path_grammar.specs.Tree.{compare, not, test, single, lit, exprs_of};
+ghost use Rattle.path_grammar.specs.View.{expr_view, comparable_view, nested_view, literal_view};
+ghost use Rattle.path_types.specs.Validity.{is_valid_expr, are_valid_exprs, is_valid_comparable, is_singular_query, is_literal};
+ghost use Rattle.tape_select.specs.Plain.{is_plain, are_plain, is_plain_side, IsTestOf};
 ghost use Rattle.tape_select.specs.Running.{keep_run, holds_run, some_run, all_run, result_run};
 ghost use Rattle.tape_select.specs.Nodelists.{nodes_of, Sound, Gives};
-ghost use Rattle.tape_select.specs.Sides.{IsSideOf};
+ghost use Rattle.tape_select.specs.Sides.{IsSideOf, IsNumberSide};
 
-use crate::compare::{compare_contents, compare_numbers, written};
+use crate::compare::{compare_contents, compare_found, compare_numbers, written};
 use crate::fault::SelectFault;
 use crate::nodelist::push;
 use crate::sides::Side;
-use crate::singular::{followed, start, value_at};
+use crate::singular::{followed, start};
 use json_tape::{Document, NodeId};
-use path_grammar::{Comparable, Expr, Op, is_singular};
+use path_grammar::{Comparable, Expr, Literal, Op, SubQuery, is_singular};
+use std::slice::from_ref;
 
 fn is_plain_side(comparable: &Comparable) -> bool
     ensures { result ≡ is_plain_side (comparable_view comparable.now) }
@@ -58,27 +59,44 @@ fn are_plain(operands: &[Expr]) -> bool
     true
 }
 
-// A literal, or the value of a singular query.
+// A literal, or the value of a singular query; and its text where it is a number, as most are.
 #[inline(always)]
-fn plain_side<'a>(doc: &Document, comparable: &'a Comparable, child: NodeId) -> Side<'a>
+fn plain_side<'a>(
+    doc: &'a Document,
+    comparable: &'a Comparable,
+    child: NodeId,
+) -> (Side<'a>, Option<&'a [u8]>)
     requires inside { child.0 < count doc.now }
     requires valid { IsTrue (is_valid_comparable (comparable_view comparable.now)) }
     requires plain { IsTrue (is_plain_side (comparable_view comparable.now)) }
-    ensures { IsSideOf doc.now (result_run (node_at doc.now 0) (comparable_view comparable.now) (node_at doc.now child.0)) result }
+    ensures side { IsSideOf doc.now (result_run (node_at doc.now 0) (comparable_view comparable.now) (node_at doc.now child.0)) result.0 }
+    ensures number { IfSome result.1 (λ text. IsNumberSide doc.now result.0 text.now) }
 {
     match comparable {
-        Comparable::Lit(literal) => Side::Literal(literal),
-        Comparable::Single(query) => value_at(doc, query, child),
-        Comparable::Func(_) => Side::Nothing,
+        Comparable::Lit(literal) => {
+            let side = Side::Literal(literal);
+            (side, written(doc, &side))
+        }
+        Comparable::Single(query) => {
+            let first = start(doc, query.from_root, child);
+            match followed(doc, &query.segments, first) {
+                None => (Side::Nothing, None),
+                Some(n) => {
+                    let side = Side::Node(n);
+                    (side, written(doc, &side))
+                }
+            }
+        }
+        Comparable::Func(_) => (Side::Nothing, None),
     }
 }
 
-// Whether a comparison holds. Each side's number is read with the side, since most sides are numbers.
+// Whether a comparison holds, whatever its sides are.
 #[inline(never)]
-fn compare_plain(
+fn compare_sides(
     doc: &Document,
     left: &Comparable,
-    op: Op,
+    op: &Op,
     right: &Comparable,
     child: NodeId,
 ) -> bool
@@ -87,21 +105,61 @@ fn compare_plain(
     requires valid_right { IsTrue (is_valid_comparable (comparable_view right.now)) }
     requires plain_left { IsTrue (is_plain_side (comparable_view left.now)) }
     requires plain_right { IsTrue (is_plain_side (comparable_view right.now)) }
-    ensures { holds_run (node_at doc.now 0) (compare (comparable_view left.now) op (comparable_view right.now)) (node_at doc.now child.0) ≡ Some result }
+    ensures { holds_run (node_at doc.now 0) (compare (comparable_view left.now) op.now (comparable_view right.now)) (node_at doc.now child.0) ≡ Some result }
 {
-    let left = plain_side(doc, left, child);
-    let left_number = written(doc, &left);
-    let right = plain_side(doc, right, child);
-    let right_number = written(doc, &right);
+    let (left, left_number) = plain_side(doc, left, child);
+    let (right, right_number) = plain_side(doc, right, child);
     match (left_number, right_number) {
-        (Some(a), Some(b)) => compare_numbers(op, a, b),
-        _ => compare_contents(doc, op, left, right),
+        (Some(a), Some(b)) => compare_numbers(*op, a, b),
+        _ => compare_contents(doc, *op, left, right),
     }
 }
 
-// Whether an expression holds for a child.
-#[cycle(plain)]
+// Whether a comparison of a query's value with a literal holds, as most are.
 #[inline(always)]
+fn compare_value(
+    doc: &Document,
+    query: &SubQuery,
+    op: &Op,
+    literal: &Literal,
+    child: NodeId,
+) -> bool
+    requires inside { child.0 < count doc.now }
+    requires singular { IsTrue (is_singular_query (nested_view query.now)) }
+    requires literal { IsTrue (is_literal (literal_view literal.now)) }
+    ensures { holds_run (node_at doc.now 0) (compare (single (nested_view query.now)) op.now (lit (literal_view literal.now))) (node_at doc.now child.0) ≡ Some result }
+{
+    let first = start(doc, query.from_root, child);
+    let found = followed(doc, &query.segments, first);
+    compare_found(doc, found, op, literal)
+}
+
+// Whether a singular query selects a node.
+#[inline(never)]
+fn is_found(doc: &Document, query: &SubQuery, child: NodeId) -> bool
+    requires inside { child.0 < count doc.now }
+    requires singular { IsTrue (is_singular_query (nested_view query.now)) }
+    ensures { holds_run (node_at doc.now 0) (test (nested_view query.now)) (node_at doc.now child.0) ≡ Some result }
+{
+    let first = start(doc, query.from_root, child);
+    followed(doc, &query.segments, first).is_some()
+}
+
+// Whether an expression does not hold for a child.
+#[cycle(plain)]
+#[inline(never)]
+fn fails_plain(doc: &Document, condition: &Expr, child: NodeId) -> bool
+    requires inside { child.0 < count doc.now }
+    requires valid { IsTrue (is_valid_expr (expr_view condition.now)) }
+    requires plain { IsTrue (is_plain (expr_view condition.now)) }
+    ensures { holds_run (node_at doc.now 0) (not (expr_view condition.now)) (node_at doc.now child.0) ≡ Some result }
+{
+    !holds_plain(doc, condition, child)
+}
+
+// Whether an expression holds for a child. All but a comparison with a literal are calls, so that it saves few registers.
+#[cycle(plain)]
+#[inline(never)]
 fn holds_plain(doc: &Document, condition: &Expr, child: NodeId) -> bool
     requires inside { child.0 < count doc.now }
     requires valid { IsTrue (is_valid_expr (expr_view condition.now)) }
@@ -109,34 +167,20 @@ fn holds_plain(doc: &Document, condition: &Expr, child: NodeId) -> bool
     ensures { holds_run (node_at doc.now 0) (expr_view condition.now) (node_at doc.now child.0) ≡ Some result }
 {
     match condition {
-        Expr::Compare(left, op, right) => compare_plain(doc, left, *op, right, child),
-        _ => holds_in_parts(doc, condition, child),
-    }
-}
-
-// The same, by the parts of the expression.
-#[cycle(plain)]
-#[inline(never)]
-fn holds_in_parts(doc: &Document, condition: &Expr, child: NodeId) -> bool
-    requires inside { child.0 < count doc.now }
-    requires valid { IsTrue (is_valid_expr (expr_view condition.now)) }
-    requires plain { IsTrue (is_plain (expr_view condition.now)) }
-    ensures { holds_run (node_at doc.now 0) (expr_view condition.now) (node_at doc.now child.0) ≡ Some result }
-{
-    match condition {
         Expr::Any(operands) => some_plain(doc, operands, child),
-        Expr::Each(operands) => all_plain(doc, operands, child),
-        Expr::Not(operand) => !holds_plain(doc, operand, child),
-        Expr::Compare(left, op, right) => compare_plain(doc, left, *op, right, child),
-        Expr::Test(query) => {
-            let first = start(doc, query.from_root, child);
-            followed(doc, &query.segments, first).is_some()
+        Expr::Each(operands) => each_plain(doc, operands, child),
+        Expr::Not(operand) => fails_plain(doc, operand, child),
+        Expr::Compare(Comparable::Single(query), op, Comparable::Lit(literal)) => {
+            compare_value(doc, query, op, literal, child)
         }
+        Expr::Compare(left, op, right) => compare_sides(doc, left, op, right, child),
+        Expr::Test(query) => is_found(doc, query, child),
         Expr::TestCall(_) => false,
     }
 }
 
 #[cycle(plain)]
+#[inline(never)]
 #[tactic(auto, using(crate::proofs::Operands::operands))]
 fn some_plain(doc: &Document, operands: &[Expr], child: NodeId) -> bool
     requires inside { child.0 < count doc.now }
@@ -153,6 +197,7 @@ fn some_plain(doc: &Document, operands: &[Expr], child: NodeId) -> bool
 }
 
 #[cycle(plain)]
+#[inline(always)]
 #[tactic(auto, using(crate::proofs::Operands::operands))]
 fn all_plain(doc: &Document, operands: &[Expr], child: NodeId) -> bool
     requires inside { child.0 < count doc.now }
@@ -166,6 +211,30 @@ fn all_plain(doc: &Document, operands: &[Expr], child: NodeId) -> bool
         }
     }
     true
+}
+
+// The same, by a call of its own, as an operand.
+#[cycle(plain)]
+#[inline(never)]
+fn each_plain(doc: &Document, operands: &[Expr], child: NodeId) -> bool
+    requires inside { child.0 < count doc.now }
+    requires valid { IsTrue (are_valid_exprs (exprs_of (map expr_view operands.now))) }
+    requires plain { IsTrue (are_plain (exprs_of (map expr_view operands.now))) }
+    ensures { all_run (node_at doc.now 0) (exprs_of (map expr_view operands.now)) (node_at doc.now child.0) ≡ Some result }
+{
+    all_plain(doc, operands, child)
+}
+
+// The operands that all hold where the expression does: those of `&&`, or itself alone.
+fn operands_of(condition: &Expr) -> &[Expr]
+    ensures same { IsTestOf (exprs_of (map expr_view result.now)) (expr_view condition.now) }
+    ensures valid { are_valid_exprs (exprs_of (map expr_view result.now)) ≡ is_valid_expr (expr_view condition.now) }
+    ensures plain { are_plain (exprs_of (map expr_view result.now)) ≡ is_plain (expr_view condition.now) }
+{
+    match condition {
+        Expr::Each(operands) => operands,
+        _ => from_ref(condition),
+    }
 }
 
 /// The children for which an expression holds.
@@ -183,9 +252,10 @@ pub fn filtered_plain(
     requires sound { Sound doc.now out.old.items }
     ensures { Gives doc.now result out.new.items (keep_run (holds_run (node_at doc.now 0) (expr_view condition.now)) (nodes_of doc.now out.old.items) (children (node_at doc.now n.0))) }
 {
+    let operands = operands_of(condition);
     let mut child = doc.first_child(n);
     while let Some(c) = child {
-        if holds_plain(doc, condition, c) {
+        if all_plain(doc, operands, c) {
             push(doc, out, c)?;
         }
         child = doc.next_sibling(c);

@@ -12,6 +12,7 @@ ghost use Rattle.tape_select.specs.Nodelists.{nodes_of, Sound, Gives};
 ghost use Rattle.tape_select.specs.Sides.{IsSideOf};
 
 use crate::fault::SelectFault;
+use crate::names::lone_name;
 use crate::selectors::{element, push_some};
 use crate::sides::Side;
 use json_tape::{Document, NodeId};
@@ -58,6 +59,32 @@ fn step(doc: &Document, segment: &Segment, n: NodeId) -> Option<NodeId>
     by_selectors(doc, &segment.selectors, n)
 }
 
+// The same, by a call of its own.
+#[inline(never)]
+fn step_apart(doc: &Document, segment: &Segment, n: NodeId) -> Option<NodeId>
+    requires inside { n.0 < count doc.now }
+    requires one { IsTrue (is_one (segment_view segment.now).selectors) }
+    ensures node { selected_run (node_at doc.now 0) (segment_view segment.now).selectors [] (node_at doc.now n.0) ≡ Some (single doc.now result) }
+    ensures inside { IsIn doc.now result }
+{
+    step(doc, segment, n)
+}
+
+// The same. Names are looked at first, since most are names.
+#[tactic(auto, using(crate::proofs::Following::single_added))]
+#[inline(always)]
+fn step_by_name(doc: &Document, segment: &Segment, n: NodeId) -> Option<NodeId>
+    requires inside { n.0 < count doc.now }
+    requires one { IsTrue (is_one (segment_view segment.now).selectors) }
+    ensures node { selected_run (node_at doc.now 0) (segment_view segment.now).selectors [] (node_at doc.now n.0) ≡ Some (single doc.now result) }
+    ensures inside { IsIn doc.now result }
+{
+    match lone_name(&segment.selectors) {
+        Some(name) => doc.member(n, name),
+        None => step_apart(doc, segment, n),
+    }
+}
+
 // The node that a singular query selects from a node, one segment after the other.
 #[inline(never)]
 fn followed_on(doc: &Document, segments: &[Segment], n: NodeId) -> Option<NodeId>
@@ -68,7 +95,7 @@ fn followed_on(doc: &Document, segments: &[Segment], n: NodeId) -> Option<NodeId
 {
     let mut node = n;
     for segment in segments {
-        node = step(doc, segment, node)?;
+        node = step_by_name(doc, segment, node)?;
     }
     Some(node)
 }
@@ -82,7 +109,7 @@ pub fn followed(doc: &Document, segments: &[Segment], n: NodeId) -> Option<NodeI
     ensures inside { IsIn doc.now result }
 {
     match segments {
-        [only] => step(doc, only, n),
+        [only] => step_by_name(doc, only, n),
         _ => followed_on(doc, segments, n),
     }
 }
