@@ -1,0 +1,134 @@
+#!/usr/bin/env python3
+"""Compares the verdicts of `path_server query` on random texts with those of Python's json: tests/against_python.py [ROUNDS [SEED]].
+
+A text is written from a random value, with blanks and escapes of its own, and then a few of its bytes are changed. Python's json
+takes the grammar of RFC 8259 but for NaN and Infinity, which are refused here; it hands over the numbers' texts and the members in
+order, from which the other refusals follow. It needs the built program (`bin/path_server --help`).
+"""
+import json
+import random
+import re
+import subprocess
+import sys
+from pathlib import Path
+
+PROGRAM = Path(__file__).resolve().parent.parent / "crates/path_program/out/path_program"
+DEPTH_LIMIT = 128
+PIECES = [b'"', b"\\", b",", b":", b"[", b"]", b"{", b"}", b" ", b"\n", b"\t", b"\r", b"0", b"1", b"-", b"+", b".", b"e", b"E",
+          b"null", b"true", b"\\u", b"\\ud83d", b"\\ude00", b"\\n", b"\x00", b"\x1f", b"\x7f", b"\xc3\xa9", b"\x80", b"\xff",
+          b"\xed\xa0\x80", b"\xef\xbb\xbf", b"9" * 257, b"1e999999999", b"1e1000000000", b'"a":1', b'"\\u0061":2']
+
+
+class Refused(Exception):
+    pass
+
+
+def refuse_constant(_):
+    raise ValueError("no constant of JSON")
+
+
+def verdict(source):
+    """The name of the refusal, the first that applies, or nothing."""
+    seen = set()
+
+    def number(text):
+        exponent = re.search("[eE](.*)", text)
+        if len(text) > 256 or (exponent and abs(int(exponent[1])) > 999_999_999):
+            seen.add("NumberLimit")
+        return 0
+
+    def members(pairs):
+        names = [name for name, _ in pairs]
+        if len(set(names)) < len(names):
+            seen.add("DuplicateName")
+        return pairs
+
+    try:
+        text = source.decode("utf-8")
+    except UnicodeDecodeError:
+        return "NotUtf8"
+    try:
+        value = json.loads(text, parse_int=number, parse_float=number, parse_constant=refuse_constant, object_pairs_hook=members)
+    except ValueError:
+        return "NotJson"
+    if depth(text) > DEPTH_LIMIT:
+        return "TooDeep"
+    if re.search("[\ud800-\udfff]", repr_of(value)):
+        seen.add("LoneSurrogate")
+    return next((name for name in ("NumberLimit", "LoneSurrogate", "DuplicateName") if name in seen), None)
+
+
+def depth(text):
+    """How many containers of a JSON text lie in one another."""
+    most = level = 0
+    for sign in re.findall(r'[\[{]|[\]}]', re.sub(r'"(?:[^"\\]|\\.)*"', "", text)):
+        level += 1 if sign in "[{" else -1
+        most = max(most, level)
+    return most
+
+
+def repr_of(value):
+    """All strings and names of a value."""
+    if isinstance(value, str):
+        return value + "\n"
+    if isinstance(value, (list, tuple)):
+        return "".join(repr_of(part) for part in value)
+    return ""
+
+
+def program_verdict(source):
+    done = subprocess.run([PROGRAM, "query", "$.none"], input=source, capture_output=True)
+    return None if done.returncode == 0 else done.stderr.decode().strip().removeprefix("path_server: ")
+
+
+def string(chance):
+    parts = ["a", "b", "é", "😀", "\\n", "\\\\", '\\"', "\\/", "\\u0061", "\\u00e9", "\\ud83d\\ude00", "\\uD83D\\uDE00", " "]
+    return '"' + "".join(chance.choice(parts) for _ in range(chance.randint(0, 4))) + '"'
+
+
+def written(chance, level):
+    """A JSON text."""
+    blank = chance.choice(["", "", "", " ", "\n\t"])
+    kind = chance.randint(0, 5) if level > 0 else chance.randint(0, 2)
+    if kind == 0:
+        text = chance.choice(["null", "true", "false"])
+    elif kind == 1:
+        text = string(chance)
+    elif kind == 2:
+        text = chance.choice(["0", "-0", "1", "-12", "0.5", "1e5", "1E-5", "12.50e+3", "9" * chance.choice([255, 256])])
+    elif kind == 3:
+        text = "[" + ",".join(written(chance, level - 1) for _ in range(chance.randint(0, 4))) + "]"
+    elif kind == 4:
+        deep = chance.choice([1, 2, 120, 127, 128, 129])
+        text = "[" * deep + "]" * deep
+    else:
+        members = [string(chance) + blank + ":" + written(chance, level - 1) for _ in range(chance.randint(0, 3))]
+        text = "{" + ",".join(members) + "}"
+    return blank + text + blank
+
+
+def changed(chance, source):
+    """The text with a few of its bytes left out or others put in."""
+    for _ in range(chance.choice([0, 1, 1, 1, 2, 3])):
+        at = chance.randint(0, len(source))
+        piece = chance.choice([b"", *PIECES])
+        source = source[:at] + piece + source[at + chance.randint(0, 2):]
+    return source
+
+
+def main():
+    rounds = int(sys.argv[1]) if len(sys.argv) > 1 else 5000
+    chance = random.Random(int(sys.argv[2]) if len(sys.argv) > 2 else 1)
+    counts, differing = {}, 0
+    for _ in range(rounds):
+        source = changed(chance, written(chance, 4).encode())
+        wanted, found = verdict(source), program_verdict(source)
+        counts[wanted or "accepted"] = counts.get(wanted or "accepted", 0) + 1
+        if found != wanted:
+            differing += 1
+            print(f"{source!r}\n  Python {wanted}, path_server {found}")
+    print(", ".join(f"{count} {name}" for name, count in sorted(counts.items())) + f": {differing} differing")
+    sys.exit(1 if differing else 0)
+
+
+main()
