@@ -19,10 +19,6 @@ PIECES = [b'"', b"\\", b",", b":", b"[", b"]", b"{", b"}", b" ", b"\n", b"\t", b
           b"\xed\xa0\x80", b"\xef\xbb\xbf", b"9" * 257, b"1e999999999", b"1e1000000000", b'"a":1', b'"\\u0061":2']
 
 
-class Refused(Exception):
-    pass
-
-
 def refuse_constant(_):
     raise ValueError("no constant of JSON")
 
@@ -53,7 +49,7 @@ def verdict(source):
         return "NotJson"
     if depth(text) > DEPTH_LIMIT:
         return "TooDeep"
-    if re.search("[\ud800-\udfff]", repr_of(value)):
+    if re.search("[\ud800-\udfff]", strings_of(value)):
         seen.add("LoneSurrogate")
     return next((name for name in ("NumberLimit", "LoneSurrogate", "DuplicateName") if name in seen), None)
 
@@ -67,12 +63,12 @@ def depth(text):
     return most
 
 
-def repr_of(value):
+def strings_of(value):
     """All strings and names of a value."""
     if isinstance(value, str):
         return value + "\n"
     if isinstance(value, (list, tuple)):
-        return "".join(repr_of(part) for part in value)
+        return "".join(strings_of(part) for part in value)
     return ""
 
 
