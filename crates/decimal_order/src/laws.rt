@@ -1,10 +1,16 @@
 // Functions that do nothing, and whose contracts are laws of the definitions.
 ghost use Rattle.decimal_order.specs.Laws.{OrdersValues, ReadsOneWay, WritesWholeNumbers};
 
+/// The order of values is total, and so is that of number texts: turned round, a comparison answers the opposite.
+///
+/// It does nothing: a caller that needs the order the other way round has the law from its contract.
 pub fn orders_values()
     ensures { OrdersValues }
 {}
 
+/// A number falls into its parts in one way, and its value is that of its parts.
+///
+/// It does nothing: the law is its contract.
 pub fn reads_one_way()
     ensures { ReadsOneWay }
 {}

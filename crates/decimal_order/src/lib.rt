@@ -14,7 +14,7 @@ mod order;
 mod parts;
 mod short;
 
-pub use laws::writes_whole_numbers;
+pub use laws::{orders_values, reads_one_way, writes_whole_numbers};
 pub use limits::within_limits;
 pub use number::{Decimal, scan};
 pub use order::compare;

@@ -13,7 +13,7 @@ use crate::digits::{Digits, whole_text};
 use crate::letters::Letters;
 use crate::sides::Side;
 use crate::values::{Content, equal_contents, less_contents, number_text, value_content};
-use decimal_order::compare as order;
+use decimal_order::{compare as order, orders_values};
 use itoa::Buffer;
 use json_tape::{Document, Kind, NodeId};
 use path_grammar::{Literal, Op};
@@ -107,13 +107,15 @@ pub fn compare_numbers(op: Op, a: &[u8], b: &[u8]) -> bool
     requires right { IsNumberText b.now }
     ensures { result ≡ compared op (Some (a_number a.now)) (Some (a_number b.now)) }
 {
+    orders_values();
+    let order = order(a, b);
     match op {
-        Op::Eq => order(a, b) == Ordering::Equal,
-        Op::Ne => order(a, b) != Ordering::Equal,
-        Op::Lt => order(a, b) == Ordering::Less,
-        Op::Gt => order(b, a) == Ordering::Less,
-        Op::Le => order(a, b) != Ordering::Greater,
-        Op::Ge => order(b, a) != Ordering::Greater,
+        Op::Eq => order.is_eq(),
+        Op::Ne => order.is_ne(),
+        Op::Lt => order.is_lt(),
+        Op::Gt => order.is_gt(),
+        Op::Le => order.is_le(),
+        Op::Ge => order.is_ge(),
     }
 }
 
