@@ -67,6 +67,7 @@ fn compare_long(a: &[u8], b: &[u8]) -> Ordering
 /// Both texts are numbers within the limits, as [`scan`](crate::scan) and
 /// [`within_limits`](crate::within_limits) say. No memory is taken, and the time is linear in the
 /// bytes of the texts: the zeros of an exponent are never written out.
+#[inline(always)]
 pub fn compare(a: &[u8], b: &[u8]) -> Ordering
     requires a_number { IsNumber a.now }
     requires a_within_limits { IsWithinLimits a.now }

@@ -145,21 +145,9 @@ fn is_found(doc: &Document, query: &SubQuery, child: NodeId) -> bool
     followed(doc, &query.segments, first).is_some()
 }
 
-// Whether an expression does not hold for a child.
+// Whether an expression holds for a child. A comparison with a literal, as most are, takes no call.
 #[cycle(plain)]
-#[inline(never)]
-fn fails_plain(doc: &Document, condition: &Expr, child: NodeId) -> bool
-    requires inside { child.0 < count doc.now }
-    requires valid { IsTrue (is_valid_expr (expr_view condition.now)) }
-    requires plain { IsTrue (is_plain (expr_view condition.now)) }
-    ensures { holds_run (node_at doc.now 0) (not (expr_view condition.now)) (node_at doc.now child.0) ≡ Some result }
-{
-    !holds_plain(doc, condition, child)
-}
-
-// Whether an expression holds for a child. All but a comparison with a literal are calls, so that it saves few registers.
-#[cycle(plain)]
-#[inline(never)]
+#[inline(always)]
 fn holds_plain(doc: &Document, condition: &Expr, child: NodeId) -> bool
     requires inside { child.0 < count doc.now }
     requires valid { IsTrue (is_valid_expr (expr_view condition.now)) }
@@ -167,12 +155,26 @@ fn holds_plain(doc: &Document, condition: &Expr, child: NodeId) -> bool
     ensures { holds_run (node_at doc.now 0) (expr_view condition.now) (node_at doc.now child.0) ≡ Some result }
 {
     match condition {
-        Expr::Any(operands) => some_plain(doc, operands, child),
-        Expr::Each(operands) => each_plain(doc, operands, child),
-        Expr::Not(operand) => fails_plain(doc, operand, child),
         Expr::Compare(Comparable::Single(query), op, Comparable::Lit(literal)) => {
             compare_value(doc, query, op, literal, child)
         }
+        _ => holds_by_kind(doc, condition, child),
+    }
+}
+
+// The same, whatever the expression is.
+#[cycle(plain)]
+#[inline(never)]
+fn holds_by_kind(doc: &Document, condition: &Expr, child: NodeId) -> bool
+    requires inside { child.0 < count doc.now }
+    requires valid { IsTrue (is_valid_expr (expr_view condition.now)) }
+    requires plain { IsTrue (is_plain (expr_view condition.now)) }
+    ensures { holds_run (node_at doc.now 0) (expr_view condition.now) (node_at doc.now child.0) ≡ Some result }
+{
+    match condition {
+        Expr::Any(operands) => some_plain(doc, operands, child),
+        Expr::Each(operands) => all_plain(doc, operands, child),
+        Expr::Not(operand) => !holds_plain(doc, operand, child),
         Expr::Compare(left, op, right) => compare_sides(doc, left, op, right, child),
         Expr::Test(query) => is_found(doc, query, child),
         Expr::TestCall(_) => false,
@@ -180,7 +182,6 @@ fn holds_plain(doc: &Document, condition: &Expr, child: NodeId) -> bool
 }
 
 #[cycle(plain)]
-#[inline(never)]
 #[tactic(auto, using(crate::proofs::Operands::operands))]
 fn some_plain(doc: &Document, operands: &[Expr], child: NodeId) -> bool
     requires inside { child.0 < count doc.now }
@@ -211,18 +212,6 @@ fn all_plain(doc: &Document, operands: &[Expr], child: NodeId) -> bool
         }
     }
     true
-}
-
-// The same, by a call of its own, as an operand.
-#[cycle(plain)]
-#[inline(never)]
-fn each_plain(doc: &Document, operands: &[Expr], child: NodeId) -> bool
-    requires inside { child.0 < count doc.now }
-    requires valid { IsTrue (are_valid_exprs (exprs_of (map expr_view operands.now))) }
-    requires plain { IsTrue (are_plain (exprs_of (map expr_view operands.now))) }
-    ensures { all_run (node_at doc.now 0) (exprs_of (map expr_view operands.now)) (node_at doc.now child.0) ≡ Some result }
-{
-    all_plain(doc, operands, child)
 }
 
 // The operands that all hold where the expression does: those of `&&`, or itself alone.
