@@ -5,9 +5,11 @@ use Rattle.path_types.specs.Validity.{is_literal}
 use Rattle.json_tape.specs.Document.{Doc, node_at, count, single}
 use Rattle.json_tape.specs.declared.tape.NodeId.{NodeId}
 use Rattle.tape_select.specs.Comparison.{Value, a_number, value_of, literal_value}
-use Rattle.tape_select.specs.Contents.{IsNumberText}
+use Rattle.tape_select.specs.Contents.{digits_text, AreDigits, IsNumberText}
 use Rattle.tape_select.specs.Functions.{whole_number, only_value}
 use Rattle.tape_select.specs.Nodelists.{Stops}
+use Rattle.tape_select.specs.Running.{next}
+use Rattle.tape_select.specs.declared.digits.Digits.{Digits}
 use Rattle.tape_select.specs.declared.fault.SelectFault.{SelectFault}
 use Rattle.tape_select.specs.declared.sides.Side.{Side}
 use Rattle.tape_select.specs.declared.sides.Side.TheVariants as sides
@@ -29,17 +31,14 @@ abbrev pub number_text : Value → Option (List ℕ)
 number_text (a_number text) = Some text
 number_text v = None
 
--- the text of a number that the text or the query writes; lengths and counts are written nowhere
-abbrev pub written : Doc → Side → Option (List ℕ)
-written d sides.Nothing = None
-written d (sides.Node n) = number_text (value_of (node_at d n.0).tree)
-written d (sides.Literal l) = number_text (literal_value (literal_view l.now))
-written d (sides.Whole n) = None
+-- the digits of a side that is a number
+abbrev pub side_number : Doc → Side → Option (List ℕ)
+side_number d s = next (side_value d s) number_text
 
--- the side is a number of this text
-pub record IsNumberSide (d : Doc) (s : Side) (text : List ℕ) : Type 0 where
-  pub value : side_value d s ≡ Some (a_number text)
-  pub number : IsNumberText text
+-- the side is the number of these digits
+pub record IsNumberSide (d : Doc) (s : Side) (digits : Digits) : Type 0 where
+  pub value : side_value d s ≡ Some (a_number (digits_text digits))
+  pub number : AreDigits digits
 
 -- what was found is a number of this text
 pub record IsNumberFound (d : Doc) (found : Option NodeId) (text : List ℕ) : Type 0 where

@@ -5,20 +5,18 @@ ghost use Rattle.path_grammar.specs.View.{literal_view};
 ghost use Rattle.path_types.specs.Validity.{is_literal};
 ghost use Rattle.json_tape.specs.Document.{single, IsIn};
 ghost use Rattle.tape_select.specs.Comparison.{a_number, literal_value, equal_results, less_results, compared};
-ghost use Rattle.tape_select.specs.Contents.{content_value, IsContent, IsNumberText};
-ghost use Rattle.tape_select.specs.Functions.{whole_number, only_value};
-ghost use Rattle.tape_select.specs.Sides.{side_value, written, IsSide, IsNumberSide, IsNumberFound};
+ghost use Rattle.tape_select.specs.Contents.{content_value, digits_text, AreDigits, IsContent};
+ghost use Rattle.tape_select.specs.Functions.{only_value};
+ghost use Rattle.tape_select.specs.Sides.{side_value, side_number, IsSide, IsNumberSide, IsNumberFound};
 
-use crate::digits::{Digits, whole_text};
+use crate::digits::{Digits, compare_digits};
 use crate::letters::Letters;
 use crate::sides::Side;
 use crate::values::{Content, equal_contents, less_contents, number_text, value_content};
-use decimal_order::{compare as order, orders_values};
-use itoa::Buffer;
+use decimal_order::orders_values;
 use json_tape::{Document, Kind, NodeId};
 use path_grammar::{Literal, Op};
 use path_types::judges_numbers;
-use std::cmp::Ordering;
 
 // What a literal is.
 fn literal_content<'a>(doc: &Document, literal: &'a Literal) -> Content<'a>
@@ -83,32 +81,33 @@ pub fn compare_contents(doc: &Document, op: Op, left: Side<'_>, right: Side<'_>)
     }
 }
 
-/// The text of a number that is written in the text or in the query.
+/// The digits of a side that is a number.
 #[inline(always)]
-pub fn written<'a>(doc: &'a Document, side: &Side<'a>) -> Option<&'a [u8]>
+pub fn side_digits<'a>(doc: &'a Document, side: &Side<'a>) -> Option<Digits<'a>>
     requires { IsSide doc.now side.now }
-    ensures { MatchOption result (written doc.now side.now ≡ None) (λ text. IsNumberSide doc.now side.now text.now) }
+    ensures { MatchOption result (side_number doc.now side.now ≡ None) (λ digits. IsNumberSide doc.now side.now digits) }
 {
     judges_numbers();
     match side {
         Side::Node(n) => match doc.kind(*n) {
-            Kind::Number => Some(number_text(doc, *n)),
+            Kind::Number => Some(Digits::Written(number_text(doc, *n))),
             _ => None,
         },
-        Side::Literal(Literal::Number(digits)) => Some(digits.as_slice()),
-        Side::Nothing | Side::Literal(_) | Side::Whole(_) => None,
+        Side::Literal(Literal::Number(digits)) => Some(Digits::Written(digits.as_slice())),
+        Side::Whole(n) => Some(Digits::Whole(*n)),
+        Side::Nothing | Side::Literal(_) => None,
     }
 }
 
 /// Whether a comparison of numbers holds. They are compared once.
 #[inline(always)]
-pub fn compare_numbers(op: Op, a: &[u8], b: &[u8]) -> bool
-    requires left { IsNumberText a.now }
-    requires right { IsNumberText b.now }
-    ensures { result ≡ compared op (Some (a_number a.now)) (Some (a_number b.now)) }
+pub fn compare_numbers(op: Op, a: Digits<'_>, b: Digits<'_>) -> bool
+    requires left { AreDigits a }
+    requires right { AreDigits b }
+    ensures { result ≡ compared op (Some (a_number (digits_text a.entry))) (Some (a_number (digits_text b.entry))) }
 {
     orders_values();
-    let order = order(a, b);
+    let order = compare_digits(a, b);
     match op {
         Op::Eq => order.is_eq(),
         Op::Ne => order.is_ne(),
@@ -117,24 +116,6 @@ pub fn compare_numbers(op: Op, a: &[u8], b: &[u8]) -> bool
         Op::Le => order.is_le(),
         Op::Ge => order.is_ge(),
     }
-}
-
-// Whether a comparison of a whole number with a written one holds.
-fn compare_whole(op: Op, n: usize, b: &[u8]) -> bool
-    requires { IsNumberText b.now }
-    ensures { result ≡ compared op (Some (whole_number n)) (Some (a_number b.now)) }
-{
-    let mut buffer = Buffer::new();
-    compare_numbers(op, whole_text(&mut buffer, n), b)
-}
-
-// Whether a comparison of a written number with a whole one holds.
-fn compare_with_whole(op: Op, a: &[u8], n: usize) -> bool
-    requires { IsNumberText a.now }
-    ensures { result ≡ compared op (Some (a_number a.now)) (Some (whole_number n)) }
-{
-    let mut buffer = Buffer::new();
-    compare_numbers(op, a, whole_text(&mut buffer, n))
 }
 
 // Whether a comparison of a node's value, or of Nothing, with a literal holds, whatever they are.
@@ -174,7 +155,9 @@ pub fn compare_found(doc: &Document, found: Option<NodeId>, op: &Op, literal: &L
 {
     judges_numbers();
     match (number_found(doc, found), literal) {
-        (Some(a), Literal::Number(b)) => compare_numbers(*op, a, b),
+        (Some(a), Literal::Number(b)) => {
+            compare_numbers(*op, Digits::Written(a), Digits::Written(b.as_slice()))
+        }
         _ => compare_any(doc, found, *op, literal),
     }
 }
@@ -185,17 +168,8 @@ pub fn compare<'a>(doc: &'a Document, op: Op, left: &Side<'a>, right: &Side<'a>)
     requires right { IsSide doc.now right.now }
     ensures { result ≡ compared op (side_value doc.now left.now) (side_value doc.now right.now) }
 {
-    if let Some(b) = written(doc, right) {
-        if let Side::Whole(n) = left {
-            return compare_whole(op, *n, b);
-        }
-        if let Some(a) = written(doc, left) {
-            return compare_numbers(op, a, b);
-        }
-    } else if let Side::Whole(n) = right {
-        if let Some(a) = written(doc, left) {
-            return compare_with_whole(op, a, *n);
-        }
+    match (side_digits(doc, left), side_digits(doc, right)) {
+        (Some(a), Some(b)) => compare_numbers(op, a, b),
+        _ => compare_contents(doc, op, *left, *right),
     }
-    compare_contents(doc, op, *left, *right)
 }

@@ -27,6 +27,7 @@ pub fn whole_text(buffer: &mut Buffer, n: usize) -> &[u8]
 }
 
 // How a number compares with one that is written.
+#[inline]
 fn compare_with(a: Digits<'_>, b: &[u8]) -> Ordering
     requires left { AreDigits a }
     requires right { IsNumberText b.now }
@@ -42,6 +43,7 @@ fn compare_with(a: Digits<'_>, b: &[u8]) -> Ordering
 }
 
 /// How two numbers compare.
+#[inline]
 pub fn compare_digits(a: Digits<'_>, b: Digits<'_>) -> Ordering
     requires left { AreDigits a }
     requires right { AreDigits b }

@@ -13,7 +13,8 @@ ghost use Rattle.tape_select.specs.Running.{keep_run, holds_run, some_run, all_r
 ghost use Rattle.tape_select.specs.Nodelists.{nodes_of, Sound, Gives};
 ghost use Rattle.tape_select.specs.Sides.{IsSideOf, IsNumberSide};
 
-use crate::compare::{compare_contents, compare_found, compare_numbers, written};
+use crate::compare::{compare_contents, compare_found, compare_numbers, side_digits};
+use crate::digits::Digits;
 use crate::fault::SelectFault;
 use crate::nodelist::push;
 use crate::sides::Side;
@@ -59,23 +60,23 @@ fn are_plain(operands: &[Expr]) -> bool
     true
 }
 
-// A literal, or the value of a singular query; and its text where it is a number, as most are.
+// A literal, or the value of a singular query; and its digits where it is a number, as most are.
 #[inline(always)]
 fn plain_side<'a>(
     doc: &'a Document,
     comparable: &'a Comparable,
     child: NodeId,
-) -> (Side<'a>, Option<&'a [u8]>)
+) -> (Side<'a>, Option<Digits<'a>>)
     requires inside { child.0 < count doc.now }
     requires valid { IsTrue (is_valid_comparable (comparable_view comparable.now)) }
     requires plain { IsTrue (is_plain_side (comparable_view comparable.now)) }
     ensures side { IsSideOf doc.now (result_run (node_at doc.now 0) (comparable_view comparable.now) (node_at doc.now child.0)) result.0 }
-    ensures number { IfSome result.1 (λ text. IsNumberSide doc.now result.0 text.now) }
+    ensures number { IfSome result.1 (λ digits. IsNumberSide doc.now result.0 digits) }
 {
     match comparable {
         Comparable::Lit(literal) => {
             let side = Side::Literal(literal);
-            (side, written(doc, &side))
+            (side, side_digits(doc, &side))
         }
         Comparable::Single(query) => {
             let first = start(doc, query.from_root, child);
@@ -83,7 +84,7 @@ fn plain_side<'a>(
                 None => (Side::Nothing, None),
                 Some(n) => {
                     let side = Side::Node(n);
-                    (side, written(doc, &side))
+                    (side, side_digits(doc, &side))
                 }
             }
         }

@@ -49,8 +49,8 @@ fn by_selectors(doc: &Document, selectors: &[Selector], n: NodeId) -> Option<Nod
 }
 
 // The node that a segment of one name or one index selects.
-#[inline(always)]
-fn step(doc: &Document, segment: &Segment, n: NodeId) -> Option<NodeId>
+#[inline(never)]
+fn step_by_kind(doc: &Document, segment: &Segment, n: NodeId) -> Option<NodeId>
     requires inside { n.0 < count doc.now }
     requires one { IsTrue (is_one (segment_view segment.now).selectors) }
     ensures node { selected_run (node_at doc.now 0) (segment_view segment.now).selectors [] (node_at doc.now n.0) ≡ Some (single doc.now result) }
@@ -59,21 +59,10 @@ fn step(doc: &Document, segment: &Segment, n: NodeId) -> Option<NodeId>
     by_selectors(doc, &segment.selectors, n)
 }
 
-// The same, by a call of its own.
-#[inline(never)]
-fn step_apart(doc: &Document, segment: &Segment, n: NodeId) -> Option<NodeId>
-    requires inside { n.0 < count doc.now }
-    requires one { IsTrue (is_one (segment_view segment.now).selectors) }
-    ensures node { selected_run (node_at doc.now 0) (segment_view segment.now).selectors [] (node_at doc.now n.0) ≡ Some (single doc.now result) }
-    ensures inside { IsIn doc.now result }
-{
-    step(doc, segment, n)
-}
-
 // The same. Names are looked at first, since most are names.
 #[tactic(auto, using(crate::proofs::Following::single_added))]
 #[inline(always)]
-fn step_by_name(doc: &Document, segment: &Segment, n: NodeId) -> Option<NodeId>
+fn step(doc: &Document, segment: &Segment, n: NodeId) -> Option<NodeId>
     requires inside { n.0 < count doc.now }
     requires one { IsTrue (is_one (segment_view segment.now).selectors) }
     ensures node { selected_run (node_at doc.now 0) (segment_view segment.now).selectors [] (node_at doc.now n.0) ≡ Some (single doc.now result) }
@@ -81,7 +70,7 @@ fn step_by_name(doc: &Document, segment: &Segment, n: NodeId) -> Option<NodeId>
 {
     match lone_name(&segment.selectors) {
         Some(name) => doc.member(n, name),
-        None => step_apart(doc, segment, n),
+        None => step_by_kind(doc, segment, n),
     }
 }
 
@@ -95,7 +84,7 @@ fn followed_on(doc: &Document, segments: &[Segment], n: NodeId) -> Option<NodeId
 {
     let mut node = n;
     for segment in segments {
-        node = step_by_name(doc, segment, node)?;
+        node = step(doc, segment, node)?;
     }
     Some(node)
 }
@@ -109,7 +98,7 @@ pub fn followed(doc: &Document, segments: &[Segment], n: NodeId) -> Option<NodeI
     ensures inside { IsIn doc.now result }
 {
     match segments {
-        [only] => step_by_name(doc, only, n),
+        [only] => step(doc, only, n),
         _ => followed_on(doc, segments, n),
     }
 }
