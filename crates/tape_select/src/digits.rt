@@ -17,8 +17,8 @@ pub enum Digits<'a> {
     Whole(usize),
 }
 
-/// The digits of a whole number.
-pub fn whole_text(buffer: &mut Buffer, n: usize) -> &[u8]
+// The digits of a whole number.
+fn whole_text(buffer: &mut Buffer, n: usize) -> &[u8]
     ensures text { result.now ≡ decimal n }
     ensures number { IsNumberText result.now }
 {
@@ -26,34 +26,39 @@ pub fn whole_text(buffer: &mut Buffer, n: usize) -> &[u8]
     buffer.format(n).as_bytes()
 }
 
-// How a number compares with one that is written.
-#[inline]
-fn compare_with(a: Digits<'_>, b: &[u8]) -> Ordering
-    requires left { AreDigits a }
-    requires right { IsNumberText b.now }
-    ensures { result ≡ number_cmp (digits_text a.entry) b.now }
+// The digits of a number. Those of a whole number are written to the buffer.
+fn text_of<'a>(buffer: &'a mut Buffer, number: Digits<'a>) -> &'a [u8]
+    requires { AreDigits number }
+    ensures text { result.now ≡ digits_text number.entry }
+    ensures number { IsNumberText result.now }
 {
-    match a {
-        Digits::Written(a) => compare(a, b),
-        Digits::Whole(n) => {
-            let mut buffer = Buffer::new();
-            compare(whole_text(&mut buffer, n), b)
-        }
+    match number {
+        Digits::Written(text) => text,
+        Digits::Whole(n) => whole_text(buffer, n),
     }
 }
 
-/// How two numbers compare.
-#[inline]
+// How two numbers compare, whatever they come from.
+#[inline(never)]
+fn compare_texts(a: Digits<'_>, b: Digits<'_>) -> Ordering
+    requires left { AreDigits a }
+    requires right { AreDigits b }
+    ensures { result ≡ number_cmp (digits_text a.entry) (digits_text b.entry) }
+{
+    let mut left = Buffer::new();
+    let mut right = Buffer::new();
+    compare(text_of(&mut left, a), text_of(&mut right, b))
+}
+
+/// How two numbers compare. Most are written.
+#[inline(always)]
 pub fn compare_digits(a: Digits<'_>, b: Digits<'_>) -> Ordering
     requires left { AreDigits a }
     requires right { AreDigits b }
     ensures { result ≡ number_cmp (digits_text a.entry) (digits_text b.entry) }
 {
-    match b {
-        Digits::Written(b) => compare_with(a, b),
-        Digits::Whole(n) => {
-            let mut buffer = Buffer::new();
-            compare_with(a, whole_text(&mut buffer, n))
-        }
+    match (a, b) {
+        (Digits::Written(a), Digits::Written(b)) => compare(a, b),
+        _ => compare_texts(a, b),
     }
 }
