@@ -35,7 +35,7 @@ fn by_one(doc: &Document, only: &Selector, n: NodeId) -> Option<NodeId>
 }
 
 #[tactic(auto, using(crate::proofs::Following::more_step))]
-#[inline(always)]
+#[inline(never)]
 fn by_selectors(doc: &Document, selectors: &[Selector], n: NodeId) -> Option<NodeId>
     requires inside { n.0 < count doc.now }
     requires one { IsTrue (is_one (selectors_view selectors.now)) }
@@ -48,18 +48,7 @@ fn by_selectors(doc: &Document, selectors: &[Selector], n: NodeId) -> Option<Nod
     }
 }
 
-// The node that a segment of one name or one index selects.
-#[inline(never)]
-fn step_by_kind(doc: &Document, segment: &Segment, n: NodeId) -> Option<NodeId>
-    requires inside { n.0 < count doc.now }
-    requires one { IsTrue (is_one (segment_view segment.now).selectors) }
-    ensures node { selected_run (node_at doc.now 0) (segment_view segment.now).selectors [] (node_at doc.now n.0) ≡ Some (single doc.now result) }
-    ensures inside { IsIn doc.now result }
-{
-    by_selectors(doc, &segment.selectors, n)
-}
-
-// The same. Names are looked at first, since most are names.
+// The node that a segment of one name or one index selects. Names are looked at first, since most are names.
 #[tactic(auto, using(crate::proofs::Following::single_added))]
 #[inline(always)]
 fn step(doc: &Document, segment: &Segment, n: NodeId) -> Option<NodeId>
@@ -70,7 +59,7 @@ fn step(doc: &Document, segment: &Segment, n: NodeId) -> Option<NodeId>
 {
     match lone_name(&segment.selectors) {
         Some(name) => doc.member(n, name),
-        None => step_by_kind(doc, segment, n),
+        None => by_selectors(doc, &segment.selectors, n),
     }
 }
 
