@@ -5,6 +5,6 @@ mod laws;
 mod valid;
 mod valid_query;
 
-pub use laws::judges_numbers;
+pub use laws::{judges_numbers, numbers_have_one_grammar};
 pub use valid::INT_LIMIT;
 pub use valid_query::{NotValid, ValidQuery, check};
