@@ -1,5 +1,5 @@
 -- Laws that the definitions of numbers have to meet.
-use Rattle.std.specs.Prelude.{◌≡◌, ℕ, ◌<◌, ◌^◌, ◌⊎◌, ◌↔◌, ◌≤ℤ◌, List, pos}
+use Rattle.std.specs.Prelude.{◌≡◌, ℕ, ◌<◌, ◌^◌, ◌⊎◌, ◌↔◌, ◌≤ℤ◌, List, pos, is_some, IsTrue}
 use Rattle.std.specs.Cmp.{IsTotalOrder}
 use Rattle.std.specs.Fmt.{decimal}
 use Rattle.std.specs.declared.cmp.Ordering.TheVariants.{Equal}
@@ -8,6 +8,7 @@ use Rattle.decimal_order.specs.Value.{Value, value}
 use Rattle.decimal_order.specs.Order.{scaled, value_cmp, number_cmp}
 use Rattle.decimal_order.specs.Limits.{IsWithinLimits}
 use Rattle.decimal_order.specs.Parts.{Parts, HasParts, parts_value}
+use Rattle.decimal_order.specs.Reading.{read}
 
 -- v is at most w
 abbrev pub IsAtMost : Value → Value → Type 0
@@ -21,10 +22,11 @@ pub record OrdersValues : Type 0 where
   pub values : IsTotalOrder value_cmp
   pub numbers : IsTotalOrder number_cmp
 
--- a number falls into its parts in one way, and its value is that of its parts
+-- a number falls into its parts in one way, which a reader from left to right finds, and its value is that of its parts
 pub record ReadsOneWay : Type 0 where
   pub has_parts : (text : List ℕ) → IsNumber text ↔ ((p : Parts) × HasParts text p)
   pub one_way : (text : List ℕ) (p q : Parts) → HasParts text p → HasParts text q → p ≡ q
+  pub is_read : (text : List ℕ) → IsTrue (is_some (read text)) ↔ IsNumber text
   pub value_of_parts : (text : List ℕ) (p : Parts) → HasParts text p → value text ≡ parts_value p
 
 -- the decimal text of a whole number is a number within the limits, and of that value

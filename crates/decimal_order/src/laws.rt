@@ -8,9 +8,9 @@ pub fn orders_values()
     ensures { OrdersValues }
 {}
 
-/// A number falls into its parts in one way, and its value is that of its parts.
+/// A number falls into its parts in one way, which a reader from left to right finds, and its value is that of its parts.
 ///
-/// It does nothing: the law is its contract.
+/// It does nothing: a caller that tells numbers by such a reader has the law from its contract.
 pub fn reads_one_way()
     ensures { ReadsOneWay }
 {}

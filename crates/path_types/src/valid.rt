@@ -6,7 +6,7 @@ ghost use Rattle.path_grammar.specs.View.{segments_view, selectors_view, selecto
 ghost use Rattle.path_types.specs.Numbers.{is_number};
 ghost use Rattle.path_types.specs.Validity.{is_int, is_bound, is_literal, is_length, is_count_or_value, is_valid, are_valid, is_valid_selector, is_valid_expr, are_valid_exprs, is_valid_comparable, is_valid_call, are_valid_arguments, is_valid_argument};
 
-use decimal_order::{scan, within_limits};
+use decimal_order::{reads_one_way, scan, within_limits};
 use path_grammar::{
     Argument, Call, Comparable, Expr, IntLit, Literal, Segment, Selector, is_singular,
 };
@@ -32,10 +32,10 @@ fn is_bound(bound: Option<IntLit>) -> bool
     }
 }
 
-#[tactic(auto, using(crate::proofs::Numbers::no_number))]
 fn is_number(text: &[u8]) -> bool
     ensures { result ≡ is_number text.now }
 {
+    reads_one_way();
     match scan(text) {
         Some(decimal) => within_limits(&decimal),
         None => false,

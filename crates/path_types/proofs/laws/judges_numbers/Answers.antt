@@ -2,4 +2,4 @@ use Rattle.path_types.proofs.Numbers as numbers
 use Rattle.path_types.proofs.laws.judges_numbers.Goals as goal
 
 pub returns : goal.returns
-returns c = numbers.judges_numbers
+returns c = numbers.judges_numbers c.reads_one_way.ensures
