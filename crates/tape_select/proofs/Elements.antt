@@ -1,12 +1,11 @@
--- The elements of an array, and those of a slice.
-use Rattle.std.proofs.Common.{◌≡◌, ◌≢◌, ℕ, zero, suc, ◌+◌, ◌-◌, Bool, true, false, List, [], ◌∷◌, length, Some, refl, sym, ap, arith}
+-- The elements of an array.
+use Rattle.std.proofs.Common.{◌≡◌, ◌≢◌, ℕ, zero, suc, ◌+◌, ◌-◌, List, [], ◌∷◌, length, Some, refl, sym, ap, arith}
 use Rattle.json_tape.specs.Tree.{Null, True, False, Num, Str, Tree, Leaf, Arr, Obj, Elements, NoElement, Element}
 use Rattle.json_tape.specs.Nodes.{Node, Step, elements_from, elements_of, children_of, children, elements, size}
 use Rattle.json_tape.specs.Document.{kind_of, length_of}
 use Rattle.json_tape.specs.Tape.{element_count}
 use Rattle.json_tape.specs.declared.tape.Kind.TheVariants as kinds
-use Rattle.tape_select.specs.Selection.{nth, picked}
-use Rattle.tape_select.proofs.Adding.{add_more, add_full, has_none, not_over}
+use Rattle.tape_select.specs.Selection.{nth}
 
 length_elements : (up : List Step) (i k : ℕ) (es : Elements) → length (elements_from up i k es) ≡ element_count es
 length_elements up i k NoElement = refl
@@ -48,12 +47,4 @@ pub nth_more : (i : ℕ) (n : Node) (ns : List Node) → i ≢ 0 → nth i (n �
 nth_more zero n ns h = absurd (h refl)
 nth_more (suc i) n ns h = let e : suc i - 1 ≡ i = omega arith in rw e refl
 
-pub picked_one : (p : ℕ → Bool) (i : ℕ) (n : Node) (ns : List Node) → p i ≡ true → picked p i (n ∷ ns) ≡ n ∷ picked p (i + 1) ns
-picked_one p i n ns h = let e : i + 1 ≡ suc i = omega arith in rw (h, e) refl
-
-pub picked_not : (p : ℕ → Bool) (i : ℕ) (n : Node) (ns : List Node) → p i ≡ false → picked p i (n ∷ ns) ≡ picked p (i + 1) ns
-picked_not p i n ns h = let e : i + 1 ≡ suc i = omega arith in rw (h, e) refl
-
 pub ruleset arrays = (children_are, total_is, none_are)
-
-pub ruleset picking = (picked_one, picked_not, add_more, add_full, has_none, not_over)

@@ -1,5 +1,6 @@
 -- A value without children: no selector selects anything from it.
-use Rattle.std.proofs.Common.{◌≡◌, ℕ, zero, suc, ◌+◌, ◌-◌, ◌<◌, ◌≢◌, false, List, [], ◌∷◌, length, Option, Some, None, ℤ, pos, negsuc, refl, sym, ◌∙◌}
+use Rattle.std.proofs.Common.{◌≡◌, ℕ, ◌+◌, ◌-◌, ◌<◌, ◌≢◌, Bool, true, false, cond, List, [], ◌∷◌, length, reverse, Option, Some, None, ℤ, pos, refl, sym, ◌∙◌}
+use Rattle.std.specs.Prelude.{int_lt}
 use Rattle.path_grammar.specs.Tree.{Selectors, no_selectors, selector, Selector, name, wild, index, filter, slice}
 use Rattle.path_grammar.specs.View.{selector_view, selectors_view}
 use Rattle.path_grammar.specs.declared.ast.Selector as code
@@ -9,7 +10,7 @@ use Rattle.path_grammar.specs.declared.ast.IntLit.TheVariants.{Within, Beyond}
 use Rattle.json_tape.specs.Tree.{Tree, Leaf, Arr, Obj}
 use Rattle.json_tape.specs.Nodes.{Node, Step, children, elements, children_of, elements_of}
 use Rattle.json_tape.specs.Document.{Doc, seen, node_at, counting}
-use Rattle.tape_select.specs.Selection.{at_index, nth_if, position_in, step_of, sliced_by}
+use Rattle.tape_select.specs.Selection.{at_index, nth_if, position_in, step_of, in_order, sliced}
 use Rattle.tape_select.specs.Evaluation.{is_over}
 use Rattle.tape_select.specs.Running.{selected_run, selected_by_run, selected_from_run}
 use Rattle.tape_select.proofs.Runs.{none_more}
@@ -29,17 +30,21 @@ none_at (Within i) = go (position_in i 0)
     go None = refl
     go (Some n) = refl
 
-none_sliced : (step : ℤ) (start stop : Option IntLit) → sliced_by step start stop [] ≡ []
-none_sliced (pos zero) start stop = refl
-none_sliced (pos (suc s)) start stop = refl
-none_sliced (negsuc s) start stop = refl
+none_ordered : (step : ℤ) → in_order step [] ≡ []
+none_ordered step = go (int_lt (pos 0) step) (int_lt step (pos 0))
+  where
+    go : (above below : Bool) → ◌≡◌ {A = List Node} (cond above [] (cond below (reverse []) [])) []
+    go true below = refl
+    go false true = refl
+    go false false = refl
 
 selects_none : (root : Node) (s : Selector) (out : List Node) (n : Node) → children n ≡ [] → elements n ≡ [] → is_over out ≡ false → selected_by_run root s out n ≡ Some out
+unfolding sliced
 selects_none root (name scalars) out n c e o = rw c (sym (none_more out o))
 selects_none root wild out n c e o = rw c (sym (none_more out o))
 selects_none root (index i) out n c e o = rw (e, none_at i) (sym (none_more out o))
 selects_none root (filter x) out n c e o = rw c refl
-selects_none root (slice start stop step) out n c e o = rw (e, none_sliced (step_of step) start stop) (sym (none_more out o))
+selects_none root (slice start stop step) out n c e o = rw (e, none_ordered (step_of step)) (sym (none_more out o))
 
 select_none : (root : Node) (ss : Selectors) (out : List Node) (n : Node) → children n ≡ [] → elements n ≡ [] → is_over out ≡ false → selected_run root ss out n ≡ Some out
 select_none root no_selectors out n c e o = refl

@@ -2,6 +2,7 @@ pub mod Runs
 pub mod Adding
 pub mod Walks
 pub mod Elements
+pub mod Progressions
 pub mod Turned
 pub mod Ends
 pub mod SideValues

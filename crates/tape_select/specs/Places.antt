@@ -1,7 +1,6 @@
--- The places that a slice selects, as the code has them.
-use Rattle.std.specs.Prelude.{ℕ, Bool, if◌then◌else◌}
-use Rattle.tape_select.specs.Selection.{up_to, down_to}
-use Rattle.tape_select.specs.declared.slices.Places.{Places}
+-- The places that a slice selects, as the code has them: ascending.
+use Rattle.std.specs.Prelude.{ℕ, ◌-◌, ◌%◌, Bool, ◌&&◌, nat_le, nat_lt, nat_eq}
 
-abbrev pub is_place : Places → ℕ → Bool
-is_place p = if p.up then up_to p.start p.stop p.step else down_to p.start p.stop p.step
+-- first, first + step, .. below the end
+abbrev pub is_place : (first end step : ℕ) → ℕ → Bool
+is_place first end step i = nat_le first i && nat_lt i end && nat_eq ((i - first) % step) 0

@@ -1,5 +1,6 @@
 -- What a selector selects from one node (RFC 9535, section 2.3).
-use Rattle.std.specs.Prelude.{ℕ, zero, suc, ◌-◌, ◌%◌, min, List, [], ◌∷◌, Bool, ◌&&◌, length, reverse, Option, Some, None, if◌then◌else◌, ℤ, pos, negsuc, nat_lt, nat_le, nat_eq}
+use Rattle.std.specs.Prelude.{ℕ, zero, suc, ◌-◌, ◌%◌, List, [], ◌∷◌, Bool, ◌&&◌, length, reverse, Option, Some, None, if◌then◌else◌, ℤ, pos, negsuc, ◌+ℤ◌, ◌-ℤ◌, neg_ℤ, unsigned_abs, nat_lt, nat_eq, int_le, int_lt}
+use Rattle.std.specs.Int.{int_min, int_max}
 use Rattle.path_grammar.specs.declared.ast.IntLit.{IntLit}
 use Rattle.path_grammar.specs.declared.ast.IntLit.TheVariants.{Within, Beyond}
 use Rattle.json_tape.specs.Nodes.{Node}
@@ -32,42 +33,58 @@ abbrev pub picked : (ℕ → Bool) → ℕ → List Node → List Node
 picked p i [] = []
 picked p i (n ∷ ns) = if p i then n ∷ picked p (suc i) ns else picked p (suc i) ns
 
--- A bound over n elements: a negative one has n added once, and then it is clamped. With a step above 0 it is clamped to
--- 0 to n. With a step below 0 it is clamped to -1 to n - 1, and is given here one higher: 0 to n again.
-abbrev pub bound_up : ℕ → ℤ → ℕ
-bound_up n (pos i) = min i n
-bound_up n (negsuc i) = n - suc i
+-- a bound below 0 counts from the end (section 2.3.4.2.2)
+abbrev pub normalize : (i : ℤ) (len : ℕ) → ℤ
+normalize i len = if int_le (pos 0) i then i else pos len +ℤ i
 
-abbrev pub bound_down : ℕ → ℤ → ℕ
-bound_down n (pos i) = min (suc i) n
-bound_down n (negsuc i) = n - i
+-- The bounds of what is selected: MIN(MAX(.., 0), len) with a step that is not below 0, and MIN(MAX(.., -1), len - 1) with one
+-- that is. `negsuc 0` is -1; `stop` is what the RFC calls `end`.
+abbrev pub lower : (start stop step : ℤ) (len : ℕ) → ℤ
+lower start stop step len =
+    if int_le (pos 0) step then int_min (int_max (normalize start len) (pos 0)) (pos len)
+    else int_min (int_max (normalize stop len) (negsuc 0)) (pos len -ℤ pos 1)
 
--- a bound, where it is left out its default
-abbrev pub bound_or : ℕ → (ℤ → ℕ) → Option IntLit → ℕ
-bound_or default f None = default
-bound_or default f (Some Beyond) = default
-bound_or default f (Some (Within i)) = f i
+abbrev pub upper : (start stop step : ℤ) (len : ℕ) → ℤ
+upper start stop step len =
+    if int_le (pos 0) step then int_min (int_max (normalize stop len) (pos 0)) (pos len)
+    else int_min (int_max (normalize start len) (negsuc 0)) (pos len -ℤ pos 1)
 
--- start <= i < stop, and i - start a multiple of the step
-abbrev pub up_to : (start stop step : ℕ) → ℕ → Bool
-up_to start stop step i = nat_le start i && nat_lt i stop && nat_eq ((i - start) % step) 0
+abbrev pub is_multiple : (distance step : ℤ) → Bool
+is_multiple distance step = nat_eq (unsigned_abs distance % unsigned_abs step) 0
 
--- stop < i <= start, and start - i a multiple of the step, where both bounds are given one higher
-abbrev pub down_to : (start stop step : ℕ) → ℕ → Bool
-down_to start stop step i = nat_le stop i && nat_lt i start && nat_eq ((start - suc i) % step) 0
+-- lower <= i < upper, and i - lower a multiple of the step; with a step below 0, lower < i <= upper, and upper - i a multiple of it
+abbrev pub is_selected : (lower upper step : ℤ) → ℕ → Bool
+is_selected lower upper step i =
+    if int_le (pos 0) step then int_le lower (pos i) && int_lt (pos i) upper && is_multiple (pos i -ℤ lower) step
+    else int_lt lower (pos i) && int_le (pos i) upper && is_multiple (upper -ℤ pos i) step
+
+-- ascending with a step above 0, descending with one below 0, nothing with 0
+abbrev pub in_order : (step : ℤ) → List Node → List Node
+in_order step ns = if int_lt (pos 0) step then ns else (if int_lt step (pos 0) then reverse ns else [])
+
+abbrev pub sliced_by : (start stop step : ℤ) → List Node → List Node
+sliced_by start stop step ns =
+    in_order step (picked (is_selected (lower start stop step (length ns)) (upper start stop step (length ns)) step) 0 ns)
+
+-- what stands for a bound that is left out (section 2.3.4.2.1)
+abbrev pub start_default : (step : ℤ) (len : ℕ) → ℤ
+start_default step len = if int_le (pos 0) step then pos 0 else pos len -ℤ pos 1
+
+abbrev pub stop_default : (step : ℤ) (len : ℕ) → ℤ
+stop_default step len = if int_le (pos 0) step then pos len else neg_ℤ (pos len) -ℤ pos 1
+
+-- A bound, or its default. In a valid query no number is `Beyond` the integers that a query may have: here a bound that is counts
+-- as left out, and a step that is as 0.
+abbrev pub bound_or : ℤ → Option IntLit → ℤ
+bound_or default None = default
+bound_or default (Some Beyond) = default
+bound_or default (Some (Within i)) = i
 
 abbrev pub step_of : Option IntLit → ℤ
 step_of None = pos 1
 step_of (Some Beyond) = pos 0
 step_of (Some (Within i)) = i
 
--- ascending with a step above 0, descending with one below 0, nothing with 0
-abbrev pub sliced_by : ℤ → (start stop : Option IntLit) → List Node → List Node
-sliced_by (pos zero) start stop ns = []
-sliced_by (pos (suc s)) start stop ns =
-    picked (up_to (bound_or 0 (bound_up (length ns)) start) (bound_or (length ns) (bound_up (length ns)) stop) (suc s)) 0 ns
-sliced_by (negsuc s) start stop ns =
-    reverse (picked (down_to (bound_or (length ns) (bound_down (length ns)) start) (bound_or 0 (bound_down (length ns)) stop) (suc s)) 0 ns)
-
-abbrev pub sliced : (start stop step : Option IntLit) → List Node → List Node
-sliced start stop step ns = sliced_by (step_of step) start stop ns
+unfoldable pub sliced : (start stop step : Option IntLit) → List Node → List Node
+sliced start stop step ns =
+    sliced_by (bound_or (start_default (step_of step) (length ns)) start) (bound_or (stop_default (step_of step) (length ns)) stop) (step_of step) ns

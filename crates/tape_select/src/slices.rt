@@ -1,10 +1,10 @@
 //! The selector of a slice (RFC 9535, section 2.3.4).
 
-ghost use Rattle.std.specs.Prelude.{◌≡◌, ◌<◌, ◌≤◌, ◌∷◌, [], ◌++◌, ◌^◌, length, take, drop, reverse};
+ghost use Rattle.std.specs.Prelude.{◌≡◌, ◌<◌, ◌≤◌, ◌∷◌, [], ◌++◌, ◌^◌, ◌≤ℤ◌, ◌<ℤ◌, ◌+ℤ◌, ℕ, pos, negsuc, unsigned_abs, length, take, drop, reverse};
 ghost use Rattle.json_tape.specs.Document.{count, node_at, following, IsIn};
 ghost use Rattle.json_tape.specs.Nodes.{children, elements, is_named, visit};
 ghost use Rattle.tape_select.specs.Places.{is_place};
-ghost use Rattle.tape_select.specs.Selection.{picked, bound_up, bound_down, bound_or, step_of, sliced};
+ghost use Rattle.tape_select.specs.Selection.{picked, normalize, lower, upper, is_selected, in_order, start_default, stop_default, bound_or, step_of, sliced};
 ghost use Rattle.tape_select.specs.Running.{add};
 ghost use Rattle.tape_select.specs.Nodelists.{nodes_of, Sound, Gives};
 
@@ -14,28 +14,16 @@ use crate::selectors::{element_total, first_element};
 use json_tape::{Document, NodeId};
 use path_grammar::IntLit;
 
-/// The places that a slice selects: up from `start` to before `stop`, or down from below `start` to `stop`.
+// The places that a slice selects, the lowest first: `first`, `first + step` and so on, below `end`.
 #[derive(Clone, Copy)]
-pub struct Places {
-    pub up: bool,
-    pub start: u32,
-    pub stop: u32,
-    pub step: u64,
-}
-
-fn is_place(places: Places, i: u32) -> bool
-    requires { 0 < places.step }
-    ensures { result ≡ is_place places i }
-{
-    if places.up {
-        places.start <= i && i < places.stop && u64::from(i - places.start) % places.step == 0
-    } else {
-        places.stop <= i && i < places.start && u64::from(places.start - 1 - i) % places.step == 0
-    }
+struct Places {
+    first: u64,
+    end: u64,
+    step: u64,
 }
 
 // The elements at these places, in document order.
-#[tactic(auto, using(crate::proofs::Elements::picking))]
+#[tactic(auto, using(crate::proofs::Progressions::picking))]
 fn picked(
     doc: &Document,
     n: NodeId,
@@ -43,70 +31,27 @@ fn picked(
     out: &mut Vec<NodeId>,
 ) -> Result<(), SelectFault>
     requires step { 0 < places.step }
+    requires step_fits { places.step ≤ 2 ^ 63 }
+    requires end_fits { places.end ≤ 2 ^ 32 }
     requires inside { n.0 < count doc.now }
     requires sound { Sound doc.now out.old.items }
-    ensures { Gives doc.now result out.new.items (add (nodes_of doc.now out.old.items) (picked (is_place places) 0 (elements (node_at doc.now n.0)))) }
+    ensures { Gives doc.now result out.new.items (add (nodes_of doc.now out.old.items) (picked (is_place places.first places.end places.step) 0 (elements (node_at doc.now n.0)))) }
 {
     let mut child = first_element(doc, n);
-    let total = element_total(doc, n);
-    for i in 0..total {
-        if let Some(c) = child {
-            if is_place(places, i) {
-                push(doc, out, c)?;
-            }
-            child = doc.next_sibling(c);
+    let mut i = 0;
+    let mut wanted = places.first;
+    while wanted < places.end {
+        let Some(c) = child else {
+            break;
+        };
+        if i == wanted {
+            push(doc, out, c)?;
+            wanted += places.step;
         }
+        child = doc.next_sibling(c);
+        i += 1;
     }
     Ok(())
-}
-
-// A bound of a slice with a step above 0.
-fn clamped_up(total: u32, i: i64) -> u32
-    ensures { result ≡ bound_up total i }
-{
-    let distance = i.unsigned_abs();
-    let whole = u64::from(total);
-    if 0 <= i {
-        distance.min(whole) as u32
-    } else {
-        whole.saturating_sub(distance) as u32
-    }
-}
-
-// A bound of a slice with a step below 0, one higher.
-fn clamped_down(total: u32, i: i64) -> u32
-    requires { total < 2 ^ 32 }
-    ensures { result ≡ bound_down total i }
-{
-    let distance = i.unsigned_abs();
-    let whole = u64::from(total);
-    if 0 <= i {
-        if distance < whole {
-            (distance + 1) as u32
-        } else {
-            total
-        }
-    } else {
-        (whole + 1).saturating_sub(distance).min(whole) as u32
-    }
-}
-
-fn up_or(total: u32, other: u32, i: Option<IntLit>) -> u32
-    ensures { result ≡ bound_or other (bound_up total) i }
-{
-    match i {
-        Some(IntLit::Within(i)) => clamped_up(total, i),
-        _ => other,
-    }
-}
-
-fn down_or(total: u32, other: u32, i: Option<IntLit>) -> u32
-    ensures { result ≡ bound_or other (bound_down total) i }
-{
-    match i {
-        Some(IntLit::Within(i)) => clamped_down(total, i),
-        _ => other,
-    }
 }
 
 // Turns the end of a list round.
@@ -126,14 +71,148 @@ fn picked_back(
     out: &mut Vec<NodeId>,
 ) -> Result<(), SelectFault>
     requires step { 0 < places.step }
+    requires step_fits { places.step ≤ 2 ^ 63 }
+    requires end_fits { places.end ≤ 2 ^ 32 }
     requires inside { n.0 < count doc.now }
     requires sound { Sound doc.now out.old.items }
-    ensures { Gives doc.now result out.new.items (add (nodes_of doc.now out.old.items) (reverse (picked (is_place places) 0 (elements (node_at doc.now n.0))))) }
+    ensures { Gives doc.now result out.new.items (add (nodes_of doc.now out.old.items) (reverse (picked (is_place places.first places.end places.step) 0 (elements (node_at doc.now n.0))))) }
 {
     let from = out.len();
     picked(doc, n, places, out)?;
     reverse_from(out, from);
     Ok(())
+}
+
+// The elements at these places, ascending with a step above 0, descending with one below 0, none with 0.
+fn picked_in_order(
+    doc: &Document,
+    n: NodeId,
+    places: Places,
+    step: i64,
+    out: &mut Vec<NodeId>,
+) -> Result<(), SelectFault>
+    requires step { places.step ≡ unsigned_abs step }
+    requires end_fits { places.end ≤ 2 ^ 32 }
+    requires inside { n.0 < count doc.now }
+    requires sound { Sound doc.now out.old.items }
+    ensures { Gives doc.now result out.new.items (add (nodes_of doc.now out.old.items) (in_order step (picked (is_place places.first places.end places.step) 0 (elements (node_at doc.now n.0))))) }
+{
+    if 0 < step {
+        picked(doc, n, places, out)
+    } else if step < 0 {
+        picked_back(doc, n, places, out)
+    } else {
+        Ok(())
+    }
+}
+
+// An index below 0 counts from the end.
+fn normalize(i: i64, total: u32) -> i64
+    ensures { result ≡ normalize i total }
+{
+    if 0 <= i { i } else { i64::from(total) + i }
+}
+
+// The lower bound of what is selected.
+fn lower(start: i64, stop: i64, step: i64, total: u32) -> i64
+    ensures value { result ≡ lower start stop step total }
+    ensures least { negsuc 0 ≤ℤ result }
+    ensures least_up { pos 0 ≤ℤ step → pos 0 ≤ℤ result }
+    ensures most { result ≤ℤ pos total }
+{
+    let len = i64::from(total);
+    if 0 <= step {
+        normalize(start, total).max(0).min(len)
+    } else {
+        normalize(stop, total).max(-1).min(len - 1)
+    }
+}
+
+// The upper bound of what is selected.
+fn upper(start: i64, stop: i64, step: i64, total: u32) -> i64
+    ensures value { result ≡ upper start stop step total }
+    ensures least { negsuc 0 ≤ℤ result }
+    ensures least_up { pos 0 ≤ℤ step → pos 0 ≤ℤ result }
+    ensures most { result ≤ℤ pos total }
+{
+    let len = i64::from(total);
+    if 0 <= step {
+        normalize(stop, total).max(0).min(len)
+    } else {
+        normalize(start, total).max(-1).min(len - 1)
+    }
+}
+
+// The places of a slice with a step that is not below 0.
+fn places_up(lower: i64, upper: i64, step: i64) -> Places
+    requires step { pos 0 ≤ℤ step }
+    requires lower { pos 0 ≤ℤ lower }
+    requires upper { pos 0 ≤ℤ upper }
+    ensures step { result.step ≡ unsigned_abs step }
+    ensures end { pos result.end ≡ upper }
+    ensures places { (i : ℕ) → is_place result.first result.end result.step i ≡ is_selected lower upper step i }
+{
+    Places {
+        first: lower.unsigned_abs(),
+        end: upper.unsigned_abs(),
+        step: step.unsigned_abs(),
+    }
+}
+
+// The places of a slice with a step below 0, which selects at the upper bound and not at the lower one.
+fn places_down(lower: i64, upper: i64, step: i64) -> Places
+    requires step { step <ℤ pos 0 }
+    requires lower { negsuc 0 ≤ℤ lower }
+    requires lower_fits { lower <ℤ pos (2 ^ 32) }
+    requires upper { negsuc 0 ≤ℤ upper }
+    requires upper_fits { upper <ℤ pos (2 ^ 32) }
+    ensures step { result.step ≡ unsigned_abs step }
+    ensures end { pos result.end ≡ upper +ℤ pos 1 }
+    ensures places { (i : ℕ) → is_place result.first result.end result.step i ≡ is_selected lower upper step i }
+{
+    let step = step.unsigned_abs();
+    let least = (lower + 1).unsigned_abs();
+    let end = (upper + 1).unsigned_abs();
+    // Steps down from the last place end short of the least one by what they leave over.
+    let first = least + end.saturating_sub(least + 1) % step;
+    Places { first, end, step }
+}
+
+// The places that a slice selects of so many.
+fn selected_places(start: i64, stop: i64, step: i64, total: u32) -> Places
+    ensures step { result.step ≡ unsigned_abs step }
+    ensures end { result.end ≤ 2 ^ 32 }
+    ensures places { (i : ℕ) → is_place result.first result.end result.step i ≡ is_selected (lower start stop step total) (upper start stop step total) step i }
+{
+    let lower = lower(start, stop, step, total);
+    let upper = upper(start, stop, step, total);
+    if 0 <= step {
+        places_up(lower, upper, step)
+    } else {
+        places_down(lower, upper, step)
+    }
+}
+
+fn start_default(step: i64, total: u32) -> i64
+    ensures { result ≡ start_default step total }
+{
+    if 0 <= step { 0 } else { i64::from(total) - 1 }
+}
+
+fn stop_default(step: i64, total: u32) -> i64
+    ensures { result ≡ stop_default step total }
+{
+    let len = i64::from(total);
+    if 0 <= step { len } else { -len - 1 }
+}
+
+fn bound_or(default: i64, bound: Option<IntLit>) -> i64
+    ensures { result ≡ bound_or default bound }
+{
+    match bound {
+        Some(IntLit::Within(i)) => i,
+        _ => default,
+    }
 }
 
 fn step_or_one(step: Option<IntLit>) -> i64
@@ -162,25 +241,8 @@ pub fn sliced(
 {
     let step = step_or_one(step);
     let total = element_total(doc, n);
-    let distance = step.unsigned_abs();
-    if distance == 0 {
-        return Ok(());
-    }
-    if 0 <= step {
-        let places = Places {
-            up: true,
-            start: up_or(total, 0, start),
-            stop: up_or(total, total, stop),
-            step: distance,
-        };
-        picked(doc, n, places, out)
-    } else {
-        let places = Places {
-            up: false,
-            start: down_or(total, total, start),
-            stop: down_or(total, 0, stop),
-            step: distance,
-        };
-        picked_back(doc, n, places, out)
-    }
+    let start = bound_or(start_default(step, total), start);
+    let stop = bound_or(stop_default(step, total), stop);
+    let places = selected_places(start, stop, step, total);
+    picked_in_order(doc, n, places, step, out)
 }

@@ -1,4 +1,4 @@
-use Rattle.std.proofs.Common.{◌≡◌, ◌+◌, length}
+use Rattle.std.proofs.Common.{◌≡◌, ◌-◌, ◌≤◌}
 use Rattle.json_tape.specs.Document.{following, IsIn}
 use Rattle.tape_select.specs.Selection.{picked}
 use Rattle.tape_select.specs.Places.{is_place}
@@ -6,10 +6,13 @@ use Rattle.tape_select.specs.Running.{add}
 use Rattle.tape_select.specs.Nodelists.{nodes_of, Sound}
 use Rattle.tape_select.proofs.slices.picked.Given as goal
 
-abbrev pub invariant-loop-i : goal.invariant-loop-i
-invariant-loop-i l = record {
-  same : add (nodes_of l.doc l.out.items) (picked (is_place l.places) l.i (following l.doc l.child)) ≡ add (nodes_of l.doc l.initial.out.items) (picked (is_place l.places) 0 (following l.doc l.initial.child));
-  left : l.i + length (following l.doc l.child) ≡ l.total;
+abbrev pub invariant-loop-wanted : goal.invariant-loop-wanted
+invariant-loop-wanted l = record {
+  same : add (nodes_of l.doc l.out.items) (picked (is_place l.wanted l.places.end l.places.step) l.i (following l.doc l.child)) ≡ add (nodes_of l.doc l.initial.out.items) (picked (is_place l.initial.wanted l.places.end l.places.step) 0 (following l.doc l.initial.child));
+  before : l.i ≤ l.wanted;
   inside : IsIn l.doc l.child;
   sound : Sound l.doc l.out.items;
 }
+
+abbrev pub decreases-loop-wanted : goal.decreases-loop-wanted
+decreases-loop-wanted l = l.places.end - l.i
