@@ -41,4 +41,5 @@ pub mod PlainNames
 pub mod Meanings
 pub mod PlainBytes
 pub mod ShortHashes
+pub mod Words
 pub mod Marks

@@ -81,7 +81,7 @@ plain_steps text start k (suc r) h p e =
 -- ---- Four characters beside four scalar values
 
 -- where no bit is set, no lane has its highest
-none_set : (h : ℕ) (z : List ℕ) → length z ≤ 64 → mask_l (map (top h) z) % 2 ^ 64 ≡ 0 → (i : ℕ) → i < length z → top h (get_or z i 0) ≡ false
+pub none_set : (h : ℕ) (z : List ℕ) → length z ≤ 64 → mask_l (map (top h) z) % 2 ^ 64 ≡ 0 → (i : ℕ) → i < length z → top h (get_or z i 0) ≡ false
 none_set h z few none i within =
     let empty : mask_l (map (top h) z) ≡ 0 = sym (mask_l-mod (map (top h) z) 64 (omega (arith, length-map z (top h)))) ∙ none in
     not-true _ (prefix_len_passes (λ x. not (top h x)) z i 0 (omega (arith, leading_from_mask_l (top h) z empty)))

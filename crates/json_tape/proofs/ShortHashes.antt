@@ -82,7 +82,7 @@ length-take_few (suc n) (x ∷ xs) h = ap suc (length-take_few n xs (omega arith
 abbrev pub is_plain : ℕ → Bool
 is_plain x = ltb x 128 && not (eqb x 92)
 
-plain_byte : (x : ℕ) → is_plain x ≡ true → (x < 128) × (x ≢ 92)
+pub plain_byte : (x : ℕ) → is_plain x ≡ true → (x < 128) × (x ≢ 92)
 plain_byte x h = go (ltb x 128) (eqb x 92) refl refl h
   where
     go : (p q : Bool) → ltb x 128 ≡ p → eqb x 92 ≡ q → (p && not q) ≡ true → (x < 128) × (x ≢ 92)

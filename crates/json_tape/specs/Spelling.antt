@@ -3,9 +3,12 @@ use Rattle.std.specs.Prelude.{◌≡◌, ◌≢◌, ◌<◌, ◌≤◌, get_or, 
 use Rattle.std.specs.List.{list_any}
 use Rattle.std.specs.Str.{chars}
 use Rattle.std.specs.Char.{digit_value}
+use Rattle.std.specs.Int.{from_le_bytes}
+use Rattle.std.proofs.Common.{w32}
 use Rattle.json_tape.specs.Tree.{Spelt, Plain, Short, Unit4}
 use Rattle.json_tape.specs.Meaning.{meaning_after}
 use Rattle.json_tape.specs.declared.tape.Extent.{Extent}
+use Rattle.json_tape.specs.declared.plain.Words.{Words}
 use Rattle.json_tape.specs.declared.scan.Mode.{Mode}
 use Rattle.json_tape.specs.declared.scan.Mode.TheVariants.{Between, Escape, Hex}
 
@@ -45,3 +48,19 @@ IsQuoted text e = (2 ≤ e.len) × (e.start + e.len ≤ length text) × (get_or 
 -- from the first place to before the second each byte is an ASCII character, no backslash, and the scalar value that stands there
 abbrev pub SpellPlainly : List ℕ → List ℕ → ℕ → ℕ → Type 0
 SpellPlainly bytes scalars from to = (k : ℕ) → from ≤ k → k < to → (get_or bytes k 0 < 128) × (get_or bytes k 0 ≢ 92) × (get_or scalars k 0 ≡ get_or bytes k 0)
+
+-- from a place on four ASCII characters and no backslashes
+abbrev pub ArePlainAt : List ℕ → ℕ → Type 0
+ArePlainAt xs at = (k : ℕ) → at ≤ k → k < at + 4 → (get_or xs k 0 < 128) × (get_or xs k 0 ≢ 92)
+
+-- the four from a place on, as the bytes of one word
+abbrev pub IsWord : ℕ → List ℕ → ℕ → Type 0
+IsWord word xs at = word ≡ from_le_bytes w32 (get_or xs at 0 ∷ get_or xs (at + 1) 0 ∷ get_or xs (at + 2) 0 ∷ get_or xs (at + 3) 0 ∷ [])
+
+-- the words of four characters from each of two places on, all of which stand for themselves
+abbrev pub AreWords : Words → List ℕ → ℕ → ℕ → Type 0
+AreWords words name first last = IsWord words.first name first × ArePlainAt name first × IsWord words.last name last × ArePlainAt name last
+
+-- the words of a name of four to eight characters
+abbrev pub AreWordsOf : Words → List ℕ → Type 0
+AreWordsOf words name = (4 ≤ length name) × (length name ≤ 8) × AreWords words name 0 (length name - 4)

@@ -3,7 +3,7 @@
 ghost use Rattle.std.specs.Prelude.{IfSome, ◌≡◌, ℕ, ◌^◌, ◌<◌, ◌≤◌, ◌+◌, ◌-◌, ◌↔◌, ◌∷◌, length, take, drop, MatchResult, IsTrue, IsUtf8, List, slice_index_or, bytes_eq};
 ghost use Rattle.std.specs.List.{Contains};
 ghost use Rattle.std.specs.Str.{chars};
-ghost use Rattle.json_tape.specs.Spelling.{scalars_in};
+ghost use Rattle.json_tape.specs.Spelling.{scalars_in, AreWordsOf};
 ghost use Rattle.decimal_order.specs.Number.{IsNumber};
 ghost use Rattle.decimal_order.specs.Limits.{IsWithinLimits};
 ghost use Rattle.json_tape.specs.Answer.{Explains};
@@ -14,7 +14,7 @@ ghost use Rattle.json_tape.specs.Tape.{Top, tape_of};
 ghost use Rattle.json_tape.specs.Document.{tree_of, count, node_at, later, seen, following, single, root_of, counting, IsIn, IsDocument, IsMember, HasName, LeadIs, ParentIs, StandsIn, kind_of, length_of, string_meaning};
 
 use crate::judge::{judge_tape, part_at};
-use crate::plain::{is_meant_by, is_meant_plainly};
+use crate::plain::{Words, is_meant_by, is_meant_plainly, words_of};
 use crate::reader::read;
 use crate::scalars::{Scalars, unquoted};
 use crate::tape::{BuildFault, Entry, Kind, Lead, NodeId, Role, TextFault};
@@ -245,16 +245,21 @@ impl Document {
     {
         let value = self.entry(n);
         match value.kind {
-            Kind::Object => self.first_named(n, name),
+            Kind::Object => match words_of(name) {
+                Some(words) => self.first_named(n, name, Some(words)),
+                None => self.first_by_bytes(n, name),
+            },
             Kind::Null | Kind::Bool(_) | Kind::Number | Kind::Text | Kind::Array => None,
         }
     }
 
-    // The first of an object's members whose name means these scalar values. Names are compared byte by byte; where those of
-    // one do not tell, all are looked at anew.
-    fn first_named(&self, n: NodeId, name: &[char]) -> Option<NodeId>
+    // The first of an object's members whose name means these scalar values. Names are compared by their bytes, or by words
+    // where the name has any; where the bytes of one do not tell, all are looked at anew.
+    #[inline(always)]
+    fn first_named(&self, n: NodeId, name: &[char], words: Option<Words>) -> Option<NodeId>
         requires inside { n.0 < count self.now }
         requires object { kind_of (node_at self.now n.0).tree ≡ Kind.Object }
+        requires words { IfSome words (λ words. AreWordsOf words name.now) }
         ensures node { single self.now result ≡ first_where (is_named name.now) (children (node_at self.now n.0)) }
         ensures inside { IsIn self.now result }
     {
@@ -263,13 +268,24 @@ impl Document {
         let mut k = n.0 + 1;
         while k < end {
             let entry = self.entry(NodeId(k));
-            match is_meant_plainly(&self.text, entry.label, name) {
+            match is_meant_plainly(&self.text, entry.label, name, words) {
                 Some(true) => return Some(NodeId(k)),
                 Some(false) => k = entry.after,
                 None => return self.first_meant(n, name),
             }
         }
         None
+    }
+
+    // The same for a name without words, by a call of its own: its loop needs other registers.
+    #[inline(never)]
+    fn first_by_bytes(&self, n: NodeId, name: &[char]) -> Option<NodeId>
+        requires inside { n.0 < count self.now }
+        requires object { kind_of (node_at self.now n.0).tree ≡ Kind.Object }
+        ensures node { single self.now result ≡ first_where (is_named name.now) (children (node_at self.now n.0)) }
+        ensures inside { IsIn self.now result }
+    {
+        self.first_named(n, name, None)
     }
 
     // The same by what the names mean.

@@ -18,8 +18,8 @@ loop-k-init c = all_rest c.args.self.now c.entry-object.ensures.document c.args.
 pub entry-entry-requires : goal.entry-entry-requires
 entry-entry-requires c = (next_seen c.args.self.now c.entry-object.ensures.document c.args.name.now c.args.n.0 c.loop-k.k c.entry-object.result.after c.loop-k.invariant c.loop-k-test.true).inside
 
-pub is_meant_plainly-requires : goal.is_meant_plainly-requires
-is_meant_plainly-requires c =
+pub is_meant_plainly-requires-clause-quoted : goal.is_meant_plainly-requires-clause-quoted
+is_meant_plainly-requires-clause-quoted c =
     let x = next_seen c.args.self.now c.entry-object.ensures.document c.args.name.now c.args.n.0 c.loop-k.k c.entry-object.result.after c.loop-k.invariant c.loop-k-test.true in
     quoted_at c.args.self.now.text c.deref.result.now c.entry-entry.result.label x.member.source x.member.characters (c.deref.ensures ∙ ap (λ (x : Doc). x.text) c.self.view_is) (x.label c.entry-entry.result c.entry-entry.ensures.value) x.lies x.string
 
