@@ -8,7 +8,7 @@ use Rattle.std.specs.Ordering.{nat_cmp, is_eq, is_lt, ordering_reverse, eq_by_cm
 use Rattle.std.specs.Cmp.Lexicographic.{slice_cmp, texts_ties, nat_list_eq_equiv, nat_list_cmp_total}
 use Rattle.std.specs.declared.cmp.Ordering.{Ordering}
 use Rattle.std.specs.declared.cmp.Ordering.TheVariants.{Less, Equal, Greater}
-use Rattle.std.proofs.lemmas.List.Sorted.{IsPermutation-sym}
+use Rattle.std.proofs.lemmas.List.Sorted.{IsPermutation-sym, length_permutation}
 use Rattle.std.proofs.lemmas.Map.Keys.{IsDistinct-head, IsDistinct-tail, IsDistinct-cons, IsDistinct-from_sorted, IsDistinct-IsPermutation, sorted_from_all_adjacent}
 use Rattle.std.specs.Prelude.{nat_eq}
 use Rattle.std.specs.Cmp.{IsTotalOrder, unsigned_ties}
@@ -103,7 +103,7 @@ module _ {K : Type 0} (same : K → K → Bool) (order : K → K → Ordering) (
   strict d xs s h = sorted_from_all_adjacent total xs d (λ k l. below (get_or xs k d) (get_or xs (k + 1) d) (s k d (omega arith) l) (let e : suc k ≡ k + 1 = omega arith in subst (λ j. same (get_or xs k d) (get_or xs j d) ≡ false) e (apart xs k d h (omega arith))))
 
   -- in order, one that comes again comes right behind itself
-  pub sorted_again : (d : K) (xs ys : List K) → IsPermutation xs ys → IsSorted order ys → repeats_next_by same ys ≡ repeats_by same xs
+  sorted_again : (d : K) (xs ys : List K) → IsPermutation xs ys → IsSorted order ys → repeats_next_by same ys ≡ repeats_by same xs
   sorted_again d xs ys p s = go (repeats_next_by same ys) refl
     where
       found : (t : Bool) → repeats_by same xs ≡ t → repeats_by same ys ≡ true → true ≡ t
@@ -114,11 +114,14 @@ module _ {K : Type 0} (same : K → K → Bool) (order : K → K → Ordering) (
       go true e = found (repeats_by same xs) refl (next_repeats ys e)
       go false e = sym (no_repeats xs (IsDistinct-IsPermutation tied tied_turned ys xs (IsPermutation-sym xs ys p) (IsDistinct-from_sorted order ys (strict d ys s e))))
 
-pub sorted_repeats : (xs ys : List (List ℕ)) → IsPermutation xs ys → IsSorted (slice_cmp nat_cmp) ys → repeats_next ys ≡ repeats xs
-sorted_repeats xs ys p s = sorted_again is_same (slice_cmp nat_cmp) texts_ties (λ x y. nat_list_eq_equiv.symm x y) nat_list_cmp_total [] xs ys p s
-
-pub sorted_hashes_repeat : (xs ys : List ℕ) → IsPermutation xs ys → IsSorted nat_cmp ys → hashes_repeat_next ys ≡ hashes_repeat xs
-sorted_hashes_repeat xs ys p s = sorted_again nat_eq nat_cmp unsigned_ties (λ x y. nat_eq_equiv.symm x y) nat_cmp_total 0 xs ys p s
+  -- the same without a value of their type at hand
+  pub sorted_repeats : (xs ys : List K) → IsPermutation xs ys → IsSorted order ys → repeats_next_by same ys ≡ repeats_by same xs
+  sorted_repeats [] ys p s = go ys (length_permutation [] ys p)
+    where
+      go : (ys : List K) → length ys ≡ 0 → repeats_next_by same ys ≡ false
+      go [] e = refl
+      go (y ∷ ys) e = absurd (omega arith)
+  sorted_repeats (x ∷ xs) ys p s = sorted_again x (x ∷ xs) ys p s
 
 -- names that mean the same have one hash
 any_hash : (f : List ℕ → ℕ) (x : List ℕ) (xs : List (List ℕ)) → list_any (λ y. nat_eq y (f x)) (map f xs) ≡ false → list_any (λ y. is_same y x) xs ≡ false

@@ -7,8 +7,9 @@ ghost use Rattle.json_tape.specs.Verdict.{Applies};
 ghost use Rattle.json_tape.specs.Repeats.{meanings, repeats, hash_of, IsObject};
 ghost use Rattle.json_tape.specs.declared.tape.TextFault.TheVariants.{LoneSurrogate, DuplicateName};
 
-use crate::hashes::{has_repeated_hash, hash};
-use crate::names::{Name, has_repeated};
+use crate::again::has_repeated;
+use crate::hashes::hash;
+use crate::names::Name;
 use crate::scalars::unquoted;
 use crate::tape::{Entry, Kind};
 use std::alloc::{AllocError, Global};
@@ -57,7 +58,7 @@ fn repeats_in(
     ensures { IfOk result (λ found. (ms : Members) → IsObject text.now tape.now n ms → found ≡ repeats (meanings ms)) }
 {
     collect_hashes(text, tape, n, hashes)?;
-    if has_repeated_hash(hashes.as_mut_slice()) {
+    if has_repeated(hashes.as_mut_slice()) {
         let mut names = Vec::new(alloc);
         collect(text, tape, n, &mut names)?;
         Ok(has_repeated(names.as_mut_slice()))

@@ -1,11 +1,10 @@
 // Hashes of what names mean. Names that mean the same have one hash, so no name repeats where no hash does.
 
-ghost use Rattle.std.specs.Prelude.{◌≡◌, ◌+◌, ◌≤◌, length, take, drop, IfSome, nat_eq};
-ghost use Rattle.std.specs.List.{list_any};
+ghost use Rattle.std.specs.Prelude.{◌≡◌, ◌+◌, ◌≤◌, length, take, drop, IfSome};
 ghost use Rattle.std.specs.Str.{chars};
 ghost use Rattle.json_tape.specs.Limits.{bytes_at};
 ghost use Rattle.json_tape.specs.Spelling.{scalars_in, unquoted as inside, IsQuoted};
-ghost use Rattle.json_tape.specs.Repeats.{next_hash as hash_next, hash_of, hashes_repeat, hashes_repeat_next};
+ghost use Rattle.json_tape.specs.Repeats.{next_hash as hash_next, hash_of};
 
 use crate::scalars::{Scalars, unquoted};
 use crate::scan::first_set;
@@ -86,51 +85,4 @@ pub fn hash(text: &str, string: Extent) -> u64
         Some(hash) => hash,
         None => long_hash(unquoted(text, string)),
     }
-}
-
-// So many hashes or fewer are compared each with each.
-const FEW: usize = 16;
-
-/// Whether one of the hashes comes again. They may be put in order.
-pub fn has_repeated_hash(hashes: &mut [u64]) -> bool
-    ensures { result ≡ hashes_repeat hashes.old }
-{
-    if hashes.len() <= FEW {
-        return has_equal(hashes);
-    }
-    hashes.sort_unstable();
-    has_equal_neighbours(hashes)
-}
-
-fn stands_in(hashes: &[u64], hash: u64) -> bool
-    ensures { result ≡ list_any (λ other. nat_eq other hash) hashes.now }
-{
-    for other in hashes {
-        if *other == hash {
-            return true;
-        }
-    }
-    false
-}
-
-fn has_equal(hashes: &[u64]) -> bool
-    ensures { result ≡ hashes_repeat hashes.now }
-{
-    for i in 0..hashes.len() {
-        if stands_in(&hashes[i + 1..], hashes[i]) {
-            return true;
-        }
-    }
-    false
-}
-
-fn has_equal_neighbours(hashes: &[u64]) -> bool
-    ensures { result ≡ hashes_repeat_next hashes.now }
-{
-    for i in 1..hashes.len() {
-        if hashes[i - 1] == hashes[i] {
-            return true;
-        }
-    }
-    false
 }

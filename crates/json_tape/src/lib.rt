@@ -9,6 +9,7 @@
 //! names of an object are told apart by hashes of what they mean, and compared by what they mean where a hash comes again.
 #![tactic(auto)]
 
+mod again;
 mod builder;
 mod document;
 mod duplicates;

@@ -6,7 +6,6 @@ ghost use Rattle.std.specs.Cmp;
 ghost use Rattle.std.specs.Cmp.Lexicographic.{pointwise, slice_cmp, nat_list_eq_equiv, nat_list_cmp_total, texts_ties, texts_po};
 ghost use Rattle.std.specs.Str.{chars};
 ghost use Rattle.json_tape.specs.Spelling.{scalars_in};
-ghost use Rattle.json_tape.specs.Repeats.{repeats, repeats_next};
 
 use crate::scalars::Scalars;
 use std::cmp::Ordering;
@@ -106,40 +105,4 @@ fn compare(mut left: Scalars<'_>, mut right: Scalars<'_>) -> Ordering
     } else {
         Ordering::Less
     }
-}
-
-// So many names or fewer are compared each with each.
-const FEW: usize = 16;
-
-/// Whether one of the names comes again. They may be put in order.
-pub fn has_repeated(names: &mut [Name<'_>]) -> bool
-    ensures { result ≡ repeats names.old }
-{
-    if names.len() <= FEW {
-        return has_equal(names);
-    }
-    names.sort_unstable();
-    has_equal_neighbours(names)
-}
-
-fn has_equal(names: &[Name<'_>]) -> bool
-    ensures { result ≡ repeats names.now }
-{
-    for i in 0..names.len() {
-        if names[i + 1..].contains(&names[i]) {
-            return true;
-        }
-    }
-    false
-}
-
-fn has_equal_neighbours(names: &[Name<'_>]) -> bool
-    ensures { result ≡ repeats_next names.now }
-{
-    for i in 1..names.len() {
-        if names[i - 1] == names[i] {
-            return true;
-        }
-    }
-    false
 }
