@@ -6,7 +6,7 @@ use Rattle.std.proofs.lemmas.Bool.Decides.{nat_tests}
 use Rattle.json_tape.specs.Tree.{Tree}
 use Rattle.json_tape.specs.Grammar.{IsText}
 use Rattle.json_tape.specs.Tape.{Stands}
-use Rattle.json_tape.specs.Limits.{bytes_at, IsBadNumber, AreShort}
+use Rattle.json_tape.specs.Limits.{bytes_at, IsBadNumber, AreShort, short_length}
 use Rattle.json_tape.specs.Lexing.{Atom, class, IsToken, sign, text, word, sign_at, Taken}
 use Rattle.json_tape.specs.Machine.{Token, Opening, Closing, Comma, Between, Text, Word, State, takes_value, takes_name, closes, put_leaf, put_open, change_at, put_close, put_comma, is_colon, put_text, step, start, kind_of_shape, closed}
 use Rattle.json_tape.specs.declared.tape.Kind.{Kind}
@@ -75,7 +75,7 @@ module _ (p children after : ℕ) where
   short_closed (e ∷ es) zero n h = ((λ k. absurd (n (ap Some k))), h.1)
   short_closed (e ∷ es) (suc i) n h = (h.0, short_closed es i n h.1)
 
-short_more : (es : List Entry) (e : Entry) → AreShort es → (e.kind ≡ kinds.Number → e.source.len ≤ 10) → AreShort (es ++ e ∷ [])
+short_more : (es : List Entry) (e : Entry) → AreShort es → (e.kind ≡ kinds.Number → e.source.len ≤ short_length) → AreShort (es ++ e ∷ [])
 short_more [] e h g = (g, tt)
 short_more (x ∷ es) e h g = (h.0, short_more es e h.1 g)
 
@@ -97,7 +97,7 @@ closed_number es n Object Root w c i k = cc
 closed_number es n shape (Inside other) w c i k = no_number other (let e = sym i ∙ k in cc)
 
 module _ (long : Bool) where
-  leaf_kept : (x : Extent) (kind : Kind) (es : List Entry) (os : List Open) (w : Want) (name : Option Extent) (d : ℕ) (s' : State) → put_leaf x kind es os w name d ≡ Some s' → AreOpen es os → (long ≡ false → AreShort es) → (long ≡ false → kind ≡ kinds.Number → x.len ≤ 10) → Kept long s'
+  leaf_kept : (x : Extent) (kind : Kind) (es : List Entry) (os : List Open) (w : Want) (name : Option Extent) (d : ℕ) (s' : State) → put_leaf x kind es os w name d ≡ Some s' → AreOpen es os → (long ≡ false → AreShort es) → (long ≡ false → kind ≡ kinds.Number → x.len ≤ short_length) → Kept long s'
   leaf_kept x kind es [] w name d s' e o h g = absurd (cc)
   leaf_kept x kind es (t ∷ os) w name d s' e o h g =
       let k = cond_some (takes_value w) _ s' e in
@@ -136,7 +136,7 @@ module _ (long : Bool) where
 
   -- what is asked of a word
   abbrev WordFits : Token → Type 0
-  WordFits (Word x kind) = long ≡ false → x.len ≤ 10
+  WordFits (Word x kind) = long ≡ false → x.len ≤ short_length
   WordFits _ = Unit {0}
 
   step_kept : (tok : Token) (s s' : State) → step tok s ≡ Some s' → Kept long s → WordFits tok → Kept long s'
@@ -150,7 +150,7 @@ module _ (long : Bool) where
 no_quote : (b : ℕ) → class b ≡ Atom → b ≢ 34
 no_quote b a e = let k = ap class e in absurd (cc)
 
-word_fits : (long : Bool) {p : ℕ} {vs rest : List ℕ} {tok : Token} → IsToken p vs tok rest → (b : ℕ) (cs : List ℕ) → b ∷ cs ≡ vs ++ rest → (long ≡ false → b ≢ 34 → length vs ≤ 10) → WordFits long tok
+word_fits : (long : Bool) {p : ℕ} {vs rest : List ℕ} {tok : Token} → IsToken p vs tok rest → (b : ℕ) (cs : List ℕ) → b ∷ cs ≡ vs ++ rest → (long ≡ false → b ≢ 34 → length vs ≤ short_length) → WordFits long tok
 word_fits long (sign {p = p} {b = b'} {tok = tok} h) b cs e f = by_sign tok h
   where
     by_sign : (tok : Token) → sign_at p b' ≡ Some tok → WordFits long tok
@@ -163,7 +163,7 @@ word_fits long (sign {p = p} {b = b'} {tok = tok} h) b cs e f = by_sign tok h
 word_fits long (text cs' h) b cs e f = tt
 word_fits long (word {b = b'} {vs = vs} at over k) b cs e f = λ m. f m (no_quote b (let g : b ≡ b' = cc in ap class g ∙ at.0))
 
-pub kept_token : (bytes : List ℕ) (i j : ℕ) (old new : Bool) (s s' : State) → i < length bytes → Taken bytes i j s s' → (new ≡ false → (old ≡ false) × (get_or bytes i 0 ≢ 34 → j ≤ i + 10)) → Kept old s → Kept new s'
+pub kept_token : (bytes : List ℕ) (i j : ℕ) (old new : Bool) (s s' : State) → i < length bytes → Taken bytes i j s s' → (new ≡ false → (old ≡ false) × (get_or bytes i 0 ≢ 34 → j ≤ i + short_length)) → Kept old s → Kept new s'
 kept_token bytes i j old new s s' h t m k =
     let weaker : Kept new s = record { opened = k.opened; short = (λ e. k.short (m e).0) } in
     step_kept new t.tok s s' t.steps weaker
@@ -171,7 +171,7 @@ kept_token bytes i j old new s s' h t m k =
 
 -- ---- No number of such a tape breaks the limit
 
-short_at : (es : List Entry) (i : ℕ) (d : Entry) → AreShort es → i < length es → (get_or es i d).kind ≡ kinds.Number → (get_or es i d).source.len ≤ 10
+short_at : (es : List Entry) (i : ℕ) (d : Entry) → AreShort es → i < length es → (get_or es i d).kind ≡ kinds.Number → (get_or es i d).source.len ≤ short_length
 short_at [] i d h l k = absurd (omega arith)
 short_at (e ∷ es) zero d h l k = h.0 k
 short_at (e ∷ es) (suc i) d h l k = short_at es i d h.1 (omega arith) k

@@ -33,14 +33,8 @@ repeats_next_by same (x ∷ xs) = begins_by same x xs || repeats_next_by same xs
 abbrev pub repeats : List (List ℕ) → Bool
 repeats xs = repeats_by is_same xs
 
-abbrev pub repeats_next : List (List ℕ) → Bool
-repeats_next xs = repeats_next_by is_same xs
-
 abbrev pub hashes_repeat : List ℕ → Bool
 hashes_repeat xs = repeats_by nat_eq xs
-
-abbrev pub hashes_repeat_next : List ℕ → Bool
-hashes_repeat_next xs = repeats_next_by nat_eq xs
 
 -- A hash of scalar values: those of up to eight bytes, one behind the other, and with more of them mixed. No fact of a text
 -- rests on which hash it is; only steps speak of it.

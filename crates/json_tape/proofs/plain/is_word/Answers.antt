@@ -1,7 +1,5 @@
-use Rattle.std.proofs.Common.{◌+◌, ◌-◌, ◌<◌, ◌≤◌, ◌≡◌, ◌≢◌, ap, sym, ◌∙◌, subst, get_or, arith, w32}
+use Rattle.std.proofs.Common.{ap, sym, ◌∙◌, w32}
 use Rattle.std.specs.Int.{from_le_bytes}
-use Rattle.std.proofs.lemmas.Simd.{length-chunk, get_or-chunk}
-use lib.Lanes.{chunk}
 use Rattle.json_tape.proofs.Words.{plain_chunk, chunk_is}
 use Rattle.json_tape.proofs.plain.is_word.Goals as goal
 

@@ -1,4 +1,4 @@
-use Rattle.std.proofs.Common.{ℕ, List, ◌≡◌, ◌≤◌, length, ◌+◌, ◌-◌, Some, ap, sym, ◌∙◌, subst, arith}
+use Rattle.std.proofs.Common.{ℕ, List, length, ◌-◌, Some, ap, sym, ◌∙◌, subst, arith}
 use Rattle.json_tape.specs.Spelling.{IsWord, ArePlainAt}
 use Rattle.json_tape.proofs.Words.{same_word, other_word, both_words, none_before, first_spelt}
 use Rattle.json_tape.proofs.plain.spells_words.Goals as goal
