@@ -64,24 +64,30 @@ fn are_same(bytes: &[u8], name: &[char], at: usize) -> bool
     stops.to_bitmask() == 0
 }
 
-// Whether all scalar values stand there as plain bytes, four at a time, the last four of them over some that were seen.
+// How many scalar values stand there as plain bytes, as far as four at a time tell, the last four of them over some that were
+// seen.
 #[inline(always)]
-fn begins_plainly(bytes: &[u8], name: &[char]) -> bool
+fn same_run(bytes: &[u8], name: &[char]) -> usize
     requires { length name.now ≤ length bytes.now }
-    ensures { IsTrue result → SpellPlainly bytes.now name.now 0 (length name.now) }
+    ensures same { SpellPlainly bytes.now name.now 0 result }
+    ensures inside { result ≤ length name.now }
 {
     if name.len() < FOUR {
-        return false;
+        return 0;
     }
     let last = name.len() - FOUR;
     let mut k = 0;
     while k < last {
         if !are_same(bytes, name, k) {
-            return false;
+            return k;
         }
         k += FOUR;
     }
-    are_same(bytes, name, last)
+    if are_same(bytes, name, last) {
+        name.len()
+    } else {
+        last
+    }
 }
 
 // Whether the characters end behind these scalar values, with which they begin. `None` where a byte does not tell.
@@ -104,7 +110,8 @@ fn ends_plainly(inside: &str, name: &[char]) -> Option<bool>
     }
 }
 
-// The characters are compared as far as each byte is ASCII and no backslash. `None` where one is not.
+// The characters are compared as far as each byte is ASCII and no backslash, those that four at a time tell first. `None` where
+// one is not.
 #[inline(always)]
 #[tactic(auto, using(crate::proofs::PlainBytes::plain_run, crate::proofs::PlainBytes::comparing))]
 fn spells_plainly(inside: &str, name: &[char]) -> Option<bool>
@@ -114,10 +121,7 @@ fn spells_plainly(inside: &str, name: &[char]) -> Option<bool>
         return Some(false);
     }
     let bytes = inside.as_bytes();
-    if begins_plainly(bytes, name) {
-        return ends_plainly(inside, name);
-    }
-    for i in 0..name.len() {
+    for i in same_run(bytes, name)..name.len() {
         let byte = bytes[i];
         if byte >= 128 || byte == b'\\' {
             return None;
