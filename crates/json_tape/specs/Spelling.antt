@@ -3,8 +3,7 @@ use Rattle.std.specs.Prelude.{◌≡◌, ◌≢◌, ◌<◌, ◌≤◌, get_or, 
 use Rattle.std.specs.List.{list_any}
 use Rattle.std.specs.Str.{chars}
 use Rattle.std.specs.Char.{digit_value}
-use Rattle.std.specs.Int.{from_le_bytes}
-use Rattle.std.proofs.Common.{w32}
+use Rattle.std.specs.Int.{from_le_bytes, w32}
 use Rattle.json_tape.specs.Tree.{Spelt, Plain, Short, Unit4}
 use Rattle.json_tape.specs.Meaning.{meaning_after}
 use Rattle.json_tape.specs.declared.tape.Extent.{Extent}

@@ -1,6 +1,7 @@
 // Whether one of many values comes again.
 
 ghost use Rattle.std.specs.Prelude.{◌≡◌};
+ghost use Rattle.std.specs.List.{list_any};
 ghost use Rattle.json_tape.specs.Repeats.{repeats_by, repeats_next_by};
 
 // So many values or fewer are compared each with each.
@@ -17,11 +18,23 @@ pub fn has_repeated<T: Ord>(values: &mut [T]) -> bool
     has_equal_neighbours(values)
 }
 
+// They are few, so that a plain loop takes fewer steps than `contains`.
+fn stands_in<T: PartialEq>(values: &[T], value: &T) -> bool
+    ensures { result ≡ list_any (λ other. T.eq other value.now) values.now }
+{
+    for other in values {
+        if *other == *value {
+            return true;
+        }
+    }
+    false
+}
+
 fn has_equal<T: PartialEq>(values: &[T]) -> bool
     ensures { result ≡ repeats_by T.eq values.now }
 {
     for i in 0..values.len() {
-        if values[i + 1..].contains(&values[i]) {
+        if stands_in(&values[i + 1..], &values[i]) {
             return true;
         }
     }
