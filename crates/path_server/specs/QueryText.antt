@@ -1,11 +1,11 @@
 -- What a query on a text answers: the first refusal that applies, or a line for each hit.
-use Rattle.std.specs.Prelude.{◌≡◌, ℕ, ◌<◌, ◌≤◌, ◌++◌, List, length, IsTrue, true, false}
+use Rattle.std.specs.Prelude.{◌≡◌, ℕ, ◌++◌, List, true, false}
 use Rattle.json_tape.specs.Tree.{Tree}
 use Rattle.json_tape.specs.Verdict.{IsRefused, IsAccepted}
 use Rattle.json_tape.specs.declared.tape.TextFault.TheVariants as text
 use Rattle.path_grammar.specs.Tree.{Segments}
-use Rattle.path_grammar.specs.Grammar.{IsQuery}
-use Rattle.path_types.specs.Validity.{is_valid}
+use Rattle.path_types.specs.Verdict.{IsValidQuery, RefusesQueryText}
+use Rattle.path_types.specs.declared.query_text.QueryFault.TheVariants as verdict
 use Rattle.tape_select.specs.Evaluation.{exceeds_limit}
 use Rattle.path_server.specs.Hits.{hits, lines_of}
 use Rattle.path_server.specs.declared.fault.QueryTextFault.{QueryTextFault}
@@ -14,12 +14,6 @@ use Rattle.path_server.specs.declared.fault.QueryTextFault.TheVariants.{TooLong,
 -- no refusal of a text applies to the document
 abbrev pub IsDocument : List ℕ → Type 0
 IsDocument document = (t : Tree) × IsAccepted document t
-
--- the text is a valid query with this tree
-pub record IsValidQuery (query : List ℕ) (q : Segments) : Type 0 where
-  pub short : length query ≤ 4096
-  pub spelled : IsQuery query q
-  pub valid : IsTrue (is_valid q)
 
 -- why a query on a document is refused: the first refusal that applies, in the order of the cases
 abbrev pub Refuses : (query document : List ℕ) → QueryTextFault → Type 0
@@ -30,9 +24,9 @@ Refuses query document TooDeep = IsRefused document text.TooDeep
 Refuses query document NumberLimit = IsRefused document text.NumberLimit
 Refuses query document LoneSurrogate = IsRefused document text.LoneSurrogate
 Refuses query document DuplicateName = IsRefused document text.DuplicateName
-Refuses query document QueryTooLong = IsDocument document × (4096 < length query)
-Refuses query document NotWellFormed = IsDocument document × (length query ≤ 4096) × ((q : Segments) → ¬ IsQuery query q)
-Refuses query document NotValid = IsDocument document × (length query ≤ 4096) × ((q : Segments) × IsQuery query q × (is_valid q ≡ false))
+Refuses query document QueryTooLong = IsDocument document × RefusesQueryText query verdict.QueryTooLong
+Refuses query document NotWellFormed = IsDocument document × RefusesQueryText query verdict.NotWellFormed
+Refuses query document NotValid = IsDocument document × RefusesQueryText query verdict.NotValid
 Refuses query document TooManyNodes = (t : Tree) × (q : Segments) × IsAccepted document t × IsValidQuery query q × (exceeds_limit t q ≡ true)
 Refuses query document Memory = Unit {0}
 

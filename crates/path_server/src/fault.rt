@@ -1,11 +1,11 @@
 //! Why a query on a text is refused.
 
-ghost use Rattle.path_server.specs.Faults.{of_text, of_parse, of_select};
+ghost use Rattle.path_server.specs.Faults.{of_query, of_select, of_text};
 ghost use Rattle.path_server.specs.declared.fault.QueryTextFault.TheVariants.{Memory};
 ghost use Rattle.std.specs.Prelude.{◌≡◌};
 
 use json_tape::TextFault;
-use path_grammar::ParseFault;
+use path_types::QueryFault;
 use std::alloc::AllocError;
 use tape_select::SelectFault;
 use thiserror::Error;
@@ -68,14 +68,15 @@ impl From<TextFault> for QueryTextFault {
     }
 }
 
-impl From<ParseFault> for QueryTextFault {
-    ghost from_gives = { λ fault made. made ≡ of_parse fault };
+impl From<QueryFault> for QueryTextFault {
+    ghost from_gives = { λ fault made. made ≡ of_query fault };
 
-    fn from(fault: ParseFault) -> QueryTextFault {
+    fn from(fault: QueryFault) -> QueryTextFault {
         match fault {
-            ParseFault::QueryTooLong => QueryTextFault::QueryTooLong,
-            ParseFault::NotWellFormed => QueryTextFault::NotWellFormed,
-            ParseFault::Memory => QueryTextFault::Memory,
+            QueryFault::QueryTooLong => QueryTextFault::QueryTooLong,
+            QueryFault::NotWellFormed => QueryTextFault::NotWellFormed,
+            QueryFault::NotValid => QueryTextFault::NotValid,
+            QueryFault::Memory => QueryTextFault::Memory,
         }
     }
 }

@@ -1,28 +1,14 @@
 //! A query on a text.
 
-ghost use Rattle.std.specs.Prelude.{◌≡◌, ◌≤◌, ℕ, List, length, IfOk, IfErr, OnOk, OnErr};
-ghost use Rattle.path_grammar.specs.View.{query_view};
-ghost use Rattle.path_server.specs.QueryText.{IsDocument, IsValidQuery, Refuses, Answers};
+ghost use Rattle.std.specs.Prelude.{◌≡◌, IfErr, OnErr, OnOk};
+ghost use Rattle.path_server.specs.QueryText.{Answers, Refuses};
 
 use crate::fault::QueryTextFault;
 use crate::lines::write_lines;
 use json_tape::Document;
-use path_grammar::parse;
-use path_types::{ValidQuery, check};
+use path_types::compile;
 use std::alloc::Global;
 use tape_select::select;
-
-// The valid query that a text spells.
-fn compile(alloc: Global, query: &[u8]) -> Result<ValidQuery, QueryTextFault>
-    ensures valid { IfOk result (λ v. IsValidQuery query.now (query_view v)) }
-    ensures refused { IfErr result (λ fault. (document : List ℕ) → IsDocument document → Refuses query.now document fault) }
-{
-    let parsed = parse(alloc, query)?;
-    match check(parsed) {
-        Ok(valid) => Ok(valid),
-        Err(_) => Err(QueryTextFault::NotValid),
-    }
-}
 
 /// Appends a line for each node that a query selects from a text, in the query's order: the normalized path (RFC 9535,
 /// section 2.7), a tab, the source bytes of the value and a line feed.

@@ -4,12 +4,13 @@ use Rattle.json_tape.specs.Document.{tree_of}
 use Rattle.json_tape.specs.Nodes.{Node}
 use Rattle.path_grammar.specs.View.{query_view}
 use Rattle.path_server.specs.Hits.{hit_of, lines_of}
+use Rattle.path_server.proofs.Refusals.{query_refuses}
 use Rattle.path_server.proofs.texts.query_text.Goals as goal
 
 pub returns-in_err-query-clause-refused : goal.returns-in_err-query-clause-refused
 returns-in_err-query-clause-refused c =
     let p = err_from_is_err_and c.from_residual-in_err-query.result c.from_residual-in_err-query.ensures.1 in
-    rw (p.1, p.2) (c.in_err-query.ensures.refused c.args.document.now (tree_of c.in_ok-document.document, c.in_ok-document.ensures.1))
+    rw (p.1, p.2) (query_refuses c.args.query.now c.args.document.now c.in_err-query.field-0.0 (tree_of c.in_ok-document.document, c.in_ok-document.ensures.1) c.in_err-query.ensures.refused)
 
 pub returns-clause-answered : goal.returns-clause-answered
 returns-clause-answered c =
