@@ -2,16 +2,17 @@
 """Compares `path_server query` with jq on random texts and queries: tests/against_jq.py [ROUNDS [SEED]].
 
 Each query is written twice, as a JSONPath query and as a jq program that says the same in jq's terms (a slice by the bounds of
-RFC 9535, section 2.3.4.2.2). Paths, values and their order have to agree. It needs jq (Debian: jq) and the built program
-(`bin/path_server --help`). Numbers are small, since jq reads them as doubles.
+RFC 9535, section 2.3.4.2.2). Paths, values and their order have to agree. It needs jq (Debian: jq), and runs
+bin/path_server, or the program that the environment's PATH_SERVER names. Numbers are small, since jq reads them as doubles.
 """
 import json
+import os
 import random
 import subprocess
 import sys
 from pathlib import Path
 
-PROGRAM = Path(__file__).resolve().parent.parent / "crates/path_program/out/path_program"
+PROGRAM = os.environ.get("PATH_SERVER") or Path(__file__).resolve().parent.parent / "bin/path_server"
 QUERIES_PER_TEXT = 40
 COMMON = ["a", "b", "c"]
 NAMES = COMMON + ["é", "x y", "it's", "\\", "\n", "😀", ""]

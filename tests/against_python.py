@@ -3,16 +3,17 @@
 
 A text is written from a random value, with blanks and escapes of its own, and then a few of its bytes are changed. Python's json
 takes the grammar of RFC 8259 but for NaN and Infinity, which are refused here; it hands over the numbers' texts and the members in
-order, from which the other refusals follow. It needs the built program (`bin/path_server --help`).
+order, from which the other refusals follow. It runs bin/path_server, or the program that the environment's PATH_SERVER names.
 """
 import json
+import os
 import random
 import re
 import subprocess
 import sys
 from pathlib import Path
 
-PROGRAM = Path(__file__).resolve().parent.parent / "crates/path_program/out/path_program"
+PROGRAM = os.environ.get("PATH_SERVER") or Path(__file__).resolve().parent.parent / "bin/path_server"
 DEPTH_LIMIT = 128
 PIECES = [b'"', b"\\", b",", b":", b"[", b"]", b"{", b"}", b" ", b"\n", b"\t", b"\r", b"0", b"1", b"-", b"+", b".", b"e", b"E",
           b"null", b"true", b"\\u", b"\\ud83d", b"\\ude00", b"\\n", b"\x00", b"\x1f", b"\x7f", b"\xc3\xa9", b"\x80", b"\xff",
@@ -74,7 +75,7 @@ def strings_of(value):
 
 def program_verdict(source):
     done = subprocess.run([PROGRAM, "query", "$.none"], input=source, capture_output=True)
-    return None if done.returncode == 0 else done.stderr.decode().strip().removeprefix("path_server: ")
+    return None if done.returncode == 0 else done.stderr.decode().strip().replace("path_server: ", "", 1)
 
 
 def string(chance):
