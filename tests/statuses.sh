@@ -1,39 +1,76 @@
 #!/usr/bin/env bash
-# Runs bin/path_server on inputs of each exit status, and compares the status, the output and the line on standard error.
-# It builds the program first where that is missing or out of date.
+# Runs the program on inputs of each exit status and each name that it prints, and compares the status, the output and the line on
+# standard error. The program is bin/path_server, or the one that the environment's PATH_SERVER names.
 set -u
 cd "$(dirname "$0")/.."
-bin/path_server --help >/dev/null || exit 2
-
+program=${PATH_SERVER:-bin/path_server}
+"$program" --help >/dev/null || exit 2
+room=$(mktemp -d)
+trap 'rm -rf "$room"' EXIT
+tried=0
 failed=0
-# STATUS, wanted output, wanted line on standard error (`any` for whatever there is), input, then the command line
-expect() {
-    local status=$1 output=$2 line=$3 input=$4
-    shift 4
-    local errors got
-    errors=$(mktemp)
-    got=$(printf '%s' "$input" | bin/path_server "$@" 2>"$errors"; echo "$?")
-    if [ "$got" != "$output$status" ] || { [ "$line" != any ] && [ "$(cat "$errors")" != "$line" ]; }; then
-        printf 'path_server %s: %s %s\n' "$*" "$got" "$(cat "$errors")" >&2
-        failed=1
+
+# STATUS, wanted output, wanted line on standard error (`any` for whatever there is), then the command line; the input is $room/input
+compare() {
+    local status=$1 output=$2 line=$3
+    shift 3
+    local got
+    got=$("$program" "$@" <"$room/input" 2>"$room/errors"; echo "$?")
+    tried=$((tried + 1))
+    if [ "$got" != "$output$status" ] || { [ "$line" != any ] && [ "$(cat "$room/errors")" != "$line" ]; }; then
+        printf 'path_server %.100s: %s %s\n' "$*" "$got" "$(cat "$room/errors")" >&2
+        failed=$((failed + 1))
     fi
-    rm -f "$errors"
+}
+
+# STATUS, wanted output, wanted line on standard error, input, then the command line
+expect() {
+    printf '%b' "$4" >"$room/input"
+    compare "$1" "$2" "$3" "${@:5}"
+}
+
+# NUMBER TEXT: the text so many times
+times() {
+    head -c "$1" /dev/zero | sed "s/\\x0/$2/g"
 }
 
 newline='
 '
 expect 0 "\$['a'][1]	20$newline" '' '{"a":[10,20]}' query '$.a[1]'
+expect 0 "\$[0]	[1,${newline}2]$newline\$[1]	3$newline" '' '[[1,\n2],3]' query '$[*]'
 expect 0 '' '' '[1]' query '$[?@>1]'
+
+expect 1 '' 'path_server: NotUtf8' '"\xff"' query '$'
 expect 1 '' 'path_server: NotJson' '[1' query '$'
-expect 1 '' 'path_server: DuplicateName' '{"a":1,"\u0061":2}' query '$'
-expect 1 '' 'path_server: LoneSurrogate' '"\ud83d"' query '$['
+expect 1 '' 'path_server: TooDeep' "$(times 129 '[')$(times 129 ']')" query '$'
+expect 0 '' '' "$(times 128 '[')$(times 128 ']')" query '$.a'
+expect 1 '' 'path_server: NumberLimit' "$(times 257 1)" query '$'
+expect 1 '' 'path_server: NumberLimit' '1e1000000000' query '$'
+expect 1 '' 'path_server: LoneSurrogate' '"\\ud83d"' query '$['
+expect 1 '' 'path_server: DuplicateName' '{"a":1,"\\u0061":2}' query '$'
 expect 2 '' 'path_server: NotWellFormed' '[1]' query '$['
 expect 2 '' 'path_server: NotValid' '[1]' query '$[?count(@)]'
+expect 2 '' 'path_server: QueryTooLong' '[1]' query "\$$(times 4096 ' ').a"
 expect 3 '' any '' query
 expect 3 '' any '' question '$'
+expect 3 '' 'path_server: BadCommandLine' '' query "$(printf '\377')"
 
-bin/path_server query '$' </ >/dev/null 2>&1
-[ $? = 4 ] || { echo 'an input that cannot be read: not 4' >&2; failed=1; }
-printf '[1]' | bin/path_server query '$' >/dev/full 2>/dev/null
-[ $? = 4 ] || { echo 'an output that takes nothing: not 4' >&2; failed=1; }
-exit $failed
+{ times 1048576 ' '; printf 1; } >"$room/input"
+compare 1 '' 'path_server: TooLong' query '$'
+{ times 1048575 ' '; printf 1; } >"$room/input"
+compare 0 "\$	1$newline" '' query '$'
+{ printf '[1'; times 65536 ',1'; printf ']'; } >"$room/input"
+compare 2 '' 'path_server: TooManyNodes' query '$[*]'
+
+compare_fault() {
+    tried=$((tried + 1))
+    [ "$2" = "4$1" ] || { echo "not $1 and 4: $2" >&2; failed=$((failed + 1)); }
+}
+compare_fault 'path_server: ReadFault' "$("$program" query '$' </ 2>"$room/errors"; echo "$?$(cat "$room/errors")")"
+compare_fault 'path_server: WriteFault' "$(printf '[1]' | "$program" query '$' 2>"$room/errors" >/dev/full; echo "$?$(cat "$room/errors")")"
+compare_fault 'path_server: WriteFault' "$("$program" --help 2>"$room/errors" >/dev/full; echo "$?$(cat "$room/errors")")"
+# the text is read into a buffer of its size, which this much address space has no room for
+compare_fault 'path_server: NoMemory' "$(ulimit -v 6000; "$program" query '$' <"$room/input" 2>"$room/errors"; echo "$?$(cat "$room/errors")")"
+
+echo "$tried cases, $failed of them differ"
+exit $((failed > 0))
