@@ -1,13 +1,13 @@
 //! The syntax tree of a query.
 
 /// A query: the segments behind its `$` (RFC 9535, section 2.1).
-#[derive(Debug, Drop, PartialEq, Eq)]
+#[derive(Drop)]
 pub struct Query {
     pub segments: Vec<Segment>,
 }
 
 /// A segment (RFC 9535, section 2.5): what it selects from, and its selectors in order.
-#[derive(Debug, Drop, PartialEq, Eq)]
+#[derive(Drop)]
 #[cycle(ast)]
 pub struct Segment {
     /// Whether it selects from each input node and all its descendants, or from the input nodes alone.
@@ -16,7 +16,7 @@ pub struct Segment {
 }
 
 /// A selector (RFC 9535, section 2.3).
-#[derive(Debug, Drop, PartialEq, Eq)]
+#[derive(Drop)]
 #[cycle(ast)]
 pub enum Selector {
     /// The value of the member with this name.
@@ -36,7 +36,7 @@ pub enum Selector {
 }
 
 /// A number of an index or a slice.
-#[derive(Clone, Copy, Debug, PartialEq, Eq)]
+#[derive(Clone, Copy)]
 pub enum IntLit {
     /// A number of absolute value at most 9,007,199,254,740,991, where the parser made it.
     Within(i64),
@@ -45,7 +45,7 @@ pub enum IntLit {
 }
 
 /// A logical expression (RFC 9535, section 2.3.5). Parentheses leave no mark.
-#[derive(Debug, Drop, PartialEq, Eq)]
+#[derive(Drop)]
 #[cycle(ast)]
 pub enum Expr {
     /// Operands with `||` between them: two or more, where the parser made it.
@@ -63,7 +63,7 @@ pub enum Expr {
 }
 
 /// A query within a filter (RFC 9535, section 2.3.5.1).
-#[derive(Debug, Drop, PartialEq, Eq)]
+#[derive(Drop)]
 #[cycle(ast)]
 pub struct SubQuery {
     /// Whether it begins at the document's root (`$`), or at the child that the filter is tried on (`@`).
@@ -72,7 +72,7 @@ pub struct SubQuery {
 }
 
 /// A side of a comparison (RFC 9535, section 2.3.5.1).
-#[derive(Debug, Drop, PartialEq, Eq)]
+#[derive(Drop)]
 #[cycle(ast)]
 pub enum Comparable {
     Lit(Literal),
@@ -82,7 +82,7 @@ pub enum Comparable {
 }
 
 /// A call of a function (RFC 9535, section 2.4): its name in ASCII, and its arguments in order.
-#[derive(Debug, Drop, PartialEq, Eq)]
+#[derive(Drop)]
 #[cycle(ast)]
 pub struct Call {
     pub name: Vec<u8>,
@@ -90,7 +90,7 @@ pub struct Call {
 }
 
 /// An argument of a call (RFC 9535, section 2.4).
-#[derive(Debug, Drop, PartialEq, Eq)]
+#[derive(Drop)]
 #[cycle(ast)]
 pub enum Argument {
     Lit(Literal),
@@ -101,7 +101,7 @@ pub enum Argument {
 }
 
 /// A literal (RFC 9535, section 2.3.5.1).
-#[derive(Debug, Drop, PartialEq, Eq)]
+#[derive(Drop)]
 pub enum Literal {
     /// A number, by the bytes that spell it.
     Number(Vec<u8>),
@@ -112,7 +112,7 @@ pub enum Literal {
 }
 
 /// An operator of a comparison (RFC 9535, section 2.3.5.1).
-#[derive(Clone, Copy, Debug, PartialEq, Eq)]
+#[derive(Clone, Copy)]
 pub enum Op {
     Eq,
     Ne,

@@ -15,7 +15,7 @@ use thiserror::Error;
 pub struct NotValid;
 
 /// A valid query.
-#[derive(Debug, Drop)]
+#[derive(Drop)]
 pub struct ValidQuery {
     query: Query,
 }
