@@ -3,7 +3,7 @@
 
 Each query is written twice, as a JSONPath query and as a jq program that says the same in jq's terms (a slice by the bounds of
 RFC 9535, section 2.3.4.2.2). Paths, values and their order have to agree. It needs jq (Debian: jq), and runs
-bin/path_server, or the program that the environment's PATH_SERVER names. Numbers are small, since jq reads them as doubles.
+the program that bin/path_server builds, or the one that the environment's PATH_SERVER names. Numbers are small, since jq reads them as doubles.
 """
 import json
 import os
@@ -12,7 +12,8 @@ import subprocess
 import sys
 from pathlib import Path
 
-PROGRAM = os.environ.get("PATH_SERVER") or Path(__file__).resolve().parent.parent / "bin/path_server"
+TOP = Path(__file__).resolve().parent.parent
+PROGRAM = os.environ.get("PATH_SERVER") or TOP / "crates/path_program/out/path_program"
 QUERIES_PER_TEXT = 40
 COMMON = ["a", "b", "c"]
 NAMES = COMMON + ["é", "x y", "it's", "\\", "\n", "😀", ""]
@@ -173,6 +174,8 @@ def of_program(text, query):
 
 
 def main():
+    if "PATH_SERVER" not in os.environ:
+        subprocess.run([TOP / "bin/path_server", "--help"], stdout=subprocess.DEVNULL, check=True)
     rounds = int(sys.argv[1]) if len(sys.argv) > 1 else 50
     seed = int(sys.argv[2]) if len(sys.argv) > 2 else 1
     chance = random.Random(seed)

@@ -3,7 +3,7 @@
 
 A text is written from a random value, with blanks and escapes of its own, and then a few of its bytes are changed. Python's json
 takes the grammar of RFC 8259 but for NaN and Infinity, which are refused here; it hands over the numbers' texts and the members in
-order, from which the other refusals follow. It runs bin/path_server, or the program that the environment's PATH_SERVER names.
+order, from which the other refusals follow. It runs the program that bin/path_server builds, or the one that the environment's PATH_SERVER names.
 """
 import json
 import os
@@ -13,7 +13,8 @@ import subprocess
 import sys
 from pathlib import Path
 
-PROGRAM = os.environ.get("PATH_SERVER") or Path(__file__).resolve().parent.parent / "bin/path_server"
+TOP = Path(__file__).resolve().parent.parent
+PROGRAM = os.environ.get("PATH_SERVER") or TOP / "crates/path_program/out/path_program"
 DEPTH_LIMIT = 128
 PIECES = [b'"', b"\\", b",", b":", b"[", b"]", b"{", b"}", b" ", b"\n", b"\t", b"\r", b"0", b"1", b"-", b"+", b".", b"e", b"E",
           b"null", b"true", b"\\u", b"\\ud83d", b"\\ude00", b"\\n", b"\x00", b"\x1f", b"\x7f", b"\xc3\xa9", b"\x80", b"\xff",
@@ -114,6 +115,8 @@ def changed(chance, source):
 
 
 def main():
+    if "PATH_SERVER" not in os.environ:
+        subprocess.run([TOP / "bin/path_server", "--help"], stdout=subprocess.DEVNULL, check=True)
     rounds = int(sys.argv[1]) if len(sys.argv) > 1 else 5000
     chance = random.Random(int(sys.argv[2]) if len(sys.argv) > 2 else 1)
     counts, differing = {}, 0

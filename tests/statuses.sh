@@ -1,10 +1,10 @@
 #!/usr/bin/env bash
 # Runs the program on inputs of each exit status and each name that it prints, and compares the status, the output and the line on
-# standard error. The program is bin/path_server, or the one that the environment's PATH_SERVER names.
+# standard error. The program is the one that bin/path_server builds, or the one that the environment's PATH_SERVER names.
 set -u
 cd "$(dirname "$0")/.."
-program=${PATH_SERVER:-bin/path_server}
-"$program" --help >/dev/null || exit 2
+[ -n "${PATH_SERVER:-}" ] || bin/path_server --help >/dev/null || exit 2
+program=${PATH_SERVER:-crates/path_program/out/path_program}
 room=$(mktemp -d)
 trap 'rm -rf "$room"' EXIT
 tried=0
@@ -18,7 +18,7 @@ compare() {
     got=$("$program" "$@" <"$room/input" 2>"$room/errors"; echo "$?")
     tried=$((tried + 1))
     if [ "$got" != "$output$status" ] || { [ "$line" != any ] && [ "$(cat "$room/errors")" != "$line" ]; }; then
-        printf 'path_server %.100s: %s %s\n' "$*" "$got" "$(cat "$room/errors")" >&2
+        printf 'path_server %.100s: %.200s %s\n' "$*" "$got" "$(cat "$room/errors")" >&2
         failed=$((failed + 1))
     fi
 }
@@ -64,13 +64,18 @@ compare 2 '' 'path_server: TooManyNodes' query '$[*]'
 
 compare_fault() {
     tried=$((tried + 1))
-    [ "$2" = "4$1" ] || { echo "not $1 and 4: $2" >&2; failed=$((failed + 1)); }
+    [ "$2" = "4$1" ] || { printf 'not %s and 4: %.200s\n' "$1" "$2" >&2; failed=$((failed + 1)); }
 }
 compare_fault 'path_server: ReadFault' "$("$program" query '$' </ 2>"$room/errors"; echo "$?$(cat "$room/errors")")"
 compare_fault 'path_server: WriteFault' "$(printf '[1]' | "$program" query '$' 2>"$room/errors" >/dev/full; echo "$?$(cat "$room/errors")")"
 compare_fault 'path_server: WriteFault' "$("$program" --help 2>"$room/errors" >/dev/full; echo "$?$(cat "$room/errors")")"
-# the text is read into a buffer of its size, which this much address space has no room for
-compare_fault 'path_server: NoMemory' "$(ulimit -v 6000; "$program" query '$' <"$room/input" 2>"$room/errors"; echo "$?$(cat "$room/errors")")"
+# a text of 1,048,576 bytes is read into a buffer of that size, for which 4,000 KiB of address space have no room
+{ times 1048575 ' '; printf 1; } >"$room/input"
+(
+    ulimit -v 4000
+    exec "$program" query '$' <"$room/input" >"$room/output" 2>"$room/errors"
+)
+compare_fault 'path_server: NoMemory' "$?$(cat "$room/errors")"
 
 echo "$tried cases, $failed of them differ"
 exit $((failed > 0))
