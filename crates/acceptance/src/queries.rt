@@ -50,12 +50,12 @@ fn selects_nodes(rt: HostRuntime) -> Result<(), Fail> {
 
 // A stream that gives its bytes one by one, and fails behind them with an error of this kind, where there is one.
 #[derive(Drop)]
-struct Stream {
+struct Source {
     left: &'static [u8],
     failure: Option<ErrorKind>,
 }
 
-impl Read for Stream {
+impl Read for Source {
     fn read(&mut self, buf: &mut [u8]) -> io::Result<usize> {
         let Some((next, rest)) = self.left.split_first() else {
             return match self.failure {
@@ -98,8 +98,8 @@ impl Write for Sink {
     }
 }
 
-fn stream(left: &'static [u8], failure: Option<ErrorKind>) -> Stream {
-    Stream { left, failure }
+fn stream(left: &'static [u8], failure: Option<ErrorKind>) -> Source {
+    Source { left, failure }
 }
 
 #[test]
