@@ -51,6 +51,7 @@ expect 1 '' 'path_server: DuplicateName' '{"a":1,"\\u0061":2}' query '$'
 expect 2 '' 'path_server: NotWellFormed' '[1]' query '$['
 expect 2 '' 'path_server: NotValid' '[1]' query '$[?count(@)]'
 expect 2 '' 'path_server: QueryTooLong' '[1]' query "\$$(times 4096 ' ').a"
+expect 0 "path_server 0.1.0$newline" '' '' --version
 expect 3 '' any '' query
 expect 3 '' any '' question '$'
 expect 3 '' 'path_server: BadCommandLine' '' query "$(printf '\377')"

@@ -1,9 +1,9 @@
-"""Makes the table of pairs of number texts that decimal_order's tests compare.
+"""Makes the pairs of number texts in the table crates/case_tables/data/numbers.cases.
 
 The order of a pair comes from Python's exact fractions, so every exponent here is small enough to
-be written out. Pairs with exponents near the limit stand in the tests by hand.
+be written out. Pairs with exponents near the limit stand in the table by hand.
 
-    python3 pairs.py > ../../crates/decimal_order/src/tests/pairs.rt
+    python3 pairs.py
 """
 import random
 from fractions import Fraction
@@ -70,15 +70,13 @@ def main():
     lines = set()
     for a, b in pairs():
         if value(a) == value(b):
-            lines.add(f"{a} = {b}")
+            lines.add((a, "equal", b))
         elif value(a) < value(b):
-            lines.add(f"{a} < {b}")
+            lines.add((a, "less", b))
         else:
-            lines.add(f"{b} < {a}")
-    print("// Made by bench/decimal_order/pairs.py, with Python's exact fractions: a line is two numbers with")
-    print("// `=` between them, or with `<` where the first is the lesser.")
-    print('pub(super) static PAIRS: &str = "')
-    print("\n".join(sorted(lines)) + '";')
+            lines.add((b, "less", a))
+    for left, order, right in sorted(lines):
+        print("numbers", order, left, right, sep="\t")
 
 
 main()

@@ -1,19 +1,11 @@
-//! Tests over the public calls of all crates: worked cases as tables. They stand here, and not beside the code, so that no crate
-//! is proved once more for its tests.
+//! Tests of public calls of all crates. They stand here, and not beside the code, so that no crate is proved once more for its
+//! tests. Cases of one line, as a text and its verdict, stand in the tables of `case_tables`.
 #![tactic(auto)]
 
 #[cfg(test)]
-mod comparisons;
-#[cfg(test)]
-mod decimals;
-#[cfg(test)]
 mod documents;
 #[cfg(test)]
-mod filters;
-#[cfg(test)]
 mod frames;
-#[cfg(test)]
-mod grammar;
 #[cfg(test)]
 mod kernels;
 #[cfg(test)]
@@ -22,9 +14,5 @@ mod names;
 mod places;
 #[cfg(test)]
 mod queries;
-#[cfg(test)]
-mod segments;
-#[cfg(test)]
-mod texts;
 #[cfg(test)]
 mod trees;

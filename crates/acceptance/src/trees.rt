@@ -1,72 +1,7 @@
-//! Query texts, the trees that they spell, and whether those are valid.
+//! Query texts and the trees that they spell.
 
-use path_grammar::{Argument, Comparable, Expr, IntLit, Op, ParseFault, Selector, parse};
-use path_types::check;
+use path_grammar::{Argument, Comparable, Expr, IntLit, Op, Selector, parse};
 use std::test::Fail;
-
-// Each pair is a text of the grammar and a neighbour that is not.
-const NEIGHBOURS: [(&str, &str); 46] = [
-    ("$", ""),
-    ("$.a", "$.a "),
-    ("$ .a", " $.a"),
-    ("$.*", "$.**"),
-    ("$._1", "$.1_"),
-    ("$.é", "$.a-b"),
-    ("$..a", "$...a"),
-    ("$..*", "$.. *"),
-    ("$..[0]", "$.. [0]"),
-    ("$[0]", "$.[0]"),
-    ("$[0,1]", "$[0,]"),
-    ("$[ 0 , * ]", "$[]"),
-    ("$[-1]", "$[-0]"),
-    ("$[10]", "$[01]"),
-    ("$[:]", "$[:::]"),
-    ("$[ 1 : 2 : 3 ]", "$[1:2:3:4]"),
-    ("$[1:]", "$[1 2:]"),
-    ("$[::-1]", "$[::--1]"),
-    ("$['a']", "$['a"),
-    ("$[\"'\"]", "$[\"\"\"]"),
-    ("$['\\'']", "$['\\\"']"),
-    ("$[\"\\\"\"]", "$[\"\\'\"]"),
-    ("$['\\ud83d\\ude00']", "$['\\ud83d']"),
-    ("$['\\u00e9\\b\\f\\n\\r\\t\\/\\\\']", "$['\\x']"),
-    ("$[?@.a]", "$[?a]"),
-    ("$[? $ ]", "$[? ]"),
-    ("$[?@.a,?@.b]", "$[?@.a,]"),
-    ("$..[?@.a]", "$.?@.a"),
-    ("$[?!@.a]", "$[?!!@.a]"),
-    ("$[?! ( @.a ) ]", "$[?!(@.a]"),
-    ("$[?(@.a)]", "$[?((@.a)]"),
-    ("$[?@.a && @.b || !(@.c)]", "$[?@.a & @.b]"),
-    ("$[?@.a==1]", "$[?@.a=1]"),
-    ("$[?@.a == 1]", "$[?!@.a == 1]"),
-    ("$[?@['a'][0] >= @[ 1 ]]", "$[?@['a'][0] > = @[ 1 ]]"),
-    ("$[?@.a<1]", "$[?@.*<1]"),
-    ("$[?null != @[0]]", "$[?null != @[0,1]]"),
-    ("$[?true == @.a]", "$[?true]"),
-    ("$[?-0 == -0.0e+10]", "$[?-01 == 1]"),
-    ("$[?1.5E3 <= @]", "$[?1. <= @]"),
-    ("$[?1e5 == 1]", "$[?1e == 1]"),
-    ("$[?'a' == \"a\"]", "$[?'a' == \"a']"),
-    ("$[?true(@)]", "$[?true (@)]"),
-    ("$[?count(@..*) > 2]", "$[?Count(@..*) > 2]"),
-    ("$[?f_1( 1 , 'a', @.b, g(), @.a == 1 )]", "$[?f_1(1,)]"),
-    ("$[?f((@.a))]", "$[?f(@.a @.b)]"),
-];
-
-#[test]
-fn neighbours(rt: HostRuntime) {
-    for (good, bad) in NEIGHBOURS {
-        assert!(rt; parse(rt.alloc(), good.as_bytes()).is_ok(), "{good}");
-        assert!(rt;
-            matches!(
-                parse(rt.alloc(), bad.as_bytes()),
-                Err(ParseFault::NotWellFormed)
-            ),
-            "{bad}"
-        );
-    }
-}
 
 #[test]
 fn whole_query(rt: HostRuntime) -> Result<(), Fail> {
@@ -96,11 +31,7 @@ fn escaped_name(rt: HostRuntime) -> Result<(), Fail> {
 }
 
 #[test]
-fn limits(rt: HostRuntime) -> Result<(), Fail> {
-    let long = parse(rt.alloc(), &[36; 4097]);
-    assert!(rt; matches!(long, Err(ParseFault::QueryTooLong)));
-    let bytes = parse(rt.alloc(), b"$\xff");
-    assert!(rt; matches!(bytes, Err(ParseFault::NotWellFormed)));
+fn numbers_past_the_limit(rt: HostRuntime) -> Result<(), Fail> {
     let q = parse(rt.alloc(), b"$[9007199254740992,-9007199254740991]")?;
     let first = q.segments.first().ok_or("first")?;
     assert!(rt;
@@ -138,30 +69,5 @@ fn filter_query(rt: HostRuntime) -> Result<(), Fail> {
     assert_eq!(rt; call.name.as_slice(), b"true".as_slice());
     assert!(rt; matches!(call.arguments.first(), Some(Argument::Nodes(_))));
     assert!(rt; matches!(call.arguments.get(1), Some(Argument::Logical(_))));
-    Ok(())
-}
-
-#[test]
-fn levels(rt: HostRuntime) {
-    let most = b"$[?(((((((((((((((((((((((((((((((@)))))))))))))))))))))))))))))))]";
-    assert!(rt; parse(rt.alloc(), most).is_ok());
-    let more = b"$[?((((((((((((((((((((((((((((((((@))))))))))))))))))))))))))))))))]";
-    assert!(rt; matches!(parse(rt.alloc(), more), Err(ParseFault::NotWellFormed)));
-    let mut open = [b'('; 4000];
-    open[0] = b'$';
-    open[1] = b'[';
-    open[2] = b'?';
-    assert!(rt; matches!(parse(rt.alloc(), &open), Err(ParseFault::NotWellFormed)));
-}
-
-#[test]
-fn filter_queries(rt: HostRuntime) -> Result<(), Fail> {
-    let valid = parse(
-        rt.alloc(),
-        b"$[?length(@.a) < 1e3 && count(@.*) == value($..b)]",
-    )?;
-    assert!(rt; check(valid).is_ok());
-    let refused = parse(rt.alloc(), b"$[?length(@.*) < 3]")?;
-    assert!(rt; check(refused).is_err());
     Ok(())
 }

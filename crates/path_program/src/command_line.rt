@@ -4,6 +4,9 @@ use crate::failure::Failure;
 use clap::{Arg, ArgAction, ArgMatches, Command, Error};
 use std::alloc::{AllocError, Global};
 
+/// The version, which `--version` prints behind the program's name.
+pub const VERSION: &str = "0.1.0";
+
 /// What the command line asks for.
 pub enum Request<'a> {
     /// The lines of this query on standard input.
@@ -21,6 +24,7 @@ fn command<'a>(alloc: Global) -> Result<Command<'a>, AllocError> {
         )
         .arg(text)?;
     Command::new(alloc, "path_server")
+        .version(VERSION)
         .about("Keeps JSON texts and answers JSONPath queries")
         .subcommand_required(true)
         .disable_help_subcommand(true)
@@ -33,7 +37,7 @@ fn parsed<'a>(alloc: Global, words: &'a [String]) -> Result<ArgMatches<'a>, Erro
 
 /// The request that the words of a command line spell, of which the first is the program's name.
 pub fn read_request<'a>(alloc: Global, words: &'a [String]) -> Result<Request<'a>, Failure> {
-    let matches = parsed(alloc, words).map_err(Failure::CommandLine)?;
+    let matches = parsed(alloc, words).map_err(Failure::of_command_line)?;
     let text = matches
         .subcommand_matches("query")
         .and_then(|found| found.get_str("QUERY"));
@@ -64,6 +68,7 @@ mod tests {
     fn command_lines(rt: HostRuntime) -> Result<(), Fail> {
         assert_eq!(rt; status_of(&rt, &["path_server", "query", "$.a"])?, None);
         assert_eq!(rt; status_of(&rt, &["path_server", "--help"])?, Some(0));
+        assert_eq!(rt; status_of(&rt, &["path_server", "--version"])?, Some(0));
         assert_eq!(rt;
             status_of(&rt, &["path_server", "query", "--help"])?,
             Some(0)

@@ -1,76 +1,118 @@
-//! Why the program ends with another status than 0.
+//! Why the program ends before it has answered, and the status that it ends with.
 
-use path_server::QueryTextFault;
-use std::io;
+ghost use Rattle.std.specs.Prelude.{◌≡◌, ◌⊎◌, ◌↔◌};
+ghost use Rattle.std.specs.IoError.{error_kind};
+ghost use Rattle.clap.specs.Values.{kind_of};
+ghost use Rattle.path_program.specs.Statuses.{status_of, status_of_refusal, status_of_query, status_of_kind};
+
+use clap::error::ErrorKind as ParseKind;
+use path_server::{QueryStreamFault, QueryTextFault};
+use std::fmt;
+use std::io::{self, ErrorKind};
 
 /// Why the program ends early.
 #[derive(Debug, Drop)]
 pub enum Failure {
-    /// The command line is none, or asks for help.
+    /// The command line is none, or asks for help or the version.
     CommandLine(clap::Error),
     /// A word of the command line is not UTF-8.
     Words,
-    /// The query on the text is refused.
-    Refused(QueryTextFault),
-    /// Standard input could not be read.
-    Read,
-    /// Standard output could not be written.
-    Write,
+    /// The query on standard input is not answered.
+    Query(QueryStreamFault),
     /// A growth was refused.
     Memory,
 }
 
 impl Failure {
-    /// What a failed read of standard input means.
-    pub fn of_read(error: &io::Error) -> Failure {
+    /// What a failed parse of the command line means.
+    pub fn of_command_line(error: clap::Error) -> Failure
+        ensures memory { (result ≡ Failure.Memory) ↔ (kind_of error ≡ ParseKind.OutOfMemory) }
+        ensures status { status_of result ≡ status_of_kind (kind_of error) }
+    {
         match error.kind() {
-            io::ErrorKind::OutOfMemory => Failure::Memory,
-            _ => Failure::Read,
+            ParseKind::OutOfMemory => Failure::Memory,
+            _ => Failure::CommandLine(error),
         }
     }
 
     /// What a failed read of the command line's words means.
-    pub fn of_words(error: &io::Error) -> Failure {
+    pub fn of_words(error: &io::Error) -> Failure
+        ensures memory { (result ≡ Failure.Memory) ↔ (error_kind error.now ≡ ErrorKind.OutOfMemory) }
+    {
         match error.kind() {
-            io::ErrorKind::OutOfMemory => Failure::Memory,
+            ErrorKind::OutOfMemory => Failure::Memory,
             _ => Failure::Words,
         }
     }
 
-    /// Prints what happened, help to standard output and all else to standard error, and answers the exit status.
-    pub fn report<R: Print + Eprint>(&self, rt: &R) -> u8 {
+    /// The exit status.
+    pub fn status(&self) -> u8
+        ensures { result ≡ status_of self.now }
+    {
         match self {
-            Failure::CommandLine(error) => report_command_line(rt, error),
-            Failure::Words => report_name(rt, "BadCommandLine", 3),
-            Failure::Refused(fault) => {
-                let _ = eprintln!(rt; "path_server: {fault}");
-                status_of(*fault)
+            Failure::CommandLine(error) => status_at(error.kind()),
+            Failure::Words => 3,
+            Failure::Query(fault) => query_status(*fault),
+            Failure::Memory => 4,
+        }
+    }
+
+    /// Prints what happened, help and the version to standard output and all else to standard error, and answers the exit
+    /// status: that of a failed write where what was asked for could not be printed.
+    pub fn report<R: Print + Eprint>(&self, rt: &R) -> u8
+        ensures { (result ≡ status_of self.now) ⊎ (result ≡ 4) }
+    {
+        match self {
+            Failure::CommandLine(error) if !error.use_stderr() => match rt.print(error) {
+                Ok(()) => self.status(),
+                Err(_) => {
+                    let _ = eprintln!(rt; "path_server: WriteFault");
+                    4
+                }
+            },
+            _ => {
+                let _ = rt.eprint(self);
+                self.status()
             }
-            Failure::Read => report_name(rt, "ReadFault", 4),
-            Failure::Write => report_name(rt, "WriteFault", 4),
-            Failure::Memory => report_name(rt, "NoMemory", 4),
         }
     }
 }
 
-fn report_command_line<R: Print + Eprint>(rt: &R, error: &clap::Error) -> u8 {
-    let shown = error.print(rt);
-    if error.use_stderr() {
-        3
-    } else if shown.is_err() {
-        report_name(rt, "WriteFault", 4)
-    } else {
-        0
+impl fmt::Display for Failure {
+    fn fmt<W: fmt::Write>(&self, f: &mut fmt::Formatter<W>) -> fmt::Result {
+        match self {
+            Failure::CommandLine(error) => write!(f, "{error}"),
+            Failure::Words => writeln!(f, "path_server: BadCommandLine"),
+            Failure::Query(fault) => writeln!(f, "path_server: {fault}"),
+            Failure::Memory => writeln!(f, "path_server: NoMemory"),
+        }
     }
 }
 
-fn report_name<R: Eprint>(rt: &R, name: &str, status: u8) -> u8 {
-    let _ = eprintln!(rt; "path_server: {name}");
-    status
+fn status_at(kind: ParseKind) -> u8
+    ensures { result ≡ status_of_kind kind }
+{
+    match kind {
+        ParseKind::DisplayHelp | ParseKind::DisplayVersion => 0,
+        ParseKind::OutOfMemory => 4,
+        _ => 3,
+    }
+}
+
+fn query_status(fault: QueryStreamFault) -> u8
+    ensures { result ≡ status_of_query fault }
+{
+    match fault {
+        QueryStreamFault::Read(_) => 4,
+        QueryStreamFault::Refused(refusal) => refusal_status(refusal),
+        QueryStreamFault::Write(_) => 4,
+    }
 }
 
 // 1 where the text is refused, 2 where the query is.
-fn status_of(fault: QueryTextFault) -> u8 {
+fn refusal_status(fault: QueryTextFault) -> u8
+    ensures { result ≡ status_of_refusal fault }
+{
     match fault {
         QueryTextFault::TooLong
         | QueryTextFault::NotUtf8
@@ -90,30 +132,53 @@ fn status_of(fault: QueryTextFault) -> u8 {
 #[cfg(test)]
 mod tests {
     use super::*;
+    use standard_streams::{ReadFault, WriteFault};
+    use std::process::Abort;
+    use std::test::Fail;
 
-    const STATUSES: [(QueryTextFault, u8); 12] = [
-        (QueryTextFault::TooLong, 1),
-        (QueryTextFault::NotUtf8, 1),
-        (QueryTextFault::NotJson, 1),
-        (QueryTextFault::TooDeep, 1),
-        (QueryTextFault::NumberLimit, 1),
-        (QueryTextFault::LoneSurrogate, 1),
-        (QueryTextFault::DuplicateName, 1),
-        (QueryTextFault::QueryTooLong, 2),
-        (QueryTextFault::NotWellFormed, 2),
-        (QueryTextFault::NotValid, 2),
-        (QueryTextFault::TooManyNodes, 2),
-        (QueryTextFault::Memory, 4),
+    // Each refusal's name and status, as the README's table has them.
+    const REFUSALS: [(QueryTextFault, &str, u8); 12] = [
+        (QueryTextFault::TooLong, "TooLong", 1),
+        (QueryTextFault::NotUtf8, "NotUtf8", 1),
+        (QueryTextFault::NotJson, "NotJson", 1),
+        (QueryTextFault::TooDeep, "TooDeep", 1),
+        (QueryTextFault::NumberLimit, "NumberLimit", 1),
+        (QueryTextFault::LoneSurrogate, "LoneSurrogate", 1),
+        (QueryTextFault::DuplicateName, "DuplicateName", 1),
+        (QueryTextFault::QueryTooLong, "QueryTooLong", 2),
+        (QueryTextFault::NotWellFormed, "NotWellFormed", 2),
+        (QueryTextFault::NotValid, "NotValid", 2),
+        (QueryTextFault::TooManyNodes, "TooManyNodes", 2),
+        (QueryTextFault::Memory, "NoMemory", 4),
     ];
 
+    fn assert_end<R: Abort + AllocGlobal + Print + Eprint>(
+        rt: &R,
+        failure: &Failure,
+        name: &str,
+        status: u8,
+    ) -> Result<(), Fail> {
+        let printed = format!(in rt.alloc(); "{failure}")?;
+        let wanted = format!(in rt.alloc(); "path_server: {name}\n")?;
+        assert_eq!(rt; printed.as_str(), wanted.as_str());
+        assert_eq!(rt; failure.report(rt), status, "{name}");
+        Ok(())
+    }
+
     #[test]
-    fn statuses(rt: HostRuntime) {
-        for (fault, status) in STATUSES {
-            assert_eq!(rt; Failure::Refused(fault).report(&rt), status);
+    fn names_and_statuses(rt: HostRuntime) -> Result<(), Fail> {
+        for (fault, name, status) in REFUSALS {
+            let failure = Failure::Query(QueryStreamFault::Refused(fault));
+            assert_end(&rt, &failure, name, status)?;
         }
-        assert_eq!(rt; Failure::Words.report(&rt), 3);
-        assert_eq!(rt; Failure::Read.report(&rt), 4);
-        assert_eq!(rt; Failure::Write.report(&rt), 4);
-        assert_eq!(rt; Failure::Memory.report(&rt), 4);
+        for (fault, name) in [
+            (QueryStreamFault::Read(ReadFault::Failed), "ReadFault"),
+            (QueryStreamFault::Read(ReadFault::Memory), "NoMemory"),
+            (QueryStreamFault::Write(WriteFault), "WriteFault"),
+        ] {
+            assert_end(&rt, &Failure::Query(fault), name, 4)?;
+        }
+        assert_end(&rt, &Failure::Words, "BadCommandLine", 3)?;
+        assert_end(&rt, &Failure::Memory, "NoMemory", 4)
     }
 }

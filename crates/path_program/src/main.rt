@@ -6,42 +6,20 @@ mod failure;
 
 use crate::command_line::{Request, read_request};
 use crate::failure::Failure;
-use json_tape::TEXT_LIMIT;
-use path_server::query_text;
-use std::env;
-use std::io::{self, Read, Write};
+use path_server::query_stream;
 use std::process::ExitCode;
 use std::rt::Env;
-
-// Standard input, up to one byte past the limit on texts.
-fn read_document<R: Input + AllocGlobal>(rt: &R) -> Result<Vec<u8>, Failure> {
-    let mut document = Vec::new(rt.alloc());
-    match rt
-        .reader()
-        .take(TEXT_LIMIT as u64 + 1)
-        .read_to_end(&mut document)
-    {
-        Ok(_) => Ok(document),
-        Err(error) => Err(Failure::of_read(&error)),
-    }
-}
+use std::{env, io};
 
 // Answers `path_server query QUERY`.
 fn query<R: Input + Print + AllocGlobal>(rt: &R, query: &str) -> Result<(), Failure> {
-    let document = read_document(rt)?;
-    let mut lines = Vec::new(rt.alloc());
-    if let Err(fault) = query_text(
+    query_stream(
         rt.alloc(),
         query.as_bytes(),
-        document.as_slice(),
-        &mut lines,
-    ) {
-        return Err(Failure::Refused(fault));
-    }
-    match io::writer(rt).write_all(lines.as_slice()) {
-        Ok(()) => Ok(()),
-        Err(_) => Err(Failure::Write),
-    }
+        rt.reader(),
+        &mut io::writer(rt),
+    )
+    .map_err(Failure::Query)
 }
 
 fn run<R: Input + Print + Eprint + Env + AllocGlobal>(rt: &R) -> Result<(), Failure> {

@@ -1,3 +1,4 @@
 pub mod Hits
 pub mod QueryText
 pub mod Faults
+pub mod QueryStream

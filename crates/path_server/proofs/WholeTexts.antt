@@ -1,0 +1,52 @@
+-- A text that is cut one byte past the limit on texts is refused as the whole text is, or it is the whole text.
+use Rattle.std.proofs.Common.{◌≡◌, ℕ, ◌<◌, min, List, [], length, take, arith, Option, None, Some, refl}
+use Rattle.std.specs.Prelude.{IfSome}
+use Rattle.std.specs.Io.KnownBytes.{Keeps, Appends}
+use Rattle.std.proofs.lemmas.List.{length-take, take_all}
+use Rattle.json_tape.specs.Verdict.{IsRefused}
+use Rattle.json_tape.specs.declared.tape.TextFault.TheVariants as text
+use Rattle.path_server.specs.QueryText.{Refuses, Answers}
+use Rattle.path_server.specs.QueryStream.{AnswersStream}
+use Rattle.path_server.specs.declared.fault.QueryTextFault.{QueryTextFault}
+use Rattle.path_server.specs.declared.fault.QueryTextFault.TheVariants.{TooLong, NotUtf8, NotJson, TooDeep, NumberLimit, LoneSurrogate, DuplicateName, QueryTooLong, NotWellFormed, NotValid, TooManyNodes, Memory}
+
+whole : (document : List ℕ) → (1048576 < length (take 1048577 document) → ⊥) → take 1048577 document ≡ document
+whole document f =
+    let e : length (take 1048577 document) ≡ min 1048577 (length document) = length-take 1048577 document in
+    let h : 1048576 < min 1048577 (length document) → ⊥ = λ l. f (rw e l) in
+    take_all 1048577 document (omega arith)
+
+too_long : (document : List ℕ) → IsRefused (take 1048577 document) text.TooLong → IsRefused document text.TooLong
+too_long document r =
+    let e : length (take 1048577 document) ≡ min 1048577 (length document) = length-take 1048577 document in
+    let l : 1048576 < min 1048577 (length document) = rw (← e) r.0 in
+    (omega arith, λ g k. absurd (omega arith))
+
+pub refuses_whole : (query document : List ℕ) (fault : QueryTextFault) → Refuses query (take 1048577 document) fault → Refuses query document fault
+refuses_whole query document TooLong r = too_long document r
+refuses_whole query document NotUtf8 r = rw (whole document (r.1 text.TooLong (omega arith))) at r
+refuses_whole query document NotJson r = rw (whole document (r.1 text.TooLong (omega arith))) at r
+refuses_whole query document TooDeep r = rw (whole document (r.1 text.TooLong (omega arith))) at r
+refuses_whole query document NumberLimit r = rw (whole document (r.1 text.TooLong (omega arith))) at r
+refuses_whole query document LoneSurrogate r = rw (whole document (r.1 text.TooLong (omega arith))) at r
+refuses_whole query document DuplicateName r = rw (whole document (r.1 text.TooLong (omega arith))) at r
+refuses_whole query document QueryTooLong r = rw (whole document (r.0.1.1 text.TooLong)) at r
+refuses_whole query document NotWellFormed r = rw (whole document (r.0.1.1 text.TooLong)) at r
+refuses_whole query document NotValid r = rw (whole document (r.0.1.1 text.TooLong)) at r
+refuses_whole query document TooManyNodes (t, q, a, v, r) = (t, q, (rw (whole document (a.1 text.TooLong)) at a), v, r)
+refuses_whole query document Memory r = tt
+
+pub answers_whole : (query document old new : List ℕ) → Answers query (take 1048577 document) old new → Answers query document old new
+answers_whole query document old new a = rw (whole document (a.accepted.1 text.TooLong)) at a
+
+pub refused_whole : (query cut : List ℕ) (left : Option (List ℕ)) (fault : QueryTextFault) → IfSome left (λ document. cut ≡ take 1048577 document) → Refuses query cut fault → IfSome left (λ document. Refuses query document fault)
+refused_whole query cut None fault e r = tt
+refused_whole query cut (Some document) fault e r = refuses_whole query document fault (rw e at r)
+
+pub answered_whole : (query cut lines : List ℕ) (left old new : Option (List ℕ)) → IfSome left (λ document. cut ≡ take 1048577 document) → Answers query cut [] lines → Appends old new lines → AnswersStream query left old new
+answered_whole query cut lines None old new e a w = tt
+answered_whole query cut lines (Some document) old new e a w = (lines, answers_whole query document [] lines (rw e at a), w)
+
+pub keeps_same : (known : Option (List ℕ)) → Keeps known known
+keeps_same None = tt
+keeps_same (Some xs) = refl
