@@ -78,7 +78,8 @@ impl Document {
 
     /// All bytes of the text, as they were read.
     pub fn source(&self) -> &[u8]
-        ensures { result.now ≡ self.now.text }
+        ensures value { result.now ≡ self.now.text }
+        ensures short { length result.now ≤ text_limit }
     {
         self.text.as_bytes()
     }
@@ -128,6 +129,7 @@ impl Document {
         requires { n.0 < count self.now }
         ensures value { result.now ≡ (source_of (node_at self.now n.0).tree).bytes }
         ensures part { StandsIn self.now.text result.now }
+        ensures short { length result.now ≤ text_limit }
         ensures number { kind_of (node_at self.now n.0).tree ≡ Kind.Number → IsNumber result.now × IsWithinLimits result.now }
     {
         let extent = self.entry(n).source;
