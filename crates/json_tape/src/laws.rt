@@ -5,6 +5,7 @@ ghost use Rattle.json_tape.specs.Tree.{Spelt, Tree};
 ghost use Rattle.json_tape.specs.Grammar.{IsText};
 ghost use Rattle.json_tape.specs.Meaning.{Means, HasLone, meaning};
 ghost use Rattle.json_tape.specs.Nodes.{way_size};
+ghost use Rattle.json_tape.specs.Verdict.{text_limit};
 ghost use Rattle.json_tape.specs.Document.{count, node_at};
 
 use crate::document::Document;
@@ -24,9 +25,10 @@ pub fn meant()
     ensures { (characters : List Spelt) → (HasLone characters → ⊥) → Means characters (meaning characters) }
 {}
 
-/// The steps that lead to a node of a document take no more bytes than its text has.
+/// A text is within its limit, and the steps that lead to a node of it take no more bytes than it has.
 pub fn ways_are_short(doc: &Document)
-    ensures { (n : ℕ) → n < count doc.now → way_size (node_at doc.now n).way_up ≤ length doc.now.text }
+    ensures way { (n : ℕ) → n < count doc.now → way_size (node_at doc.now n).way_up ≤ length doc.now.text }
+    ensures text { length doc.now.text ≤ text_limit }
 {
     let _ = doc.root();
 }
