@@ -44,3 +44,4 @@ pub mod ShortHashes
 pub mod Words
 pub mod Marks
 pub mod WaySizes
+pub mod StopBits
