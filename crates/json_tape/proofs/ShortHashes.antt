@@ -1,5 +1,5 @@
 -- The hash of a few bytes that stand for themselves is their number.
-use Rattle.std.proofs.Common.{◌≡◌, ◌≢◌, ℕ, zero, suc, ◌+◌, ◌-◌, ◌*◌, ◌/◌, ◌^◌, ◌<◌, ◌≤◌, eqb, ltb, Bool, true, false, not, ◌&&◌, List, [], ◌∷◌, length, take, drop, get_or, Fits, w8, w64, refl, sym, ap, ◌∙◌, subst, arith}
+use Rattle.std.proofs.Common.{◌≡◌, ◌≢◌, ℕ, zero, suc, ◌+◌, ◌-◌, ◌*◌, ◌/◌, ◌^◌, ◌<◌, ◌≤◌, ltb, true, List, [], ◌∷◌, length, take, drop, get_or, Fits, w8, w64, refl, sym, ap, ◌∙◌, subst, arith}
 use Rattle.std.specs.Int.{from_be_bytes}
 use Rattle.std.specs.Str.{chars}
 use Rattle.std.proofs.lemmas.Bool.Decides.{nat_tests}

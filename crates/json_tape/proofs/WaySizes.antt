@@ -1,8 +1,8 @@
 -- The steps that lead to a node take no more bytes than the text has.
-use Rattle.std.proofs.Common.{◌≡◌, ℕ, zero, suc, ◌+◌, ◌<◌, ◌≤◌, List, [], ◌∷◌, ◌++◌, length, get_or, refl, ap, ◌∙◌, subst, arith, length-append}
+use Rattle.std.proofs.Common.{◌≡◌, ℕ, zero, suc, ◌+◌, ◌<◌, ◌≤◌, List, [], ◌∷◌, ◌++◌, length, get_or, refl, ap, arith, length-append}
 use Rattle.json_tape.specs.Tree.{Name, Tree, source_of, Leaf, Arr, Obj, Elements, NoElement, Element, Members, NoMember, Member, then_element, then_member}
 use Rattle.json_tape.specs.Meaning.{meaning}
-use Rattle.json_tape.specs.Nodes.{Node, Step, key, place, step_size, way_size, size, elements_from, members_from}
+use Rattle.json_tape.specs.Nodes.{Node, Step, key, place, way_size, size, elements_from, members_from}
 use Rattle.json_tape.specs.Grammar.{IsValue, scalar, no_array, array, no_object, object, IsElements, one_element, next_element, IsMembers, one_member, next_member, IsMember, member, IsText}
 use Rattle.json_tape.specs.Tape.{Label, Top, Index, Named, element_count, extent}
 use Rattle.json_tape.specs.Document.{Doc, Spot, IsDocument, spots, spots_from, spots_elements, spots_members, tree_of, root_of, node_at, count}

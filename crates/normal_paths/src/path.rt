@@ -1,6 +1,6 @@
 //! The steps from the root to a node.
 
-ghost use Rattle.std.specs.Prelude.{◌≡◌, ◌+◌, ◌<◌, ◌≤◌, ◌++◌, ◌∷◌, [], IfOk, OnErr, length, decimal, reverse, flat_map, take, map};
+ghost use Rattle.std.specs.Prelude.{◌≡◌, ◌+◌, ◌<◌, ◌≤◌, ◌++◌, ◌∷◌, [], IfOk, OnErr, length, decimal, reverse, take};
 ghost use Rattle.json_tape.specs.Document.{count, node_at};
 ghost use Rattle.std.specs.List.{All};
 ghost use Rattle.normal_paths.specs.NormalPath.{name_text, normal_path, path_limit};
