@@ -8,7 +8,7 @@ ghost use Rattle.json_tape.specs.Surrogates.{number_of_hex, past_char, past_unit
 use std::simd::prelude::*;
 
 /// Where a scan of a string stands: between characters, behind a backslash, or before a hexadecimal digit after which this many must come.
-#[derive(Clone, Copy, Debug, PartialEq, Eq)]
+#[derive(Clone, Copy)]
 pub enum Mode {
     Between,
     Escape,
@@ -16,7 +16,7 @@ pub enum Mode {
 }
 
 /// What a byte of a string does.
-#[derive(Clone, Copy, Debug, PartialEq, Eq)]
+#[derive(Clone, Copy)]
 pub enum Turn {
     Stop,
     Fail,
@@ -24,7 +24,7 @@ pub enum Turn {
 }
 
 /// Where a search for a lone surrogate stands: in which part of a character, the unit so far, and whether a high surrogate ended right before.
-#[derive(Clone, Copy, Debug, PartialEq, Eq)]
+#[derive(Clone, Copy)]
 pub struct Surrogates {
     pub mode: Mode,
     pub unit: u32,
