@@ -16,3 +16,4 @@ pub mod WordLoads
 pub mod TotalOrder
 pub mod WithinLimits
 pub mod DecimalTexts
+pub mod LateExponents

@@ -1,12 +1,12 @@
 -- Laws that the definitions of numbers have to meet.
-use Rattle.std.specs.Prelude.{◌≡◌, ℕ, ◌<◌, ◌^◌, ◌⊎◌, ◌↔◌, ◌≤ℤ◌, List, pos, is_some, IsTrue}
+use Rattle.std.specs.Prelude.{◌≡◌, ℕ, ◌+◌, ◌<◌, ◌≤◌, ◌^◌, ◌⊎◌, ◌↔◌, ◌≤ℤ◌, List, length, get_or, false, pos, is_some, IsTrue}
 use Rattle.std.specs.Cmp.{IsTotalOrder}
 use Rattle.std.specs.Fmt.{decimal}
 use Rattle.std.specs.declared.cmp.Ordering.TheVariants.{Equal}
 use Rattle.decimal_order.specs.Number.{IsNumber}
-use Rattle.decimal_order.specs.Value.{Value, value}
+use Rattle.decimal_order.specs.Value.{Value, value, is_e}
 use Rattle.decimal_order.specs.Order.{scaled, value_cmp, number_cmp}
-use Rattle.decimal_order.specs.Limits.{IsWithinLimits}
+use Rattle.decimal_order.specs.Limits.{IsWithinLimits, length_limit, short_length}
 use Rattle.decimal_order.specs.Parts.{Parts, HasParts, parts_value}
 use Rattle.decimal_order.specs.Reading.{read}
 
@@ -32,3 +32,7 @@ pub record ReadsOneWay : Type 0 where
 -- the decimal text of a whole number is a number within the limits, and of that value
 abbrev pub WritesWholeNumbers : Type 0
 WritesWholeNumbers = (n : ℕ) → n < 2 ^ 64 → IsNumber (decimal n) × IsWithinLimits (decimal n) × (value (decimal n) ≡ record { coefficient = pos n; exponent = pos 0 })
+
+-- a text of few bytes keeps the limits where no e stands before its last ten bytes
+abbrev pub LateExponentsKeepLimits : Type 0
+LateExponentsKeepLimits = (text : List ℕ) (front : ℕ) → length text ≤ length_limit → length text ≤ front + short_length → ((k : ℕ) → k < front → is_e (get_or text k 0) ≡ false) → IsWithinLimits text

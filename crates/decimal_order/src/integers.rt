@@ -1,5 +1,5 @@
 // The order of integers, whose texts are digits alone but for a minus.
-ghost use Rattle.std.specs.Prelude.{◌≡◌, ◌<◌, ◌↔◌, IsTrue, IfSome, length};
+ghost use Rattle.std.specs.Prelude.{◌≡◌, ◌↔◌, IsTrue, IfSome, length};
 ghost use Rattle.decimal_order.specs.Number.{AreDigits, IsInt, IsNumber};
 ghost use Rattle.decimal_order.specs.Value.{digits_value};
 ghost use Rattle.decimal_order.specs.Order.{number_cmp};

@@ -1,5 +1,5 @@
 // Functions that do nothing, and whose contracts are laws of the definitions.
-ghost use Rattle.decimal_order.specs.Laws.{OrdersValues, ReadsOneWay, WritesWholeNumbers};
+ghost use Rattle.decimal_order.specs.Laws.{OrdersValues, ReadsOneWay, WritesWholeNumbers, LateExponentsKeepLimits};
 
 /// The order of values is total, and so is that of number texts: turned round, a comparison answers the opposite.
 ///
@@ -20,4 +20,11 @@ pub fn reads_one_way()
 /// It does nothing: a caller that writes such a text has the law from its contract.
 pub fn writes_whole_numbers()
     ensures { WritesWholeNumbers }
+{}
+
+/// A text of at most 256 bytes in which no e stands before the last ten keeps the limits, whatever else it says.
+///
+/// It does nothing: a caller that looks for such an e first has the law from its contract.
+pub fn late_exponents_keep_limits()
+    ensures { LateExponentsKeepLimits }
 {}

@@ -14,7 +14,7 @@ mod order;
 mod parts;
 mod short;
 
-pub use laws::{orders_values, reads_one_way, writes_whole_numbers};
-pub use limits::within_limits;
+pub use laws::{late_exponents_keep_limits, orders_values, reads_one_way, writes_whole_numbers};
+pub use limits::{MAX_LENGTH, SHORT_LENGTH, within_limits};
 pub use number::{Decimal, scan};
 pub use order::compare;

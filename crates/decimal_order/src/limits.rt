@@ -6,8 +6,11 @@ ghost use Rattle.decimal_order.specs.Limits.{IsWithinLimits};
 use crate::number::Decimal;
 use crate::parts::Parts;
 
-// The greatest number of bytes of a number within the limits.
-const MAX_LENGTH: usize = 256;
+/// The greatest number of bytes of a number within the limits.
+pub const MAX_LENGTH: usize = 256;
+
+/// So many bytes from an e on hold no exponent that is beyond its limit.
+pub const SHORT_LENGTH: usize = 10;
 
 // The greatest absolute value of its exponent.
 const MAX_EXPONENT: u64 = 999_999_999;

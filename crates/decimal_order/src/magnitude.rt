@@ -1,7 +1,6 @@
 // The order of numbers of any form without their signs: the places of their first digits that
 // are not 0 decide, and then the digits from there on. No zero of an exponent is written out.
 ghost use Rattle.std.specs.Prelude.{◌≡◌, ◌+◌, ◌≤◌, ◌↔◌, length, IsTrue};
-ghost use Rattle.decimal_order.specs.Number.{AreDigits};
 ghost use Rattle.decimal_order.specs.Value.{digits_value};
 ghost use Rattle.decimal_order.specs.Parts.{digits, AreWithinLimits};
 ghost use Rattle.decimal_order.specs.Places.{digit, made, magnitude, Ranks, AreLeadingZeros, IsLead};

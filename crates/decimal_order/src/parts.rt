@@ -1,5 +1,5 @@
 // A number text, read from its front into its parts (RFC 8259, section 6).
-ghost use Rattle.std.specs.Prelude.{◌≡◌, ℕ, MatchOption, option_map};
+ghost use Rattle.std.specs.Prelude.{◌≡◌, MatchOption, option_map};
 ghost use Rattle.decimal_order.specs.Number.{IsNumber};
 ghost use Rattle.decimal_order.specs.Value.{is_negative};
 ghost use Rattle.decimal_order.specs.Parts.{HasParts};

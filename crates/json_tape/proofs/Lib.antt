@@ -43,3 +43,5 @@ pub mod PlainBytes
 pub mod ShortHashes
 pub mod Words
 pub mod Marks
+pub mod WaySizes
+pub mod StopBits

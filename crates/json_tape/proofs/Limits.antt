@@ -3,7 +3,7 @@ use Rattle.std.proofs.Common.{ℕ, ◌<◌, ◌≤◌, ◌⊎◌, inl, inr, List
 use Rattle.std.proofs.lemmas.Bool.{cases_lt}
 use Rattle.json_tape.specs.Tree.{Null, True, False, Num, Str, Tree, Leaf, Arr, Obj}
 use Rattle.decimal_order.specs.Value.{exponent_size}
-use Rattle.decimal_order.specs.Limits.{IsWithinLimits}
+use Rattle.decimal_order.specs.Limits.{IsWithinLimits, length_limit, exponent_limit}
 use Rattle.json_tape.specs.Grammar.{IsText}
 use Rattle.json_tape.specs.Tape.{Label, Stands}
 use Rattle.json_tape.specs.Verdict.{BreaksLimit}
@@ -47,12 +47,12 @@ bad_none text tape t h e n b =
 
 -- the limits can be judged, so a number that does not break them keeps them
 pub within_unless : (bs : List ℕ) → ((IsWithinLimits bs → ⊥) → ⊥) → IsWithinLimits bs
-within_unless bs f = record { bytes = by_length (cases_lt 256 (length bs)); exponent = by_exponent (cases_lt 999999999 (exponent_size bs)) }
+within_unless bs f = record { bytes = by_length (cases_lt length_limit (length bs)); exponent = by_exponent (cases_lt exponent_limit (exponent_size bs)) }
   where
-    by_length : (256 < length bs) ⊎ (length bs ≤ 256) → length bs ≤ 256
+    by_length : (length_limit < length bs) ⊎ (length bs ≤ length_limit) → length bs ≤ length_limit
     by_length (inl h) = absurd (f (λ w. let x = w.bytes in omega arith))
     by_length (inr h) = h
 
-    by_exponent : (999999999 < exponent_size bs) ⊎ (exponent_size bs ≤ 999999999) → exponent_size bs ≤ 999999999
+    by_exponent : (exponent_limit < exponent_size bs) ⊎ (exponent_size bs ≤ exponent_limit) → exponent_size bs ≤ exponent_limit
     by_exponent (inl h) = absurd (f (λ w. let x = w.exponent in omega arith))
     by_exponent (inr h) = h

@@ -6,7 +6,9 @@ use Rattle.std.proofs.lemmas.Bool.Decides.{nat_tests}
 use Rattle.json_tape.specs.Tree.{Tree}
 use Rattle.json_tape.specs.Grammar.{IsText}
 use Rattle.json_tape.specs.Tape.{Stands}
-use Rattle.json_tape.specs.Limits.{bytes_at, IsBadNumber, AreShort, short_length}
+use Rattle.json_tape.specs.Limits.{bytes_at, IsBadNumber, AreShort}
+use Rattle.decimal_order.specs.Limits.{short_length}
+use Rattle.decimal_order.specs.Laws.{LateExponentsKeepLimits}
 use Rattle.json_tape.specs.Lexing.{Atom, class, IsToken, sign, text, word, sign_at, Taken}
 use Rattle.json_tape.specs.Machine.{Token, Opening, Closing, Comma, Between, Text, Word, State, takes_value, takes_name, closes, put_leaf, put_open, change_at, put_close, put_comma, is_colon, put_text, step, start, kind_of_shape, closed}
 use Rattle.json_tape.specs.declared.tape.Kind.{Kind}
@@ -20,7 +22,7 @@ use Rattle.json_tape.specs.declared.tape.Level.TheVariants.{Root, Inside}
 use Rattle.json_tape.specs.declared.tape.Want.{Want}
 use Rattle.json_tape.specs.declared.tape.Want.TheVariants as wants
 use Rattle.json_tape.specs.declared.tape.Open.{Open}
-use Rattle.json_tape.proofs.ShortNumbers.{late_exponent, number_at}
+use Rattle.json_tape.proofs.ShortNumbers.{number_at}
 
 -- the kind of the entry at a place
 abbrev kind_at : List Entry → ℕ → Option Kind
@@ -176,9 +178,9 @@ short_at [] i d h l k = absurd (omega arith)
 short_at (e ∷ es) zero d h l k = h.0 k
 short_at (e ∷ es) (suc i) d h l k = short_at es i d h.1 (omega arith) k
 
-pub short_good : (text : List ℕ) (tape : List Entry) (t : Tree) → IsText text t → Stands tape t → AreShort tape → (i : ℕ) (d : Entry) → i < length tape → IsBadNumber text (get_or tape i d) → ⊥
-short_good bytes tape t h e s i d l b =
+pub short_good : LateExponentsKeepLimits → (text : List ℕ) (tape : List Entry) (t : Tree) → IsText text t → Stands tape t → AreShort tape → (i : ℕ) (d : Entry) → i < length tape → IsBadNumber text (get_or tape i d) → ⊥
+short_good law bytes tape t h e s i d l b =
     let x = (get_or tape i d).source in
     let few = short_at tape i d s l b.0 in
     let long = length-take x.len (drop x.start bytes) in
-    b.1 (number_at bytes tape t h e i d l b, late_exponent (bytes_at bytes x) 0 (omega (arith, few, long)) (omega (arith, few, long)) (λ k none. absurd (omega arith)))
+    b.1 (number_at bytes tape t h e i d l b, law (bytes_at bytes x) 0 (omega (arith, few, long)) (omega (arith, few, long)) (λ k none. absurd (omega arith)))

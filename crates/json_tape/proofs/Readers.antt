@@ -445,3 +445,10 @@ counts i d q = ap (λ (x : Doc). length x.entries) q
 pub small_count : (d : Doc) → IsDocument d → count d < 2 ^ 31
 unfolding count
 small_count d s = s.small
+
+-- a part of a text is no longer than the text
+pub part_short : (text part result : List ℕ) → StandsIn text part → result ≡ part → length text ≤ text_limit → length result ≤ text_limit
+part_short text part result (before, after, e) v b =
+    let n = ap length e in
+    let m = ap length v in
+    omega (arith, length-append before (part ++ after), length-append part after)

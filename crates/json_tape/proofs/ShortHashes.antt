@@ -1,5 +1,5 @@
 -- The hash of a few bytes that stand for themselves is their number.
-use Rattle.std.proofs.Common.{◌≡◌, ◌≢◌, ℕ, zero, suc, ◌+◌, ◌-◌, ◌*◌, ◌/◌, ◌^◌, ◌<◌, ◌≤◌, eqb, ltb, Bool, true, false, not, ◌&&◌, List, [], ◌∷◌, length, take, drop, get_or, Fits, w8, w64, refl, sym, ap, ◌∙◌, subst, arith}
+use Rattle.std.proofs.Common.{◌≡◌, ◌≢◌, ℕ, zero, suc, ◌+◌, ◌-◌, ◌*◌, ◌/◌, ◌^◌, ◌<◌, ◌≤◌, ltb, true, List, [], ◌∷◌, length, take, drop, get_or, Fits, w8, w64, refl, sym, ap, ◌∙◌, subst, arith}
 use Rattle.std.specs.Int.{from_be_bytes}
 use Rattle.std.specs.Str.{chars}
 use Rattle.std.proofs.lemmas.Bool.Decides.{nat_tests}
@@ -79,19 +79,8 @@ length-take_few zero xs h = refl
 length-take_few (suc n) [] h = absurd (omega arith)
 length-take_few (suc n) (x ∷ xs) h = ap suc (length-take_few n xs (omega arith))
 
-abbrev pub is_plain : ℕ → Bool
-is_plain x = ltb x 128 && not (eqb x 92)
-
-pub plain_byte : (x : ℕ) → is_plain x ≡ true → (x < 128) × (x ≢ 92)
-plain_byte x h = go (ltb x 128) (eqb x 92) refl refl h
-  where
-    go : (p q : Bool) → ltb x 128 ≡ p → eqb x 92 ≡ q → (p && not q) ≡ true → (x < 128) × (x ≢ 92)
-    go true false e f h = (grind (arith, nat_tests), grind (arith, nat_tests))
-    go true true e f h = absurd (cc)
-    go false q e f h = absurd (cc)
-
 pub short_hashed : (text : List ℕ) (at len word : ℕ) → at + 8 ≤ length text → 1 ≤ len → len ≤ 8 → ((k : ℕ) → Fits w8 (get_or text k 0))
-    → word ≡ from_be_bytes w64 (chunk at 8 text) → ((k : ℕ) → at ≤ k → k < at + len → is_plain (get_or text k 0) ≡ true)
+    → word ≡ from_be_bytes w64 (chunk at 8 text) → ((k : ℕ) → at ≤ k → k < at + len → (get_or text k 0 < 128) × (get_or text k 0 ≢ 92))
     → word / 2 ^ (64 - 8 * len) ≡ hash_of (scalars_in (chars (take len (drop at text))))
 short_hashed text at len word room some few fits w plain =
     let v = chunk at 8 text in
@@ -100,7 +89,7 @@ short_hashed text at len word room some few fits w plain =
     let size : length bs ≡ len = length-take_few len v (omega (arith, long)) in
     let byte = λ (i : ℕ) (h : i < 8). subst (λ x. x < 256) (sym (get_or-chunk at 8 text i 0 h)) (fits (at + i)).fits in
     let at_place = λ (k : ℕ) (h : k < len). get_or-take_less len v k h ∙ get_or-chunk at 8 text k 0 (omega arith) in
-    let each = λ (k : ℕ) (h : k < length bs). subst (λ x. (x < 128) × (x ≢ 92)) (sym (at_place k (omega (arith, size)))) (plain_byte (get_or text (at + k) 0) (plain (at + k) (omega arith) (omega (arith, size)))) in
+    let each = λ (k : ℕ) (h : k < length bs). subst (λ x. (x < 128) × (x ≢ 92)) (sym (at_place k (omega (arith, size)))) (plain (at + k) (omega arith) (omega (arith, size))) in
     let number = subst (λ l. (from_be_bytes w64 l / 2 ^ (64 - 8 * len) ≡ value 0 (take len l)) × (value 0 (take len l) < 0x10000000000000000)) (sym (eight v long))
     (word_at (get_or v 0 0) (get_or v 1 0) (get_or v 2 0) (get_or v 3 0) (get_or v 4 0) (get_or v 5 0) (get_or v 6 0) (get_or v 7 0) (byte 0 (omega arith)) (byte 1 (omega arith)) (byte 2 (omega arith)) (byte 3 (omega arith)) (byte 4 (omega arith)) (byte 5 (omega arith)) (byte 6 (omega arith)) (byte 7 (omega arith)) len some few) in
     let hashed = number_hash bs 0 (λ k h. let f = each k h in omega (arith, f.0)) number.1 in

@@ -171,16 +171,22 @@ meaning_short high (Unit4 u ∷ cs) = by_kind (is_high u) (is_low u) high (meani
     by_kind false true (Some h) a b = omega arith
     by_kind false false high a b = omega arith
 
-pub string_short : (text : List ℕ) (s : Source) (cs : List Spelt) → Lies text s → IsString s.bytes cs → length (meaning cs) ≤ length text
+-- two quotes stand around what a string means
+pub string_room : (bs : List ℕ) (cs : List Spelt) → IsString bs cs → length (meaning cs) + 2 ≤ length bs
 unfolding meaning
-string_short text s cs l (inside, h, e) =
+string_room bs cs (inside, h, e) =
     let n = ap length e in
     let a = length-append inside (34 ∷ []) in
+    let c = chars_short inside cs h in
+    let v = meaning_short None cs in
+    omega arith
+
+pub string_short : (text : List ℕ) (s : Source) (cs : List Spelt) → Lies text s → IsString s.bytes cs → length (meaning cs) ≤ length text
+string_short text s cs l h =
     let m = ap length l in
     let b = length-take (length s.bytes) (drop s.place text) in
     let d = length-drop s.place text in
-    let c = chars_short inside cs h in
-    let v = meaning_short None cs in
+    let r = string_room s.bytes cs h in
     omega arith
 
 pub nothing_left : (bs : List ℕ) → length bs ≡ 0 → chars bs ≡ []

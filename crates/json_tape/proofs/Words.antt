@@ -1,12 +1,8 @@
 -- Four bytes as one word.
-use Rattle.std.proofs.lemmas.Bool.Decides.{nat_tests}
-use Rattle.std.proofs.Common.{Bool, ◌⊎◌, inl, inr, ◌≡◌, ◌≢◌, ℕ, zero, suc, ◌+◌, ◌-◌, ◌*◌, ◌%◌, ◌^◌, ◌<◌, ◌≤◌, eqb, leb, ltb, cond, bit_or, true, false, ◌||◌, List, [], ◌∷◌, length, drop, map, replicate, get_or, Fits, w8, refl, sym, ap, ◌∙◌, subst, arith}
-use Rattle.std.proofs.lemmas.Bool.{agree_below_at}
-use Rattle.std.proofs.lemmas.List.{length-map, get_or-map}
-use Rattle.std.proofs.lemmas.Simd.{zip2_splat, zip2_splat_left, length-chunk, get_or-chunk}
+use Rattle.std.proofs.Common.{Bool, ◌⊎◌, inl, inr, ◌≡◌, ◌≢◌, ℕ, zero, suc, ◌+◌, ◌-◌, ◌*◌, ◌%◌, ◌^◌, ◌<◌, ◌≤◌, eqb, leb, ltb, cond, bit_or, true, false, List, [], ◌∷◌, length, drop, map, replicate, get_or, Fits, w8, refl, sym, ap, ◌∙◌, subst, arith}
+use Rattle.std.proofs.lemmas.Simd.{length-chunk, get_or-chunk}
 use lib.Lanes.{chunk, zip2, mask_l, top}
-use Rattle.json_tape.proofs.PlainLanes.{joined, none_set}
-use Rattle.json_tape.proofs.ShortHashes.{is_plain, plain_byte}
+use Rattle.json_tape.proofs.StopBits.{loaded, stands_alone, none as nothing_set}
 use Rattle.std.specs.Prelude.{bytes_eq}
 use Rattle.std.specs.Str.{chars}
 use Rattle.std.proofs.lemmas.Bool.{cases_eq, cases_lt}
@@ -103,34 +99,21 @@ both_words name inside first last fits some few l f p v g q w =
 
 -- ---- Lanes in which no bit is set
 
-abbrev is_stop : ℕ → ℕ
-is_stop x = bit_or (cond (eqb x 92) 255 0) (cond (leb 128 x) 255 0)
-
-pub plain_lanes : (v : List ℕ) (n : ℕ) → length v ≡ n → n ≤ 64 → ((k : ℕ) → k < n → get_or v k 0 < 256)
+pub plain_lanes : (v : List ℕ) (n : ℕ) → length v ≡ n → n ≤ 64
     → mask_l (map (top 7) (zip2 bit_or (zip2 (λ x y. cond (eqb x y) 255 0) v (replicate n 92)) (zip2 (λ x y. cond (leb x y) 255 0) (replicate n 128) v))) % 2 ^ 64 ≡ 0
     → (i : ℕ) → i < n → (get_or v i 0 < 128) × (get_or v i 0 ≢ 92)
-plain_lanes v n long few small none i h =
-    let lanes = joined bit_or _ _ v (zip2_splat (λ (x y : ℕ). cond (eqb x y) 255 0) v n 92 long) (zip2_splat_left (λ (x y : ℕ). cond (leb x y) 255 0) 128 n v long) in
-    let none' : mask_l (map (top 7) (map is_stop v)) % 2 ^ 64 ≡ 0 = sym (ap (λ z. mask_l (map (top 7) z) % 2 ^ 64) lanes) ∙ none in
-    let size = length-map v is_stop in
-    let off = none_set 7 (map is_stop v) (omega (arith, size, long)) none' i (omega (arith, size, long)) in
-    let at = get_or-map is_stop v i 0 0 (omega (arith, long)) in
-    let byte = agree_below_at (λ x. top 7 (is_stop x) || is_plain x) (λ _. true) 256 (get_or v i 0) refl (small i h) in
-    plain_byte (get_or v i 0) (sym (ap (λ b. b || is_plain (get_or v i 0)) (ap (top 7) (sym at) ∙ off)) ∙ byte)
+plain_lanes v n long few none i h = stands_alone n i v (get_or v i 0) few h (record { many = long; here = refl }) (nothing_set _ i none)
 
 -- the four bytes of a load
-pub plain_chunk : (bytes : List ℕ) (at : ℕ) → ((k : ℕ) → Fits w8 (get_or bytes k 0)) → at + 4 ≤ length bytes
+pub plain_chunk : (bytes : List ℕ) (at : ℕ) → at + 4 ≤ length bytes
     → mask_l (map (top 7) (zip2 bit_or (zip2 (λ x y. cond (eqb x y) 255 0) (chunk at 4 bytes) (replicate 4 92)) (zip2 (λ x y. cond (leb x y) 255 0) (replicate 4 128) (chunk at 4 bytes)))) % 2 ^ 64 ≡ 0
     → ArePlainAt bytes at
-plain_chunk bytes at fits room none k from to =
+plain_chunk bytes at room none k from to =
     let i = k - at in
     let inside : i < 4 = omega arith in
     let back : at + i ≡ k = omega arith in
-    let long = length-chunk at 4 bytes room in
-    let lane = get_or-chunk at 4 bytes i 0 inside ∙ ap (λ j. get_or bytes j 0) back in
-    let v = chunk at 4 bytes in
-    let small = λ (j : ℕ) (h : j < 4). subst (λ x. x < 256) (sym (get_or-chunk at 4 bytes j 0 h)) (fits (at + j)).fits in
-    subst (λ x. (x < 128) × (x ≢ 92)) lane (plain_lanes v 4 long (omega arith) small none i inside)
+    subst (λ j. (get_or bytes j 0 < 128) × (get_or bytes j 0 ≢ 92)) back
+    (stands_alone 4 i (chunk at 4 bytes) (get_or bytes (at + i) 0) (omega arith) inside (loaded bytes at 4 i room inside) (nothing_set _ i none))
 
 pub first_spelt : (bytes name : List ℕ) (to : ℕ) → to ≤ 4 → SpellPlainly bytes name 0 4 → SpellPlainly bytes name 0 to
 first_spelt bytes name to h f k from until = f k from (omega arith)
@@ -165,18 +148,6 @@ lane_is x h = go (ltb x 255) h
     go : (t : Bool) → cond (top 31 (cond t 4294967295 0)) x 255 < 128 → cond (top 31 (cond t 4294967295 0)) x 255 ≡ x
     go true h = refl
     go false h = absurd (omega arith)
-
-lane_small : (x : ℕ) → lane x < 256
-lane_small x = go (ltb x 255) refl
-  where
-    go : (t : Bool) → ltb x 255 ≡ t → cond (top 31 (cond t 4294967295 0)) x 255 < 256
-    go true e = let l : x < 255 = grind (arith, nat_tests) in omega arith
-    go false e = omega arith
-
-pub lanes_small : (ls : List ℕ) (k : ℕ) → k < length ls → get_or (map lane ls) k 0 < 256
-lanes_small [] k h = absurd (omega arith)
-lanes_small (x ∷ ls) zero h = lane_small x
-lanes_small (x ∷ ls) (suc k) h = lanes_small ls k (omega arith)
 
 pub packed_at : (name : List ℕ) (at word a b c d : ℕ) → ((i : ℕ) → i < 4 → get_or (a ∷ b ∷ c ∷ d ∷ []) i 0 ≡ get_or name (at + i) 0)
     → (lane a < 128) × (lane a ≢ 92) → (lane b < 128) × (lane b ≢ 92) → (lane c < 128) × (lane c ≢ 92) → (lane d < 128) × (lane d ≢ 92)

@@ -1,6 +1,6 @@
 // The tape builder: one call for each token.
 
-ghost use Rattle.std.specs.Prelude.{MatchResult, ◌≡◌, ℕ, ◌^◌, ◌<◌, ◌≤◌, length, ◌↔◌, IsTrue, IsErrOf};
+ghost use Rattle.std.specs.Prelude.{MatchResult, ◌≡◌, ◌^◌, ◌<◌, length, ◌↔◌, IsTrue, IsErrOf};
 ghost use Rattle.json_tape.specs.Machine.{Opening, Closing, Comma, Between, Text, Word, step, start, IsSmall, Took, takes_value as value_may_come, takes_name as name_may_come, closes as may_close, after_comma as want_after_comma, level_of, kind_of_shape, change_at, closed, first_of as want_first, label_for as label_in};
 ghost use Rattle.json_tape.specs.Tape.{role_of, label_spot};
 

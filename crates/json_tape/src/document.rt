@@ -1,15 +1,15 @@
 //! A text that was read, and the readers of its values.
 
-ghost use Rattle.std.specs.Prelude.{IfSome, ◌≡◌, ℕ, ◌^◌, ◌<◌, ◌≤◌, ◌+◌, ◌-◌, ◌↔◌, ◌∷◌, length, take, drop, MatchResult, IsTrue, IsUtf8, List, slice_index_or, bytes_eq};
+ghost use Rattle.std.specs.Prelude.{IfSome, ◌≡◌, ℕ, ◌^◌, ◌<◌, ◌≤◌, ◌-◌, ◌↔◌, length, MatchResult, IsTrue, slice_index_or};
 ghost use Rattle.std.specs.List.{Contains};
 ghost use Rattle.std.specs.Str.{chars};
 ghost use Rattle.json_tape.specs.Spelling.{scalars_in, AreWordsOf};
 ghost use Rattle.decimal_order.specs.Number.{IsNumber};
 ghost use Rattle.decimal_order.specs.Limits.{IsWithinLimits};
 ghost use Rattle.json_tape.specs.Answer.{Explains};
-ghost use Rattle.json_tape.specs.Tree.{Tree, source_of};
+ghost use Rattle.json_tape.specs.Tree.{source_of};
 ghost use Rattle.json_tape.specs.Verdict.{text_limit, IsAccepted};
-ghost use Rattle.json_tape.specs.Nodes.{Step, key, size, children, visit, is_named, first_where};
+ghost use Rattle.json_tape.specs.Nodes.{size, children, visit, is_named, first_where};
 ghost use Rattle.json_tape.specs.Tape.{Top, tape_of};
 ghost use Rattle.json_tape.specs.Document.{tree_of, count, node_at, later, seen, following, single, root_of, counting, IsIn, IsDocument, IsMember, HasName, LeadIs, ParentIs, StandsIn, kind_of, length_of, string_meaning};
 
@@ -78,7 +78,8 @@ impl Document {
 
     /// All bytes of the text, as they were read.
     pub fn source(&self) -> &[u8]
-        ensures { result.now ≡ self.now.text }
+        ensures value { result.now ≡ self.now.text }
+        ensures short { length result.now ≤ text_limit }
     {
         self.text.as_bytes()
     }
@@ -128,6 +129,7 @@ impl Document {
         requires { n.0 < count self.now }
         ensures value { result.now ≡ (source_of (node_at self.now n.0).tree).bytes }
         ensures part { StandsIn self.now.text result.now }
+        ensures short { length result.now ≤ text_limit }
         ensures number { kind_of (node_at self.now n.0).tree ≡ Kind.Number → IsNumber result.now × IsWithinLimits result.now }
     {
         let extent = self.entry(n).source;

@@ -1,6 +1,6 @@
 // Objects with two names that mean the same (RFC 8259, section 4).
 
-ghost use Rattle.std.specs.Prelude.{◌≡◌, ◌<◌, ◌^◌, ◌↔◌, ℕ, length, map, IsTrue, IfOk, OnOk};
+ghost use Rattle.std.specs.Prelude.{◌≡◌, ◌<◌, ◌^◌, ◌↔◌, length, map, IsTrue, IfOk, OnOk};
 ghost use Rattle.json_tape.specs.Tree.{Members};
 ghost use Rattle.json_tape.specs.Answer.{IsJson, StandsForAll};
 ghost use Rattle.json_tape.specs.Verdict.{Applies};

@@ -7,7 +7,7 @@ ghost use Rattle.json_tape.specs.Spelling.{scalars_in, unquoted as inside, IsQuo
 ghost use Rattle.json_tape.specs.Repeats.{next_hash as hash_next, hash_of};
 
 use crate::scalars::{Scalars, unquoted};
-use crate::scan::first_set;
+use crate::scan::lanes_before;
 use crate::tape::Extent;
 use std::simd::prelude::*;
 
@@ -68,7 +68,7 @@ fn short_hash(text: &[u8], at: usize, len: usize) -> Option<u64>
     }
     let lanes = u8x8::from_slice(&text[at..]);
     let stops = lanes.simd_eq(u8x8::splat(b'\\')) | lanes.simd_ge(u8x8::splat(128));
-    if first_set(stops.to_bitmask(), SHORT) < len {
+    if lanes_before(stops.to_bitmask(), SHORT) < len {
         return None;
     }
     Some(u64::from_be_bytes(lanes.to_array()) >> (64 - 8 * len))

@@ -1,9 +1,14 @@
 //! Laws of the definitions, for callers to cite: each function does nothing, and its contract is the law.
 
-ghost use Rattle.std.specs.Prelude.{◌≡◌, ℕ, List};
+ghost use Rattle.std.specs.Prelude.{◌≡◌, ◌<◌, ◌≤◌, ℕ, List, length};
 ghost use Rattle.json_tape.specs.Tree.{Spelt, Tree};
 ghost use Rattle.json_tape.specs.Grammar.{IsText};
 ghost use Rattle.json_tape.specs.Meaning.{Means, HasLone, meaning};
+ghost use Rattle.json_tape.specs.Nodes.{way_size};
+ghost use Rattle.json_tape.specs.Verdict.{text_limit};
+ghost use Rattle.json_tape.specs.Document.{count, node_at};
+
+use crate::document::Document;
 
 /// A text spells one tree at most (RFC 8259, section 2), so a document stands for every tree of its text.
 pub fn one_tree()
@@ -19,3 +24,11 @@ pub fn one_meaning()
 pub fn meant()
     ensures { (characters : List Spelt) → (HasLone characters → ⊥) → Means characters (meaning characters) }
 {}
+
+/// A text is within its limit, and the steps that lead to a node of it take no more bytes than it has.
+pub fn ways_are_short(doc: &Document)
+    ensures way { (n : ℕ) → n < count doc.now → way_size (node_at doc.now n).way_up ≤ length doc.now.text }
+    ensures text { length doc.now.text ≤ text_limit }
+{
+    let _ = doc.root();
+}

@@ -137,7 +137,7 @@ fn spells_plainly(inside: &str, name: &[char]) -> Option<bool>
 const EIGHT: usize = 8;
 
 /// The first four and the last four characters of a name, each as one word of bytes.
-#[derive(Clone, Copy, Debug, PartialEq, Eq)]
+#[derive(Clone, Copy)]
 pub struct Words {
     pub first: u32,
     pub last: u32,

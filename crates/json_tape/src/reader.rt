@@ -10,7 +10,7 @@ ghost use Rattle.json_tape.specs.Answer.{IsJson, StandsForAll, HasDepth, IsNoJso
 use crate::builder::Builder;
 use crate::scan::quote_end;
 use crate::tape::{BuildFault, Entry, Extent, Kind, Shape};
-use decimal_order::scan;
+use decimal_order::{SHORT_LENGTH, scan};
 use std::alloc::Global;
 
 fn is_blank(b: u8) -> bool
@@ -146,10 +146,7 @@ fn string(text: &[u8], i: usize, builder: &mut Builder) -> Result<usize, BuildFa
     }
 }
 
-// A number of no more bytes is within the limits.
-const SHORT: usize = 10;
-
-// A word or a number.
+// A word or a number. One of few bytes is within the limits.
 fn word(
     text: &[u8],
     i: usize,
@@ -165,7 +162,7 @@ fn word(
 {
     let digits = digits_end(text, i);
     let end = atom_end(text, digits);
-    if end - i > SHORT {
+    if end - i > SHORT_LENGTH {
         *has_long = true;
     }
     match kind_of(&text[i..end], digits - i) {

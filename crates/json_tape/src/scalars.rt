@@ -1,7 +1,7 @@
 //! The scalar values that a string or a name means (RFC 8259, section 7).
 
-ghost use Rattle.std.specs.Prelude.{◌≡◌, ℕ, ◌<◌, IfSome, cond, ltb};
-ghost use Rattle.std.specs.Char.{IsScalar, digit_value};
+ghost use Rattle.std.specs.Prelude.{◌≡◌, ℕ, ◌<◌, IfSome};
+ghost use Rattle.std.specs.Char.{IsScalar};
 ghost use Rattle.json_tape.specs.Meaning.{IsHigh, IsLow, short_value as value_of_short, pair_value as value_of_pair};
 ghost use Rattle.json_tape.specs.Limits.{bytes_at};
 ghost use Rattle.json_tape.specs.Spelling.{hex_value as value_of_hex, unquoted as inside, IsQuoted};

@@ -1,13 +1,14 @@
 // Strings: runs of bytes that stand for themselves, and what is between them byte by byte.
 
-ghost use Rattle.std.specs.Prelude.{IsTrue, ◌≡◌, ◌+◌, ◌<◌, ◌≤◌, length, drop, IfSome};
-ghost use Rattle.json_tape.specs.Scanning.{turn as turn_of, is_short as short, is_hex as hex, string_end, first_set as first_stop, ArePlain};
+ghost use Rattle.std.specs.Prelude.{IsTrue, ℕ, ◌≡◌, ◌+◌, ◌<◌, ◌≤◌, length, drop, IfSome};
+ghost use Rattle.std.specs.Int.{bit_at};
+ghost use Rattle.json_tape.specs.Scanning.{turn as turn_of, is_short as short, is_hex as hex, string_end, ArePlain};
 ghost use Rattle.json_tape.specs.Surrogates.{number_of_hex, past_char, past_unit, past_byte, lone};
 
 use std::simd::prelude::*;
 
 /// Where a scan of a string stands: between characters, behind a backslash, or before a hexadecimal digit after which this many must come.
-#[derive(Clone, Copy, Debug, PartialEq, Eq)]
+#[derive(Clone, Copy)]
 pub enum Mode {
     Between,
     Escape,
@@ -15,7 +16,7 @@ pub enum Mode {
 }
 
 /// What a byte of a string does.
-#[derive(Clone, Copy, Debug, PartialEq, Eq)]
+#[derive(Clone, Copy)]
 pub enum Turn {
     Stop,
     Fail,
@@ -23,7 +24,7 @@ pub enum Turn {
 }
 
 /// Where a search for a lone surrogate stands: in which part of a character, the unit so far, and whether a high surrogate ended right before.
-#[derive(Clone, Copy, Debug, PartialEq, Eq)]
+#[derive(Clone, Copy)]
 pub struct Surrogates {
     pub mode: Mode,
     pub unit: u32,
@@ -107,19 +108,17 @@ fn plain_run(text: &[u8], at: usize) -> usize
     let stops = lanes.simd_eq(u8x16::splat(b'"'))
         | lanes.simd_eq(u8x16::splat(b'\\'))
         | lanes.simd_lt(u8x16::splat(32));
-    first_set(stops.to_bitmask(), LANES)
+    lanes_before(stops.to_bitmask(), LANES)
 }
 
-/// The place of the lowest bit that is set, or how many lanes there are.
+/// How many of so many lanes come before the first whose bit is set.
 #[inline(always)]
-pub fn first_set(mask: u64, lanes: usize) -> usize
-    ensures { result ≡ first_stop mask lanes }
+pub fn lanes_before(stops: u64, lanes: usize) -> usize
+    requires { lanes < 64 }
+    ensures few { result ≤ lanes }
+    ensures clear { (i : ℕ) → i < result → bit_at stops i ≡ 0 }
 {
-    if mask == 0 {
-        lanes
-    } else {
-        mask.trailing_zeros() as usize
-    }
+    (stops | (1 << lanes)).trailing_zeros() as usize
 }
 
 // The place of the first byte from here on that does not stand for itself, or the end of the text.

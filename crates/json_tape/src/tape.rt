@@ -14,14 +14,14 @@ pub enum Kind {
 }
 
 /// Where a run of bytes stands in the text.
-#[derive(Clone, Copy, Debug, PartialEq, Eq)]
+#[derive(Clone, Copy)]
 pub struct Extent {
     pub start: u32,
     pub len: u32,
 }
 
 /// How a value lies in the one around it.
-#[derive(Clone, Copy, Debug, PartialEq, Eq)]
+#[derive(Clone, Copy)]
 pub enum Role {
     Whole,
     Element,
@@ -29,7 +29,7 @@ pub enum Role {
 }
 
 /// One value of the text.
-#[derive(Clone, Copy, Debug, PartialEq, Eq)]
+#[derive(Clone, Copy)]
 pub struct Entry {
     pub kind: Kind,
     pub role: Role,
@@ -59,28 +59,28 @@ pub enum Lead {
 }
 
 /// Why a text has no tape.
-#[derive(Clone, Copy, Debug, PartialEq, Eq)]
+#[derive(Clone, Copy)]
 pub enum BuildFault {
     NotJson,
     Memory,
 }
 
 /// The two containers.
-#[derive(Clone, Copy, Debug, PartialEq, Eq)]
+#[derive(Clone, Copy)]
 pub enum Shape {
     Array,
     Object,
 }
 
 /// What the next value lies in.
-#[derive(Clone, Copy, Debug, PartialEq, Eq)]
+#[derive(Clone, Copy)]
 pub enum Level {
     Root,
     Inside(Shape),
 }
 
 /// What may come next.
-#[derive(Clone, Copy, Debug, PartialEq, Eq)]
+#[derive(Clone, Copy)]
 pub enum Want {
     Value,
     FirstValue,
@@ -91,7 +91,7 @@ pub enum Want {
 }
 
 /// A container that is not closed yet.
-#[derive(Clone, Copy, Debug, PartialEq, Eq)]
+#[derive(Clone, Copy)]
 pub struct Open {
     pub level: Level,
     pub entry: u32,

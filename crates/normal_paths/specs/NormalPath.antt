@@ -1,7 +1,8 @@
 -- The normalized path of a node (RFC 9535, section 2.7), in UTF-8.
-use Rattle.std.specs.Prelude.{ℕ, ◌+◌, ◌/◌, ◌%◌, ◌++◌, List, [], ◌∷◌, eqb, cond, nat_lt, decimal, flat_map}
+use Rattle.std.specs.Prelude.{ℕ, ◌+◌, ◌*◌, ◌/◌, ◌%◌, ◌++◌, List, [], ◌∷◌, eqb, cond, nat_lt, decimal, flat_map}
 use Rattle.std.specs.Char.{encode_utf8}
 use Rattle.json_tape.specs.Nodes.{Node, Step, key, place, steps}
+use Rattle.json_tape.specs.Verdict.{text_limit}
 
 -- a hexadecimal digit, in lower case
 abbrev pub hex_digit : ℕ → ℕ
@@ -34,3 +35,7 @@ path_text ss = 36 ∷ flat_map step_text ss
 
 abbrev pub normal_path : Node → List ℕ
 normal_path n = path_text (steps n)
+
+-- The most bytes of the path of a node: the steps to it take no more bytes than the text has, and a path has at most six for each of these.
+abbrev pub path_limit : ℕ
+path_limit = 6 * text_limit + 1

@@ -1,6 +1,6 @@
 //! Names in a path.
 
-ghost use Rattle.std.specs.Prelude.{◌≡◌, ◌+◌, ◌*◌, ◌<◌, ◌≤◌, ◌^◌, ◌++◌, ◌∷◌, [], IfOk, length, take};
+ghost use Rattle.std.specs.Prelude.{◌≡◌, ◌+◌, ◌*◌, ◌<◌, ◌≤◌, ◌^◌, ◌++◌, IfOk, length, take};
 ghost use Rattle.normal_paths.specs.NormalPath.{hex_digit, scalar_text, name_text};
 
 use json_tape::Scalars;

@@ -1,13 +1,14 @@
 //! The steps from the root to a node.
 
-ghost use Rattle.std.specs.Prelude.{◌≡◌, ◌+◌, ◌<◌, ◌≤◌, ◌++◌, ◌∷◌, [], IfOk, OnErr, length, decimal, reverse, flat_map, take, map};
+ghost use Rattle.std.specs.Prelude.{◌≡◌, ◌+◌, ◌<◌, ◌≤◌, ◌++◌, ◌∷◌, [], IfOk, OnErr, length, decimal, reverse, take};
 ghost use Rattle.json_tape.specs.Document.{count, node_at};
 ghost use Rattle.std.specs.List.{All};
-ghost use Rattle.normal_paths.specs.NormalPath.{name_text, normal_path};
+ghost use Rattle.normal_paths.specs.NormalPath.{name_text, normal_path, path_limit};
 ghost use Rattle.normal_paths.specs.Ways.{last_text, way_text, IsWay};
 
 use crate::name::{name_length, write_name};
 use itoa::Buffer;
+use json_tape::laws::ways_are_short;
 use json_tape::{Document, Lead, NodeId, Scalars};
 use smallvec::SmallVec;
 use std::alloc::{AllocError, Global};
@@ -81,7 +82,7 @@ fn write_way(
     Ok(())
 }
 
-/// Appends the normalized path of a node, in UTF-8. A refused growth leaves the vector unchanged.
+/// Appends the normalized path of a node, in UTF-8: at most 6,291,457 bytes. A refused growth leaves the vector unchanged.
 pub fn write_path(
     alloc: Global,
     doc: &Document,
@@ -90,8 +91,10 @@ pub fn write_path(
 ) -> Result<(), AllocError>
     requires { node.0 < count doc.now }
     ensures written { IfOk result (λ _. out.new.items ≡ out.old.items ++ normal_path (node_at doc.now node.0)) }
+    ensures short { length out.new.items ≤ length out.old.items + path_limit }
     ensures unchanged { OnErr result (out.new.items ≡ out.old.items) }
 {
+    ways_are_short(doc);
     let way = way_up(alloc, doc, node)?;
     let before = out.len();
     let written = write_way(doc, way, out);
@@ -116,11 +119,13 @@ fn step_length(doc: &Document, node: NodeId) -> usize
     }
 }
 
-/// The length of a node's normalized path, in bytes.
+/// The length of a node's normalized path, in bytes: at most 6,291,457.
 pub fn path_length(doc: &Document, node: NodeId) -> usize
     requires { node.0 < count doc.now }
-    ensures { result ≡ length (normal_path (node_at doc.now node.0)) }
+    ensures value { result ≡ length (normal_path (node_at doc.now node.0)) }
+    ensures short { result ≤ path_limit }
 {
+    ways_are_short(doc);
     let mut total = 1;
     let mut last = node;
     while let Some(parent) = doc.parent(last) {

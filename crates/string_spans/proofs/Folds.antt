@@ -1,5 +1,5 @@
 -- The parities of runs of bits, as a word folded over itself gives them.
-use Rattle.std.proofs.Common.{◌≡◌, ℕ, suc, ◌+◌, ◌-◌, ◌<◌, ◌≤◌, ◌⊎◌, inl, inr, Bool, true, false, not, refl, sym, ap, ap₂, ◌∙◌, arith, cond}
+use Rattle.std.proofs.Common.{◌≡◌, ℕ, zero, suc, ◌+◌, ◌-◌, ◌<◌, ◌≤◌, inl, inr, Bool, true, false, not, refl, sym, ap, ap₂, ◌∙◌, arith, cond}
 use Rattle.std.proofs.lemmas.Bool.{cases_lt}
 use lib.Bits.{bit_xor}
 use Rattle.bit_words.specs.Words.{is_set, is_odd, HasBits}
@@ -30,15 +30,17 @@ pub parity-zero : (word : ℕ) → parity word 0 ≡ false
 unfolding ones_below
 parity-zero word = refl
 
--- bit i of the fold is the parity of bits i to i - n + 1 of the word, as far as there are that many
-pub record Folded (word n fold : ℕ) : Type 0 where
-  pub each : (i : ℕ) → i < 64 → is_set fold i ≡ xor (parity word (suc i)) (parity word (suc i - n))
+-- the sum of n bits from bit i downwards, or of all of them where there are fewer
+unfoldable pub sum_down : (word i n : ℕ) → Bool
+sum_down word i zero = false
+sum_down word zero (suc n) = is_set word zero
+sum_down word (suc i) (suc n) = xor (is_set word (suc i)) (sum_down word i n)
 
-apart : (a b : Bool) → xor (xor a b) b ≡ a
-apart true true = refl
-apart true false = refl
-apart false true = refl
-apart false false = refl
+xor-assoc : (a b c : Bool) → xor (xor a b) c ≡ xor a (xor b c)
+xor-assoc false b c = refl
+xor-assoc true false c = refl
+xor-assoc true true false = refl
+xor-assoc true true true = refl
 
 xor-comm : (a b : Bool) → xor a b ≡ xor b a
 xor-comm true true = refl
@@ -46,47 +48,55 @@ xor-comm true false = refl
 xor-comm false true = refl
 xor-comm false false = refl
 
-across : (a b c : Bool) → xor (xor a b) (xor b c) ≡ xor a c
-across true true c = refl
-across true false c = refl
-across false true true = refl
-across false true false = refl
-across false false c = refl
-
 xor-false : (a : Bool) → xor a false ≡ a
-xor-false true = refl
-xor-false false = refl
+xor-false a = xor-comm a false
+
+-- a sum in two parts, the lower of which begins n bits further down
+in_parts : (word n i j k m : ℕ) → i ≡ n + j → k ≡ n + m → sum_down word i k ≡ xor (sum_down word i n) (sum_down word j m)
+unfolding sum_down
+in_parts word zero i j k m e f =
+    let same : i ≡ j = omega arith in
+    let many : k ≡ m = omega arith in
+    ap₂ (sum_down word) same many
+in_parts word (suc n) zero j k m e f = absurd (omega arith)
+in_parts word (suc n) (suc i) j zero m e f = absurd (omega arith)
+in_parts word (suc n) (suc i) j (suc k) m e f =
+    ap (xor (is_set word (suc i))) (in_parts word n i j k m (omega arith) (omega arith)) ∙ sym (xor-assoc (is_set word (suc i)) (sum_down word i n) (sum_down word j m))
+
+-- of more bits than there are, all are summed up
+all_down : (word i n : ℕ) → i < n → sum_down word i n ≡ parity_through word i
+unfolding sum_down
+all_down word i zero h = absurd (omega arith)
+all_down word zero (suc n) h = ap (λ b. xor b (is_set word zero)) (sym (parity-zero word)) ∙ sym (parity-suc word zero)
+all_down word (suc i) (suc n) h =
+    ap (xor (is_set word (suc i))) (all_down word i n (omega arith)) ∙ xor-comm (is_set word (suc i)) (parity word (suc i)) ∙ sym (parity-suc word (suc i))
+
+-- each bit of the fold is the sum of n bits of the word
+pub record Folded (word n fold : ℕ) : Type 0 where
+  pub sums : HasBits fold (λ i. sum_down word i n)
 
 pub unfolded : (word : ℕ) → Folded word 1 word
-unfolded word = record {
-  each = λ i h.
-      let e : suc i - 1 ≡ i = omega arith in
-      sym (apart (is_set word i) (parity word i)) ∙ ap (λ b. xor b (parity word i)) (xor-comm (is_set word i) (parity word i) ∙ sym (parity-suc word i)) ∙ ap (λ k. xor (parity word (suc i)) (parity word k)) (sym e);
-}
-
--- a fold over n bits, folded over n bits, is one over 2 * n
-pub folded : (word n fold : ℕ) → Folded word n fold → Folded word (n + n) (bit_xor fold (shifted fold n))
-folded word n fold f = record { each = λ i h. is_set-xor fold (shifted fold n) i ∙ by i h (cases_lt i n) }
+unfolding sum_down
+unfolded word = record { sums = λ i h. one i }
   where
-    below : (i : ℕ) → i < 64 → i < n → xor (is_set fold i) (is_set (shifted fold n) i) ≡ xor (parity word (suc i)) (parity word (suc i - (n + n)))
-    below i h lt =
-        let e : suc i - n ≡ suc i - (n + n) = omega arith in
-        ap (xor (is_set fold i)) (is_set-shifted_low fold n i lt h) ∙ xor-false (is_set fold i) ∙ f.each i h ∙ ap (λ k. xor (parity word (suc i)) (parity word k)) e
+    one : (i : ℕ) → is_set word i ≡ sum_down word i 1
+    one zero = refl
+    one (suc i) = sym (xor-false (is_set word (suc i)))
 
-    above : (i : ℕ) → i < 64 → n ≤ i → xor (is_set fold i) (is_set (shifted fold n) i) ≡ xor (parity word (suc i)) (parity word (suc i - (n + n)))
-    above i h le =
-        let k = i - n in
-        let e : i ≡ n + k = omega arith in
-        let e1 : suc k ≡ suc i - n = omega arith in
-        let e2 : suc k - n ≡ suc i - (n + n) = omega arith in
-        ap₂ xor (f.each i h) (ap (is_set (shifted fold n)) e ∙ is_set-shifted fold n k (omega arith) ∙ f.each k (omega arith) ∙ ap₂ (λ x y. xor (parity word x) (parity word y)) e1 e2)
-        ∙ across (parity word (suc i)) (parity word (suc i - n)) (parity word (suc i - (n + n)))
+-- to fold once more doubles the bits that are summed up
+pub folded : (word n fold : ℕ) → Folded word n fold → Folded word (n + n) (bit_xor fold (shifted fold n))
+folded word n fold f = record { sums = λ i h. is_set-xor fold (shifted fold n) i ∙ elim (cases_lt i n) [ inl few ↦ lower i h few | inr many ↦ upper i h many ] }
+  where
+    lower : (i : ℕ) → i < 64 → i < n → xor (is_set fold i) (is_set (shifted fold n) i) ≡ sum_down word i (n + n)
+    lower i h few =
+        ap (xor (is_set fold i)) (is_set-shifted_low fold n i few h) ∙ xor-false (is_set fold i)
+        ∙ f.sums i h ∙ all_down word i n few ∙ sym (all_down word i (n + n) (omega arith))
 
-    by : (i : ℕ) → i < 64 → (i < n) ⊎ (n ≤ i) → xor (is_set fold i) (is_set (shifted fold n) i) ≡ xor (parity word (suc i)) (parity word (suc i - (n + n)))
-    by i h (inl lt) = below i h lt
-    by i h (inr le) = above i h le
+    upper : (i : ℕ) → i < 64 → n ≤ i → xor (is_set fold i) (is_set (shifted fold n) i) ≡ sum_down word i (n + n)
+    upper i h many =
+        let below : i ≡ n + (i - n) = omega arith in
+        let moved = ap (is_set (shifted fold n)) below ∙ is_set-shifted fold n (i - n) (omega arith) in
+        ap₂ xor (f.sums i h) (moved ∙ f.sums (i - n) (omega arith)) ∙ sym (in_parts word n i (i - n) (n + n) n below refl)
 
 pub whole : (word fold : ℕ) → Folded word 64 fold → HasBits fold (parity_through word)
-whole word fold f i h =
-    let e : suc i - 64 ≡ 0 = omega arith in
-    f.each i h ∙ ap (λ k. xor (parity word (suc i)) (parity word k)) e ∙ ap (xor (parity word (suc i))) (parity-zero word) ∙ xor-false (parity word (suc i))
+whole word fold f i h = f.sums i h ∙ all_down word i 64 h

@@ -1,5 +1,4 @@
 use Rattle.std.proofs.Common.{◌+◌, ◌≤◌, length, arith}
-use Rattle.json_tape.proofs.ShortNumbers.{late_exponent}
 use Rattle.json_tape.proofs.judge.has_short_exponent.Goals as goal
 
 pub returns : goal.returns
@@ -7,4 +6,4 @@ returns c = λ _.
     let e = c.saturating_sub-i-end.ensures in
     let t = c.loop-i-test.false in
     let h : length c.args.bytes.now ≤ c.loop-i.i + 10 = omega arith in
-    late_exponent c.args.bytes.now c.loop-i.i c.if-bytes-gt-NUMBER_LIMIT.false h c.loop-i.invariant
+    c.late_exponents_keep_limits.ensures c.args.bytes.now c.loop-i.i c.if-bytes-gt-MAX_LENGTH.false h c.loop-i.invariant

@@ -5,4 +5,4 @@ use Rattle.json_tape.proofs.plain.is_word.Goals as goal
 
 pub returns-then-stops-eq0-clause-other : goal.returns-then-stops-eq0-clause-other
 returns-then-stops-eq0-clause-other c e =
-    (λ w. c.if-from_le_bytes-word.false (c.from_le_bytes.ensures ∙ ap (from_le_bytes w32) (chunk_is c.args.bytes.now c.args.at c.requires) ∙ sym w), plain_chunk c.args.bytes.now c.args.at c.type_inv.bytes c.requires c.if-stops-eq0.true)
+    (λ w. c.if-from_le_bytes-word.false (c.from_le_bytes.ensures ∙ ap (from_le_bytes w32) (chunk_is c.args.bytes.now c.args.at c.requires) ∙ sym w), plain_chunk c.args.bytes.now c.args.at c.requires c.if-stops-eq0.true)

@@ -1,12 +1,12 @@
 use Rattle.std.proofs.Common.{[], ◌∷◌, map, refl, arith}
 use Rattle.json_tape.proofs.PlainLanes.{four_letters}
-use Rattle.json_tape.proofs.Words.{lane, lanes_small, packed_at, plain_lanes}
+use Rattle.json_tape.proofs.Words.{lane, packed_at, plain_lanes}
 use Rattle.json_tape.proofs.plain.packed.Goals as goal
 
 pub returns-then-stops-eq0 : goal.returns-then-stops-eq0
 returns-then-stops-eq0 c =
     let ls = c.from.result ∷ c.from-2.result ∷ c.from-3.result ∷ c.from-4.result ∷ c.from-5.result ∷ c.from-6.result ∷ c.from-7.result ∷ c.from-8.result ∷ [] in
-    let plain = plain_lanes (map lane ls) 8 refl (omega arith) (λ k h. lanes_small ls k h) c.if-stops-eq0.true in
+    let plain = plain_lanes (map lane ls) 8 refl (omega arith) c.if-stops-eq0.true in
     let first = packed_at c.args.name.now c.args.first c.from_le_bytes.result c.from.result c.from-2.result c.from-3.result c.from-4.result
     (four_letters c.args.name.now c.args.first c.index-name-first.result c.index-name-first-2.result c.index-name-first-3.result c.index-name-first-4.result c.from.result c.from-2.result c.from-3.result c.from-4.result
     c.requires.first c.index-name-first.is c.index-name-first-2.is c.index-name-first-3.is c.index-name-first-4.is c.from.ensures c.from-2.ensures c.from-3.ensures c.from-4.ensures)
