@@ -19,9 +19,11 @@ struct Tried {
   void *block;
 };
 
+static bool counting = false;
 static size_t growths = 0, held = 0, most = 0;
 
 static void *noted(void *block) {
+  if (!counting) return block;
   growths++;
   held += malloc_usable_size(block);
   most = std::max(most, held);
@@ -35,13 +37,13 @@ Tried rattle_alloc(size_t size, size_t align) {
   return {true, noted(block)};
 }
 Tried rattle_realloc(void *block, size_t, size_t size, size_t align) {
-  held -= malloc_usable_size(block);
+  if (counting) held -= malloc_usable_size(block);
   void *moved = std::realloc(block, size != 0 ? size : align);
   if (moved == nullptr) return {false, nullptr};
   return {true, noted(moved)};
 }
 void rattle_dealloc(void *block) {
-  held -= malloc_usable_size(block);
+  if (counting) held -= malloc_usable_size(block);
   std::free(block);
 }
 }
@@ -78,38 +80,45 @@ template <typename Run> static double seconds(Run run) {
   return std::chrono::duration<double>(std::chrono::steady_clock::now() - start).count();
 }
 
-// What a round costs that is made once more: in microseconds, and in growths.
-template <typename Work> static void row(const char *name, size_t documents, size_t rounds, size_t parts, Work work) {
+// The growths that a call asks for.
+template <typename Run> static size_t counted(Run run) {
+  counting = true;
+  growths = held = most = 0;
+  need(run());
+  counting = false;
+  return growths;
+}
+
+// What a round costs that is made once more, for each of its parts: in microseconds, and in growths. The runs are short, so that
+// the best of them was not interrupted.
+template <typename Work> static void row(const std::string &name, size_t documents, size_t parts, Work work) {
+  const size_t rounds = std::max<size_t>(4, 2000 / documents);
   double few = 1e9, many = 1e9;
-  for (int i = 0; i < 25; i++) {
+  for (int i = 0; i < 200; i++) {
     few = std::min(few, seconds([&] { return work(documents, 1); }));
     many = std::min(many, seconds([&] { return work(documents, 1 + rounds); }));
   }
-  growths = 0;
-  need(work(documents, 1));
-  const size_t once = growths;
-  growths = 0;
-  need(work(documents, 2));
-  std::printf("| %s | %zu | %.3f | %.2f |\n", name, documents, (many - few) * 1e6 / rounds / parts,
-              double(growths - once) / parts);
+  const size_t once = counted([&] { return work(documents, 1); });
+  const size_t twice = counted([&] { return work(documents, 2); });
+  std::printf("| %s | %zu | %.3f | %.2f |\n", name.c_str(), documents, (many - few) * 1e6 / rounds / parts,
+              double(twice - once) / parts);
 }
 
-static void rows(const char *name, const std::string &text, size_t rounds) {
+static void rows(const std::string &text) {
   const auto put = [&](size_t n, size_t r) { return path_bench_store_put(bytes(text), text.size(), n, r); };
   const auto drop = [&](size_t n, size_t r) { return path_bench_store_drop(bytes(text), text.size(), n, r); };
   const auto get = [&](size_t n, size_t r) { return path_bench_store_get(bytes(text), text.size(), n, r); };
   const auto list = [&](size_t n, size_t r) { return path_bench_store_list(bytes(text), text.size(), n, r); };
   for (size_t n : {1, 100, 250, 1000}) {
-    row((std::string("put over a text, ") + name).c_str(), n, std::max<size_t>(1, rounds / 10), n, put);
-    row((std::string("puts and a drop, a document, ") + name).c_str(), n, std::max<size_t>(1, rounds / 10), n, drop);
-    row((std::string("get, ") + name).c_str(), n, rounds, n, get);
-    row((std::string("list, ") + name).c_str(), n, rounds, 1, list);
+    row("put over a text", n, n, put);
+    row("put and, after all puts, one drop of the collection", n, n, drop);
+    row("get", n, n, get);
+    row("list", n, 1, list);
     for (const char *asked : {"$.a[1]", "$.b"}) {
       const std::string query = asked;
-      const auto ask = [&](size_t d, size_t r) {
+      row("query `" + query + "`", n, 1, [&](size_t d, size_t r) {
         return path_bench_store_query(bytes(text), text.size(), bytes(query), query.size(), d, r);
-      };
-      row((std::string("query `") + asked + "`, " + name).c_str(), n, rounds, 1, ask);
+      });
     }
   }
 }
@@ -118,8 +127,7 @@ static void rows(const char *name, const std::string &text, size_t rounds) {
 static void memory(const char *name, const std::string &text, size_t documents) {
   size_t peaks[2];
   for (size_t i = 0; i < 2; i++) {
-    held = most = 0;
-    need(path_bench_store_put(bytes(text), text.size(), documents << i, 1));
+    counted([&] { return path_bench_store_put(bytes(text), text.size(), documents << i, 1); });
     peaks[i] = most;
   }
   std::printf("| %s | %zu | %.1f |\n", name, text.size(), double(peaks[1] - peaks[0]) / double(documents));
@@ -128,12 +136,12 @@ static void memory(const char *name, const std::string &text, size_t documents) 
 int main() {
   const std::string small = "{\"a\":[10,20],\"b\":\"tea\"}";
   const std::string string = "\"" + std::string(1048574, 'x') + "\"";
-  std::string objects = "[" + small;
-  while (objects.size() + small.size() + 2 <= 1048576) objects += "," + small;
-  objects += "]";
+  std::string many = "[" + small;
+  while (many.size() + small.size() + 2 <= 1048576) many += "," + small;
+  const std::string objects = many + "]";
 
-  std::printf("| command | documents | time, us | growths |\n|---|---|---|---|\n");
-  rows("23 bytes", small, 200);
+  std::printf("| command, on texts of 23 bytes | documents | time, us | growths |\n|---|---|---|---|\n");
+  rows(small);
   for (const std::string *text : {&string, &objects}) {
     const char *name = text == &string ? "a string of 1 MiB" : "small objects of 1 MiB";
     double read = 1e9, put = 1e9;
