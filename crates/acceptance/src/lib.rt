@@ -15,4 +15,6 @@ mod places;
 #[cfg(test)]
 mod queries;
 #[cfg(test)]
+mod store;
+#[cfg(test)]
 mod trees;

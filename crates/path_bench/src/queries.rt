@@ -16,7 +16,7 @@ pub struct Counted {
     pub refused: bool,
 }
 
-const REFUSED: Counted = Counted {
+pub const REFUSED: Counted = Counted {
     count: 0,
     refused: true,
 };

@@ -1,4 +1,4 @@
-pub mod Hits
+pub mod Lines
 pub mod QueryText
 pub mod Faults
 pub mod QueryStream
