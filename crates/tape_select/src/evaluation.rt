@@ -1,13 +1,13 @@
 //! Segments, filters, and whole queries.
 
-ghost use Rattle.std.specs.Prelude.{◌≡◌, ◌<◌, ◌∷◌, [], map, IfOk, IsOk, IsErrOf, true, false, IsTrue, not};
+ghost use Rattle.std.specs.Prelude.{◌≡◌, ◌<◌, ◌≤◌, ◌∷◌, [], length, map, IfOk, IsOk, IsErrOf, true, false, IsTrue, not};
 ghost use Rattle.std.specs.List.{All};
 ghost use Rattle.json_tape.specs.Document.{tree_of, count, node_at};
 ghost use Rattle.json_tape.specs.Nodes.{children, visit};
 ghost use Rattle.path_grammar.specs.Tree.{call, exprs_of, arguments_of};
 ghost use Rattle.path_grammar.specs.View.{selector_view, segment_view, segments_view, selectors_view, expr_view, nested_view, comparable_view, call_view, argument_view, query_view};
 ghost use Rattle.path_types.specs.Validity.{is_valid, are_valid, is_valid_selector, is_valid_expr, are_valid_exprs, is_valid_nested, is_valid_comparable, is_valid_call, are_valid_arguments, is_valid_argument};
-ghost use Rattle.tape_select.specs.Evaluation.{nodes_selected, exceeds_limit, is_empty};
+ghost use Rattle.tape_select.specs.Evaluation.{nodes_selected, exceeds_limit, is_empty, node_limit};
 ghost use Rattle.tape_select.specs.Functions.{applied, a_nodelist};
 ghost use Rattle.tape_select.specs.Running.{for_each, keep_run, evaluated_run, selected_run, selected_from_run, selected_by_run, from_run, holds_run, some_run, all_run, nodes_run, result_run, called_run, argued_run, then_some};
 ghost use Rattle.tape_select.specs.Nodelists.{nodes_of, Sound, Gives, GivesList, GivesValue, Stops};
@@ -419,13 +419,15 @@ fn all_hold(
     Ok(all)
 }
 
-/// The numbers of the nodes that a query selects from a document, in the query's order, with duplicates.
+/// The numbers of the nodes that a query selects from a document, in the query's order, with duplicates: at most
+/// [`crate::NODE_LIMIT`].
 ///
 /// Refused is a query some of whose nodelists has more than [`crate::NODE_LIMIT`] nodes (TooManyNodes): one after a segment of the
 /// query, or of a query in a filter. Memory comes where a growth was refused.
 pub fn select(alloc: Global, query: &ValidQuery, doc: &Document) -> Result<Vec<NodeId>, SelectFault>
     ensures nodes { IfOk result (λ ids. nodes_of doc.now ids.items ≡ nodes_selected (tree_of doc.now) (query_view query.now)) }
     ensures inside { IfOk result (λ ids. All (λ id. id.0 < count doc.now) ids.items) }
+    ensures few { IfOk result (λ ids. length ids.items ≤ node_limit) }
     ensures within { IsOk result → exceeds_limit (tree_of doc.now) (query_view query.now) ≡ false }
     ensures too_many_nodes { IsErrOf result SelectFault.TooManyNodes → exceeds_limit (tree_of doc.now) (query_view query.now) ≡ true }
 {

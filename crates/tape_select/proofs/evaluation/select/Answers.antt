@@ -13,4 +13,4 @@ returns c =
     let r = c.evaluated.result in
     let g : GivesList d r (evaluated_run (node_at d 0) q (node_at d 0 ∷ [])) = rw (c.segments.ensures.segments, c.root-root.ensures.first) at c.evaluated.ensures in
     let a : IsAnswer d q r = answered d q r c.root-root.ensures.root g in
-    record { nodes = a.nodes; inside = a.inside; within = a.within; too_many_nodes = a.too_many_nodes }
+    record { nodes = a.nodes; inside = a.inside; few = a.few; within = a.within; too_many_nodes = a.too_many_nodes }
