@@ -1,3 +1,3 @@
-pub mod Hits
+pub mod Lines
 pub mod QueryText
 pub mod Faults

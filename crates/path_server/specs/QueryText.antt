@@ -7,7 +7,8 @@ use Rattle.path_grammar.specs.Tree.{Segments}
 use Rattle.path_types.specs.Verdict.{IsValidQuery, RefusesQueryText}
 use Rattle.path_types.specs.declared.query_text.QueryFault.TheVariants as verdict
 use Rattle.tape_select.specs.Evaluation.{exceeds_limit}
-use Rattle.path_server.specs.Hits.{hits, lines_of}
+use Rattle.tenant_store.specs.Hits.{hits}
+use Rattle.path_server.specs.Lines.{lines_of}
 use Rattle.path_server.specs.declared.fault.QueryTextFault.{QueryTextFault}
 use Rattle.path_server.specs.declared.fault.QueryTextFault.TheVariants.{TooLong, NotUtf8, NotJson, TooDeep, NumberLimit, LoneSurrogate, DuplicateName, QueryTooLong, NotWellFormed, NotValid, TooManyNodes, Memory}
 

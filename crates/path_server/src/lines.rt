@@ -4,7 +4,8 @@ ghost use Rattle.std.specs.Prelude.{◌≡◌, ◌<◌, ◌++◌, IfOk, OnErr, l
 ghost use Rattle.std.specs.List.{All};
 ghost use Rattle.json_tape.specs.Document.{count, node_at};
 ghost use Rattle.tape_select.specs.Nodelists.{nodes_of};
-ghost use Rattle.path_server.specs.Hits.{hit_of, line_of, lines_of};
+ghost use Rattle.tenant_store.specs.Hits.{hit_of};
+ghost use Rattle.path_server.specs.Lines.{line_of, lines_of};
 
 use json_tape::{Document, NodeId};
 use normal_paths::write_path;

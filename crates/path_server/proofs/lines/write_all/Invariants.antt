@@ -1,6 +1,7 @@
 use Rattle.std.proofs.Common.{◌≡◌, ◌++◌, length, take, drop, map}
 use Rattle.tape_select.specs.Nodelists.{nodes_of}
-use Rattle.path_server.specs.Hits.{hit_of, lines_of}
+use Rattle.tenant_store.specs.Hits.{hit_of}
+use Rattle.path_server.specs.Lines.{lines_of}
 use Rattle.path_server.proofs.lines.write_all.Given as goal
 
 abbrev pub invariant-loop-node : goal.invariant-loop-node

@@ -3,7 +3,8 @@ use Rattle.std.proofs.lemmas.Result.{err_from_is_err_and}
 use Rattle.json_tape.specs.Document.{tree_of}
 use Rattle.json_tape.specs.Nodes.{Node}
 use Rattle.path_grammar.specs.View.{query_view}
-use Rattle.path_server.specs.Hits.{hit_of, lines_of}
+use Rattle.tenant_store.specs.Hits.{hit_of}
+use Rattle.path_server.specs.Lines.{lines_of}
 use Rattle.path_server.proofs.Refusals.{query_refuses}
 use Rattle.path_server.proofs.texts.query_text.Goals as goal
 
