@@ -25,6 +25,8 @@ mod queries;
 #[cfg(test)]
 mod segments;
 #[cfg(test)]
+mod store;
+#[cfg(test)]
 mod texts;
 #[cfg(test)]
 mod trees;

@@ -1,0 +1,286 @@
+//! A tenant's commands as calls: quotas, statuses in their order, and payloads, written out by hand from the tables of the
+//! protocol.
+
+use path_types::{ValidQuery, compile};
+use std::alloc::Global;
+use std::test::Fail;
+use tenant_store::{CollName, DocName, StoreFault, Tenant, Tenants, TenantsFault, Usage};
+
+/// As many collections as a tenant may have.
+const COLLECTIONS: [&str; 16] = [
+    "a", "b", "c", "d", "e", "f", "g", "h", "i", "j", "k", "l", "m", "n", "o", "p",
+];
+
+fn collection_name(name: &str) -> Result<CollName<'_>, Fail> {
+    match CollName::read(name.as_bytes()) {
+        Some(name) => Ok(name),
+        None => Err(Fail::from("no name of a collection")),
+    }
+}
+
+fn document_name(name: &str) -> Result<DocName<'_>, Fail> {
+    match DocName::read(name.as_bytes()) {
+        Some(name) => Ok(name),
+        None => Err(Fail::from("no name of a document")),
+    }
+}
+
+fn put(
+    tenant: &mut Tenant,
+    alloc: Global,
+    collection: &str,
+    document: &str,
+    text: &[u8],
+) -> Result<Result<(), StoreFault>, Fail> {
+    Ok(tenant.put(
+        alloc,
+        collection_name(collection)?,
+        document_name(document)?,
+        text,
+    ))
+}
+
+fn remove(
+    tenant: &mut Tenant,
+    collection: &str,
+    document: &str,
+) -> Result<Result<(), StoreFault>, Fail> {
+    Ok(tenant.remove(collection_name(collection)?, document_name(document)?))
+}
+
+fn get<'a>(tenant: &'a Tenant, collection: &str, document: &str) -> Result<&'a [u8], Fail> {
+    Ok(tenant.get(collection_name(collection)?, document_name(document)?)?)
+}
+
+fn list(tenant: &Tenant, alloc: Global, collection: &str) -> Result<Vec<u8>, Fail> {
+    let mut payload = Vec::new(alloc);
+    tenant.list(collection_name(collection)?, &mut payload)?;
+    Ok(payload)
+}
+
+/// What a query answers, appended.
+fn ask(
+    tenant: &Tenant,
+    alloc: Global,
+    query: &str,
+    collection: &str,
+    payload: &mut Vec<u8>,
+) -> Result<Result<(), StoreFault>, Fail> {
+    let query: ValidQuery = compile(alloc, query.as_bytes())?;
+    Ok(tenant.query(alloc, &query, collection_name(collection)?, payload))
+}
+
+/// A string of so many letters.
+fn string_of(alloc: Global, letters: usize) -> Result<Vec<u8>, Fail> {
+    let mut text = Vec::with_capacity(alloc, letters + 2)?;
+    text.push(b'"')?;
+    for _ in 0..letters {
+        text.push(b'x')?;
+    }
+    text.push(b'"')?;
+    Ok(text)
+}
+
+/// An array with that one element.
+fn array_of(alloc: Global, element: &[u8]) -> Result<Vec<u8>, Fail> {
+    let mut text = Vec::with_capacity(alloc, element.len() + 2)?;
+    text.push(b'[')?;
+    text.extend_from_slice(element)?;
+    text.push(b']')?;
+    Ok(text)
+}
+
+/// An array of so many zeros.
+fn zeros(alloc: Global, count: usize) -> Result<Vec<u8>, Fail> {
+    let mut text = Vec::with_capacity(alloc, 2 * count + 1)?;
+    text.push(b'[')?;
+    for i in 0..count {
+        if i > 0 {
+            text.push(b',')?;
+        }
+        text.push(b'0')?;
+    }
+    text.push(b']')?;
+    Ok(text)
+}
+
+#[test]
+fn keeps_documents_in_key_order(rt: HostRuntime) -> Result<(), Fail> {
+    let alloc = rt.alloc();
+    let mut tenant = Tenant::new(alloc);
+    for name in ["b", "a", "B", "a.1"] {
+        put(&mut tenant, alloc, "c", name, b" 1 ")??;
+    }
+    let names = list(&tenant, alloc, "c")?;
+    assert_eq!(rt; names.as_slice(), b"\0\0\0\x04\x01B\x01a\x03a.1\x01b".as_slice());
+    assert_eq!(rt; get(&tenant, "c", "a.1")?, b" 1 ".as_slice());
+    assert_eq!(rt; remove(&mut tenant, "c", "b")?, Ok(()));
+    assert_eq!(rt; remove(&mut tenant, "c", "b")?, Err(StoreFault::NotFound));
+    let absent = tenant.get(collection_name("c")?, document_name("b")?);
+    assert_eq!(rt; absent, Err(StoreFault::NotFound));
+    let dropped = tenant.drop_collection(collection_name("d")?);
+    assert_eq!(rt; dropped, Err(StoreFault::NotFound));
+    let none = list(&tenant, alloc, "d")?;
+    assert_eq!(rt; none.as_slice(), b"\0\0\0\0".as_slice());
+    let mut hits = Vec::new(alloc);
+    assert_eq!(rt; ask(&tenant, alloc, "$", "d", &mut hits)?, Ok(()));
+    assert_eq!(rt; hits.as_slice(), b"\0\0\0\0".as_slice());
+    assert_eq!(rt; tenant.drop_collection(collection_name("c")?), Ok(()));
+    assert_eq!(rt; tenant.usage(), Usage { collections: 0, documents: 0, bytes: 0 });
+    Ok(())
+}
+
+#[test]
+fn writes_hits_behind_what_stands_there(rt: HostRuntime) -> Result<(), Fail> {
+    let alloc = rt.alloc();
+    let mut tenant = Tenant::new(alloc);
+    put(&mut tenant, alloc, "c", "e", b"{\"a\":[0, [] ]}")??;
+    put(&mut tenant, alloc, "c", "d", b"{\"a\":1}")??;
+    put(&mut tenant, alloc, "d", "d", b"{\"a\":2}")??;
+    let mut payload = Vec::new(alloc);
+    payload.push(0xff)?;
+    assert_eq!(rt; ask(&tenant, alloc, "$.a", "c", &mut payload)?, Ok(()));
+    let hits = b"\xff\0\0\0\x02\
+        \x01d\0\0\0\x06$['a']\0\0\0\x011\
+        \x01e\0\0\0\x06$['a']\0\0\0\x08[0, [] ]";
+    assert_eq!(rt; payload.as_slice(), hits.as_slice());
+    Ok(())
+}
+
+#[test]
+fn refuses_a_seventeenth_collection(rt: HostRuntime) -> Result<(), Fail> {
+    let alloc = rt.alloc();
+    let mut tenant = Tenant::new(alloc);
+    for name in COLLECTIONS {
+        assert_eq!(rt; put(&mut tenant, alloc, name, "x", b"1")?, Ok(()));
+    }
+    assert_eq!(rt; put(&mut tenant, alloc, "q", "x", b"1")?, Err(StoreFault::TooManyCollections));
+    assert_eq!(rt; put(&mut tenant, alloc, "q", "x", b"{")?, Err(StoreFault::NotJson));
+    assert_eq!(rt; remove(&mut tenant, "a", "x")?, Ok(()));
+    assert_eq!(rt; put(&mut tenant, alloc, "q", "x", b"1")?, Ok(()));
+    assert_eq!(rt; tenant.usage(), Usage { collections: 16, documents: 16, bytes: 16 });
+    Ok(())
+}
+
+#[test]
+fn refuses_a_document_past_a_thousand(rt: HostRuntime) -> Result<(), Fail> {
+    let alloc = rt.alloc();
+    let mut tenant = Tenant::new(alloc);
+    for i in 0..1000u32 {
+        let name = format!(in alloc; "d{i}")?;
+        assert_eq!(rt; put(&mut tenant, alloc, "c", name.as_str(), b"[1]")?, Ok(()));
+    }
+    assert_eq!(rt; put(&mut tenant, alloc, "c", "e", b"[1]")?, Err(StoreFault::TooManyDocuments));
+    assert_eq!(rt; put(&mut tenant, alloc, "d", "e", b"[1]")?, Err(StoreFault::TooManyDocuments));
+    assert_eq!(rt; put(&mut tenant, alloc, "c", "d7", b"[1,2]")?, Ok(()));
+    assert_eq!(rt; put(&mut tenant, alloc, "c", "e", b"{")?, Err(StoreFault::NotJson));
+    assert_eq!(rt; tenant.usage(), Usage { collections: 1, documents: 1000, bytes: 3002 });
+    Ok(())
+}
+
+#[test]
+fn refuses_bytes_past_the_quota_and_keeps_the_old_text(rt: HostRuntime) -> Result<(), Fail> {
+    let alloc = rt.alloc();
+    let mut tenant = Tenant::new(alloc);
+    let longest = string_of(alloc, 1_048_574)?;
+    for i in 0..15u32 {
+        let name = format!(in alloc; "d{i}")?;
+        assert_eq!(rt; put(&mut tenant, alloc, "c", name.as_str(), longest.as_slice())?, Ok(()));
+    }
+    let shorter = string_of(alloc, 1_048_573)?;
+    assert_eq!(rt; put(&mut tenant, alloc, "c", "p", shorter.as_slice())?, Ok(()));
+    assert_eq!(rt; put(&mut tenant, alloc, "c", "q", b"0")?, Ok(()));
+    assert_eq!(rt; tenant.usage(), Usage { collections: 1, documents: 17, bytes: 16_777_216 });
+    assert_eq!(rt; put(&mut tenant, alloc, "c", "q", b"1")?, Ok(()));
+    assert_eq!(rt; put(&mut tenant, alloc, "c", "q", b"10")?, Err(StoreFault::TooManyBytes));
+    assert_eq!(rt; get(&tenant, "c", "q")?, b"1".as_slice());
+    Ok(())
+}
+
+#[test]
+fn refuses_more_nodes_than_the_limit(rt: HostRuntime) -> Result<(), Fail> {
+    let alloc = rt.alloc();
+    let mut tenant = Tenant::new(alloc);
+    let full = zeros(alloc, 65_536)?;
+    assert_eq!(rt; put(&mut tenant, alloc, "c", "d", full.as_slice())?, Ok(()));
+    let mut payload = Vec::new(alloc);
+    assert_eq!(rt; ask(&tenant, alloc, "$[*]", "c", &mut payload)?, Ok(()));
+    assert_eq!(rt; payload.get(0..4), Some(b"\0\x01\0\0".as_slice()));
+    let over = zeros(alloc, 65_537)?;
+    assert_eq!(rt; put(&mut tenant, alloc, "c", "d", over.as_slice())?, Ok(()));
+    payload.clear();
+    payload.push(7)?;
+    assert_eq!(rt; ask(&tenant, alloc, "$[*]", "c", &mut payload)?, Err(StoreFault::TooManyNodes));
+    assert_eq!(rt; payload.as_slice(), b"\x07".as_slice());
+    Ok(())
+}
+
+#[test]
+fn refuses_a_payload_past_the_limit(rt: HostRuntime) -> Result<(), Fail> {
+    let alloc = rt.alloc();
+    let mut tenant = Tenant::new(alloc);
+    let string = string_of(alloc, 1_048_557)?;
+    let fits = array_of(alloc, string.as_slice())?;
+    assert_eq!(rt; put(&mut tenant, alloc, "c", "d", fits.as_slice())?, Ok(()));
+    let mut payload = Vec::new(alloc);
+    assert_eq!(rt; ask(&tenant, alloc, "$[0,0,0,0]", "c", &mut payload)?, Ok(()));
+    assert_eq!(rt; payload.len(), 4_194_301 - 5);
+    let string = string_of(alloc, 1_048_558)?;
+    let passes = array_of(alloc, string.as_slice())?;
+    assert_eq!(rt; put(&mut tenant, alloc, "c", "d", passes.as_slice())?, Ok(()));
+    payload.clear();
+    payload.push(7)?;
+    let refused = ask(&tenant, alloc, "$[0,0,0,0]", "c", &mut payload)?;
+    assert_eq!(rt; refused, Err(StoreFault::ReplyTooLarge));
+    assert_eq!(rt; payload.as_slice(), b"\x07".as_slice());
+    Ok(())
+}
+
+#[test]
+fn tells_the_first_document_that_shows_a_fault(rt: HostRuntime) -> Result<(), Fail> {
+    let alloc = rt.alloc();
+    let string = string_of(alloc, 1_048_558)?;
+    let long = array_of(alloc, string.as_slice())?;
+    let wide = zeros(alloc, 65_537)?;
+    let mut payload = Vec::new(alloc);
+    let mut first_long = Tenant::new(alloc);
+    assert_eq!(rt; put(&mut first_long, alloc, "c", "b", wide.as_slice())?, Ok(()));
+    assert_eq!(rt; put(&mut first_long, alloc, "c", "a", long.as_slice())?, Ok(()));
+    let refused = ask(&first_long, alloc, "$[*,*,*,*]", "c", &mut payload)?;
+    assert_eq!(rt; refused, Err(StoreFault::ReplyTooLarge));
+    let mut first_wide = Tenant::new(alloc);
+    assert_eq!(rt; put(&mut first_wide, alloc, "c", "b", long.as_slice())?, Ok(()));
+    assert_eq!(rt; put(&mut first_wide, alloc, "c", "a", wide.as_slice())?, Ok(()));
+    let refused = ask(&first_wide, alloc, "$[*,*,*,*]", "c", &mut payload)?;
+    assert_eq!(rt; refused, Err(StoreFault::TooManyNodes));
+    assert!(rt; payload.is_empty());
+    Ok(())
+}
+
+const KEY_A: [u8; 16] = *b"\x00\x11\x22\x33\x44\x55\x66\x77\x88\x99\xaa\xbb\xcc\xdd\xee\xff";
+
+const KEY_B: [u8; 16] = *b"\xff\xee\xdd\xcc\xbb\xaa\x99\x88\x77\x66\x55\x44\x33\x22\x11\x00";
+
+fn refusal(made: Result<Tenants, TenantsFault>) -> Option<TenantsFault> {
+    match made {
+        Ok(_) => None,
+        Err(fault) => Some(fault),
+    }
+}
+
+#[test]
+fn finds_tenants_by_their_keys(rt: HostRuntime) -> Result<(), Fail> {
+    let alloc = rt.alloc();
+    assert_eq!(rt; refusal(Tenants::new(alloc, &[])), Some(TenantsFault::NoKeys));
+    assert_eq!(rt; refusal(Tenants::new(alloc, &[KEY_A; 2])), Some(TenantsFault::RepeatedKey));
+    assert_eq!(rt; refusal(Tenants::new(alloc, &[KEY_A; 256])), Some(TenantsFault::RepeatedKey));
+    assert_eq!(rt; refusal(Tenants::new(alloc, &[KEY_A; 257])), Some(TenantsFault::TooManyKeys));
+    let mut tenants = Tenants::new(alloc, &[KEY_A, KEY_B])?;
+    assert_eq!(rt; tenants.place_of(&KEY_A), Some(0));
+    assert_eq!(rt; tenants.place_of(&KEY_B), Some(1));
+    assert_eq!(rt; tenants.place_of(&[0; 16]), None);
+    assert_eq!(rt; put(tenants.tenant_mut(1), alloc, "c", "d", b"1")?, Ok(()));
+    assert_eq!(rt; tenants.tenant(0).usage().documents, 0);
+    assert_eq!(rt; tenants.tenant(1).usage().documents, 1);
+    Ok(())
+}
