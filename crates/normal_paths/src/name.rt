@@ -1,6 +1,7 @@
 //! Names in a path.
 
 ghost use Rattle.std.specs.Prelude.{◌≡◌, ◌+◌, ◌*◌, ◌<◌, ◌≤◌, ◌^◌, ◌++◌, ◌∷◌, [], IfOk, length, take};
+ghost use Rattle.std.specs.Vec.{vec_capacity};
 ghost use Rattle.normal_paths.specs.NormalPath.{hex_digit, scalar_text, name_text};
 
 use json_tape::Scalars;
@@ -21,6 +22,7 @@ fn hex_digit(digit: u32) -> u8
 fn write_scalar(out: &mut Vec<u8>, scalar: char) -> Result<(), AllocError>
     ensures written { IfOk result (λ _. out.new.items ≡ out.old.items ++ scalar_text scalar) }
     ensures kept { take (length out.old.items) out.new.items ≡ out.old.items }
+    ensures capacity { vec_capacity out.old ≤ vec_capacity out.new }
 {
     let code = u32::from(scalar);
     match code {
@@ -50,6 +52,7 @@ fn write_scalar(out: &mut Vec<u8>, scalar: char) -> Result<(), AllocError>
 pub fn write_name(out: &mut Vec<u8>, name: Scalars<'_>) -> Result<(), AllocError>
     ensures written { IfOk result (λ _. out.new.items ≡ out.old.items ++ name_text name.entry) }
     ensures kept { take (length out.old.items) out.new.items ≡ out.old.items }
+    ensures capacity { vec_capacity out.old ≤ vec_capacity out.new }
 {
     for scalar in name {
         write_scalar(out, scalar)?;

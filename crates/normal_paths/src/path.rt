@@ -1,6 +1,7 @@
 //! The steps from the root to a node.
 
 ghost use Rattle.std.specs.Prelude.{◌≡◌, ◌+◌, ◌<◌, ◌≤◌, ◌++◌, ◌∷◌, [], IfOk, OnErr, length, decimal, reverse, flat_map, take, map};
+ghost use Rattle.std.specs.Vec.{vec_capacity};
 ghost use Rattle.json_tape.specs.Document.{count, node_at};
 ghost use Rattle.std.specs.List.{All};
 ghost use Rattle.normal_paths.specs.NormalPath.{name_text, normal_path};
@@ -18,6 +19,7 @@ const USUAL_DEPTH: usize = 32;
 fn write_index(out: &mut Vec<u8>, index: u32) -> Result<(), AllocError>
     ensures written { IfOk result (λ _. out.new.items ≡ out.old.items ++ (91 ∷ (decimal index ++ 93 ∷ []))) }
     ensures kept { take (length out.old.items) out.new.items ≡ out.old.items }
+    ensures capacity { vec_capacity out.old ≤ vec_capacity out.new }
 {
     let mut buffer = Buffer::new();
     out.extend_from_slice(b"[")?;
@@ -28,6 +30,7 @@ fn write_index(out: &mut Vec<u8>, index: u32) -> Result<(), AllocError>
 fn write_key(out: &mut Vec<u8>, name: Scalars<'_>) -> Result<(), AllocError>
     ensures written { IfOk result (λ _. out.new.items ≡ out.old.items ++ (91 ∷ 39 ∷ (name_text name.entry ++ 39 ∷ 93 ∷ []))) }
     ensures kept { take (length out.old.items) out.new.items ≡ out.old.items }
+    ensures capacity { vec_capacity out.old ≤ vec_capacity out.new }
 {
     out.extend_from_slice(b"['")?;
     write_name(out, name)?;
@@ -39,6 +42,7 @@ fn write_step(doc: &Document, node: NodeId, out: &mut Vec<u8>) -> Result<(), All
     requires { node.0 < count doc.now }
     ensures written { IfOk result (λ _. out.new.items ≡ out.old.items ++ last_text (node_at doc.now node.0)) }
     ensures kept { take (length out.old.items) out.new.items ≡ out.old.items }
+    ensures capacity { vec_capacity out.old ≤ vec_capacity out.new }
 {
     match doc.lead(node) {
         Lead::Root => Ok(()),
@@ -73,6 +77,7 @@ fn write_way(
     requires { All (λ node. node.0 < count doc.now) way.items }
     ensures written { IfOk result (λ _. out.new.items ≡ out.old.items ++ 36 ∷ way_text doc.now (reverse way.items)) }
     ensures kept { take (length out.old.items) out.new.items ≡ out.old.items }
+    ensures capacity { vec_capacity out.old ≤ vec_capacity out.new }
 {
     out.extend_from_slice(b"$")?;
     while let Some(node) = way.pop() {
@@ -91,6 +96,7 @@ pub fn write_path(
     requires { node.0 < count doc.now }
     ensures written { IfOk result (λ _. out.new.items ≡ out.old.items ++ normal_path (node_at doc.now node.0)) }
     ensures unchanged { OnErr result (out.new.items ≡ out.old.items) }
+    ensures capacity { vec_capacity out.old ≤ vec_capacity out.new }
 {
     let way = way_up(alloc, doc, node)?;
     let before = out.len();
