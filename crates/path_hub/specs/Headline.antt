@@ -34,8 +34,8 @@ pub record RepliedToSome (keys : List (List ℕ)) (is : List Item) (before after
 abbrev pub AreRefused : List (List ℕ) → TenantsFault → Type 0
 AreRefused keys e = RefusesKeys keys e × (e ≢ refusal.Memory)
 
--- All items are replied to, or the first of them where memory runs out; keys that are refused get no reply.
+-- All items are replied to, or the first of them where memory runs out, which it does not before the keys are counted; keys that are refused get no reply.
 abbrev pub Runs : List (List ℕ) → List Item → List Reply → Result (Unit {0}) RunFault → List Reply → Type 0
 Runs keys is before (Ok u) after = AcceptsKeys keys (fresh keys) × Replied keys is before after
-Runs keys is before (Err fault.Memory) after = RepliedToSome keys is before after
+Runs keys is before (Err fault.Memory) after = RefusesKeys keys refusal.Memory × RepliedToSome keys is before after
 Runs keys is before (Err (fault.Keys e)) after = AreRefused keys e × (after ≡ before)

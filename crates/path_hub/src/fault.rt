@@ -3,7 +3,7 @@ use tenant_store::TenantsFault;
 use thiserror::Error;
 
 /// Why a connection is not opened.
-#[derive(Clone, Copy, Debug, PartialEq, Eq, Error)]
+#[derive(Clone, Copy, Debug, Drop, PartialEq, Eq, Error)]
 pub enum ConnectFault {
     /// It is open.
     #[error("the connection is open")]
@@ -14,7 +14,7 @@ pub enum ConnectFault {
 }
 
 /// Why a piece is not taken.
-#[derive(Clone, Copy, Debug, PartialEq, Eq, Error)]
+#[derive(Clone, Copy, Debug, Drop, PartialEq, Eq, Error)]
 pub enum TakeFault {
     /// The connection is not open.
     #[error("the connection is not open")]
@@ -28,7 +28,7 @@ pub enum TakeFault {
 }
 
 /// Why a piece is not answered whole.
-#[derive(Clone, Copy, Debug, PartialEq, Eq, Error)]
+#[derive(Clone, Copy, Debug, Drop, PartialEq, Eq, Error)]
 pub enum HubFault {
     /// The connection is not open.
     #[error("the connection is not open")]
@@ -42,7 +42,7 @@ pub enum HubFault {
 }
 
 /// Why a run ends early.
-#[derive(Clone, Copy, Debug, PartialEq, Eq, Error)]
+#[derive(Clone, Copy, Debug, Drop, PartialEq, Eq, Error)]
 pub enum RunFault {
     /// The keys are refused, never for want of memory.
     #[error("the keys are refused: {0}")]

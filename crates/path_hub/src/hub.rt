@@ -13,17 +13,22 @@ ghost use Rattle.path_hub.specs.Headline.{Runs};
 use crate::event::{Event, Reply};
 use crate::fault::{ConnectFault, HubFault, RunFault, TakeFault};
 use crate::step::{answer_all, answer_next};
+use query_cache::Cache;
 use std::alloc::{AllocError, Global};
 use std::collections::BTreeMap;
 use std::marker::Model;
 use tenant_store::{Tenants, TenantsFault};
 use wire_frames::{AcceptFault, Framer, splits_from_the_front};
 
+/// The most compiled queries that a hub keeps, for all its tenants.
+const CACHED_QUERIES: usize = 64;
+
 /// The sessions of all connections, and all tenants.
 #[derive(Drop)]
 pub struct Hub {
     sessions: BTreeMap<u32, Framer>,
     tenants: Tenants,
+    cache: Cache,
 }
 
 impl Model for Hub {
@@ -46,9 +51,14 @@ impl Hub {
         ensures refused { IfErr result (λ fault. RefusesKeys keys.now fault) }
     {
         let tenants = Tenants::new(alloc, keys)?;
+        let cache = match Cache::new(alloc, CACHED_QUERIES) {
+            Ok(cache) => cache,
+            Err(_) => return Err(TenantsFault::Memory),
+        };
         Ok(Hub {
             sessions: BTreeMap::new(alloc),
             tenants,
+            cache,
         })
     }
 
@@ -124,7 +134,14 @@ impl Hub {
         ensures unchanged { OnErr result (self.new ≡ self.old) }
         ensures unwritten { OnErr result (out.new.items ≡ out.old.items) }
     {
-        answer_at(&mut self.sessions, &mut self.tenants, alloc, conn, out)
+        answer_at(
+            &mut self.sessions,
+            &mut self.tenants,
+            &mut self.cache,
+            alloc,
+            conn,
+            out,
+        )
     }
 
     /// Takes a piece of a connection's stream and appends the replies to what is whole then, in order.
@@ -179,6 +196,7 @@ impl Hub {
             Event::Bytes(conn, piece) => feed(
                 &mut self.sessions,
                 &mut self.tenants,
+                &mut self.cache,
                 alloc,
                 *conn,
                 piece,
@@ -206,6 +224,7 @@ fn take_at(sessions: &mut BTreeMap<u32, Framer>, conn: u32, piece: &[u8]) -> Res
 fn answer_at(
     sessions: &mut BTreeMap<u32, Framer>,
     tenants: &mut Tenants,
+    cache: &mut Cache,
     alloc: Global,
     conn: u32,
     out: &mut Vec<u8>,
@@ -219,7 +238,7 @@ fn answer_at(
     splits_from_the_front();
     match sessions.get_mut(&conn) {
         None => Ok(false),
-        Some(framer) => answer_next(framer, tenants, alloc, out),
+        Some(framer) => answer_next(framer, tenants, cache, alloc, out),
     }
 }
 
@@ -240,6 +259,7 @@ fn open(sessions: &mut BTreeMap<u32, Framer>, alloc: Global, conn: u32) -> Resul
 fn feed(
     sessions: &mut BTreeMap<u32, Framer>,
     tenants: &mut Tenants,
+    cache: &mut Cache,
     alloc: Global,
     conn: u32,
     piece: &[u8],
@@ -254,7 +274,7 @@ fn feed(
         Some(framer) => match framer.accept(piece) {
             Err(AcceptFault::Closed) => Ok(()),
             Err(AcceptFault::Memory) => Err(AllocError),
-            Ok(()) => answer_all(conn, framer, tenants, alloc, out),
+            Ok(()) => answer_all(conn, framer, tenants, cache, alloc, out),
         },
     }
 }

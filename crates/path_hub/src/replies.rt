@@ -9,7 +9,8 @@ ghost use Rattle.wire_frames.specs.Requests.{reading};
 ghost use Rattle.path_hub.specs.Answers.{Gives, query_status};
 ghost use Rattle.path_hub.specs.Tenants.{Serves};
 
-use path_types::{QueryFault, compile};
+use path_types::QueryFault;
+use query_cache::Cache;
 use std::alloc::Global;
 use tenant_store::{CollName, DocName, StoreFault, Tenant, Tenants};
 use wire_frames::{Command, RequestFault, read_request, reply_head, write_reply};
@@ -156,6 +157,7 @@ fn answer_list(map: &Tenant, number: u32, collection: CollName<'_>, out: &mut Ve
 
 fn answer_query(
     map: &Tenant,
+    cache: &mut Cache,
     alloc: Global,
     number: u32,
     collection: CollName<'_>,
@@ -165,11 +167,12 @@ fn answer_query(
     requires { vec_len out.old + 21 ≤ vec_capacity out.old }
     ensures { Gives map.now (Query collection.entry.bytes.now query.now) number out.old.items out.new.items map.now }
 {
-    match compile(alloc, query) {
-        Ok(valid) => {
+    match cache.lookup(alloc, query) {
+        Ok(compiled) => {
+            let valid = compiled.query();
             let start = out.len();
             begin(out);
-            match map.query(alloc, &valid, collection, out) {
+            match map.query(alloc, valid, collection, out) {
                 Ok(()) => finish(start, number, out),
                 Err(fault) => take_back(fault, start, number, out),
             }
@@ -204,6 +207,7 @@ fn answer_usage(map: &Tenant, number: u32, out: &mut Vec<u8>)
 /// Answers a command. There is room for a short reply.
 fn answer_command(
     map: &mut Tenant,
+    cache: &mut Cache,
     alloc: Global,
     number: u32,
     command: Command<'_>,
@@ -228,7 +232,7 @@ fn answer_command(
         } => answer_remove(map, number, collection, document, out),
         Command::List { collection } => answer_list(map, number, collection, out),
         Command::Query { collection, query } => {
-            answer_query(map, alloc, number, collection, query, out)
+            answer_query(map, cache, alloc, number, collection, query, out)
         }
         Command::DropCollection { collection } => answer_drop(map, number, collection, out),
         Command::Usage => answer_usage(map, number, out),
@@ -236,7 +240,13 @@ fn answer_command(
 }
 
 /// Answers the body of a request. There is room for a short reply.
-pub fn serve_body(tenants: &mut Tenants, alloc: Global, body: &[u8], out: &mut Vec<u8>)
+pub fn serve_body(
+    tenants: &mut Tenants,
+    cache: &mut Cache,
+    alloc: Global,
+    body: &[u8],
+    out: &mut Vec<u8>,
+)
     requires { vec_len out.old + 21 ≤ vec_capacity out.old }
     ensures { Serves tenants.old body.now out.old.items out.new.items tenants.new }
 {
@@ -246,7 +256,7 @@ pub fn serve_body(tenants: &mut Tenants, alloc: Global, body: &[u8], out: &mut V
             None => write_small(NO_TENANT, request.number, &[], out),
             Some(place) => {
                 let map = tenants.tenant_mut(place);
-                answer_command(map, alloc, request.number, request.command, out)
+                answer_command(map, cache, alloc, request.number, request.command, out)
             }
         },
     }

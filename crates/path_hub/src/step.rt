@@ -5,6 +5,7 @@ ghost use Rattle.path_hub.specs.Pending.{Answered, IsIdle, AnswersSome, pending}
 
 use crate::event::Reply;
 use crate::replies::{serve_body, write_small};
+use query_cache::Cache;
 use std::alloc::{AllocError, Global};
 use tenant_store::Tenants;
 use wire_frames::{Framer, Front, splits_from_the_front};
@@ -19,6 +20,7 @@ const FRAME_FAULT: u8 = 255;
 pub fn answer_next(
     framer: &mut Framer,
     tenants: &mut Tenants,
+    cache: &mut Cache,
     alloc: Global,
     out: &mut Vec<u8>,
 ) -> Result<bool, AllocError>
@@ -41,7 +43,7 @@ pub fn answer_next(
             Ok(true)
         }
         Front::Frame(body) => {
-            serve_body(tenants, alloc, body, out);
+            serve_body(tenants, cache, alloc, body, out);
             framer.pass();
             Ok(true)
         }
@@ -54,6 +56,7 @@ pub fn answer_all(
     conn: u32,
     framer: &mut Framer,
     tenants: &mut Tenants,
+    cache: &mut Cache,
     alloc: Global,
     out: &mut Vec<Reply>,
 ) -> Result<(), AllocError>
@@ -64,7 +67,7 @@ pub fn answer_all(
     'frames: loop {
         out.reserve(1)?;
         let mut frame = Vec::new(alloc);
-        if !answer_next(framer, tenants, alloc, &mut frame)? {
+        if !answer_next(framer, tenants, cache, alloc, &mut frame)? {
             return Ok(());
         }
         out.push(Reply { conn, frame }).unwrap();

@@ -1,4 +1,5 @@
-use Rattle.std.proofs.Common.{refl, ap, ◌∙◌, ◌++◌, [], length, arith, ◌≡◌, inr}
+use Rattle.path_types.specs.Verdict.{IsValidQuery}
+use Rattle.std.proofs.Common.{subst, sym, refl, ap, ◌∙◌, ◌++◌, [], length, arith, ◌≡◌, inr}
 use Rattle.path_grammar.specs.View.{query_view}
 use Rattle.tenant_store.specs.Payloads.{payload}
 use Rattle.wire_frames.specs.Requests.{Query}
@@ -10,18 +11,18 @@ pub returns-in-Ok-query : goal.returns-in-Ok-query
 returns-in-Ok-query c =
     let start : c.len-start.result ≡ length c.args.out.now.items = omega (arith, c.len-start.ensures, c.args.out.now.ok.0) in
     let a = c.in-Ok-query.ensures.answered in
-    let bytes = payload (query_view c.in-Ok.valid) a.texts in
+    let bytes = payload (query_view c.query-valid.result.now) a.texts in
     gives_done c.args.map.now c.args.map.now (Query c.args.collection.bytes.now c.args.query.now) c.args.number c.args.out.now.items _ bytes
     (begun_and_done c.args.out.now.items c.begin.new.out.items c.query.new.out.items _ bytes c.args.number c.len-start.result start c.begin.ensures.items (omega (arith, c.begin.ensures.len, c.args.out.now.ok.0, c.begin.new.out.ok.0)) a.appended c.finish.ensures)
-    ((query_view c.in-Ok.valid, c.in-Ok.ensures.valid, record { texts = a.texts; read = a.read; no_fault = a.no_fault; appended = refl }), refl)
+    ((query_view c.query-valid.result.now, subst (λ q. IsValidQuery c.args.query.now (query_view q)) (sym c.query-valid.ensures) c.in-Ok.ensures.valid, record { texts = a.texts; read = a.read; no_fault = a.no_fault; appended = refl }), refl)
 
 pub returns-in-Ok : goal.returns-in-Ok
 returns-in-Ok c =
     let start : c.len-start.result ≡ length c.args.out.now.items = omega (arith, c.len-start.ensures, c.args.out.now.ok.0) in
     gives_fault c.args.map.now c.args.map.now (Query c.args.collection.bytes.now c.args.query.now) c.args.number c.args.out.now.items _ c.in-Err-query.fault
     (taken_back c.args.out.now.items c.begin.new.out.items c.query.new.out.items _ _ c.len-start.result start c.begin.ensures.items c.in-Err-query.ensures.unchanged c.take_back.ensures) refl
-    (λ z. inr (query_view c.in-Ok.valid, c.in-Ok.ensures.valid, (c.in-Err-query.fault, c.in-Err-query.ensures.refused, z, refl)))
-    (λ m. query_may_want c.args.collection.bytes.now c.args.query.now c.args.number c.args.map.now c.in-Ok.ensures.valid.short)
+    (λ z. inr (query_view c.query-valid.result.now, subst (λ q. IsValidQuery c.args.query.now (query_view q)) (sym c.query-valid.ensures) c.in-Ok.ensures.valid, (c.in-Err-query.fault, c.in-Err-query.ensures.refused, z, refl)))
+    (λ m. query_may_want c.args.collection.bytes.now c.args.query.now c.args.number c.args.map.now (subst (λ q. IsValidQuery c.args.query.now (query_view q)) (sym c.query-valid.ensures) c.in-Ok.ensures.valid).short)
 
 pub returns : goal.returns
 returns c = gives_query_fault c.args.map.now c.args.collection.bytes.now c.args.query.now c.args.number c.args.out.now.items _ c.in-Err.fault
