@@ -1,3 +1,4 @@
 pub mod Splits
 pub mod OneSplit
 pub mod Cutting
+pub mod ReadBack

@@ -3,6 +3,8 @@ pub mod Framing
 pub mod NextFrame
 pub mod Looks
 pub mod Cuts
+pub mod Splitting
 pub mod Requests
 pub mod Readings
+pub mod Encoding
 pub mod Replies

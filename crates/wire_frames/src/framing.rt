@@ -2,7 +2,7 @@
 ghost use Rattle.std.specs.Prelude.{◌≡◌, ◌<◌, ◌↔◌, length, IfOk, OnOk, OnErr, IsErrOf, true};
 ghost use Rattle.wire_frames.specs.Looks.{Shows};
 ghost use Rattle.wire_frames.specs.Framing.{fresh, with_piece, framing_after, HasFrame};
-ghost use Rattle.wire_frames.specs.NextFrame.{next_of};
+ghost use Rattle.wire_frames.specs.NextFrame.{next_of, lent_as};
 
 use bytes::{Bytes, BytesMut};
 use std::alloc::{AllocError, Global};
@@ -26,6 +26,17 @@ pub enum Next {
     Fault,
 }
 
+/// What the bytes that wait begin with, lent.
+#[derive(Clone, Copy, Debug)]
+pub enum Front<'a> {
+    /// The body of a whole frame.
+    Frame(&'a [u8]),
+    /// Less than a frame.
+    Wait,
+    /// A length above [`LONGEST_BODY`].
+    Fault,
+}
+
 /// Why a piece was not taken.
 #[derive(Clone, Copy, Debug, PartialEq, Eq, Error)]
 pub enum AcceptFault {
@@ -43,6 +54,8 @@ pub enum AcceptFault {
 pub struct Framer {
     waiting: BytesMut,
     closed: bool,
+    // Bytes taken off the block that holds what waits. Nothing but the block's size depends on them.
+    passed: usize,
 }
 
 impl Model for Framer {
@@ -63,6 +76,7 @@ impl Framer {
         Ok(Framer {
             waiting: BytesMut::new(alloc),
             closed: false,
+            passed: 0,
         })
     }
 
@@ -109,6 +123,50 @@ impl Framer {
                 self.closed = true;
                 Ok(Next::Fault)
             }
+        }
+    }
+
+    /// Lends what the bytes that wait begin with. It takes no memory.
+    pub fn front(&self) -> Front<'_>
+        ensures { lent_as result ≡ next_of self.now }
+    {
+        let waiting = self.waiting.as_slice();
+        match front_of(waiting) {
+            Look::Frame(length) => Front::Frame(&waiting[LENGTH_BYTES..LENGTH_BYTES + length]),
+            Look::Wait => Front::Wait,
+            Look::Fault => Front::Fault,
+        }
+    }
+
+    /// Takes the first frame off the bytes that wait, or closes at a fault.
+    ///
+    /// Bytes that go on waiting get a block of their own once no fewer were taken off before them, so what is kept is in
+    /// proportion to what waits, and nothing where nothing waits. Where that growth is refused, they stay where they are.
+    pub fn pass(&mut self)
+        ensures { self.new ≡ framing_after self.old }
+    {
+        match front_of(self.waiting.as_slice()) {
+            Look::Frame(length) => {
+                self.waiting.advance(LENGTH_BYTES + length);
+                self.passed = self.passed.saturating_add(LENGTH_BYTES + length);
+                self.fit_block();
+            }
+            Look::Wait => {}
+            Look::Fault => self.closed = true,
+        }
+    }
+
+    // Puts the bytes that wait into a block of their own, where that is no longer than what was taken off the old one.
+    fn fit_block(&mut self)
+        ensures { self.new ≡ self.old }
+    {
+        if self.passed < self.waiting.len() {
+            return;
+        }
+        let alloc = *self.waiting.allocator();
+        if let Ok(own) = BytesMut::copy_from_slice(alloc, self.waiting.as_slice()) {
+            self.waiting = own;
+            self.passed = 0;
         }
     }
 

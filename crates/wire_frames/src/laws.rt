@@ -5,6 +5,8 @@ ghost use Rattle.wire_frames.specs.Frames.{IsByte, IsSplit, front, is_whole, spl
 ghost use Rattle.wire_frames.specs.Frames.{after_frames};
 ghost use Rattle.wire_frames.specs.Framing.{fresh};
 ghost use Rattle.wire_frames.specs.Cuts.{Step, stream_of, taken, left};
+ghost use Rattle.wire_frames.specs.Splitting.{Splitting};
+ghost use Rattle.wire_frames.specs.Encoding.{ReadsBack};
 
 /// A stream of bytes is split in one way only.
 pub fn splits_one_way()
@@ -32,4 +34,14 @@ pub fn cuts_do_not_matter()
         → IsFalse (is_whole (front (left fresh steps).waiting)) → IsFalse (is_whole (front (left fresh others).waiting))
         → taken fresh steps ≡ taken fresh others }
     ensures first { (steps : List Step) → taken fresh steps ++ frames (left fresh steps).waiting ≡ frames (stream_of steps) }
+{}
+
+/// A stream is split by what it begins with, one frame after another.
+pub fn splits_from_the_front()
+    ensures { Splitting }
+{}
+
+/// A request that is written is read back as it was.
+pub fn reads_what_is_written()
+    ensures { ReadsBack }
 {}

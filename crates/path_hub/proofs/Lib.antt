@@ -1,0 +1,13 @@
+pub mod Keys
+pub mod Alone
+pub mod Steps
+pub mod Loop
+pub mod Settling
+pub mod Feeding
+pub mod Running
+pub mod Traffic
+pub mod Pieces
+pub mod Calls
+pub mod Serve
+pub mod Writing
+pub mod Once

@@ -1,0 +1,21 @@
+use Rattle.std.proofs.Common.{◌≡◌, Some, sym, ap, is_some}
+use Rattle.path_hub.specs.Sessions.{session, Sets}
+use Rattle.path_hub.proofs.Calls.{kept, steps, refused_step}
+use Rattle.path_hub.proofs.hub.answer_at.Goals as goal
+
+pub returns-in-Some-clause-step : goal.returns-in-Some-clause-step
+returns-in-Some-clause-step c =
+    let h : session c.args.conn c.args.sessions.now.entries ≡ Some c.in-Some.framer.now = sym c.in-Some.ensures.value in
+    let lender = c.get_mut.follows.lender c.answer_next.new.framer in
+    let holds = c.get_mut.follows.holds c.answer_next.new.framer in
+    let sets : Sets c.args.conn (Some c.answer_next.new.framer) c.args.sessions.now.entries lender.entries = (holds.3 (ap is_some h)).0 in
+    steps c.splits_from_the_front.ensures c.args.conn c.args.sessions.now.entries lender.entries c.args.tenants.now c.answer_next.new.tenants c.in-Some.framer.now c.answer_next.new.framer c.args.out.now.items c.answer_next.new.out.items c.answer_next.result
+    h sets (λ e. kept c.args.conn c.args.sessions.now.entries lender.entries c.in-Some.framer.now c.answer_next.new.framer h e holds.0) c.answer_next.ensures.step
+
+pub returns-in-Some-clause-unchanged : goal.returns-in-Some-clause-unchanged
+returns-in-Some-clause-unchanged c =
+    let h : session c.args.conn c.args.sessions.now.entries ≡ Some c.in-Some.framer.now = sym c.in-Some.ensures.value in
+    let lender = c.get_mut.follows.lender c.answer_next.new.framer in
+    let holds = c.get_mut.follows.holds c.answer_next.new.framer in
+    refused_step c.args.sessions.now.entries lender.entries c.args.tenants.now c.answer_next.new.tenants c.in-Some.framer.now c.answer_next.new.framer c.answer_next.result
+    (λ e. kept c.args.conn c.args.sessions.now.entries lender.entries c.in-Some.framer.now c.answer_next.new.framer h e holds.0) c.answer_next.ensures.same_framer c.answer_next.ensures.same_tenants

@@ -1,0 +1,12 @@
+use Rattle.std.proofs.Common.{refl, [], sym, subst, ◌∙◌, ap, ◌++◌, ◌≡◌}
+use Rattle.std.specs.Map.{lookup}
+use Rattle.tenant_store.specs.Keyed.{at}
+use Rattle.tenant_store.specs.Maps.{Map, text_at}
+use Rattle.wire_frames.specs.Requests.{DropCollection}
+use Rattle.wire_frames.specs.Replies.{reply}
+use Rattle.path_hub.specs.Answers.{Gives}
+use Rattle.path_hub.proofs.Steps.{gives_done}
+use Rattle.path_hub.proofs.replies.answer_drop.Goals as goal
+
+pub returns-in-Ok : goal.returns-in-Ok
+returns-in-Ok c = gives_done c.args.map.now c.drop_collection.new.self (DropCollection c.args.collection.bytes.now) c.args.number c.args.out.now.items _ [] c.write_small.ensures (c.in-Ok.ensures.there, refl, c.in-Ok.ensures.dropped)

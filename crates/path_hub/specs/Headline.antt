@@ -1,0 +1,41 @@
+-- The headline: what a run of events gives. However the connections' bytes are cut and interleaved, and whatever other tenants send, a tenant's replies are those that its own requests get from a plain map of its texts.
+use Rattle.std.specs.Prelude.{◌≡◌, ◌≢◌, ◌⊎◌, ℕ, List, [], ◌∷◌, ◌++◌, map, Contains, Result, Ok, Err}
+use Rattle.tenant_store.specs.Tenancy.{Tenancy, AcceptsKeys, RefusesKeys}
+use Rattle.tenant_store.specs.declared.tenants.TenantsFault.{TenantsFault}
+use Rattle.tenant_store.specs.declared.tenants.TenantsFault.TheVariants as refusal
+use Rattle.path_hub.specs.declared.event.Reply.{Reply}
+use Rattle.path_hub.specs.declared.fault.RunFault.{RunFault}
+use Rattle.path_hub.specs.declared.fault.RunFault.TheVariants as fault
+use Rattle.path_hub.specs.Answers.{Alone}
+use Rattle.path_hub.specs.Tenants.{fresh}
+use Rattle.path_hub.specs.Items.{Item}
+use Rattle.path_hub.specs.Runs.{Told, Run, own_requests, own_replies}
+use Rattle.path_hub.specs.Pending.{told}
+
+-- Each tenant's replies, those that memory ran out aside, are byte for byte those that its own requests get from a plain map.
+abbrev pub IsPrivate : List (List ℕ) → List Item → List Told → Type 0
+IsPrivate keys is ts = (key : List ℕ) → Contains keys key → Alone [] (own_requests key is ts) (own_replies key is ts)
+
+-- one reply for each of these items, in order and on the item's connection
+pub record Replied (keys : List (List ℕ)) (is : List Item) (before after : List Reply) : Type 0 where
+  pub replies : List Reply
+  pub out : after ≡ before ++ replies
+  pub last : Tenancy
+  pub run : Run (fresh keys) is (map told replies) last
+  pub private : IsPrivate keys is (map told replies)
+
+pub record RepliedToSome (keys : List (List ℕ)) (is : List Item) (before after : List Reply) : Type 0 where
+  pub first : List Item
+  pub others : List Item
+  pub items_are : is ≡ first ++ others
+  pub told_first : Replied keys first before after
+
+-- keys are refused with this, which is not want of memory
+abbrev pub AreRefused : List (List ℕ) → TenantsFault → Type 0
+AreRefused keys e = RefusesKeys keys e × (e ≢ refusal.Memory)
+
+-- All items are replied to, or the first of them where memory runs out, which it does not before the keys are counted; keys that are refused get no reply.
+abbrev pub Runs : List (List ℕ) → List Item → List Reply → Result (Unit {0}) RunFault → List Reply → Type 0
+Runs keys is before (Ok u) after = AcceptsKeys keys (fresh keys) × Replied keys is before after
+Runs keys is before (Err fault.Memory) after = RefusesKeys keys refusal.Memory × RepliedToSome keys is before after
+Runs keys is before (Err (fault.Keys e)) after = AreRefused keys e × (after ≡ before)

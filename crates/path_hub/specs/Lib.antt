@@ -1,0 +1,14 @@
+pub mod Answers
+pub mod Tenants
+pub mod Items
+pub mod Runs
+pub mod Pending
+pub mod Sessions
+pub mod HubState
+pub mod Into
+pub mod Headline
+pub mod Wires
+pub mod Serving
+pub mod Turns
+pub mod MemoryWires
+pub mod Laws

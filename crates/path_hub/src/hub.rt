@@ -1,0 +1,312 @@
+//! The hub: the sessions of all connections, and all tenants.
+ghost use Rattle.std.specs.Prelude.{◌≡◌, OnOk, OnErr, None, IfOk, IfErr, [], is_some, Some, ◌↔◌, IsErrOf, IsSome, false};
+ghost use Rattle.std.specs.Bool.{MatchBool};
+ghost use Rattle.std.specs.Option.{option_map_or};
+ghost use Rattle.wire_frames.specs.Framing.{fresh as fresh_framing};
+ghost use Rattle.tenant_store.specs.Tenancy.{Tenancy, AcceptsKeys, RefusesKeys};
+ghost use Rattle.path_hub.specs.Sessions.{session, Sets, opened_session, Feeds, FeedsSome, Applies, AppliesSome};
+ghost use Rattle.path_hub.specs.Into.{Bytes, Takes, AnswersOne, AnswersNone};
+ghost use Rattle.path_hub.specs.HubState.{state};
+ghost use Rattle.path_hub.specs.Items.{items};
+ghost use Rattle.path_hub.specs.Headline.{Runs};
+
+use crate::event::{Event, Reply};
+use crate::fault::{ConnectFault, HubFault, RunFault, TakeFault};
+use crate::step::{answer_all, answer_next};
+use query_cache::Cache;
+use std::alloc::{AllocError, Global};
+use std::collections::BTreeMap;
+use std::marker::Model;
+use tenant_store::{Tenants, TenantsFault};
+use wire_frames::{AcceptFault, Framer, splits_from_the_front};
+
+/// The most compiled queries that a hub keeps, for all its tenants.
+const CACHED_QUERIES: usize = 64;
+
+/// The sessions of all connections, and all tenants.
+#[derive(Drop)]
+pub struct Hub {
+    sessions: BTreeMap<u32, Framer>,
+    tenants: Tenants,
+    cache: Cache,
+}
+
+impl Model for Hub {
+    ghost use Rattle.path_hub.specs.HubState.{HubState};
+
+    ghost Value = { HubState };
+
+    ghost view = { λ h. record { sessions = h.sessions.entries; tenants = h.tenants } };
+}
+
+impl Hub {
+    /// A hub with no session, and a tenant with no text for each key.
+    ///
+    /// # Errors
+    ///
+    /// Those of [`Tenants::new`], in its order: no keys, too many, one that comes twice. `Memory` where a growth was refused.
+    pub fn new(alloc: Global, keys: &[[u8; 16]]) -> Result<Hub, TenantsFault>
+        ensures accepted { IfOk result (λ hub. AcceptsKeys keys.now hub.tenants) }
+        ensures unconnected { IfOk result (λ hub. hub.sessions ≡ []) }
+        ensures refused { IfErr result (λ fault. RefusesKeys keys.now fault) }
+    {
+        let tenants = Tenants::new(alloc, keys)?;
+        let cache = match Cache::new(alloc, CACHED_QUERIES) {
+            Ok(cache) => cache,
+            Err(_) => return Err(TenantsFault::Memory),
+        };
+        Ok(Hub {
+            sessions: BTreeMap::new(alloc),
+            tenants,
+            cache,
+        })
+    }
+
+    /// Whether the connection has a session, which a framing fault does not end.
+    pub fn is_connected(&self, conn: u32) -> bool
+        ensures { result ≡ is_some (session conn self.now.sessions) }
+    {
+        self.sessions.contains_key(&conn)
+    }
+
+    /// Whether a framing fault closed the connection.
+    pub(crate) fn is_closed(&self, conn: u32) -> bool
+        ensures { result ≡ option_map_or (λ f. f.closed) (session conn self.now.sessions) false }
+    {
+        match self.sessions.get(&conn) {
+            Some(framer) => framer.is_closed(),
+            None => false,
+        }
+    }
+
+    /// Opens a session. A refusal changes nothing.
+    pub fn connect(&mut self, alloc: Global, conn: u32) -> Result<(), ConnectFault>
+        ensures ok { OnOk result (Sets conn (Some fresh_framing) self.old.sessions self.new.sessions) }
+        ensures tenants { self.new.tenants ≡ self.old.tenants }
+        ensures taken { IsErrOf result ConnectFault.Taken ↔ IsSome (session conn self.old.sessions) }
+        ensures err { OnErr result (self.new ≡ self.old) }
+    {
+        if self.is_connected(conn) {
+            return Err(ConnectFault::Taken);
+        }
+        match open(&mut self.sessions, alloc, conn) {
+            Ok(()) => Ok(()),
+            Err(_) => Err(ConnectFault::Memory),
+        }
+    }
+
+    /// Ends a session, and tells whether it was there.
+    pub fn disconnect(&mut self, conn: u32) -> bool
+        ensures was { result ≡ is_some (session conn self.old.sessions) }
+        ensures sets { Sets conn None self.old.sessions self.new.sessions }
+        ensures tenants { self.new.tenants ≡ self.old.tenants }
+    {
+        self.sessions.remove(&conn).is_some()
+    }
+
+    /// Takes a piece of a connection's stream, and answers nothing yet: [`Hub::answer_next`] does.
+    ///
+    /// # Errors
+    ///
+    /// `NoConnection` where the connection has no session, `Closed` where a framing fault came before, `Memory` where a growth
+    /// was refused, as an empty piece never asks. All change nothing.
+    pub fn take(&mut self, conn: u32, piece: &[u8]) -> Result<(), TakeFault>
+        ensures { Takes conn piece.now self.old result self.new }
+    {
+        take_at(&mut self.sessions, conn, piece)
+    }
+
+    /// Answers the first frame, or the framing fault, that waits on a connection, and appends its reply. `false` where none is
+    /// whole, and where the connection has no session; nothing changes then.
+    ///
+    /// # Errors
+    ///
+    /// Where room for a short reply was refused. Nothing changes, and the frame goes on waiting.
+    pub fn answer_next(
+        &mut self,
+        alloc: Global,
+        conn: u32,
+        out: &mut Vec<u8>,
+    ) -> Result<bool, AllocError>
+        ensures step { IfOk result (λ more. MatchBool more
+            (AnswersOne conn self.old out.old.items self.new out.new.items)
+            (AnswersNone conn self.old out.old.items self.new out.new.items)) }
+        ensures unchanged { OnErr result (self.new ≡ self.old) }
+        ensures unwritten { OnErr result (out.new.items ≡ out.old.items) }
+    {
+        answer_at(
+            &mut self.sessions,
+            &mut self.tenants,
+            &mut self.cache,
+            alloc,
+            conn,
+            out,
+        )
+    }
+
+    /// Takes a piece of a connection's stream and appends the replies to what is whole then, in order.
+    ///
+    /// # Errors
+    ///
+    /// `NoConnection` where the connection has no session, `Closed` where a framing fault came before. `Memory` where a growth
+    /// was refused: where the piece was not taken, nothing changes; where it was, some of what is whole is answered, and the
+    /// rest waits for the next call, which may bring an empty piece.
+    pub fn bytes(
+        &mut self,
+        alloc: Global,
+        conn: u32,
+        piece: &[u8],
+        out: &mut Vec<u8>,
+    ) -> Result<(), HubFault>
+        ensures { Bytes conn piece.now self.old out.old.items result self.new out.new.items }
+    {
+        splits_from_the_front();
+        match self.take(conn, piece) {
+            Ok(()) => {}
+            Err(TakeFault::NoConnection) => return Err(HubFault::NoConnection),
+            Err(TakeFault::Closed) => return Err(HubFault::Closed),
+            Err(TakeFault::Memory) => return Err(HubFault::Memory { taken: false }),
+        }
+        'frames: loop {
+            match self.answer_next(alloc, conn, out) {
+                Ok(true) => {}
+                Ok(false) => return Ok(()),
+                Err(_) => return Err(HubFault::Memory { taken: true }),
+            }
+        }
+    }
+
+    /// Applies one event. One that the hub refuses for another cause than memory is passed over.
+    fn apply(
+        &mut self,
+        alloc: Global,
+        event: &Event,
+        out: &mut Vec<Reply>,
+    ) -> Result<(), AllocError>
+        ensures ok { OnOk result (Applies event.now self.old.sessions self.old.tenants out.old.items self.new.sessions self.new.tenants out.new.items) }
+        ensures some { AppliesSome event.now self.old.sessions self.old.tenants out.old.items self.new.tenants out.new.items }
+    {
+        splits_from_the_front();
+        match event {
+            Event::Connect(conn) => open(&mut self.sessions, alloc, *conn),
+            Event::Disconnect(conn) => {
+                self.disconnect(*conn);
+                Ok(())
+            }
+            Event::Bytes(conn, piece) => feed(
+                &mut self.sessions,
+                &mut self.tenants,
+                &mut self.cache,
+                alloc,
+                *conn,
+                piece,
+                out,
+            ),
+        }
+    }
+}
+
+/// Takes a piece of a connection's stream.
+fn take_at(sessions: &mut BTreeMap<u32, Framer>, conn: u32, piece: &[u8]) -> Result<(), TakeFault>
+    ensures { (tenants : Tenancy) → Takes conn piece.now (state sessions.old.entries tenants) result (state sessions.new.entries tenants) }
+{
+    match sessions.get_mut(&conn) {
+        None => Err(TakeFault::NoConnection),
+        Some(framer) => match framer.accept(piece) {
+            Err(AcceptFault::Closed) => Err(TakeFault::Closed),
+            Err(AcceptFault::Memory) => Err(TakeFault::Memory),
+            Ok(()) => Ok(()),
+        },
+    }
+}
+
+/// Answers the first frame or fault that waits on a connection.
+fn answer_at(
+    sessions: &mut BTreeMap<u32, Framer>,
+    tenants: &mut Tenants,
+    cache: &mut Cache,
+    alloc: Global,
+    conn: u32,
+    out: &mut Vec<u8>,
+) -> Result<bool, AllocError>
+    ensures step { IfOk result (λ more. MatchBool more
+        (AnswersOne conn (state sessions.old.entries tenants.old) out.old.items (state sessions.new.entries tenants.new) out.new.items)
+        (AnswersNone conn (state sessions.old.entries tenants.old) out.old.items (state sessions.new.entries tenants.new) out.new.items)) }
+    ensures unchanged { OnErr result (state sessions.new.entries tenants.new ≡ state sessions.old.entries tenants.old) }
+    ensures unwritten { OnErr result (out.new.items ≡ out.old.items) }
+{
+    splits_from_the_front();
+    match sessions.get_mut(&conn) {
+        None => Ok(false),
+        Some(framer) => answer_next(framer, tenants, cache, alloc, out),
+    }
+}
+
+/// Opens a session where there is none.
+fn open(sessions: &mut BTreeMap<u32, Framer>, alloc: Global, conn: u32) -> Result<(), AllocError>
+    ensures ok { OnOk result (Sets conn (opened_session (session conn sessions.old.entries)) sessions.old.entries sessions.new.entries) }
+    ensures err { OnErr result (sessions.new.entries ≡ sessions.old.entries) }
+{
+    if sessions.contains_key(&conn) {
+        return Ok(());
+    }
+    let framer = Framer::new(alloc)?;
+    sessions.insert(conn, framer)?;
+    Ok(())
+}
+
+/// Takes a piece of a connection's stream and answers what is whole then.
+fn feed(
+    sessions: &mut BTreeMap<u32, Framer>,
+    tenants: &mut Tenants,
+    cache: &mut Cache,
+    alloc: Global,
+    conn: u32,
+    piece: &[u8],
+    out: &mut Vec<Reply>,
+) -> Result<(), AllocError>
+    ensures ok { OnOk result (Feeds conn piece.now sessions.old.entries tenants.old out.old.items sessions.new.entries tenants.new out.new.items) }
+    ensures some { FeedsSome conn piece.now sessions.old.entries tenants.old out.old.items tenants.new out.new.items }
+{
+    splits_from_the_front();
+    match sessions.get_mut(&conn) {
+        None => Ok(()),
+        Some(framer) => match framer.accept(piece) {
+            Err(AcceptFault::Closed) => Ok(()),
+            Err(AcceptFault::Memory) => Err(AllocError),
+            Ok(()) => answer_all(conn, framer, tenants, cache, alloc, out),
+        },
+    }
+}
+
+/// Applies events to a new hub, and appends a reply for each frame and fault, in the order in which they become whole.
+///
+/// However the connections' bytes are cut and interleaved, and whatever other tenants send, a tenant's replies are byte for
+/// byte those that its own requests get from a plain map of its texts. An event that the hub refuses for another cause than
+/// memory is passed over.
+///
+/// # Errors
+///
+/// `Keys` where [`Hub::new`] refuses the keys, and then there is no reply. `Memory` where a growth was refused that is not
+/// answered by a reply; the replies to a prefix of the frames are appended.
+pub fn run(
+    alloc: Global,
+    keys: &[[u8; 16]],
+    events: &[Event],
+    out: &mut Vec<Reply>,
+) -> Result<(), RunFault>
+    ensures { Runs keys.now (items events.now) out.old.items result out.new.items }
+{
+    let mut hub = match Hub::new(alloc, keys) {
+        Ok(hub) => hub,
+        Err(TenantsFault::Memory) => return Err(RunFault::Memory),
+        Err(fault) => return Err(RunFault::Keys(fault)),
+    };
+    for event in events {
+        match hub.apply(alloc, event, out) {
+            Ok(()) => {}
+            Err(_) => return Err(RunFault::Memory),
+        }
+    }
+    Ok(())
+}

@@ -1,0 +1,31 @@
+//! What follows from the contracts of the hub: each function does nothing, and its contract is the law.
+ghost use Rattle.std.specs.Prelude.{◌≡◌, ℕ, List};
+ghost use Rattle.tenant_store.specs.Maps.{Map};
+ghost use Rattle.path_hub.specs.Answers.{Alone};
+ghost use Rattle.path_hub.specs.Laws.{ServedBytes, ServedOnce};
+
+use path_grammar::queries_have_one_tree;
+use tenant_store::laws::{puts_answer_once, queries_answer_once};
+
+/// A tenant's requests have one list of replies: two runs with equal own requests give equal own replies.
+pub fn told_once()
+    ensures { (m : Map) (bodies first second : List (List ℕ)) → Alone m bodies first → Alone m bodies second → first ≡ second }
+{
+    puts_answer_once();
+    queries_answer_once();
+    queries_have_one_tree();
+}
+
+/// A connection that was served to the end of its input has written the replies that the items of its bytes get.
+pub fn served_bytes()
+    ensures { ServedBytes }
+{}
+
+/// However a wire cuts its reads and writes, equal bytes get equal bytes, where memory does not run out.
+pub fn cuts_do_not_matter()
+    ensures { ServedOnce }
+{
+    puts_answer_once();
+    queries_answer_once();
+    queries_have_one_tree();
+}

@@ -1,0 +1,20 @@
+//! Many connections and tenants, one request at a time.
+#![tactic(auto)]
+
+mod event;
+mod fault;
+mod hub;
+mod laws;
+mod memory_wire;
+mod replies;
+mod serving;
+mod step;
+mod wire;
+
+pub use event::{Event, Reply};
+pub use fault::{ConnectFault, HubFault, RunFault, TakeFault};
+pub use hub::{Hub, run};
+pub use laws::{cuts_do_not_matter, served_bytes, told_once};
+pub use memory_wire::{Call, MemoryWire, Moved};
+pub use serving::serve_connection;
+pub use wire::{ConnEnd, Wire, WireFault, write_all};

@@ -1,0 +1,75 @@
+//! One step of a connection: a frame or a fault is taken and answered.
+ghost use Rattle.std.specs.Prelude.{◌≡◌, IfOk, OnOk, OnErr, []};
+ghost use Rattle.std.specs.Bool.{MatchBool};
+ghost use Rattle.path_hub.specs.Pending.{Answered, IsIdle, AnswersSome, pending};
+
+use crate::event::Reply;
+use crate::replies::{serve_body, write_small};
+use query_cache::Cache;
+use std::alloc::{AllocError, Global};
+use tenant_store::Tenants;
+use wire_frames::{Framer, Front, splits_from_the_front};
+
+/// A short reply fits into so many bytes, as does that to a request for the usage.
+const SHORT_REPLY: usize = 21;
+
+const FRAME_FAULT: u8 = 255;
+
+/// Takes one frame or fault of a connection and answers it. A refusal changes nothing, and there is `false` where none
+/// is whole.
+pub fn answer_next(
+    framer: &mut Framer,
+    tenants: &mut Tenants,
+    cache: &mut Cache,
+    alloc: Global,
+    out: &mut Vec<u8>,
+) -> Result<bool, AllocError>
+    ensures step { IfOk result (λ more. MatchBool more
+        (Answered framer.old tenants.old out.old.items framer.new tenants.new out.new.items)
+        (IsIdle framer.old tenants.old out.old.items framer.new tenants.new out.new.items)) }
+    ensures same_framer { OnErr result (framer.new ≡ framer.old) }
+    ensures same_tenants { OnErr result (tenants.new ≡ tenants.old) }
+    ensures same_out { OnErr result (out.new.items ≡ out.old.items) }
+{
+    if framer.is_closed() {
+        return Ok(false);
+    }
+    out.reserve(SHORT_REPLY)?;
+    match framer.front() {
+        Front::Wait => Ok(false),
+        Front::Fault => {
+            write_small(FRAME_FAULT, 0, &[], out);
+            framer.pass();
+            Ok(true)
+        }
+        Front::Frame(body) => {
+            serve_body(tenants, cache, alloc, body, out);
+            framer.pass();
+            Ok(true)
+        }
+    }
+}
+
+/// Answers all that is whole on a connection, a reply for each frame and for a fault. Where memory runs out some of it
+/// is answered.
+pub fn answer_all(
+    conn: u32,
+    framer: &mut Framer,
+    tenants: &mut Tenants,
+    cache: &mut Cache,
+    alloc: Global,
+    out: &mut Vec<Reply>,
+) -> Result<(), AllocError>
+    ensures some { AnswersSome conn framer.old tenants.old out.old.items framer.new tenants.new out.new.items }
+    ensures all { OnOk result (pending framer.new ≡ []) }
+{
+    splits_from_the_front();
+    'frames: loop {
+        out.reserve(1)?;
+        let mut frame = Vec::new(alloc);
+        if !answer_next(framer, tenants, cache, alloc, &mut frame)? {
+            return Ok(());
+        }
+        out.push(Reply { conn, frame }).unwrap();
+    }
+}

@@ -1,0 +1,127 @@
+//! The cache.
+ghost use Rattle.std.specs.Prelude.{◌≡◌, ◌≤◌, [], IfOk, IfErr, OnErr, IsTrue, None, is_none};
+ghost use Rattle.std.specs.Map.{lookup};
+ghost use Rattle.path_grammar.specs.View.{query_view};
+ghost use Rattle.path_types.specs.Verdict.{IsValidQuery, RefusesQueryText};
+ghost use Rattle.query_cache.specs.Texts.{is_held, Admits};
+ghost use Rattle.query_cache.specs.Kept.{is_text, Keeps};
+ghost use Rattle.query_cache.specs.Compiled.{query_in, Owns};
+
+use crate::compiled::Compiled;
+use lru::LruCache;
+use path_grammar::QUERY_LIMIT;
+use path_types::{QueryFault, ValidQuery, compile};
+use std::alloc::{AllocError, Global};
+use std::marker::Model;
+use std::num::NonZeroUsize;
+
+/// The most texts of a cache.
+pub const LARGEST_CAPACITY: usize = 1_024;
+
+/// Valid queries by their texts, the most recently used first.
+#[derive(Drop)]
+pub struct Cache {
+    queries: LruCache<Vec<u8>, ValidQuery>,
+}
+
+impl Model for Cache {
+    ghost use Rattle.query_cache.specs.Texts.{Held};
+    ghost use Rattle.query_cache.specs.Kept.{texts_of, IsCache};
+
+    ghost Value = { Held };
+
+    ghost view = { λ c. record { texts = texts_of c.queries.entries; capacity = c.queries.cap } };
+
+    ghost invariant = { λ c. IsCache c.queries.entries c.queries.cap };
+}
+
+impl Cache {
+    /// An empty cache for so many texts.
+    ///
+    /// # Errors
+    ///
+    /// Where a growth was refused.
+    pub fn new(alloc: Global, capacity: usize) -> Result<Cache, AllocError>
+        requires some { 1 ≤ capacity }
+        requires few { capacity ≤ 1024 }
+        ensures { IfOk result (λ cache. cache ≡ record { texts = []; capacity = capacity }) }
+    {
+        let places = NonZeroUsize::new(capacity).unwrap();
+        let queries = LruCache::new(alloc, places)?;
+        Ok(Cache { queries })
+    }
+
+    /// Whether the text is held. It changes nothing.
+    pub fn holds(&self, text: &[u8]) -> bool
+        ensures { result ≡ is_held text.now self.now.texts }
+    {
+        self.queries.contains(text)
+    }
+
+    /// The query of a text, as [`compile`] gives it, whatever the cache holds.
+    ///
+    /// The list changes as [`Cache::admit`] says, which this calls before it lends the query. Where the text found no room, the
+    /// answer owns the query.
+    ///
+    /// # Errors
+    ///
+    /// Those of [`compile`], in its order. The list stays. `Memory` comes only from compiling.
+    pub fn lookup(&mut self, alloc: Global, text: &[u8]) -> Result<Compiled<'_>, QueryFault>
+        ensures valid { IfOk result (λ compiled. IsValidQuery text.now (query_view (query_in compiled))) }
+        ensures refused { IfErr result (λ fault. RefusesQueryText text.now fault) }
+    {
+        match self.admit(alloc, text)? {
+            Some(owned) => Ok(Compiled::Owned(owned)),
+            None => Ok(Compiled::Cached(self.lend(text))),
+        }
+    }
+
+    /// Brings a text to the front. A new text is compiled and drops the last of a full cache; where it finds no memory there,
+    /// its query is handed out and the list stays.
+    ///
+    /// # Errors
+    ///
+    /// Those of [`compile`], in its order; a text that is too long is refused before the cache is asked. The list stays.
+    pub fn admit(&mut self, alloc: Global, text: &[u8]) -> Result<Option<ValidQuery>, QueryFault>
+        ensures valid { IfOk result (λ owned. Owns text.now owned) }
+        ensures list { IfOk result (λ owned. Admits text.now (is_none owned) self.old self.new) }
+        ensures refused { IfErr result (λ fault. RefusesQueryText text.now fault) }
+        ensures unchanged { OnErr result (self.new ≡ self.old) }
+    {
+        if text.len() > QUERY_LIMIT {
+            return Err(QueryFault::QueryTooLong);
+        }
+        if self.queries.promote(text) {
+            return Ok(None);
+        }
+        let query = compile(alloc, text)?;
+        Ok(keep(&mut self.queries, alloc, text, query))
+    }
+
+    // Lends the query of a text that is held.
+    fn lend(&self, text: &[u8]) -> &ValidQuery
+        requires { IsTrue (is_held text.now self.now.texts) }
+        ensures { IsValidQuery text.now (query_view result.now) }
+    {
+        self.queries.peek(text).unwrap()
+    }
+}
+
+// Puts the query of a text that is not held to the front, or hands it back where there is no room for it.
+fn keep(
+    queries: &mut LruCache<Vec<u8>, ValidQuery>,
+    alloc: Global,
+    text: &[u8],
+    query: ValidQuery,
+) -> Option<ValidQuery>
+    requires { lookup (is_text text.now) queries.old.entries ≡ None }
+    ensures { Keeps text.now query queries.old result queries.new }
+{
+    match Vec::from_slice(alloc, text) {
+        Ok(key) => match queries.put(key, query) {
+            Ok(_) => None,
+            Err(refused) => Some(refused.value.1),
+        },
+        Err(_) => Some(query),
+    }
+}
