@@ -2,3 +2,8 @@ pub mod Lines
 pub mod QueryText
 pub mod Faults
 pub mod QueryStream
+pub mod Keys
+pub mod Splitting
+pub mod Scripts
+pub mod Replays
+pub mod ReplayStream

@@ -1,11 +1,17 @@
-//! Queries on single texts: a text and a query in, a line for each hit out; from bytes to bytes, and from a reader to a writer.
+//! What the program's subcommands do: a query on a single text, and a script of events replayed on a server of tenants; from bytes
+//! to bytes, and from a reader to a writer.
 #![tactic(auto)]
 
 mod fault;
+mod keys;
 mod lines;
+mod replay;
+mod script;
 mod streams;
 mod texts;
 
 pub use fault::QueryTextFault;
-pub use streams::{QueryStreamFault, query_stream};
+pub use keys::{KeysFault, read_keys};
+pub use replay::{SCRIPT_LIMIT, ScriptFault, replay_script};
+pub use streams::{QueryStreamFault, ReplayStreamFault, query_stream, replay_stream};
 pub use texts::query_text;

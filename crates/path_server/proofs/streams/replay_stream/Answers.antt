@@ -1,0 +1,14 @@
+use Rattle.path_server.proofs.WholeScripts.{script_refused, script_replayed}
+use Rattle.path_server.proofs.WholeTexts.{keeps_same}
+use Rattle.path_server.proofs.streams.replay_stream.Goals as goal
+
+pub returns-in-Err-replay_script-clause-failed : goal.returns-in-Err-replay_script-clause-failed
+returns-in-Err-replay_script-clause-failed g c =
+    let refused = rw c.as_slice.ensures.value at c.in-Err-replay_script.ensures.refused in
+    (script_refused c.args.keys.now c.in-Ok.script.items _ c.in-Err-replay_script.fault c.in-Ok.ensures.read refused, keeps_same _)
+
+pub returns-in-Ok-write_whole-clause-answered : goal.returns-in-Ok-write_whole-clause-answered
+returns-in-Ok-write_whole-clause-answered g c =
+    let answered = rw (c.as_slice.ensures.value, c.new-lines.ensures.items) at c.in_default.ensures.answered in
+    let written = rw c.as_slice-2.ensures.value at c.in-Ok-write_whole.ensures.written in
+    script_replayed c.args.keys.now c.in-Ok.script.items _ _ _ _ c.in-Ok.ensures.read answered written
