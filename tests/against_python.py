@@ -1,77 +1,22 @@
 #!/usr/bin/env python3
 """Compares the verdicts of `path_server query` on random texts with those of Python's json: tests/against_python.py [ROUNDS [SEED]].
 
-A text is written from a random value, with blanks and escapes of its own, and then a few of its bytes are changed. Python's json
-takes the grammar of RFC 8259 but for NaN and Infinity, which are refused here; it hands over the numbers' texts and the members in
-order, from which the other refusals follow. It runs the program that bin/path_server builds, or the one that the environment's PATH_SERVER names.
+A text is written from a random value, with blanks and escapes of its own, and then a few of its bytes are changed (json_verdict.py has
+the verdict). It runs the program that bin/path_server builds, or the one that the environment's PATH_SERVER names.
 """
-import json
 import os
 import random
-import re
 import subprocess
 import sys
 from pathlib import Path
 
+from json_verdict import verdict
+
 TOP = Path(__file__).resolve().parent.parent
 PROGRAM = os.environ.get("PATH_SERVER") or TOP / "crates/path_program/out/path_program"
-DEPTH_LIMIT = 128
 PIECES = [b'"', b"\\", b",", b":", b"[", b"]", b"{", b"}", b" ", b"\n", b"\t", b"\r", b"0", b"1", b"-", b"+", b".", b"e", b"E",
           b"null", b"true", b"\\u", b"\\ud83d", b"\\ude00", b"\\n", b"\x00", b"\x1f", b"\x7f", b"\xc3\xa9", b"\x80", b"\xff",
           b"\xed\xa0\x80", b"\xef\xbb\xbf", b"9" * 257, b"1e999999999", b"1e1000000000", b'"a":1', b'"\\u0061":2']
-
-
-def refuse_constant(_):
-    raise ValueError("no constant of JSON")
-
-
-def verdict(source):
-    """The name of the refusal, the first that applies, or nothing."""
-    seen = set()
-
-    def number(text):
-        exponent = re.search("[eE](.*)", text)
-        if len(text) > 256 or (exponent and abs(int(exponent[1])) > 999_999_999):
-            seen.add("NumberLimit")
-        return 0
-
-    def members(pairs):
-        names = [name for name, _ in pairs]
-        if len(set(names)) < len(names):
-            seen.add("DuplicateName")
-        return pairs
-
-    try:
-        text = source.decode("utf-8")
-    except UnicodeDecodeError:
-        return "NotUtf8"
-    try:
-        value = json.loads(text, parse_int=number, parse_float=number, parse_constant=refuse_constant, object_pairs_hook=members)
-    except ValueError:
-        return "NotJson"
-    if depth(text) > DEPTH_LIMIT:
-        return "TooDeep"
-    if re.search("[\ud800-\udfff]", strings_of(value)):
-        seen.add("LoneSurrogate")
-    return next((name for name in ("NumberLimit", "LoneSurrogate", "DuplicateName") if name in seen), None)
-
-
-def depth(text):
-    """How many containers of a JSON text lie in one another."""
-    most = level = 0
-    for sign in re.findall(r'[\[{]|[\]}]', re.sub(r'"(?:[^"\\]|\\.)*"', "", text)):
-        level += 1 if sign in "[{" else -1
-        most = max(most, level)
-    return most
-
-
-def strings_of(value):
-    """All strings and names of a value."""
-    if isinstance(value, str):
-        return value + "\n"
-    if isinstance(value, (list, tuple)):
-        return "".join(strings_of(part) for part in value)
-    return ""
 
 
 def program_verdict(source):

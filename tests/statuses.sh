@@ -56,6 +56,25 @@ expect 3 '' any '' query
 expect 3 '' any '' question '$'
 expect 3 '' 'path_server: BadCommandLine' '' query "$(printf '\377')"
 
+key=00112233445566778899aAbBccDdEeFf
+other=ffeeddccbbaa99887766554433221100
+usage="00000015 07 00000004 $key"
+expect 0 "1 000000110000000004000000000000000000000000$newline" '' "1 open\n1 ${usage// /}\n1 close\n" replay "$key"
+expect 0 "4294967295 00000005ff00000000$newline" '' "4294967295 open\n4294967295 00200001" replay "$key,$other"
+expect 0 '' '' '' replay "$key"
+expect 1 '' 'path_server: BadLine 1' '1  open' replay "$key"
+expect 1 '' 'path_server: BadLine 2' '1 open\n\n1 close\n' replay "$key"
+expect 1 '' 'path_server: BadLine 1' '01 open' replay "$key"
+expect 1 '' 'path_server: BadLine 1' '4294967296 open' replay "$key"
+expect 1 '' 'path_server: BadLine 3' '1 open\n1 \n1 0' replay "$key,$key"
+expect 3 '' 'path_server: RepeatedKey' '1 open' replay "$key,$key"
+expect 3 '' 'path_server: TooManyKeys' '1 open' replay "$(printf '%032x,' $(seq 256))$other"
+expect 3 '' 'path_server: BadKeys' '1 open' replay "${key}0"
+expect 3 '' 'path_server: BadKeys' '' replay "$key,"
+expect 3 '' 'path_server: BadKeys' '' replay ''
+{ times 67108864 0; printf 0; } >"$room/input"
+compare 1 '' 'path_server: TooLong' replay "$key"
+
 { times 1048576 ' '; printf 1; } >"$room/input"
 compare 1 '' 'path_server: TooLong' query '$'
 { times 1048575 ' '; printf 1; } >"$room/input"

@@ -42,10 +42,10 @@ other_by (Some m) key b frame os new n s = ap (map_of key) s.2 ∙ map_of-with_o
 
 for_body : (key : List ℕ) (m : Map) (os : Tenancy) (b frame : List ℕ) (mid : Tenancy) → map_of key os ≡ Some m
     → (x y z : Bool) → nat_le 21 (length b) ≡ x → same key (key_of b) ≡ y → is_no_memory frame ≡ z
-    → MatchBool z ((mid ≡ os) × BodyMayWant os b) (ServesBody os b frame mid) → IsFor key m (Some b) frame mid
+    → MatchBool z ((frame ≡ reply 21 (number_of b) []) × (mid ≡ os) × BodyMayWant os b) (ServesBody os b frame mid) → IsFor key m (Some b) frame mid
 for_body key m os b frame mid h x y true p q r s = inl (record {
   test = ap (λ t. x' && y' && not t) r ∙ and_false (x' && y');
-  kept = ap (map_of key) s.0 ∙ h;
+  kept = ap (map_of key) s.1 ∙ h;
 })
   where
     x' : Bool

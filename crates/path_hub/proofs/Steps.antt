@@ -72,12 +72,17 @@ gives_fault old new asked n before after e a m r w = (
   reply (status_of e) n [],
   a,
   made (is_no_memory (reply (status_of e) n [])) _ _
-      (λ z. (m, w (only_memory e (sym (no_memory_reply (status_of e) n []) ∙ z))))
+      (λ z. let x = only_memory e (sym (no_memory_reply (status_of e) n []) ∙ z) in (ap (λ y. reply (status_of y) n []) x, m, w x))
       (λ z. inr (record { status = status_of e; refuses = r (λ x. false≢true (sym z ∙ no_memory_reply (status_of e) n [] ∙ ap (λ y. eqb (status_of y) 21) x)); frame_is = refl; map_is = m })),
 )
 
+-- what a command looks for is not there
+pub gives_missing : (m m' : Map) (asked : Asked) (n : ℕ) (before after : List ℕ) (e : StoreFault) → after ≡ before ++ reply (status_of e) n [] → m' ≡ m → e ≡ f.NotFound
+    → (e ≢ f.NoMemory → Refuses asked m (status_of e)) → Gives m asked n before after m'
+gives_missing m m' asked n before after e a same missing r = gives_fault m m' asked n before after e a same r (λ x. absurd cc)
+
 pub gives_memory : (old new : Map) (asked : Asked) (n : ℕ) (before after : List ℕ) → after ≡ before ++ reply 21 n [] → new ≡ old → MayWant asked n old → Gives old asked n before after new
-gives_memory old new asked n before after a m w = (reply 21 n [], a, made (is_no_memory (reply 21 n [])) _ _ (λ z. (m, w)) (λ z. absurd (false≢true (sym z ∙ no_memory_reply 21 n []))))
+gives_memory old new asked n before after a m w = (reply 21 n [], a, made (is_no_memory (reply 21 n [])) _ _ (λ z. (refl, m, w)) (λ z. absurd (false≢true (sym z ∙ no_memory_reply 21 n []))))
 
 -- memory may be wanted for a command that is not plain
 want_by : (asked : Asked) (n : ℕ) (m : Map) → is_plain asked ≡ false → ((s : ℕ) → Refuses asked m s → is_free s ≡ false) → (frame : List ℕ) (m' : Map) → IsAnswer asked n m frame m' → may_want asked frame ≡ true
@@ -184,18 +189,18 @@ serves_command os body before after n i k asked old new r place here g =
     let s = shape_at body (Asks n k asked) r in
     let found : map_of (key_of body) os ≡ Some old = ap (λ x. map_of x os) (sym s.2) ∙ map_at_place os k i old place here in
     let put : (x : Map) → with_map_of (key_of body) x os ≡ with_map os i x = λ x. ap (λ y. with_map_of y x os) (sym s.2) ∙ ap (λ o. put_at o x os) place in
-    (g.0, g.1, by (is_no_memory g.0) s.0 found put (with_map_at os i old here) g.2)
+    (g.0, g.1, by (is_no_memory g.0) s.0 s.1 found put (with_map_at os i old here) g.2)
   where
     want : (frame : List ℕ) (mid : Tenancy) → nat_lt (length body) 21 ≡ false → map_of (key_of body) os ≡ Some old → MayWant asked n old → ServesBody os body frame mid → reading_wants (reading body) frame ≡ true
     want frame mid long found w v =
         let b : ServesBy (Some old) body os frame mid = subst (λ (q : Option Map). ServesBy q body os frame mid) found (at_false (is_short body) _ _ long v) in
         ap (λ q. reading_wants q frame) (sym r) ∙ w frame b.0 (answers_from old b.0 body frame (Asks n k asked) r b.1)
 
-    by : (z : Bool) → nat_lt (length body) 21 ≡ false → map_of (key_of body) os ≡ Some old → ((x : Map) → with_map_of (key_of body) x os ≡ with_map os i x) → with_map os i old ≡ os
-        → MatchBool z ((new ≡ old) × MayWant asked n old) (IsAnswer asked n old g.0 new)
-        → MatchBool z ((with_map os i new ≡ os) × BodyMayWant os body) (ServesBody os body g.0 (with_map os i new))
-    by true long found put stay h = (ap (with_map os i) h.0 ∙ stay, λ frame mid v. want frame mid long found h.1 v)
-    by false long found put stay h = long_body os (with_map os i new) body g.0 long
+    by : (z : Bool) → nat_lt (length body) 21 ≡ false → n ≡ number_of body → map_of (key_of body) os ≡ Some old → ((x : Map) → with_map_of (key_of body) x os ≡ with_map os i x) → with_map os i old ≡ os
+        → MatchBool z ((g.0 ≡ reply 21 n []) × (new ≡ old) × MayWant asked n old) (IsAnswer asked n old g.0 new)
+        → MatchBool z ((g.0 ≡ reply 21 (number_of body) []) × (with_map os i new ≡ os) × BodyMayWant os body) (ServesBody os body g.0 (with_map os i new))
+    by true long same found put stay h = (h.0 ∙ ap (λ k. reply 21 k []) same, ap (with_map os i) h.1 ∙ stay, λ frame mid v. want frame mid long found h.2 v)
+    by false long same found put stay h = long_body os (with_map os i new) body g.0 long
         (subst (λ (q : Option Map). ServesBy q body os g.0 (with_map os i new)) (sym found) (new, answers_at old new body g.0 (Asks n k asked) r h, sym (put new)))
 
 -- what a refusal leaves of a reply that was begun
@@ -267,7 +272,7 @@ gives_query_fault m c t n before after e a r = (
   reply (query_status e) n [],
   a,
   made (is_no_memory (reply (query_status e) n [])) _ _
-      (λ z. (refl, query_may_want c t n m (subst (λ x. RefusesQueryText t x) (only_query_memory e (sym (no_memory_reply (query_status e) n []) ∙ z)) r)))
+      (λ z. let x = only_query_memory e (sym (no_memory_reply (query_status e) n []) ∙ z) in (ap (λ y. reply (query_status y) n []) x, refl, query_may_want c t n m (subst (λ y. RefusesQueryText t y) x r)))
       (λ z. inr (record { status = query_status e; refuses = inl (e, r, (λ x. false≢true (sym z ∙ no_memory_reply (query_status e) n [] ∙ ap (λ y. eqb (query_status y) 21) x)), refl); frame_is = refl; map_is = refl })),
 )
 

@@ -136,7 +136,7 @@ reading_wants (Asks number key asked) frame = may_want asked frame
 abbrev pub MayWant : Asked → ℕ → Map → Type 0
 MayWant asked number m = (frame : List ℕ) (m' : Map) → IsAnswer asked number m frame m' → IsTrue (may_want asked frame)
 
--- what is appended is the answer's frame, or that memory ran out, which changes nothing
+-- what is appended is the answer's frame, or the reply that memory ran out, and then nothing changes
 abbrev pub Gives : Map → Asked → ℕ → List ℕ → List ℕ → Map → Type 0
 Gives old asked number before after new = (frame : List ℕ) × (after ≡ before ++ frame)
-    × MatchBool (is_no_memory frame) ((new ≡ old) × MayWant asked number old) (IsAnswer asked number old frame new)
+    × MatchBool (is_no_memory frame) ((frame ≡ reply 21 number []) × (new ≡ old) × MayWant asked number old) (IsAnswer asked number old frame new)

@@ -44,9 +44,9 @@ ServesBody t body frame new = MatchBool (is_short body)
 abbrev pub BodyMayWant : Tenancy → List ℕ → Type 0
 BodyMayWant t body = (frame : List ℕ) (new : Tenancy) → ServesBody t body frame new → IsTrue (reading_wants (reading body) frame)
 
--- One step: the reply that the maps give, or that memory ran out, which changes nothing.
+-- One step: the reply that the maps give, or the reply that memory ran out, and then nothing changes.
 abbrev pub Step : Tenancy → List ℕ → List ℕ → Tenancy → Type 0
-Step old body frame new = MatchBool (is_no_memory frame) ((new ≡ old) × BodyMayWant old body) (ServesBody old body frame new)
+Step old body frame new = MatchBool (is_no_memory frame) ((frame ≡ reply 21 (number_of body) []) × (new ≡ old) × BodyMayWant old body) (ServesBody old body frame new)
 
 -- what is appended is the frame of such a step
 abbrev pub Serves : Tenancy → List ℕ → List ℕ → List ℕ → Tenancy → Type 0

@@ -1,4 +1,4 @@
--- The exit statuses of the program, by what happened: 0 for help and the version, 1 for a refused text, 2 for a refused query, 3 for a command line that is none, 4 for the streams and memory.
+-- The exit statuses of the program, by what happened: 0 for help and the version, 1 for a refused text or script, 2 for a refused query, 3 for a command line or keys that are none, 4 for the streams and memory.
 use Rattle.std.specs.Prelude.{ℕ}
 use Rattle.clap.specs.Values.{kind_of}
 use Rattle.clap.specs.declared.error.kind.ErrorKind.{ErrorKind}
@@ -7,8 +7,16 @@ use Rattle.path_server.specs.declared.fault.QueryTextFault.{QueryTextFault}
 use Rattle.path_server.specs.declared.fault.QueryTextFault.TheVariants as refusal
 use Rattle.path_server.specs.declared.streams.QueryStreamFault.{QueryStreamFault}
 use Rattle.path_server.specs.declared.streams.QueryStreamFault.TheVariants.{Read, Refused, Write}
+use Rattle.path_server.specs.declared.script_streams.ReplayStreamFault.{ReplayStreamFault}
+use Rattle.path_server.specs.declared.script_streams.ReplayStreamFault.TheVariants as replay
+use Rattle.path_server.specs.declared.replay.ScriptFault.{ScriptFault}
+use Rattle.path_server.specs.declared.replay.ScriptFault.TheVariants as script
+use Rattle.path_server.specs.declared.keys.KeysFault.{KeysFault}
+use Rattle.path_server.specs.declared.keys.KeysFault.TheVariants as keys
+use Rattle.tenant_store.specs.declared.tenants.TenantsFault.{TenantsFault}
+use Rattle.tenant_store.specs.declared.tenants.TenantsFault.TheVariants as tenants
 use Rattle.path_program.specs.declared.failure.Failure.{Failure}
-use Rattle.path_program.specs.declared.failure.Failure.TheVariants.{CommandLine, Words, Query, Memory}
+use Rattle.path_program.specs.declared.failure.Failure.TheVariants.{CommandLine, Words, Query, Keys, Replay, Memory}
 
 abbrev pub status_of_kind : ErrorKind → ℕ
 status_of_kind DisplayHelp = 0
@@ -35,8 +43,31 @@ status_of_query (Read _) = 4
 status_of_query (Refused fault) = status_of_refusal fault
 status_of_query (Write _) = 4
 
+abbrev pub status_of_keys : KeysFault → ℕ
+status_of_keys keys.BadKeys = 3
+status_of_keys keys.Memory = 4
+
+abbrev pub status_of_tenants : TenantsFault → ℕ
+status_of_tenants tenants.NoKeys = 3
+status_of_tenants tenants.TooManyKeys = 3
+status_of_tenants tenants.RepeatedKey = 3
+status_of_tenants tenants.Memory = 4
+
+abbrev pub status_of_script : ScriptFault → ℕ
+status_of_script script.TooLong = 1
+status_of_script (script.BadLine number) = 1
+status_of_script (script.Keys fault) = status_of_tenants fault
+status_of_script script.Memory = 4
+
+abbrev pub status_of_replay : ReplayStreamFault → ℕ
+status_of_replay (replay.Read _) = 4
+status_of_replay (replay.Refused fault) = status_of_script fault
+status_of_replay (replay.Write _) = 4
+
 abbrev pub status_of : Failure → ℕ
 status_of (CommandLine error) = status_of_kind (kind_of error)
 status_of Words = 3
 status_of (Query fault) = status_of_query fault
+status_of (Keys fault) = status_of_keys fault
+status_of (Replay fault) = status_of_replay fault
 status_of Memory = 4

@@ -3,12 +3,13 @@
 ghost use Rattle.std.specs.Prelude.{◌≡◌, ◌⊎◌, ◌↔◌};
 ghost use Rattle.std.specs.IoError.{error_kind};
 ghost use Rattle.clap.specs.Values.{kind_of};
-ghost use Rattle.path_program.specs.Statuses.{status_of, status_of_refusal, status_of_query, status_of_kind};
+ghost use Rattle.path_program.specs.Statuses.{status_of, status_of_refusal, status_of_query, status_of_keys, status_of_tenants, status_of_script, status_of_replay, status_of_kind};
 
 use clap::error::ErrorKind as ParseKind;
-use path_server::{QueryStreamFault, QueryTextFault};
+use path_server::{KeysFault, QueryStreamFault, QueryTextFault, ReplayStreamFault, ScriptFault};
 use std::fmt;
 use std::io::{self, ErrorKind};
+use tenant_store::TenantsFault;
 
 /// Why the program ends early.
 #[derive(Debug, Drop)]
@@ -19,6 +20,10 @@ pub enum Failure {
     Words,
     /// The query on standard input is not answered.
     Query(QueryStreamFault),
+    /// The keys are not of their written form.
+    Keys(KeysFault),
+    /// The script on standard input is not replayed.
+    Replay(ReplayStreamFault),
     /// A growth was refused.
     Memory,
 }
@@ -53,6 +58,8 @@ impl Failure {
             Failure::CommandLine(error) => status_at(error.kind()),
             Failure::Words => 3,
             Failure::Query(fault) => query_status(*fault),
+            Failure::Keys(fault) => keys_status(*fault),
+            Failure::Replay(fault) => replay_status(*fault),
             Failure::Memory => 4,
         }
     }
@@ -84,6 +91,8 @@ impl fmt::Display for Failure {
             Failure::CommandLine(error) => write!(f, "{error}"),
             Failure::Words => writeln!(f, "path_server: BadCommandLine"),
             Failure::Query(fault) => writeln!(f, "path_server: {fault}"),
+            Failure::Keys(fault) => writeln!(f, "path_server: {fault}"),
+            Failure::Replay(fault) => writeln!(f, "path_server: {fault}"),
             Failure::Memory => writeln!(f, "path_server: NoMemory"),
         }
     }
@@ -126,6 +135,46 @@ fn refusal_status(fault: QueryTextFault) -> u8
         | QueryTextFault::NotValid
         | QueryTextFault::TooManyNodes => 2,
         QueryTextFault::Memory => 4,
+    }
+}
+
+fn keys_status(fault: KeysFault) -> u8
+    ensures { result ≡ status_of_keys fault }
+{
+    match fault {
+        KeysFault::BadKeys => 3,
+        KeysFault::Memory => 4,
+    }
+}
+
+fn replay_status(fault: ReplayStreamFault) -> u8
+    ensures { result ≡ status_of_replay fault }
+{
+    match fault {
+        ReplayStreamFault::Read(_) => 4,
+        ReplayStreamFault::Refused(refusal) => script_status(refusal),
+        ReplayStreamFault::Write(_) => 4,
+    }
+}
+
+// 1 where the script is refused, 3 where the keys are.
+fn script_status(fault: ScriptFault) -> u8
+    ensures { result ≡ status_of_script fault }
+{
+    match fault {
+        ScriptFault::TooLong => 1,
+        ScriptFault::BadLine(_) => 1,
+        ScriptFault::Keys(keys) => tenants_status(keys),
+        ScriptFault::Memory => 4,
+    }
+}
+
+fn tenants_status(fault: TenantsFault) -> u8
+    ensures { result ≡ status_of_tenants fault }
+{
+    match fault {
+        TenantsFault::NoKeys | TenantsFault::TooManyKeys | TenantsFault::RepeatedKey => 3,
+        TenantsFault::Memory => 4,
     }
 }
 
@@ -178,6 +227,33 @@ mod tests {
         ] {
             assert_end(&rt, &Failure::Query(fault), name, 4)?;
         }
+        for (fault, name, status) in [
+            (ScriptFault::TooLong, "TooLong", 1),
+            (ScriptFault::BadLine(12), "BadLine 12", 1),
+            (
+                ScriptFault::Keys(TenantsFault::TooManyKeys),
+                "TooManyKeys",
+                3,
+            ),
+            (
+                ScriptFault::Keys(TenantsFault::RepeatedKey),
+                "RepeatedKey",
+                3,
+            ),
+            (ScriptFault::Memory, "NoMemory", 4),
+        ] {
+            let failure = Failure::Replay(ReplayStreamFault::Refused(fault));
+            assert_end(&rt, &failure, name, status)?;
+        }
+        for (fault, name) in [
+            (ReplayStreamFault::Read(ReadFault::Failed), "ReadFault"),
+            (ReplayStreamFault::Read(ReadFault::Memory), "NoMemory"),
+            (ReplayStreamFault::Write(WriteFault), "WriteFault"),
+        ] {
+            assert_end(&rt, &Failure::Replay(fault), name, 4)?;
+        }
+        assert_end(&rt, &Failure::Keys(KeysFault::BadKeys), "BadKeys", 3)?;
+        assert_end(&rt, &Failure::Keys(KeysFault::Memory), "NoMemory", 4)?;
         assert_end(&rt, &Failure::Words, "BadCommandLine", 3)?;
         assert_end(&rt, &Failure::Memory, "NoMemory", 4)
     }

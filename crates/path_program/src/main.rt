@@ -6,7 +6,7 @@ mod failure;
 
 use crate::command_line::{Request, read_request};
 use crate::failure::Failure;
-use path_server::query_stream;
+use path_server::{query_stream, read_keys, replay_stream};
 use std::process::ExitCode;
 use std::rt::Env;
 use std::{env, io};
@@ -22,6 +22,18 @@ fn query<R: Input + Print + AllocGlobal>(rt: &R, query: &str) -> Result<(), Fail
     .map_err(Failure::Query)
 }
 
+// Answers `path_server replay KEYS`.
+fn replay<R: Input + Print + AllocGlobal>(rt: &R, keys: &str) -> Result<(), Failure> {
+    let keys = read_keys(rt.alloc(), keys.as_bytes()).map_err(Failure::Keys)?;
+    replay_stream(
+        rt.alloc(),
+        keys.as_slice(),
+        rt.reader(),
+        &mut io::writer(rt),
+    )
+    .map_err(Failure::Replay)
+}
+
 fn run<R: Input + Print + Eprint + Env + AllocGlobal>(rt: &R) -> Result<(), Failure> {
     let mut words = Vec::new(rt.alloc());
     for word in env::args(rt).map_err(|error| Failure::of_words(&error))? {
@@ -31,6 +43,7 @@ fn run<R: Input + Print + Eprint + Env + AllocGlobal>(rt: &R) -> Result<(), Fail
     }
     match read_request(rt.alloc(), words.as_slice())? {
         Request::Query(text) => query(rt, text),
+        Request::Replay(keys) => replay(rt, keys),
     }
 }
 

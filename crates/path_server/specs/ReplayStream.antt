@@ -3,8 +3,8 @@ use Rattle.std.specs.Prelude.{ℕ, List, [], ⊤, IfSome}
 use Rattle.std.specs.Io.KnownBytes.{Keeps, Appends}
 use Rattle.std.specs.declared.option.Option.{Option}
 use Rattle.path_server.specs.Replays.{RefusesScript, Replays}
-use Rattle.path_server.specs.declared.streams.ReplayStreamFault.{ReplayStreamFault}
-use Rattle.path_server.specs.declared.streams.ReplayStreamFault.TheVariants.{Read, Refused, Write}
+use Rattle.path_server.specs.declared.script_streams.ReplayStreamFault.{ReplayStreamFault}
+use Rattle.path_server.specs.declared.script_streams.ReplayStreamFault.TheVariants.{Read, Refused, Write}
 
 -- the lines of the replies to the reader's script, where that is known, are written behind what the writer held
 abbrev pub ReplaysStream : (keys : List (List ℕ)) → (left old new : Option (List ℕ)) → Type 0

@@ -7,11 +7,13 @@ mod keys;
 mod lines;
 mod replay;
 mod script;
+mod script_streams;
 mod streams;
 mod texts;
 
 pub use fault::QueryTextFault;
 pub use keys::{KeysFault, read_keys};
 pub use replay::{SCRIPT_LIMIT, ScriptFault, replay_script};
-pub use streams::{QueryStreamFault, ReplayStreamFault, query_stream, replay_stream};
+pub use script_streams::{ReplayStreamFault, replay_stream};
+pub use streams::{QueryStreamFault, query_stream};
 pub use texts::query_text;

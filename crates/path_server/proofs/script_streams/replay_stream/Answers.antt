@@ -1,6 +1,6 @@
 use Rattle.path_server.proofs.WholeScripts.{script_refused, script_replayed}
 use Rattle.path_server.proofs.WholeTexts.{keeps_same}
-use Rattle.path_server.proofs.streams.replay_stream.Goals as goal
+use Rattle.path_server.proofs.script_streams.replay_stream.Goals as goal
 
 pub returns-in-Err-replay_script-clause-failed : goal.returns-in-Err-replay_script-clause-failed
 returns-in-Err-replay_script-clause-failed g c =

@@ -1,0 +1,256 @@
+"""A plain model of the server: a dictionary of dictionaries for each tenant, and a buffer for each connection.
+
+Queries are those of names, indexes and wildcards alone, and a few that are refused. Texts are judged by Python's json.
+"""
+import json
+import re
+import struct
+
+from json_verdict import verdict
+
+REQUEST_LIMIT = 2_097_152
+PAYLOAD_LIMIT = 4_194_299
+QUOTAS = (("TooManyCollections", 16), ("TooManyDocuments", 1_000), ("TooManyBytes", 16_777_216))
+STATUS = {name: number for number, name in enumerate(
+    "Ok Short NoTenant BadCommand BadFields TooLong NotUtf8 NotJson TooDeep NumberLimit LoneSurrogate DuplicateName TooManyCollections "
+    "TooManyDocuments TooManyBytes NotFound QueryTooLong NotWellFormed NotValid TooManyNodes ReplyTooLarge NoMemory".split())}
+STATUS["FrameFault"] = 255
+NOT_WELL_FORMED = [b"", b"$ ", b"a", b"$[", b"$[01]", b"$[-0]", b"$..", b"$.a.", b"$['a]", b"$\xff", b"$[?true]"]
+NOT_VALID = [b"$[9007199254740992]", b"$[?count(@.a)]", b"$[?match(@.a,'b')]", b"$[-9007199254740992]"]
+STEP = re.compile(r"\.([A-Za-z_][A-Za-z_0-9]*)|\['([A-Za-z_ 0-9]*)'\]|\[(-?[0-9]+)\]|\.\*|\[\*\]")
+
+
+class Refused(Exception):
+    """Ends a request with the status of this name."""
+
+
+# ---- texts
+
+TOKEN = re.compile(r'"(?:[^"\\]|\\.)*"|[\[\]{}:,]|[^\s\[\]{}:,"]+')
+
+
+def parsed(source):
+    """An accepted text as (kind, start, end, children); a child is its step and its value. Places are those of bytes."""
+    text = source.decode("utf-8")
+    starts = [0]
+    for character in text:
+        starts.append(starts[-1] + len(character.encode("utf-8")))
+    tokens = [(it[0], starts[it.start()], starts[it.end()]) for it in TOKEN.finditer(text)]
+
+    def value(at):
+        sign, start, end = tokens[at]
+        if sign not in "[{":
+            return ("leaf", start, end, []), at + 1
+        children, at = [], at + 1
+        while tokens[at][0] not in "]}":
+            if tokens[at][0] == ",":
+                at += 1
+            if sign == "[":
+                child, at = value(at)
+                children.append((len(children), child))
+            else:
+                name = json.loads(tokens[at][0])
+                child, at = value(at + 2)
+                children.append((name, child))
+        return ("array" if sign == "[" else "object", start, tokens[at][2], children), at + 1
+
+    return value(0)[0]
+
+
+# ---- queries
+
+def steps_of(query):
+    """The steps of a query: a name, an index, or None for all children."""
+    if len(query) > 4_096:
+        raise Refused("QueryTooLong")
+    if query in NOT_WELL_FORMED:
+        raise Refused("NotWellFormed")
+    if query in NOT_VALID:
+        raise Refused("NotValid")
+    text = query.decode("ascii")
+    steps, at = [], 1
+    while at < len(text):
+        found = STEP.match(text, at)
+        assert text[0] == "$" and found, f"the model does not know the query {query!r}"
+        name = found[1] if found[1] is not None else found[2]
+        steps.append(name if name is not None else int(found[3]) if found[3] is not None else None)
+        at = found.end()
+    return steps
+
+
+def selected(nodes, step):
+    for path, (kind, start, end, children) in nodes:
+        for label, child in children:
+            from_end = step is not None and kind == "array" and not isinstance(step, str) and label - len(children) == step
+            if step is None or from_end or type(label) is type(step) and label == step:
+                yield path + (label,), child
+
+
+SHORT = {"'": "\\'", "\\": "\\\\", "\b": "\\b", "\t": "\\t", "\n": "\\n", "\f": "\\f", "\r": "\\r"}
+
+
+def written(path):
+    """The normalized path (RFC 9535, section 2.7)."""
+    def name(text):
+        return "".join(SHORT.get(c) or (f"\\u{ord(c):04x}" if c < " " else c) for c in text)
+    return "".join(["$", *(f"['{name(step)}']" if isinstance(step, str) else f"[{step}]" for step in path)]).encode("utf-8")
+
+
+def hits(source, steps):
+    nodes = [((), parsed(source))]
+    for step in steps:
+        nodes = list(selected(nodes, step))
+    return [(written(path), source[start:end]) for path, (_, start, end, _) in nodes]
+
+
+# ---- requests
+
+def number(value):
+    return struct.pack(">I", value)
+
+
+def field(data, longest):
+    """A name and what stands behind it."""
+    if not data or not 1 <= data[0] <= longest or len(data) <= data[0]:
+        raise Refused("BadFields")
+    name = data[1:data[0] + 1]
+    if not re.fullmatch(rb"[A-Za-z0-9._-]+", name):
+        raise Refused("BadFields")
+    return name, data[data[0] + 1:]
+
+
+def named(name):
+    return bytes([len(name)]) + name
+
+
+def done(data):
+    if data:
+        raise Refused("BadFields")
+
+
+def counts(tenant):
+    texts = [text for collection in tenant.values() for text in collection.values()]
+    return len(tenant), len(texts), sum(map(len, texts))
+
+
+def put(tenant, collection, document, text):
+    refusal = verdict(text)
+    if refusal:
+        raise Refused(refusal)
+    old = tenant.get(collection, {})
+    after = {**tenant, collection: {**old, document: text}}
+    for count, (name, quota) in zip(counts(after), QUOTAS):
+        if count > quota:
+            raise Refused(name)
+    tenant[collection] = after[collection]
+    return b""
+
+
+def remove(tenant, collection, document):
+    if document not in tenant.get(collection, {}):
+        raise Refused("NotFound")
+    del tenant[collection][document]
+    if not tenant[collection]:
+        del tenant[collection]
+    return b""
+
+
+def get(tenant, collection, document):
+    if document not in tenant.get(collection, {}):
+        raise Refused("NotFound")
+    return tenant[collection][document]
+
+
+def drop(tenant, collection):
+    if collection not in tenant:
+        raise Refused("NotFound")
+    del tenant[collection]
+    return b""
+
+
+def query(tenant, collection, text):
+    steps = steps_of(text)
+    total, parts, size = 0, [], 4
+    for name in sorted(tenant.get(collection, {})):
+        found = hits(tenant[collection][name], steps)
+        part = b"".join(named(name) + number(len(path)) + path + number(len(source)) + source for path, source in found)
+        total, size = total + len(found), size + len(part)
+        if size > PAYLOAD_LIMIT:
+            raise Refused("ReplyTooLarge")
+        parts.append(part)
+    return number(total) + b"".join(parts)
+
+
+def payload(tenant, command, data):
+    if command == 7:
+        done(data)
+        return b"".join(map(number, counts(tenant)))
+    collection, data = field(data, 64)
+    if command in (1, 2, 3):
+        document, data = field(data, 128)
+    if command in (2, 3, 4, 6):
+        done(data)
+    if command == 1:
+        return put(tenant, collection, document, data)
+    if command == 2:
+        return get(tenant, collection, document)
+    if command == 3:
+        return remove(tenant, collection, document)
+    if command == 4:
+        names = sorted(tenant.get(collection, {}))
+        return number(len(names)) + b"".join(map(named, names))
+    if command == 5:
+        return query(tenant, collection, data)
+    return drop(tenant, collection)
+
+
+def reply(status, request, data=b""):
+    return number(5 + len(data)) + bytes([STATUS[status]]) + request + data
+
+
+def answer(tenants, body):
+    request = body[1:5] if len(body) >= 5 else number(0)
+    try:
+        if len(body) < 21:
+            raise Refused("Short")
+        if body[5:21] not in tenants:
+            raise Refused("NoTenant")
+        if not 1 <= body[0] <= 7:
+            raise Refused("BadCommand")
+        return reply("Ok", request, payload(tenants[body[5:21]], body[0], body[21:]))
+    except Refused as refused:
+        return reply(refused.args[0], request)
+
+
+# ---- connections
+
+class Server:
+    """The tenants, and the bytes that wait on each open connection; None behind a framing fault."""
+
+    def __init__(self, keys):
+        self.tenants = {key: {} for key in keys}
+        self.waiting = {}
+
+    def open(self, conn):
+        self.waiting.setdefault(conn, b"")
+
+    def close(self, conn):
+        self.waiting.pop(conn, None)
+
+    def bytes(self, conn, piece):
+        """The replies to what is whole with this piece."""
+        if self.waiting.get(conn) is None:
+            return []
+        data, replies = self.waiting[conn] + piece, []
+        while len(data) >= 4:
+            length = struct.unpack(">I", data[:4])[0]
+            if length > REQUEST_LIMIT:
+                replies.append(reply("FrameFault", number(0)))
+                data = None
+                break
+            if len(data) < 4 + length:
+                break
+            replies.append(answer(self.tenants, data[4:4 + length]))
+            data = data[4 + length:]
+        self.waiting[conn] = data
+        return replies
