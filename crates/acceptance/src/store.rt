@@ -72,7 +72,7 @@ fn ask(
 
 /// A string of so many letters.
 fn string_of(alloc: Global, letters: usize) -> Result<Vec<u8>, Fail> {
-    let mut text = Vec::with_capacity(alloc, letters + 2)?;
+    let mut text = Vec::new(alloc);
     text.push(b'"')?;
     for _ in 0..letters {
         text.push(b'x')?;
@@ -83,7 +83,7 @@ fn string_of(alloc: Global, letters: usize) -> Result<Vec<u8>, Fail> {
 
 /// An array with that one element.
 fn array_of(alloc: Global, element: &[u8]) -> Result<Vec<u8>, Fail> {
-    let mut text = Vec::with_capacity(alloc, element.len() + 2)?;
+    let mut text = Vec::new(alloc);
     text.push(b'[')?;
     text.extend_from_slice(element)?;
     text.push(b']')?;
@@ -92,7 +92,7 @@ fn array_of(alloc: Global, element: &[u8]) -> Result<Vec<u8>, Fail> {
 
 /// An array of so many zeros.
 fn zeros(alloc: Global, count: usize) -> Result<Vec<u8>, Fail> {
-    let mut text = Vec::with_capacity(alloc, 2 * count + 1)?;
+    let mut text = Vec::new(alloc);
     text.push(b'[')?;
     for i in 0..count {
         if i > 0 {
