@@ -145,17 +145,11 @@ int main() {
   for (const std::string *text : {&string, &objects}) {
     const char *name = text == &string ? "a string of 1 MiB" : "small objects of 1 MiB";
     double read = 1e9, put = 1e9;
-    for (int i = 0; i < 25; i++) {
-      const double one = seconds([&] { return path_bench_store_put(bytes(*text), text->size(), 1, 1); });
-      const double six = seconds([&] { return path_bench_store_put(bytes(*text), text->size(), 1, 6); });
-      put = std::min(put, (six - one) / 5);
-      const double reads = seconds([&] {
-        for (int j = 0; j < 4; j++) path_bench_read(bytes(*text), text->size());
-        return path_bench_read(bytes(*text), text->size());
-      });
-      read = std::min(read, reads / 5);
+    for (int i = 0; i < 60; i++) {
+      read = std::min(read, seconds([&] { return path_bench_read(bytes(*text), text->size()); }));
+      put = std::min(put, seconds([&] { return path_bench_store_put(bytes(*text), text->size(), 1, 1); }));
     }
-    std::printf("%s: put over a text %.0f us, Document::read alone %.0f us\n", name, put * 1e6, read * 1e6);
+    std::printf("%s: put into a new tenant %.0f us, Document::read alone %.0f us\n", name, put * 1e6, read * 1e6);
   }
   std::printf("| document | bytes of its text | bytes of memory that one more takes |\n|---|---|---|\n");
   memory("23 bytes", small, 500);

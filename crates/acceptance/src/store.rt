@@ -72,7 +72,7 @@ fn ask(
 
 /// A string of so many letters.
 fn string_of(alloc: Global, letters: usize) -> Result<Vec<u8>, Fail> {
-    let mut text = Vec::with_capacity(alloc, letters + 2)?;
+    let mut text = Vec::new(alloc);
     text.push(b'"')?;
     for _ in 0..letters {
         text.push(b'x')?;
@@ -83,7 +83,7 @@ fn string_of(alloc: Global, letters: usize) -> Result<Vec<u8>, Fail> {
 
 /// An array with that one element.
 fn array_of(alloc: Global, element: &[u8]) -> Result<Vec<u8>, Fail> {
-    let mut text = Vec::with_capacity(alloc, element.len() + 2)?;
+    let mut text = Vec::new(alloc);
     text.push(b'[')?;
     text.extend_from_slice(element)?;
     text.push(b']')?;
@@ -92,7 +92,7 @@ fn array_of(alloc: Global, element: &[u8]) -> Result<Vec<u8>, Fail> {
 
 /// An array of so many zeros.
 fn zeros(alloc: Global, count: usize) -> Result<Vec<u8>, Fail> {
-    let mut text = Vec::with_capacity(alloc, 2 * count + 1)?;
+    let mut text = Vec::new(alloc);
     text.push(b'[')?;
     for i in 0..count {
         if i > 0 {
@@ -112,7 +112,10 @@ fn keeps_documents_in_key_order(rt: HostRuntime) -> Result<(), Fail> {
         put(&mut tenant, alloc, "c", name, b" 1 ")??;
     }
     let names = list(&tenant, alloc, "c")?;
-    assert_eq!(rt; names.as_slice(), b"\0\0\0\x04\x01B\x01a\x03a.1\x01b".as_slice());
+    assert_eq!(rt;
+        names.as_slice(),
+        b"\0\0\0\x04\x01B\x01a\x03a.1\x01b".as_slice()
+    );
     assert_eq!(rt; get(&tenant, "c", "a.1")?, b" 1 ".as_slice());
     assert_eq!(rt; remove(&mut tenant, "c", "b")?, Ok(()));
     assert_eq!(rt; remove(&mut tenant, "c", "b")?, Err(StoreFault::NotFound));
@@ -126,7 +129,14 @@ fn keeps_documents_in_key_order(rt: HostRuntime) -> Result<(), Fail> {
     assert_eq!(rt; ask(&tenant, alloc, "$", "d", &mut hits)?, Ok(()));
     assert_eq!(rt; hits.as_slice(), b"\0\0\0\0".as_slice());
     assert_eq!(rt; tenant.drop_collection(collection_name("c")?), Ok(()));
-    assert_eq!(rt; tenant.usage(), Usage { collections: 0, documents: 0, bytes: 0 });
+    assert_eq!(rt;
+        tenant.usage(),
+        Usage {
+            collections: 0,
+            documents: 0,
+            bytes: 0
+        }
+    );
     Ok(())
 }
 
@@ -154,11 +164,24 @@ fn refuses_a_seventeenth_collection(rt: HostRuntime) -> Result<(), Fail> {
     for name in COLLECTIONS {
         assert_eq!(rt; put(&mut tenant, alloc, name, "x", b"1")?, Ok(()));
     }
-    assert_eq!(rt; put(&mut tenant, alloc, "q", "x", b"1")?, Err(StoreFault::TooManyCollections));
-    assert_eq!(rt; put(&mut tenant, alloc, "q", "x", b"{")?, Err(StoreFault::NotJson));
+    assert_eq!(rt;
+        put(&mut tenant, alloc, "q", "x", b"1")?,
+        Err(StoreFault::TooManyCollections)
+    );
+    assert_eq!(rt;
+        put(&mut tenant, alloc, "q", "x", b"{")?,
+        Err(StoreFault::NotJson)
+    );
     assert_eq!(rt; remove(&mut tenant, "a", "x")?, Ok(()));
     assert_eq!(rt; put(&mut tenant, alloc, "q", "x", b"1")?, Ok(()));
-    assert_eq!(rt; tenant.usage(), Usage { collections: 16, documents: 16, bytes: 16 });
+    assert_eq!(rt;
+        tenant.usage(),
+        Usage {
+            collections: 16,
+            documents: 16,
+            bytes: 16
+        }
+    );
     Ok(())
 }
 
@@ -168,13 +191,32 @@ fn refuses_a_document_past_a_thousand(rt: HostRuntime) -> Result<(), Fail> {
     let mut tenant = Tenant::new(alloc);
     for i in 0..1000u32 {
         let name = format!(in alloc; "d{i}")?;
-        assert_eq!(rt; put(&mut tenant, alloc, "c", name.as_str(), b"[1]")?, Ok(()));
+        assert_eq!(rt;
+            put(&mut tenant, alloc, "c", name.as_str(), b"[1]")?,
+            Ok(())
+        );
     }
-    assert_eq!(rt; put(&mut tenant, alloc, "c", "e", b"[1]")?, Err(StoreFault::TooManyDocuments));
-    assert_eq!(rt; put(&mut tenant, alloc, "d", "e", b"[1]")?, Err(StoreFault::TooManyDocuments));
+    assert_eq!(rt;
+        put(&mut tenant, alloc, "c", "e", b"[1]")?,
+        Err(StoreFault::TooManyDocuments)
+    );
+    assert_eq!(rt;
+        put(&mut tenant, alloc, "d", "e", b"[1]")?,
+        Err(StoreFault::TooManyDocuments)
+    );
     assert_eq!(rt; put(&mut tenant, alloc, "c", "d7", b"[1,2]")?, Ok(()));
-    assert_eq!(rt; put(&mut tenant, alloc, "c", "e", b"{")?, Err(StoreFault::NotJson));
-    assert_eq!(rt; tenant.usage(), Usage { collections: 1, documents: 1000, bytes: 3002 });
+    assert_eq!(rt;
+        put(&mut tenant, alloc, "c", "e", b"{")?,
+        Err(StoreFault::NotJson)
+    );
+    assert_eq!(rt;
+        tenant.usage(),
+        Usage {
+            collections: 1,
+            documents: 1000,
+            bytes: 3002
+        }
+    );
     Ok(())
 }
 
@@ -185,14 +227,30 @@ fn refuses_bytes_past_the_quota_and_keeps_the_old_text(rt: HostRuntime) -> Resul
     let longest = string_of(alloc, 1_048_574)?;
     for i in 0..15u32 {
         let name = format!(in alloc; "d{i}")?;
-        assert_eq!(rt; put(&mut tenant, alloc, "c", name.as_str(), longest.as_slice())?, Ok(()));
+        assert_eq!(rt;
+            put(&mut tenant, alloc, "c", name.as_str(), longest.as_slice())?,
+            Ok(())
+        );
     }
     let shorter = string_of(alloc, 1_048_573)?;
-    assert_eq!(rt; put(&mut tenant, alloc, "c", "p", shorter.as_slice())?, Ok(()));
+    assert_eq!(rt;
+        put(&mut tenant, alloc, "c", "p", shorter.as_slice())?,
+        Ok(())
+    );
     assert_eq!(rt; put(&mut tenant, alloc, "c", "q", b"0")?, Ok(()));
-    assert_eq!(rt; tenant.usage(), Usage { collections: 1, documents: 17, bytes: 16_777_216 });
+    assert_eq!(rt;
+        tenant.usage(),
+        Usage {
+            collections: 1,
+            documents: 17,
+            bytes: 16_777_216
+        }
+    );
     assert_eq!(rt; put(&mut tenant, alloc, "c", "q", b"1")?, Ok(()));
-    assert_eq!(rt; put(&mut tenant, alloc, "c", "q", b"10")?, Err(StoreFault::TooManyBytes));
+    assert_eq!(rt;
+        put(&mut tenant, alloc, "c", "q", b"10")?,
+        Err(StoreFault::TooManyBytes)
+    );
     assert_eq!(rt; get(&tenant, "c", "q")?, b"1".as_slice());
     Ok(())
 }
@@ -210,7 +268,10 @@ fn refuses_more_nodes_than_the_limit(rt: HostRuntime) -> Result<(), Fail> {
     assert_eq!(rt; put(&mut tenant, alloc, "c", "d", over.as_slice())?, Ok(()));
     payload.clear();
     payload.push(7)?;
-    assert_eq!(rt; ask(&tenant, alloc, "$[*]", "c", &mut payload)?, Err(StoreFault::TooManyNodes));
+    assert_eq!(rt;
+        ask(&tenant, alloc, "$[*]", "c", &mut payload)?,
+        Err(StoreFault::TooManyNodes)
+    );
     assert_eq!(rt; payload.as_slice(), b"\x07".as_slice());
     Ok(())
 }
@@ -223,11 +284,17 @@ fn refuses_a_payload_past_the_limit(rt: HostRuntime) -> Result<(), Fail> {
     let fits = array_of(alloc, string.as_slice())?;
     assert_eq!(rt; put(&mut tenant, alloc, "c", "d", fits.as_slice())?, Ok(()));
     let mut payload = Vec::new(alloc);
-    assert_eq!(rt; ask(&tenant, alloc, "$[0,0,0,0]", "c", &mut payload)?, Ok(()));
+    assert_eq!(rt;
+        ask(&tenant, alloc, "$[0,0,0,0]", "c", &mut payload)?,
+        Ok(())
+    );
     assert_eq!(rt; payload.len(), 4_194_301 - 5);
     let string = string_of(alloc, 1_048_558)?;
     let passes = array_of(alloc, string.as_slice())?;
-    assert_eq!(rt; put(&mut tenant, alloc, "c", "d", passes.as_slice())?, Ok(()));
+    assert_eq!(rt;
+        put(&mut tenant, alloc, "c", "d", passes.as_slice())?,
+        Ok(())
+    );
     payload.clear();
     payload.push(7)?;
     let refused = ask(&tenant, alloc, "$[0,0,0,0]", "c", &mut payload)?;
@@ -244,13 +311,25 @@ fn tells_the_first_document_that_shows_a_fault(rt: HostRuntime) -> Result<(), Fa
     let wide = zeros(alloc, 65_537)?;
     let mut payload = Vec::new(alloc);
     let mut first_long = Tenant::new(alloc);
-    assert_eq!(rt; put(&mut first_long, alloc, "c", "b", wide.as_slice())?, Ok(()));
-    assert_eq!(rt; put(&mut first_long, alloc, "c", "a", long.as_slice())?, Ok(()));
+    assert_eq!(rt;
+        put(&mut first_long, alloc, "c", "b", wide.as_slice())?,
+        Ok(())
+    );
+    assert_eq!(rt;
+        put(&mut first_long, alloc, "c", "a", long.as_slice())?,
+        Ok(())
+    );
     let refused = ask(&first_long, alloc, "$[*,*,*,*]", "c", &mut payload)?;
     assert_eq!(rt; refused, Err(StoreFault::ReplyTooLarge));
     let mut first_wide = Tenant::new(alloc);
-    assert_eq!(rt; put(&mut first_wide, alloc, "c", "b", long.as_slice())?, Ok(()));
-    assert_eq!(rt; put(&mut first_wide, alloc, "c", "a", wide.as_slice())?, Ok(()));
+    assert_eq!(rt;
+        put(&mut first_wide, alloc, "c", "b", long.as_slice())?,
+        Ok(())
+    );
+    assert_eq!(rt;
+        put(&mut first_wide, alloc, "c", "a", wide.as_slice())?,
+        Ok(())
+    );
     let refused = ask(&first_wide, alloc, "$[*,*,*,*]", "c", &mut payload)?;
     assert_eq!(rt; refused, Err(StoreFault::TooManyNodes));
     assert!(rt; payload.is_empty());
@@ -271,10 +350,22 @@ fn refusal(made: Result<Tenants, TenantsFault>) -> Option<TenantsFault> {
 #[test]
 fn finds_tenants_by_their_keys(rt: HostRuntime) -> Result<(), Fail> {
     let alloc = rt.alloc();
-    assert_eq!(rt; refusal(Tenants::new(alloc, &[])), Some(TenantsFault::NoKeys));
-    assert_eq!(rt; refusal(Tenants::new(alloc, &[KEY_A; 2])), Some(TenantsFault::RepeatedKey));
-    assert_eq!(rt; refusal(Tenants::new(alloc, &[KEY_A; 256])), Some(TenantsFault::RepeatedKey));
-    assert_eq!(rt; refusal(Tenants::new(alloc, &[KEY_A; 257])), Some(TenantsFault::TooManyKeys));
+    assert_eq!(rt;
+        refusal(Tenants::new(alloc, &[])),
+        Some(TenantsFault::NoKeys)
+    );
+    assert_eq!(rt;
+        refusal(Tenants::new(alloc, &[KEY_A; 2])),
+        Some(TenantsFault::RepeatedKey)
+    );
+    assert_eq!(rt;
+        refusal(Tenants::new(alloc, &[KEY_A; 256])),
+        Some(TenantsFault::RepeatedKey)
+    );
+    assert_eq!(rt;
+        refusal(Tenants::new(alloc, &[KEY_A; 257])),
+        Some(TenantsFault::TooManyKeys)
+    );
     let mut tenants = Tenants::new(alloc, &[KEY_A, KEY_B])?;
     assert_eq!(rt; tenants.place_of(&KEY_A), Some(0));
     assert_eq!(rt; tenants.place_of(&KEY_B), Some(1));

@@ -170,7 +170,10 @@ pub extern "C" fn path_bench_store_query(
     let mut payload = Vec::new(alloc);
     for _ in 0..rounds {
         payload.clear();
-        if tenant.query(alloc, &query, collection, &mut payload).is_err() {
+        if tenant
+            .query(alloc, &query, collection, &mut payload)
+            .is_err()
+        {
             return REFUSED;
         }
     }

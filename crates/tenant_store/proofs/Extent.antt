@@ -1,15 +1,14 @@
 -- Maps with the same texts at all places are equal.
-use Rattle.std.proofs.Common.{◌≡◌, ◌<◌, ℕ, List, [], ◌∷◌, length, Bool, true, false, cond, Option, Some, None, Ordering, refl, sym, ap, ◌∙◌, arith}
+use Rattle.std.proofs.Common.{◌≡◌, ℕ, List, [], ◌∷◌, Bool, true, false, cond, Option, Some, None, Ordering, refl, sym, ap, ◌∙◌, arith}
 use Rattle.std.specs.Option.{option_and_then}
-use Rattle.std.specs.Ordering.{is_eq, ordering_reverse}
+use Rattle.std.specs.Ordering.{ordering_reverse}
 use Rattle.std.specs.declared.cmp.Ordering.TheVariants.{Less, Equal, Greater}
 use Rattle.std.specs.Cmp.{eq_by_cmp_equiv}
 use Rattle.std.specs.Cmp.Lexicographic.{nat_list_cmp_total}
-use Rattle.std.specs.List.{AllByRecursion}
 use Rattle.std.specs.Map.{lookup}
 use Rattle.std.specs.FinMap.{slice_cmp-IsAntisymmetric, nat_cmp-IsAntisymmetric}
 use Rattle.tenant_store.specs.Keyed.{bytes_cmp, at, Ascends}
-use Rattle.tenant_store.specs.Maps.{Documents, Map, IsCollection, IsMap, text_at, SameTexts}
+use Rattle.tenant_store.specs.Maps.{Documents, IsCollection, SameTexts}
 use Rattle.tenant_store.proofs.Seen.{lookup_holds}
 use Rattle.tenant_store.proofs.Ordered.{All-below, absent_below}
 

@@ -2,16 +2,15 @@
 use Rattle.std.proofs.Common.{◌≡◌, ◌≢◌, ◌⊎◌, inl, inr, ◌<◌, ◌++◌, ℕ, List, [], ◌∷◌, Option, Some, None, refl, sym, ap, ◌∙◌, get_or, arith}
 use Rattle.json_tape.specs.Tree.{Tree}
 use Rattle.json_tape.specs.Grammar.{IsText}
-use Rattle.json_tape.specs.Verdict.{rank, Applies, IsRefused}
+use Rattle.json_tape.specs.Verdict.{rank, IsRefused}
 use Rattle.json_tape.specs.declared.tape.TextFault.{TextFault}
 use Rattle.json_tape.specs.declared.tape.TextFault.TheVariants as verdict
-use Rattle.path_grammar.specs.Tree.{Segments}
 use Rattle.tenant_store.specs.declared.faults.StoreFault.{StoreFault}
 use Rattle.tenant_store.specs.declared.faults.StoreFault.TheVariants.{TooLong, NotUtf8, NotJson, TooDeep, NumberLimit, LoneSurrogate, DuplicateName, TooManyCollections, TooManyDocuments, TooManyBytes, NotFound, TooManyNodes, ReplyTooLarge, NoMemory}
 use Rattle.tenant_store.specs.Maps.{Documents, Map, put_text}
 use Rattle.tenant_store.specs.Quotas.{quota_fault}
 use Rattle.tenant_store.specs.Answers.{IsDocument, AcceptsPut, RefusesPut, of_text}
-use Rattle.tenant_store.specs.Payloads.{Text, AreTextsOf, payload, query_fault, IsFault, AnswersQuery, RefusesQuery}
+use Rattle.tenant_store.specs.Payloads.{Text, AreTextsOf, payload, query_fault, IsFault}
 use Rattle.tenant_store.specs.Laws.{PutsAnswerOnce, QueriesAnswerOnce}
 
 -- ---- Puts
@@ -119,9 +118,9 @@ queries_answer_once one =
     record {
       appended = λ q ds old new other x y. x.appended ∙ ap (λ ts. old ++ payload q ts) (texts_once one ds x.texts y.texts x.read y.read) ∙ sym y.appended;
       fault = λ q ds f g n k x y.
-        let e : Some f ≡ Some g = sym (fault_is _ f n x.first) ∙ ap (λ ts. query_fault q 4 ts) (texts_once one ds x.texts y.texts x.read y.read) ∙ fault_is _ g k y.first in
-        cc;
+          let e : Some f ≡ Some g = sym (fault_is _ f n x.first) ∙ ap (λ ts. query_fault q 4 ts) (texts_once one ds x.texts y.texts x.read y.read) ∙ fault_is _ g k y.first in
+          cc;
       either = λ q ds old new f n x y.
-        let e : None ≡ Some f = sym x.no_fault ∙ ap (λ ts. query_fault q 4 ts) (texts_once one ds x.texts y.texts x.read y.read) ∙ fault_is _ f n y.first in
-        absurd cc;
+          let e : None ≡ Some f = sym x.no_fault ∙ ap (λ ts. query_fault q 4 ts) (texts_once one ds x.texts y.texts x.read y.read) ∙ fault_is _ f n y.first in
+          absurd cc;
     }
