@@ -63,7 +63,7 @@ def steps_of(query):
     """The steps of a query: a name, an index, or None for all children."""
     if len(query) > 4_096:
         raise Refused("QueryTooLong")
-    if query in NOT_WELL_FORMED:
+    if query in NOT_WELL_FORMED or not query.startswith(b"$"):
         raise Refused("NotWellFormed")
     if query in NOT_VALID:
         raise Refused("NotValid")

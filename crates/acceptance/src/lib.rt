@@ -15,6 +15,8 @@ mod places;
 #[cfg(test)]
 mod queries;
 #[cfg(test)]
+mod scripts;
+#[cfg(test)]
 mod store;
 #[cfg(test)]
 mod trees;

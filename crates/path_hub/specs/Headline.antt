@@ -1,5 +1,5 @@
--- The headline: what a run of events gives. However the connections' bytes are cut and interleaved, and whatever other tenants send, a tenant's replies are those that its own requests get from a plain map of its texts.
-use Rattle.std.specs.Prelude.{◌≡◌, ◌≢◌, ◌⊎◌, ℕ, List, [], ◌∷◌, ◌++◌, map, Contains, Result, Ok, Err}
+-- The headline: what a run of events gives (this project's own). However the connections' bytes are cut and interleaved, and whatever other tenants send, a tenant's replies, those that memory ran out for aside, are those that its own requests get from a plain map of its texts.
+use Rattle.std.specs.Prelude.{◌≡◌, ◌≢◌, ◌⊎◌, ℕ, List, [], ◌++◌, map, Contains, Result, Ok, Err}
 use Rattle.tenant_store.specs.Tenancy.{Tenancy, AcceptsKeys, RefusesKeys}
 use Rattle.tenant_store.specs.declared.tenants.TenantsFault.{TenantsFault}
 use Rattle.tenant_store.specs.declared.tenants.TenantsFault.TheVariants as refusal
@@ -34,8 +34,8 @@ pub record RepliedToSome (keys : List (List ℕ)) (is : List Item) (before after
 abbrev pub AreRefused : List (List ℕ) → TenantsFault → Type 0
 AreRefused keys e = RefusesKeys keys e × (e ≢ refusal.Memory)
 
--- All items are replied to, or the first of them where memory runs out, which it does not before the keys are counted; keys that are refused get no reply.
+-- All items are replied to; or memory runs out, for the keys, and then there is no reply, or later, and then the first items are replied to; keys that are refused get no reply.
 abbrev pub Runs : List (List ℕ) → List Item → List Reply → Result (Unit {0}) RunFault → List Reply → Type 0
 Runs keys is before (Ok u) after = AcceptsKeys keys (fresh keys) × Replied keys is before after
-Runs keys is before (Err fault.Memory) after = RefusesKeys keys refusal.Memory × RepliedToSome keys is before after
+Runs keys is before (Err fault.Memory) after = (RefusesKeys keys refusal.Memory × (after ≡ before)) ⊎ (AcceptsKeys keys (fresh keys) × RepliedToSome keys is before after)
 Runs keys is before (Err (fault.Keys e)) after = AreRefused keys e × (after ≡ before)

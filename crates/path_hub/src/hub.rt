@@ -282,8 +282,8 @@ fn feed(
 /// Applies events to a new hub, and appends a reply for each frame and fault, in the order in which they become whole.
 ///
 /// However the connections' bytes are cut and interleaved, and whatever other tenants send, a tenant's replies are byte for
-/// byte those that its own requests get from a plain map of its texts. An event that the hub refuses for another cause than
-/// memory is passed over.
+/// byte those that its own requests get from a plain map of its texts, those that memory ran out for aside: such a request has
+/// changed nothing. An event that the hub refuses for another cause than memory is passed over.
 ///
 /// # Errors
 ///

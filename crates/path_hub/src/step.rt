@@ -34,15 +34,16 @@ pub fn answer_next(
     if framer.is_closed() {
         return Ok(false);
     }
-    out.reserve(SHORT_REPLY)?;
     match framer.front() {
         Front::Wait => Ok(false),
         Front::Fault => {
+            out.reserve(SHORT_REPLY)?;
             write_small(FRAME_FAULT, 0, &[], out);
             framer.pass();
             Ok(true)
         }
         Front::Frame(body) => {
+            out.reserve(SHORT_REPLY)?;
             serve_body(tenants, cache, alloc, body, out);
             framer.pass();
             Ok(true)

@@ -1,5 +1,4 @@
-use Rattle.std.proofs.Common.{◌≡◌, ◌++◌, ℕ, List, Bool, false, Some, sym, ap, ◌∙◌, subst, refl}
-use Rattle.wire_frames.specs.declared.framing.Next.{Next}
+use Rattle.std.proofs.Common.{◌≡◌, ◌++◌, ℕ, List, false, Some, sym, ap, ◌∙◌, subst, refl}
 use Rattle.wire_frames.specs.declared.framing.Next.TheVariants.{Frame}
 use Rattle.wire_frames.specs.Frames.{Front, Whole, Wait, Fault, front}
 use Rattle.wire_frames.specs.NextFrame.{next_of, next_at, lent_as}
@@ -26,7 +25,7 @@ answered f f' b s os os' before mid after o n a e r g = record {
   takes = taken_by f f' b (front f.waiting) refl o n a;
 }
 
-pub returns-in-Frame-clause-step : goal.returns-in-Frame-clause-step
-returns-in-Frame-clause-step c =
-    answered c.args.framer.now c.pass-in-Frame.new.self c.in-Frame.body.now c.in-Frame.body.now c.args.tenants.now c.serve_body.new.tenants c.args.out.now.items c.reserve.new.self.items c.serve_body.new.out.items
-    (sym c.is_closed.ensures ∙ c.if-is_closed.false) (ap lent_as (sym c.in-Frame.is) ∙ c.front.ensures) c.pass-in-Frame.ensures refl c.reserve.ensures.items c.serve_body.ensures
+pub returns-in_ok-reserve-in-Frame-clause-step : goal.returns-in_ok-reserve-in-Frame-clause-step
+returns-in_ok-reserve-in-Frame-clause-step c =
+    answered c.args.framer.now c.pass-in-Frame.new.self c.in-Frame.body.now c.in-Frame.body.now c.args.tenants.now c.serve_body.new.tenants c.args.out.now.items c.reserve-in-Frame.new.self.items c.serve_body.new.out.items
+    (sym c.is_closed.ensures ∙ c.if-is_closed.false) (ap lent_as (sym c.in-Frame.is) ∙ c.front.ensures) c.pass-in-Frame.ensures refl c.reserve-in-Frame.ensures.items c.serve_body.ensures
