@@ -55,6 +55,12 @@ dotted_at (c ∷ t) =
     else if is_first c then Some (tree.name (front_run is_name (c ∷ t)), after_run is_name (c ∷ t))
     else None
 
+-- the one selector of a segment without brackets
+abbrev pub dotted_selectors_at : Reader (List tree.Selector)
+dotted_selectors_at t = do
+  x ← dotted_at t
+  Some (x.0 ∷ [], x.1)
+
 -- whether the segment descends, and where its selectors begin
 unfoldable pub dots_at : Reader Bool
 dots_at [] = None
@@ -108,9 +114,7 @@ module _ (condition : Reader tree.Expr) where
 
   unfoldable pub selectors_from : Text → Option Text → Option (List tree.Selector × Text)
   selectors_from t (Some u) = bracketed_at u
-  selectors_from t None = do
-    x ← dotted_at t
-    Some (x.0 ∷ [], x.1)
+  selectors_from t None = dotted_selectors_at t
 
   unfoldable pub segment_at : Reader OneSegment
   segment_at t = do

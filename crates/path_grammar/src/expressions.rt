@@ -7,10 +7,10 @@ ghost use Rattle.std.specs.Prelude.{◌≡◌, ◌∷◌, map, option_map, IfOk,
 ghost use Rattle.std.specs.List.{list_all};
 ghost use Rattle.path_grammar.specs.Characters.{is_ascii};
 ghost use Rattle.path_grammar.specs.Grammar.{joined};
-ghost use Rattle.path_grammar.specs.Reading.{Gives, behind};
-ghost use Rattle.path_grammar.specs.ReadingSegments.{filter_at, selector_at, selectors_at, bracketed_at, selectors_from, segment_at, segments_at, sub_query_at};
-ghost use Rattle.path_grammar.specs.ReadingFilters.{next_operand, next_argument, opens_call, tested, is_comparable, ends_argument, is_parenthesis, argument_of, parentheses_at, call_at, side_at, negatable_at, compared_at, basic_at, basics_at, and_at, ands_at, or_at, expression_argument_at, argument_at, some_arguments_at, arguments_at, condition_in, arguments_in};
-ghost use Rattle.path_grammar.specs.Tree.{any, each};
+ghost use Rattle.path_grammar.specs.Reading.{Gives, closing, repeat_at};
+ghost use Rattle.path_grammar.specs.ReadingSegments.{selector_at, selectors_at, segment_at, segments_at, sub_query_at};
+ghost use Rattle.path_grammar.specs.ReadingFilters.{next_operand, next_argument, opens_call, tested, is_comparable, ends_argument, is_parenthesis, argument_of, parentheses_at, side_at, negatable_at, compared_at, basic_at, and_at, or_at, expression_argument_at, argument_at, some_arguments_at, condition_in, arguments_in};
+ghost use Rattle.path_grammar.specs.Tree.{any, each, filter, call, arguments_of};
 ghost use Rattle.path_grammar.specs.View.{selector_view, segment_view, nested_view, expr_view, comparable_view, call_view, argument_view};
 
 use crate::ast::{Argument, Call, Comparable, Expr, Op, Segment, Selector, SubQuery};
@@ -18,7 +18,7 @@ use crate::class::{Class, is_lower, split_run};
 use crate::fault::ParseFault;
 use crate::literals::{ascii, literal, operator};
 use crate::scan::{behind, closed, skip_blanks};
-use crate::segments::{dotted, index, name, next_segment, next_selector, opening};
+use crate::segments::{dotted_selectors, index, name, next_segment, next_selector, opening};
 use crate::singular::is_singular;
 use std::alloc::{AllocError, Global};
 
@@ -127,6 +127,36 @@ fn as_argument(alloc: Global, expr: Expr, is_parenthesised: bool) -> Result<Argu
     }
 }
 
+fn filter(alloc: Global, expr: Expr) -> Result<Selector, AllocError>
+    ensures { IfOk result (λ s. selector_view s ≡ filter (expr_view expr)) }
+{
+    Ok(Selector::Filter(Box::new(alloc, expr)?))
+}
+
+#[tactic(auto, unfolding(crate::specs::Reading::closing))]
+fn closed_expr(expr: Expr, text: &[char]) -> Result<(Expr, &[char]), ParseFault>
+    ensures { Gives (λ x. (expr_view x.0, x.1.now)) result (closing 0x29 (expr_view expr) text.now) }
+{
+    let rest = closed(skip_blanks(text), ')')?;
+    Ok((expr, rest))
+}
+
+// The call of a name with these arguments, behind which its parenthesis closes.
+#[tactic(auto, unfolding(crate::specs::Reading::closing))]
+fn call<'a>(
+    alloc: Global,
+    name: &[char],
+    arguments: Vec<Argument>,
+    text: &'a [char],
+) -> Result<(Call, &'a [char]), ParseFault>
+    requires { IsTrue (list_all is_ascii name.now) }
+    ensures { Gives (λ x. (call_view x.0, x.1.now)) result (closing 0x29 (call name.now (arguments_of (map argument_view arguments.items))) text.now) }
+{
+    let rest = closed(skip_blanks(text), ')')?;
+    let name = ascii(alloc, name)?;
+    Ok((Call { name, arguments }, rest))
+}
+
 // ---- A level deeper
 
 #[cycle(expressions)]
@@ -140,8 +170,9 @@ fn condition(alloc: Global, text: &[char], level: u8) -> Result<(Expr, &[char]),
     or_expr(alloc, text, level - 1)
 }
 
+// What stands before the parenthesis that closes.
 #[cycle(expressions)]
-#[tactic(auto, unfolding(crate::specs::ReadingFilters::condition_in))]
+#[tactic(auto, unfolding(crate::specs::ReadingFilters::condition_in, crate::specs::ReadingFilters::arguments_at))]
 fn arguments(
     alloc: Global,
     text: &[char],
@@ -152,25 +183,21 @@ fn arguments(
     if level == 0 {
         return Err(ParseFault::NotWellFormed);
     }
-    argument_list(alloc, text, level - 1)
+    let [c, ..] = text else {
+        return Err(ParseFault::NotWellFormed);
+    };
+    if *c == ')' {
+        Ok((Vec::new(alloc), text))
+    } else {
+        some_arguments(alloc, text, level - 1)
+    }
 }
 
 // ---- Selectors and segments
 
-// What stands behind a question mark.
-#[cycle(expressions)]
-#[tactic(auto, unfolding(crate::specs::ReadingSegments::filter_at))]
-fn filter(alloc: Global, text: &[char], level: u8) -> Result<(Selector, &[char]), ParseFault>
-    ensures { Gives (λ x. (selector_view x.0, x.1.now)) result (filter_at (condition_in level) text.now) }
-{
-    let (expr, rest) = condition(alloc, skip_blanks(text), level)?;
-    let expr = Box::new(alloc, expr)?;
-    Ok((Selector::Filter(expr), skip_blanks(rest)))
-}
-
 // A selector and the blanks behind it.
 #[cycle(expressions)]
-#[tactic(auto, unfolding(crate::specs::ReadingSegments::selector_at))]
+#[tactic(auto, unfolding(crate::specs::ReadingSegments::selector_at, crate::specs::ReadingSegments::filter_at))]
 fn selector(alloc: Global, text: &[char], level: u8) -> Result<(Selector, &[char]), ParseFault>
     ensures { Gives (λ x. (selector_view x.0, x.1.now)) result (selector_at (condition_in level) text.now) }
 {
@@ -182,7 +209,8 @@ fn selector(alloc: Global, text: &[char], level: u8) -> Result<(Selector, &[char
     } else if *c == '"' || *c == '\'' {
         name(alloc, text)
     } else if *c == '?' {
-        filter(alloc, rest, level)
+        let (expr, rest) = condition(alloc, skip_blanks(rest), level)?;
+        Ok((filter(alloc, expr)?, skip_blanks(rest)))
     } else {
         index(text)
     }
@@ -212,49 +240,23 @@ fn selectors(
     Ok((out, rest))
 }
 
-// What stands behind the bracket that opens.
 #[cycle(expressions)]
-#[tactic(auto, unfolding(crate::specs::ReadingSegments::bracketed_at))]
-fn bracketed(
-    alloc: Global,
-    text: &[char],
-    level: u8,
-) -> Result<(Vec<Selector>, &[char]), ParseFault>
-    ensures { Gives (λ x. (map selector_view x.0.items, x.1.now)) result (bracketed_at (condition_in level) text.now) }
-{
-    let (selectors, rest) = selectors(alloc, skip_blanks(text), level)?;
-    let rest = closed(rest, ']')?;
-    Ok((selectors, rest))
-}
-
-#[cycle(expressions)]
-#[tactic(auto, unfolding(crate::specs::ReadingSegments::selectors_from))]
-fn selectors_behind(
-    alloc: Global,
-    text: &[char],
-    level: u8,
-) -> Result<(Vec<Selector>, &[char]), ParseFault>
-    ensures { Gives (λ x. (map selector_view x.0.items, x.1.now)) result (selectors_from (condition_in level) text.now (behind 0x5B text.now)) }
-{
-    match behind(text, '[') {
-        Some(rest) => bracketed(alloc, rest, level),
-        None => {
-            let (selector, rest) = dotted(alloc, text)?;
-            let mut selectors = Vec::new(alloc);
-            selectors.push(selector)?;
-            Ok((selectors, rest))
-        }
-    }
-}
-
-#[cycle(expressions)]
-#[tactic(auto, unfolding(crate::specs::ReadingSegments::segment_at))]
+#[tactic(auto, unfolding(crate::specs::ReadingSegments::segment_at, crate::specs::ReadingSegments::selectors_from, crate::specs::ReadingSegments::bracketed_at))]
 fn segment(alloc: Global, text: &[char], level: u8) -> Result<(Segment, &[char]), ParseFault>
     ensures { Gives (λ x. (segment_view x.0, x.1.now)) result (segment_at (condition_in level) text.now) }
 {
     let (descend, rest) = opening(text)?;
-    let (selectors, rest) = selectors_behind(alloc, rest, level)?;
-    Ok((Segment { descend, selectors }, rest))
+    match behind(rest, '[') {
+        Some(inside) => {
+            let (selectors, rest) = selectors(alloc, skip_blanks(inside), level)?;
+            let rest = closed(rest, ']')?;
+            Ok((Segment { descend, selectors }, rest))
+        }
+        None => {
+            let (selectors, rest) = dotted_selectors(alloc, rest)?;
+            Ok((Segment { descend, selectors }, rest))
+        }
+    }
 }
 
 /// The segments at the front: each takes a character, so there are no more than that.
@@ -305,36 +307,17 @@ fn sub_query(alloc: Global, text: &[char], level: u8) -> Result<(SubQuery, &[cha
 
 // What stands behind a parenthesis.
 #[cycle(expressions)]
-#[tactic(auto, unfolding(crate::specs::ReadingFilters::parentheses_at, crate::specs::Reading::closing))]
+#[tactic(auto, unfolding(crate::specs::ReadingFilters::parentheses_at))]
 fn parentheses(alloc: Global, text: &[char], level: u8) -> Result<(Expr, &[char]), ParseFault>
     ensures { Gives (λ x. (expr_view x.0, x.1.now)) result (parentheses_at (condition_in level) (arguments_in level) text.now) }
 {
     let (expr, rest) = condition(alloc, skip_blanks(text), level)?;
-    let rest = closed(skip_blanks(rest), ')')?;
-    Ok((expr, rest))
-}
-
-// What stands behind the name of a call and its parenthesis.
-#[cycle(expressions)]
-#[tactic(auto, unfolding(crate::specs::ReadingFilters::call_at, crate::specs::Reading::closing))]
-fn call<'a>(
-    alloc: Global,
-    name: &[char],
-    text: &'a [char],
-    level: u8,
-) -> Result<(Call, &'a [char]), ParseFault>
-    requires { IsTrue (list_all is_ascii name.now) }
-    ensures { Gives (λ x. (call_view x.0, x.1.now)) result (call_at (condition_in level) (arguments_in level) name.now text.now) }
-{
-    let (arguments, rest) = arguments(alloc, skip_blanks(text), level)?;
-    let rest = closed(skip_blanks(rest), ')')?;
-    let name = ascii(alloc, name)?;
-    Ok((Call { name, arguments }, rest))
+    closed_expr(expr, rest)
 }
 
 // A literal, a query or a call.
 #[cycle(expressions)]
-#[tactic(auto, unfolding(crate::specs::ReadingFilters::side_at, crate::specs::ReadingFilters::side_from))]
+#[tactic(auto, unfolding(crate::specs::ReadingFilters::side_at, crate::specs::ReadingFilters::side_from, crate::specs::ReadingFilters::call_at))]
 fn side(alloc: Global, text: &[char], level: u8) -> Result<(Comparable, &[char]), ParseFault>
     ensures { Gives (λ x. (comparable_view x.0, x.1.now)) result (side_at (condition_in level) (arguments_in level) text.now) }
 {
@@ -347,7 +330,8 @@ fn side(alloc: Global, text: &[char], level: u8) -> Result<(Comparable, &[char])
     }
     match opens_call(text) {
         Some((name, inside)) => {
-            let (call, rest) = call(alloc, name, inside, level)?;
+            let (arguments, rest) = arguments(alloc, skip_blanks(inside), level)?;
+            let (call, rest) = call(alloc, name, arguments, rest)?;
             Ok((Comparable::Func(call), rest))
         }
         None => {
@@ -417,64 +401,69 @@ fn basic(alloc: Global, text: &[char], level: u8) -> Result<(Expr, &[char]), Par
     }
 }
 
-// ---- Operands
+// ---- Operands: the first, and the others that stand behind it. Most expressions have none, and then no list is made.
 
-// The first operand, and the others: most expressions have none, and then no list is made.
 #[cycle(expressions)]
-fn basics(alloc: Global, text: &[char], level: u8) -> Result<(Expr, Vec<Expr>, &[char]), ParseFault>
-    ensures { Gives (λ x. (expr_view x.0 ∷ map expr_view x.1.items, x.2.now)) result (basics_at (condition_in level) (arguments_in level) text.now) }
+fn other_basics(
+    alloc: Global,
+    text: &[char],
+    level: u8,
+    limit: usize,
+) -> Result<(Vec<Expr>, &[char]), ParseFault>
+    ensures { Gives (λ x. (map expr_view x.0.items, x.1.now)) result (repeat_at (next_operand 0x26) (basic_at (condition_in level) (arguments_in level)) limit text.now) }
 {
-    let (first, after_first) = basic(alloc, text, level)?;
     let mut others = Vec::new(alloc);
-    let mut rest = after_first;
-    for _ in 0..text.len() {
+    let mut rest = text;
+    for _ in 0..limit {
         let Some(next) = next_operand(rest, '&') else {
-            return Ok((first, others, rest));
+            return Ok((others, rest));
         };
         let (item, after) = basic(alloc, next, level)?;
         others.push(item)?;
         rest = after;
     }
-    Ok((first, others, rest))
+    Ok((others, rest))
 }
 
 #[cycle(expressions)]
-#[tactic(auto, unfolding(crate::specs::ReadingFilters::and_at))]
+#[tactic(auto, unfolding(crate::specs::ReadingFilters::and_at, crate::specs::ReadingFilters::basics_at, crate::specs::Reading::list_at))]
 fn and_expr(alloc: Global, text: &[char], level: u8) -> Result<(Expr, &[char]), ParseFault>
     ensures { Gives (λ x. (expr_view x.0, x.1.now)) result (and_at (condition_in level) (arguments_in level) text.now) }
 {
-    let (first, others, rest) = basics(alloc, text, level)?;
+    let (first, rest) = basic(alloc, text, level)?;
+    let (others, rest) = other_basics(alloc, rest, level, text.len())?;
     Ok((join_each(first, others)?, rest))
 }
 
 #[cycle(expressions)]
-fn and_exprs(
+fn other_and_exprs(
     alloc: Global,
     text: &[char],
     level: u8,
-) -> Result<(Expr, Vec<Expr>, &[char]), ParseFault>
-    ensures { Gives (λ x. (expr_view x.0 ∷ map expr_view x.1.items, x.2.now)) result (ands_at (condition_in level) (arguments_in level) text.now) }
+    limit: usize,
+) -> Result<(Vec<Expr>, &[char]), ParseFault>
+    ensures { Gives (λ x. (map expr_view x.0.items, x.1.now)) result (repeat_at (next_operand 0x7C) (and_at (condition_in level) (arguments_in level)) limit text.now) }
 {
-    let (first, after_first) = and_expr(alloc, text, level)?;
     let mut others = Vec::new(alloc);
-    let mut rest = after_first;
-    for _ in 0..text.len() {
+    let mut rest = text;
+    for _ in 0..limit {
         let Some(next) = next_operand(rest, '|') else {
-            return Ok((first, others, rest));
+            return Ok((others, rest));
         };
         let (item, after) = and_expr(alloc, next, level)?;
         others.push(item)?;
         rest = after;
     }
-    Ok((first, others, rest))
+    Ok((others, rest))
 }
 
 #[cycle(expressions)]
-#[tactic(auto, unfolding(crate::specs::ReadingFilters::or_at))]
+#[tactic(auto, unfolding(crate::specs::ReadingFilters::or_at, crate::specs::ReadingFilters::ands_at, crate::specs::Reading::list_at))]
 fn or_expr(alloc: Global, text: &[char], level: u8) -> Result<(Expr, &[char]), ParseFault>
     ensures { Gives (λ x. (expr_view x.0, x.1.now)) result (or_at (condition_in level) (arguments_in level) text.now) }
 {
-    let (first, others, rest) = and_exprs(alloc, text, level)?;
+    let (first, rest) = and_expr(alloc, text, level)?;
+    let (others, rest) = other_and_exprs(alloc, rest, level, text.len())?;
     Ok((join_any(first, others)?, rest))
 }
 
@@ -534,24 +523,4 @@ fn some_arguments(
         rest = after;
     }
     Ok((out, rest))
-}
-
-// What stands before the parenthesis that closes.
-#[cycle(expressions)]
-#[tactic(auto, unfolding(crate::specs::ReadingFilters::arguments_at))]
-fn argument_list(
-    alloc: Global,
-    text: &[char],
-    level: u8,
-) -> Result<(Vec<Argument>, &[char]), ParseFault>
-    ensures { Gives (λ x. (map argument_view x.0.items, x.1.now)) result (arguments_at (condition_in level) (arguments_in level) text.now) }
-{
-    let [c, ..] = text else {
-        return Err(ParseFault::NotWellFormed);
-    };
-    if *c == ')' {
-        Ok((Vec::new(alloc), text))
-    } else {
-        some_arguments(alloc, text, level)
-    }
 }

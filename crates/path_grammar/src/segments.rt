@@ -1,8 +1,8 @@
 //! Reads the parts of selectors and segments that hold no filter.
 
-ghost use Rattle.std.specs.Prelude.{◌≡◌, option_map};
+ghost use Rattle.std.specs.Prelude.{◌≡◌, map, option_map};
 ghost use Rattle.path_grammar.specs.Reading.{Gives};
-ghost use Rattle.path_grammar.specs.ReadingSegments.{step_at, slice_at, index_at, name_at, next_selector, dotted_at, dots_at, opening_at, next_segment};
+ghost use Rattle.path_grammar.specs.ReadingSegments.{step_at, slice_at, index_at, name_at, next_selector, dotted_at, dotted_selectors_at, dots_at, opening_at, next_segment};
 ghost use Rattle.path_grammar.specs.View.{selector_view};
 
 use crate::ast::{IntLit, Selector};
@@ -64,7 +64,7 @@ pub fn next_selector(text: &[char]) -> Option<&[char]>
 }
 
 #[tactic(auto, unfolding(crate::specs::ReadingSegments::dotted_at))]
-pub fn dotted(alloc: Global, text: &[char]) -> Result<(Selector, &[char]), ParseFault>
+fn dotted(alloc: Global, text: &[char]) -> Result<(Selector, &[char]), ParseFault>
     ensures { Gives (λ x. (selector_view x.0, x.1.now)) result (dotted_at text.now) }
 {
     match text {
@@ -76,6 +76,19 @@ pub fn dotted(alloc: Global, text: &[char]) -> Result<(Selector, &[char]), Parse
         }
         _ => Err(ParseFault::NotWellFormed),
     }
+}
+
+// The one selector of a segment without brackets.
+pub fn dotted_selectors(
+    alloc: Global,
+    text: &[char],
+) -> Result<(Vec<Selector>, &[char]), ParseFault>
+    ensures { Gives (λ x. (map selector_view x.0.items, x.1.now)) result (dotted_selectors_at text.now) }
+{
+    let (selector, rest) = dotted(alloc, text)?;
+    let mut selectors = Vec::new(alloc);
+    selectors.push(selector)?;
+    Ok((selectors, rest))
 }
 
 #[tactic(auto, unfolding(crate::specs::ReadingSegments::dots_at))]

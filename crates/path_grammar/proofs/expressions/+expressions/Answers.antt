@@ -4,7 +4,7 @@ use Rattle.std.proofs.lemmas.List.{map_push}
 use Rattle.path_grammar.specs.Reading.{repeat_at}
 use Rattle.path_grammar.specs.View.{selector_view, segment_view, expr_view, argument_view}
 use Rattle.path_grammar.specs.ReadingSegments.{next_selector, selector_at, selectors_at, next_segment, segment_at, segments_at}
-use Rattle.path_grammar.specs.ReadingFilters.{next_operand, next_argument, basic_at, basics_at, and_at, ands_at, argument_at, some_arguments_at, condition_in, arguments_in}
+use Rattle.path_grammar.specs.ReadingFilters.{next_operand, next_argument, basic_at, and_at, argument_at, some_arguments_at, condition_in, arguments_in}
 use Rattle.path_grammar.proofs.Repeat.{goes_on, fails, stops, is_done, front_nil, first_read, first_fails}
 use Rattle.path_grammar.proofs.expressions.+expressions.Goals as goal
 
@@ -61,65 +61,49 @@ segments-loop-preserved t c =
 pub segments-returns : goal.segments-returns
 segments-returns t c = is_done next_segment (segment_at (condition_in c.args.level)) (map segment_view c.loop.out.items) (length c.args.text.now) c.loop.counter c.loop.rest.now (segments_at (condition_in c.args.level) c.args.text.now) c.loop.invariant c.loop-test.false
 
-pub basics-returns-in_err-first : goal.basics-returns-in_err-first
-unfolding basics_at
-basics-returns-in_err-first t c =
+pub other_basics-loop-init : goal.other_basics-loop-init
+other_basics-loop-init t c =
+    let z : c.args.limit - 0 ≡ c.args.limit = omega arith in
+    rw (c.new-others.ensures.items, z) (front_nil (repeat_at (next_operand 0x26) (basic_at (condition_in c.args.level) (arguments_in c.args.level)) c.args.limit c.args.text.now))
+
+pub other_basics-returns-in_default : goal.other_basics-returns-in_default
+other_basics-returns-in_default t c = stops (next_operand 0x26) (basic_at (condition_in c.args.level) (arguments_in c.args.level)) (map expr_view c.loop.others.items) c.args.limit c.loop.counter c.loop.rest.now (repeat_at (next_operand 0x26) (basic_at (condition_in c.args.level) (arguments_in c.args.level)) c.args.limit c.args.text.now) c.loop.invariant c.loop-test.true (sym c.in_default.ensures)
+
+pub other_basics-returns-in_err-item : goal.other_basics-returns-in_err-item
+other_basics-returns-in_err-item t c =
     let p = err_from_is_err_and c.from_residual.result c.from_residual.ensures.1 in
-    rw (p.1, p.2) (first_fails (next_operand 0x26) (basic_at (condition_in c.args.level) (arguments_in c.args.level)) c.args.text.now c.in_err-first.field-0.0 c.in_err-first.ensures)
+    rw (p.1, p.2) (fails (next_operand 0x26) (basic_at (condition_in c.args.level) (arguments_in c.args.level)) (map expr_view c.loop.others.items) c.args.limit c.loop.counter c.loop.rest.now (repeat_at (next_operand 0x26) (basic_at (condition_in c.args.level) (arguments_in c.args.level)) c.args.limit c.args.text.now) c.loop.invariant c.in_err-item.field-0.0 c.in-Some.next.now c.loop-test.true (sym c.in-Some.ensures) c.in_err-item.ensures)
 
-pub basics-loop-init : goal.basics-loop-init
-unfolding basics_at
-basics-loop-init t c =
-    let e : map expr_view c.new-others.result.items ≡ [] = rw c.new-others.ensures.items refl in
-    let z : length c.args.text.now - 0 ≡ length c.args.text.now = omega arith in
-    rw (e, z) (first_read (next_operand 0x26) (basic_at (condition_in c.args.level) (arguments_in c.args.level)) c.args.text.now c.in_ok-first.after_first.now (expr_view c.in_ok-first.first) c.in_ok-first.ensures)
-
-pub basics-returns-in_default : goal.basics-returns-in_default
-basics-returns-in_default t c = stops (next_operand 0x26) (basic_at (condition_in c.args.level) (arguments_in c.args.level)) (expr_view c.loop.first-1 ∷ map expr_view c.loop.others.items) (length c.args.text.now) c.loop.counter c.loop.rest.now (basics_at (condition_in c.args.level) (arguments_in c.args.level) c.args.text.now) c.loop.invariant c.loop-test.true (sym c.in_default.ensures)
-
-pub basics-returns-in_err-item : goal.basics-returns-in_err-item
-basics-returns-in_err-item t c =
-    let p = err_from_is_err_and c.from_residual-in_err-item.result c.from_residual-in_err-item.ensures.1 in
-    rw (p.1, p.2) (fails (next_operand 0x26) (basic_at (condition_in c.args.level) (arguments_in c.args.level)) (expr_view c.loop.first-1 ∷ map expr_view c.loop.others.items) (length c.args.text.now) c.loop.counter c.loop.rest.now (basics_at (condition_in c.args.level) (arguments_in c.args.level) c.args.text.now) c.loop.invariant c.in_err-item.field-0.0 c.in-Some.next.now c.loop-test.true (sym c.in-Some.ensures) c.in_err-item.ensures)
-
-pub basics-loop-preserved : goal.basics-loop-preserved
-basics-loop-preserved t c =
+pub other_basics-loop-preserved : goal.other_basics-loop-preserved
+other_basics-loop-preserved t c =
     let s = expr_view c.in_ok-item.item in
     let e : map expr_view c.push.new.self.items ≡ map expr_view c.loop.others.items ++ s ∷ [] = rw c.in_ok-push.ensures.items (map_push _ c.loop.others.items c.in_ok-item.item) in
-    rw e (goes_on (next_operand 0x26) (basic_at (condition_in c.args.level) (arguments_in c.args.level)) (expr_view c.loop.first-1 ∷ map expr_view c.loop.others.items) (length c.args.text.now) c.loop.counter c.loop.rest.now (basics_at (condition_in c.args.level) (arguments_in c.args.level) c.args.text.now) c.loop.invariant c.in-Some.next.now c.in_ok-item.after.now s c.loop-test.true (sym c.in-Some.ensures) c.in_ok-item.ensures)
+    rw e (goes_on (next_operand 0x26) (basic_at (condition_in c.args.level) (arguments_in c.args.level)) (map expr_view c.loop.others.items) c.args.limit c.loop.counter c.loop.rest.now (repeat_at (next_operand 0x26) (basic_at (condition_in c.args.level) (arguments_in c.args.level)) c.args.limit c.args.text.now) c.loop.invariant c.in-Some.next.now c.in_ok-item.after.now s c.loop-test.true (sym c.in-Some.ensures) c.in_ok-item.ensures)
 
-pub basics-returns : goal.basics-returns
-basics-returns t c = is_done (next_operand 0x26) (basic_at (condition_in c.args.level) (arguments_in c.args.level)) (expr_view c.loop.first-1 ∷ map expr_view c.loop.others.items) (length c.args.text.now) c.loop.counter c.loop.rest.now (basics_at (condition_in c.args.level) (arguments_in c.args.level) c.args.text.now) c.loop.invariant c.loop-test.false
+pub other_basics-returns : goal.other_basics-returns
+other_basics-returns t c = is_done (next_operand 0x26) (basic_at (condition_in c.args.level) (arguments_in c.args.level)) (map expr_view c.loop.others.items) c.args.limit c.loop.counter c.loop.rest.now (repeat_at (next_operand 0x26) (basic_at (condition_in c.args.level) (arguments_in c.args.level)) c.args.limit c.args.text.now) c.loop.invariant c.loop-test.false
 
-pub and_exprs-returns-in_err-first : goal.and_exprs-returns-in_err-first
-unfolding ands_at
-and_exprs-returns-in_err-first t c =
+pub other_and_exprs-loop-init : goal.other_and_exprs-loop-init
+other_and_exprs-loop-init t c =
+    let z : c.args.limit - 0 ≡ c.args.limit = omega arith in
+    rw (c.new-others.ensures.items, z) (front_nil (repeat_at (next_operand 0x7C) (and_at (condition_in c.args.level) (arguments_in c.args.level)) c.args.limit c.args.text.now))
+
+pub other_and_exprs-returns-in_default : goal.other_and_exprs-returns-in_default
+other_and_exprs-returns-in_default t c = stops (next_operand 0x7C) (and_at (condition_in c.args.level) (arguments_in c.args.level)) (map expr_view c.loop.others.items) c.args.limit c.loop.counter c.loop.rest.now (repeat_at (next_operand 0x7C) (and_at (condition_in c.args.level) (arguments_in c.args.level)) c.args.limit c.args.text.now) c.loop.invariant c.loop-test.true (sym c.in_default.ensures)
+
+pub other_and_exprs-returns-in_err-item : goal.other_and_exprs-returns-in_err-item
+other_and_exprs-returns-in_err-item t c =
     let p = err_from_is_err_and c.from_residual.result c.from_residual.ensures.1 in
-    rw (p.1, p.2) (first_fails (next_operand 0x7C) (and_at (condition_in c.args.level) (arguments_in c.args.level)) c.args.text.now c.in_err-first.field-0.0 c.in_err-first.ensures)
+    rw (p.1, p.2) (fails (next_operand 0x7C) (and_at (condition_in c.args.level) (arguments_in c.args.level)) (map expr_view c.loop.others.items) c.args.limit c.loop.counter c.loop.rest.now (repeat_at (next_operand 0x7C) (and_at (condition_in c.args.level) (arguments_in c.args.level)) c.args.limit c.args.text.now) c.loop.invariant c.in_err-item.field-0.0 c.in-Some.next.now c.loop-test.true (sym c.in-Some.ensures) c.in_err-item.ensures)
 
-pub and_exprs-loop-init : goal.and_exprs-loop-init
-unfolding ands_at
-and_exprs-loop-init t c =
-    let e : map expr_view c.new-others.result.items ≡ [] = rw c.new-others.ensures.items refl in
-    let z : length c.args.text.now - 0 ≡ length c.args.text.now = omega arith in
-    rw (e, z) (first_read (next_operand 0x7C) (and_at (condition_in c.args.level) (arguments_in c.args.level)) c.args.text.now c.in_ok-first.after_first.now (expr_view c.in_ok-first.first) c.in_ok-first.ensures)
-
-pub and_exprs-returns-in_default : goal.and_exprs-returns-in_default
-and_exprs-returns-in_default t c = stops (next_operand 0x7C) (and_at (condition_in c.args.level) (arguments_in c.args.level)) (expr_view c.loop.first-1 ∷ map expr_view c.loop.others.items) (length c.args.text.now) c.loop.counter c.loop.rest.now (ands_at (condition_in c.args.level) (arguments_in c.args.level) c.args.text.now) c.loop.invariant c.loop-test.true (sym c.in_default.ensures)
-
-pub and_exprs-returns-in_err-item : goal.and_exprs-returns-in_err-item
-and_exprs-returns-in_err-item t c =
-    let p = err_from_is_err_and c.from_residual-in_err-item.result c.from_residual-in_err-item.ensures.1 in
-    rw (p.1, p.2) (fails (next_operand 0x7C) (and_at (condition_in c.args.level) (arguments_in c.args.level)) (expr_view c.loop.first-1 ∷ map expr_view c.loop.others.items) (length c.args.text.now) c.loop.counter c.loop.rest.now (ands_at (condition_in c.args.level) (arguments_in c.args.level) c.args.text.now) c.loop.invariant c.in_err-item.field-0.0 c.in-Some.next.now c.loop-test.true (sym c.in-Some.ensures) c.in_err-item.ensures)
-
-pub and_exprs-loop-preserved : goal.and_exprs-loop-preserved
-and_exprs-loop-preserved t c =
+pub other_and_exprs-loop-preserved : goal.other_and_exprs-loop-preserved
+other_and_exprs-loop-preserved t c =
     let s = expr_view c.in_ok-item.item in
     let e : map expr_view c.push.new.self.items ≡ map expr_view c.loop.others.items ++ s ∷ [] = rw c.in_ok-push.ensures.items (map_push _ c.loop.others.items c.in_ok-item.item) in
-    rw e (goes_on (next_operand 0x7C) (and_at (condition_in c.args.level) (arguments_in c.args.level)) (expr_view c.loop.first-1 ∷ map expr_view c.loop.others.items) (length c.args.text.now) c.loop.counter c.loop.rest.now (ands_at (condition_in c.args.level) (arguments_in c.args.level) c.args.text.now) c.loop.invariant c.in-Some.next.now c.in_ok-item.after.now s c.loop-test.true (sym c.in-Some.ensures) c.in_ok-item.ensures)
+    rw e (goes_on (next_operand 0x7C) (and_at (condition_in c.args.level) (arguments_in c.args.level)) (map expr_view c.loop.others.items) c.args.limit c.loop.counter c.loop.rest.now (repeat_at (next_operand 0x7C) (and_at (condition_in c.args.level) (arguments_in c.args.level)) c.args.limit c.args.text.now) c.loop.invariant c.in-Some.next.now c.in_ok-item.after.now s c.loop-test.true (sym c.in-Some.ensures) c.in_ok-item.ensures)
 
-pub and_exprs-returns : goal.and_exprs-returns
-and_exprs-returns t c = is_done (next_operand 0x7C) (and_at (condition_in c.args.level) (arguments_in c.args.level)) (expr_view c.loop.first-1 ∷ map expr_view c.loop.others.items) (length c.args.text.now) c.loop.counter c.loop.rest.now (ands_at (condition_in c.args.level) (arguments_in c.args.level) c.args.text.now) c.loop.invariant c.loop-test.false
+pub other_and_exprs-returns : goal.other_and_exprs-returns
+other_and_exprs-returns t c = is_done (next_operand 0x7C) (and_at (condition_in c.args.level) (arguments_in c.args.level)) (map expr_view c.loop.others.items) c.args.limit c.loop.counter c.loop.rest.now (repeat_at (next_operand 0x7C) (and_at (condition_in c.args.level) (arguments_in c.args.level)) c.args.limit c.args.text.now) c.loop.invariant c.loop-test.false
 
 pub some_arguments-returns-in_err-first : goal.some_arguments-returns-in_err-first
 unfolding some_arguments_at
