@@ -1,15 +1,14 @@
 -- One tenant's replies depend on its own requests alone.
-use Rattle.std.specs.Prelude.{◌≡◌, ◌⊎◌, ℕ, List, [], ◌∷◌, ◌++◌, length, Option, Some, None, Bool, true, false, not, ◌&&◌, nat_le, nat_lt, refl, IsTrue}
+use Rattle.std.specs.Prelude.{◌≡◌, ◌⊎◌, ℕ, List, [], ◌∷◌, ◌++◌, length, Option, Some, None, Bool, true, false, not, ◌&&◌, nat_le, nat_lt, refl}
 use Rattle.std.proofs.Common.{sym, ap, ◌∙◌, subst, cond, inl, inr, arith}
 use Rattle.std.specs.Bool.{MatchBool}
 use Rattle.std.proofs.lemmas.Slice.Eq.{bytes_eq-Decides}
 use Rattle.std.proofs.lemmas.Bool.Decides.{nat_tests}
 use Rattle.tenant_store.specs.Maps.{Map}
 use Rattle.tenant_store.specs.Tenancy.{Tenancy}
-use Rattle.wire_frames.specs.Requests.{key_of, number_of, reading}
-use Rattle.wire_frames.specs.Replies.{reply}
+use Rattle.wire_frames.specs.Requests.{key_of}
 use Rattle.path_hub.specs.Answers.{Answers, Alone, is_no_memory}
-use Rattle.path_hub.specs.Tenants.{map_of, with_map_of, Step, ServesBody, ServesBy, BodyMayWant, short_number, is_short}
+use Rattle.path_hub.specs.Tenants.{map_of, with_map_of, ServesBody, ServesBy, BodyMayWant, is_short}
 use Rattle.path_hub.specs.Items.{Item}
 use Rattle.path_hub.specs.Runs.{Told, StepItem, Run, same, is_own, own_requests, own_replies, body_in}
 use Rattle.path_hub.proofs.Keys.{map_of-with_same, map_of-with_other}

@@ -1,5 +1,5 @@
 -- The calls of the hub on one connection.
-use Rattle.std.proofs.Common.{◌≡◌, ◌<◌, ℕ, Bool, true, false, List, [], ◌++◌, sym, ap, ◌∙◌, subst, refl, Option, Some, None, cond, Ok, Err, Result}
+use Rattle.std.proofs.Common.{◌≡◌, ◌<◌, ℕ, Bool, true, false, List, sym, ap, ◌∙◌, subst, refl, Option, Some, None, cond, Ok, Err, Result}
 use Rattle.std.specs.Prelude.{OnErr, IfOk}
 use Rattle.std.specs.Bool.{MatchBool}
 use Rattle.std.specs.Map.{set_value}

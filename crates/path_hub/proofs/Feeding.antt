@@ -1,24 +1,24 @@
 -- An event on a connection.
-use Rattle.std.proofs.Common.{◌≡◌, ◌≢◌, ℕ, Bool, true, false, List, [], ◌∷◌, ◌++◌, length, map, sym, ap, ◌∙◌, subst, refl, Option, Some, None, cond, eqb, arith}
+use Rattle.std.proofs.Common.{◌≡◌, ℕ, Bool, true, false, List, [], ◌∷◌, ◌++◌, map, sym, ap, ◌∙◌, subst, refl, Option, Some, None, cond, eqb, arith}
 use Rattle.std.proofs.lemmas.List.{append-nil, map-append}
 use Rattle.std.proofs.lemmas.Bool.{false≢true}
-use Rattle.std.proofs.lemmas.Bool.Decides.{nat_tests, Decides-eqb}
-use Rattle.std.specs.Ordering.{nat_cmp, is_eq}
+use Rattle.std.proofs.lemmas.Bool.Decides.{nat_tests}
+use Rattle.std.specs.Ordering.{nat_cmp}
 use Rattle.std.specs.Option.{option_map}
 use Rattle.std.specs.Map.{lookup, set_value}
 use Rattle.std.specs.BTreeMap.{is_at}
-use Rattle.wire_frames.specs.Frames.{rest, is_broken, split, Split, front, is_fault}
+use Rattle.wire_frames.specs.Frames.{is_broken, split, Split, front, is_fault}
 use Rattle.wire_frames.specs.Splitting.{Splitting}
 use Rattle.wire_frames.specs.Framing.{Framing, with_piece}
 use Rattle.path_hub.specs.declared.event.Event.{Event}
 use Rattle.path_hub.specs.declared.event.Reply.{Reply}
 use Rattle.tenant_store.specs.Tenancy.{Tenancy}
-use Rattle.path_hub.specs.Items.{Item, Streams, items_of, new_bodies, opened}
+use Rattle.path_hub.specs.Items.{Streams, items_of, opened}
 use Rattle.path_hub.specs.Runs.{Run}
 use Rattle.path_hub.specs.Pending.{IsSound, pending, item, told, AnswersSome}
 use Rattle.path_hub.specs.HubState.{HubState, state}
 use Rattle.path_hub.specs.declared.event.Event.TheVariants.{Connect}
-use Rattle.path_hub.specs.Sessions.{Applies, Sessions, session, Settled, AgreeAt, Agree, Replies, RepliesToSome, Feeds, FeedsSome, after_piece, Sets, opened_session}
+use Rattle.path_hub.specs.Sessions.{Applies, Sessions, session, Settled, AgreeAt, Agree, Replies, Feeds, FeedsSome, Sets, opened_session}
 use Rattle.path_hub.proofs.Settling.{new_closed, settled_closed, pending_piece, settled_piece}
 
 pub same_test : (c q : ℕ) → is_at (nat_cmp c) q ≡ eqb q c

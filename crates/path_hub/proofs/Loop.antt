@@ -1,13 +1,12 @@
 -- Answering what is pending, one step after another.
 use Rattle.std.proofs.Common.{◌≡◌, ◌⊎◌, ℕ, ◌<◌, ◌+◌, Bool, true, false, List, [], ◌∷◌, ◌++◌, length, map, sym, ap, ◌∙◌, subst, refl, Option, Some, None, cond, inl, inr, arith}
 use Rattle.std.proofs.lemmas.List.{append-nil, append_assoc, map_push, flat_map_more}
-use Rattle.wire_frames.specs.Frames.{Front, Whole, Wait, Fault, front, Split, split, frames, rest, is_broken, is_fault}
+use Rattle.wire_frames.specs.Frames.{Whole, Wait, Fault, front, Split, split, rest, is_fault}
 use Rattle.wire_frames.specs.Splitting.{Splitting}
 use Rattle.wire_frames.specs.Framing.{Framing}
 use Rattle.tenant_store.specs.Tenancy.{Tenancy}
 use Rattle.path_hub.specs.declared.event.Reply.{Reply}
-use Rattle.path_hub.specs.Items.{Item}
-use Rattle.path_hub.specs.Runs.{Told, StepItem, Run}
+use Rattle.path_hub.specs.Runs.{StepItem, Run}
 use Rattle.path_hub.proofs.Alone.{run-append}
 use Rattle.path_hub.specs.Into.{AnswersInto, sent}
 use Rattle.path_hub.specs.Pending.{bodies_in, pending, IsSound, Takes, Answered, IsIdle, item, told, AnswersSome}

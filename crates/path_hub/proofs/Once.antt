@@ -1,5 +1,5 @@
 -- The definitions give one answer.
-use Rattle.std.proofs.Common.{◌≡◌, ◌≢◌, ◌⊎◌, ℕ, ◌<◌, ◌≤◌, nat_lt, arith, cond, eqb, Bool, true, false, List, [], ◌∷◌, ◌++◌, map, sym, ap, ◌∙◌, subst, refl, Option, Some, None, inl, inr}
+use Rattle.std.proofs.Common.{◌≡◌, ◌≢◌, ◌⊎◌, ℕ, arith, Bool, true, false, List, [], ◌∷◌, ◌++◌, map, sym, ap, ◌∙◌, subst, refl, Option, Some, None, inl, inr}
 use Rattle.std.specs.Bool.{MatchBool}
 use Rattle.std.proofs.lemmas.List.{append-nil}
 use Rattle.path_grammar.specs.Tree.{Segments}
@@ -18,17 +18,17 @@ use Rattle.tenant_store.specs.Payloads.{AnswersQuery, RefusesQuery}
 use Rattle.tenant_store.specs.Tenancy.{Tenancy}
 use Rattle.wire_frames.specs.Requests.{Asked, Put, Get, Remove, ListNames, Query, DropCollection, Usage, Reading, Short, BadCommand, BadFields, Asks, reading, key_of}
 use Rattle.wire_frames.specs.Replies.{reply}
-use Rattle.path_hub.specs.Answers.{Does, Refuses, Finds, RefusesText, RefusesHits, IsMissing, query_status, HasStatus, IsAnswer, Answers, AnswersReading, Alone, is_no_memory}
-use Rattle.path_hub.specs.Tenants.{map_of, with_map_of, Step, ServesBody, ServesBy, BodyMayWant, is_short, short_number}
+use Rattle.path_hub.specs.Answers.{Does, Refuses, Finds, RefusesText, RefusesHits, IsMissing, query_status, HasStatus, IsAnswer, AnswersReading, Alone, is_no_memory}
+use Rattle.path_hub.specs.Tenants.{map_of, with_map_of, ServesBy, is_short, short_number}
 use Rattle.path_hub.specs.Items.{Item}
 use Rattle.path_hub.specs.Runs.{Run, StepItem}
 use Rattle.path_hub.specs.Into.{sent, joined}
-use Rattle.path_hub.specs.Laws.{IsPlain, IsReplied, ServedBytes, ServedOnce}
+use Rattle.path_hub.specs.Laws.{IsPlain, IsReplied}
 use Rattle.path_hub.specs.declared.wire.ConnEnd.TheVariants.{Done}
 use Rattle.path_hub.specs.HubState.{HubState}
 use Rattle.path_hub.specs.Wires.{Move, Meaning, Traffic, Moved, read_in, written_in}
 use Rattle.path_hub.specs.Serving.{ServesConnection, Ends, items_in}
-use Rattle.path_hub.proofs.Alone.{at_true, at_false}
+use Rattle.path_hub.proofs.Alone.{at_false}
 use Rattle.std.proofs.lemmas.Bool.{false≢true}
 
 -- the laws of the store and of the grammar: each put and each query has one answer, and a query's text one tree

@@ -1,13 +1,11 @@
 -- A piece at an open session.
-use Rattle.std.proofs.Common.{◌≡◌, ◌≢◌, ℕ, Bool, true, false, List, [], ◌∷◌, ◌++◌, length, map, sym, ap, ◌∙◌, subst, refl, Option, Some, None, cond, not, eqb, Ok, Err, Result, is_err}
+use Rattle.std.proofs.Common.{◌≡◌, ◌≢◌, ℕ, Bool, true, false, List, [], ◌∷◌, ◌++◌, map, sym, ap, ◌∙◌, refl, Option, Some, None, cond, eqb, Ok, Err, Result, is_err}
 use Rattle.std.proofs.lemmas.List.{append-nil, append_assoc, map-append}
 use Rattle.std.proofs.lemmas.Bool.{false≢true}
-use Rattle.std.specs.Ordering.{nat_cmp}
-use Rattle.std.specs.BTreeMap.{is_at}
-use Rattle.wire_frames.specs.Frames.{Front, Split, front, split, frames, rest, is_broken, is_fault}
+use Rattle.wire_frames.specs.Frames.{Split, front, frames, rest, is_broken, is_fault}
 use Rattle.wire_frames.specs.Framing.{Framing, with_piece}
 use Rattle.wire_frames.specs.Splitting.{Splitting}
-use Rattle.path_hub.specs.Items.{Item, items_of, new_bodies}
+use Rattle.path_hub.specs.Items.{new_bodies}
 use Rattle.path_hub.specs.Runs.{Run}
 use Rattle.path_hub.specs.Pending.{IsSound, pending, bodies_in, item}
 use Rattle.path_hub.specs.Into.{joined, sent, TakesPiece, Bytes}

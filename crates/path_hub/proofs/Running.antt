@@ -1,20 +1,17 @@
 -- A run, event by event.
-use Rattle.std.proofs.Common.{◌≡◌, ◌≢◌, ℕ, ◌<◌, ◌≤◌, ◌+◌, Bool, true, false, List, [], ◌∷◌, ◌++◌, length, map, take, drop, get_or, sym, ap, ◌∙◌, subst, refl, Option, Some, None, cond, zero, suc, arith}
-use Rattle.std.specs.Prelude.{Contains}
+use Rattle.std.proofs.Common.{◌≡◌, ℕ, ◌<◌, ◌≤◌, ◌+◌, List, [], ◌∷◌, ◌++◌, length, map, take, drop, get_or, sym, ap, ◌∙◌, subst, refl, None}
 use Rattle.std.proofs.lemmas.List.{append-nil, append_assoc, map-append, take_more, drop_more, take_all, take-append-drop}
-use Rattle.std.proofs.lemmas.Slice.Eq.{bytes_eq-Decides}
-use Rattle.wire_frames.specs.Framing.{Framing}
 use Rattle.path_hub.specs.declared.event.Event.{Event}
 use Rattle.path_hub.specs.declared.event.Reply.{Reply}
 use Rattle.tenant_store.specs.Tenancy.{Tenancy}
 use Rattle.path_hub.specs.Items.{Item, Streams, after_event, items_at, items_from, streams_after, no_streams, items}
-use Rattle.path_hub.specs.Runs.{Told, Run}
+use Rattle.path_hub.specs.Runs.{Run}
 use Rattle.path_hub.proofs.Alone.{run-append, private_from_run}
 use Rattle.path_hub.specs.Tenants.{fresh}
 use Rattle.path_hub.proofs.Keys.{map_of-fresh}
 use Rattle.path_hub.specs.Pending.{told}
-use Rattle.path_hub.specs.Sessions.{Sessions, session, Agree, AgreeAt, Replies, RepliesToSome, Applies, AppliesSome}
-use Rattle.path_hub.specs.Headline.{IsPrivate, Replied, RepliedToSome}
+use Rattle.path_hub.specs.Sessions.{Sessions, session, Agree, AgreeAt, Replies, Applies, AppliesSome}
+use Rattle.path_hub.specs.Headline.{Replied, RepliedToSome}
 
 items-append : (s : Streams) (es fs : List Event) → items_from s (es ++ fs) ≡ items_from s es ++ items_from (streams_after s es) fs
 items-append s [] fs = refl

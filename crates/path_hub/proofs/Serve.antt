@@ -1,9 +1,9 @@
 -- Serving a connection, turn by turn.
-use Rattle.std.proofs.Common.{◌≡◌, ◌≢◌, ℕ, ◌+◌, ◌<◌, ◌≤◌, Bool, true, false, List, [], ◌∷◌, ◌++◌, length, map, sym, ap, ◌∙◌, subst, refl, Option, Some, None, arith, Ok, Err, Result, cond, is_err}
+use Rattle.std.proofs.Common.{◌≡◌, ◌≢◌, ℕ, ◌+◌, ◌<◌, ◌≤◌, Bool, true, false, List, [], ◌∷◌, ◌++◌, length, map, sym, ap, ◌∙◌, subst, refl, Some, None, arith, Ok, Err, Result, cond, is_err}
 use Rattle.std.specs.Option.{option_map_or}
 use Rattle.std.proofs.lemmas.List.{append-nil, append_assoc, map-append}
 use Rattle.std.proofs.lemmas.Bool.{false≢true}
-use Rattle.wire_frames.specs.Frames.{is_broken, is_fault, front, rest, Split}
+use Rattle.wire_frames.specs.Frames.{is_broken, is_fault, front, Split}
 use Rattle.wire_frames.specs.Framing.{Framing, fresh}
 use Rattle.wire_frames.specs.Splitting.{Splitting}
 use Rattle.path_hub.specs.Items.{Item}

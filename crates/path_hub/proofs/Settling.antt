@@ -1,14 +1,14 @@
 -- A piece that comes to a connection.
-use Rattle.std.proofs.Common.{◌≡◌, ◌⊎◌, ℕ, Bool, true, false, List, [], ◌∷◌, ◌++◌, length, map, drop, sym, ap, ◌∙◌, subst, refl, Option, Some, None, cond, not, ◌&&◌}
-use Rattle.std.proofs.lemmas.List.{drop_at, drop_all}
+use Rattle.std.proofs.Common.{◌≡◌, ℕ, Bool, true, false, List, [], ◌∷◌, ◌++◌, length, map, drop, sym, ap, ◌∙◌, refl, Some, None, cond, not, ◌&&◌}
+use Rattle.std.proofs.lemmas.List.{drop_at}
 use Rattle.std.proofs.lemmas.Bool.{false≢true}
-use Rattle.wire_frames.specs.Frames.{Front, Whole, Wait, Fault, front, Split, split, frames, rest, is_broken, is_fault}
+use Rattle.wire_frames.specs.Frames.{Front, Whole, Wait, Fault, front, Split, frames, rest, is_broken, is_fault}
 use Rattle.wire_frames.specs.Splitting.{Splitting}
 use Rattle.wire_frames.specs.Framing.{Framing}
 use Rattle.path_hub.specs.Items.{new_bodies}
 use Rattle.path_hub.specs.Pending.{bodies_in, pending, IsSound}
 use Rattle.path_hub.specs.Sessions.{Settled}
-use Rattle.path_hub.proofs.Loop.{pending_open, pending_closed, bodies_whole, bodies_fault}
+use Rattle.path_hub.proofs.Loop.{pending_open, bodies_whole, bodies_fault}
 
 fault_is : (f : Front) → is_fault f ≡ true → f ≡ Fault
 fault_is (Whole b m) h = absurd (false≢true h)

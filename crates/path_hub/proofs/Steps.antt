@@ -1,11 +1,10 @@
 -- How a step is made.
-use Rattle.std.proofs.Common.{◌≡◌, ◌≢◌, ◌⊎◌, ℕ, ◌<◌, ◌+◌, Bool, true, false, eqb, List, [], ◌∷◌, ◌++◌, length, sym, ap, ◌∙◌, subst, refl, Option, Some, None, cond, take, drop, get_or, set, arith, nat_lt, not, ◌&&◌, inl, inr, Ok, Err}
-use Rattle.std.specs.Prelude.{IsTrue, Result}
+use Rattle.std.proofs.Common.{◌≡◌, ◌≢◌, ℕ, ◌<◌, ◌+◌, Bool, true, false, eqb, List, [], ◌∷◌, ◌++◌, length, sym, ap, ◌∙◌, subst, refl, Option, Some, None, cond, take, drop, get_or, arith, nat_lt, not, ◌&&◌, inl, inr}
 use Rattle.std.specs.Bool.{MatchBool}
 use Rattle.tenant_store.specs.declared.faults.StoreFault.{StoreFault}
 use Rattle.tenant_store.specs.declared.faults.StoreFault.TheVariants as f
 use Rattle.tenant_store.specs.Statuses.{status_of}
-use Rattle.tenant_store.specs.Maps.{Map, text_at, documents_of}
+use Rattle.tenant_store.specs.Maps.{Map, documents_of}
 use Rattle.tenant_store.specs.Answers.{RefusesPut, missing}
 use Rattle.tenant_store.specs.Payloads.{Text, query_fault, payload_limit, found_in, RefusesQuery, IsFault}
 use Rattle.tenant_store.specs.Tenancy.{Tenancy, place_in, with_map}
@@ -16,16 +15,16 @@ use Rattle.path_grammar.specs.Tree.{Segments}
 use Rattle.path_types.specs.Verdict.{RefusesQueryText}
 use Rattle.path_types.specs.declared.query_text.QueryFault.{QueryFault}
 use Rattle.path_types.specs.declared.query_text.QueryFault.TheVariants as q
-use Rattle.wire_frames.specs.Requests.{Reading, Short, BadCommand, BadFields, Asks, Asked, Put, Get, Query, reading, with_fields, asked_at, fields_of, number_of, key_of}
+use Rattle.wire_frames.specs.Requests.{Reading, Short, BadCommand, BadFields, Asks, Asked, Put, Query, reading, with_fields, asked_at, fields_of, number_of, key_of}
 use Rattle.wire_frames.specs.Replies.{reply}
-use Rattle.path_hub.specs.Answers.{Gives, Answers, AnswersReading, IsAnswer, IsDone, IsRefused, Does, Refuses, HasStatus, IsMissing, RefusesText, RefusesHits, query_status, is_no_memory, may_want, MayWant, reading_wants, is_free, is_plain, status_in}
+use Rattle.path_hub.specs.Answers.{Gives, Answers, AnswersReading, IsAnswer, Does, Refuses, HasStatus, IsMissing, RefusesHits, query_status, is_no_memory, may_want, MayWant, reading_wants, is_free, is_plain, status_in}
 use Rattle.path_hub.specs.Tenants.{map_of, with_map_of, put_at, Serves, ServesBody, ServesBy, BodyMayWant, is_short, short_number}
-use Rattle.path_hub.proofs.Alone.{at_true, at_false}
+use Rattle.path_hub.proofs.Alone.{at_false}
 use Rattle.std.proofs.lemmas.Bool.{false≢true}
 use Rattle.std.proofs.lemmas.Option.{slice_get-get_or}
 use Rattle.std.proofs.lemmas.List.{take-append-le, drop_at}
 use Rattle.std.specs.Prelude.{slice_get}
-use Rattle.std.proofs.lemmas.Bool.Decides.{nat_tests, Decides-eqb}
+use Rattle.std.proofs.lemmas.Bool.Decides.{nat_tests}
 use Rattle.path_hub.proofs.Keys.{map_at_place, no_map_at, with_map_at, with_map_same}
 
 pub no_memory_reply : (s n : ℕ) (p : List ℕ) → is_no_memory (reply s n p) ≡ eqb s 21

@@ -1,5 +1,5 @@
 -- The headline: what a run of events gives. However the connections' bytes are cut and interleaved, and whatever other tenants send, a tenant's replies are those that its own requests get from a plain map of its texts.
-use Rattle.std.specs.Prelude.{◌≡◌, ◌≢◌, ◌⊎◌, ℕ, List, [], ◌∷◌, ◌++◌, map, Contains, Result, Ok, Err}
+use Rattle.std.specs.Prelude.{◌≡◌, ◌≢◌, ℕ, List, [], ◌++◌, map, Contains, Result, Ok, Err}
 use Rattle.tenant_store.specs.Tenancy.{Tenancy, AcceptsKeys, RefusesKeys}
 use Rattle.tenant_store.specs.declared.tenants.TenantsFault.{TenantsFault}
 use Rattle.tenant_store.specs.declared.tenants.TenantsFault.TheVariants as refusal

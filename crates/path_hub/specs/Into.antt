@@ -10,7 +10,7 @@ use Rattle.path_hub.specs.declared.fault.HubFault.{HubFault}
 use Rattle.path_hub.specs.declared.fault.HubFault.TheVariants as fault
 use Rattle.path_hub.specs.Runs.{Told, Run}
 use Rattle.path_hub.specs.Pending.{Answered, pending, item, IsSound}
-use Rattle.path_hub.specs.Sessions.{Sessions, session, Sets}
+use Rattle.path_hub.specs.Sessions.{session, Sets}
 use Rattle.path_hub.specs.HubState.{HubState}
 
 abbrev pub sent : ℕ → List ℕ → Told

@@ -1,9 +1,7 @@
 -- What follows from the contracts of the hub.
-use Rattle.std.specs.Prelude.{◌≡◌, ℕ, List, [], ◌∷◌, ◌++◌, map, Option, Some, false}
-use Rattle.std.specs.List.{All}
+use Rattle.std.specs.Prelude.{◌≡◌, ℕ, List, [], ◌∷◌, ◌++◌, map, Some, false}
 use Rattle.path_hub.specs.declared.wire.ConnEnd.TheVariants.{Done}
 use Rattle.path_hub.specs.Answers.{is_no_memory}
-use Rattle.path_hub.specs.Items.{Item}
 use Rattle.path_hub.specs.Runs.{Run}
 use Rattle.path_hub.specs.Into.{sent, joined}
 use Rattle.path_hub.specs.HubState.{HubState}

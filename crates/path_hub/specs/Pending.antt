@@ -1,6 +1,6 @@
 -- What a connection still has to be answered.
-use Rattle.std.specs.Prelude.{◌≡◌, ◌⊎◌, ℕ, List, [], ◌∷◌, ◌++◌, map, Option, Some, None, Bool, true, false, if◌then◌else◌}
-use Rattle.wire_frames.specs.Frames.{Front, Whole, Wait, Fault, front, frames, rest, is_broken}
+use Rattle.std.specs.Prelude.{◌≡◌, ◌⊎◌, ℕ, List, [], ◌∷◌, ◌++◌, map, Option, Some, None, true, false, if◌then◌else◌}
+use Rattle.wire_frames.specs.Frames.{Whole, Wait, Fault, front, frames, rest, is_broken}
 use Rattle.wire_frames.specs.Framing.{Framing}
 use Rattle.tenant_store.specs.Tenancy.{Tenancy}
 use Rattle.path_hub.specs.declared.event.Reply.{Reply}

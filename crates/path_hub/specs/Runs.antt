@@ -1,5 +1,5 @@
 -- Replies to items, one each, and a tenant's own requests among them.
-use Rattle.std.specs.Prelude.{◌≡◌, ℕ, List, [], ◌∷◌, ◌++◌, length, map, Option, Some, None, Bool, true, false, not, ◌&&◌, nat_le, nat_eq, if◌then◌else◌}
+use Rattle.std.specs.Prelude.{◌≡◌, ℕ, List, [], ◌∷◌, length, Option, Some, None, Bool, false, not, ◌&&◌, nat_le, nat_eq, if◌then◌else◌}
 use Rattle.wire_frames.specs.Requests.{key_of}
 use Rattle.wire_frames.specs.Replies.{reply}
 use Rattle.std.specs.Cmp.Lexicographic.{pointwise}

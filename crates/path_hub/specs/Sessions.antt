@@ -1,5 +1,5 @@
 -- What a hub keeps of each connection, against the connection's whole stream.
-use Rattle.std.specs.Prelude.{◌≡◌, ℕ, List, [], ◌++◌, map, Option, Some, None, Bool, true, false, ◌==◌, if◌then◌else◌}
+use Rattle.std.specs.Prelude.{◌≡◌, ℕ, List, ◌++◌, map, Option, Some, None, false, ◌==◌, if◌then◌else◌}
 use Rattle.std.specs.Option.{option_map}
 use Rattle.std.specs.Ordering.{nat_cmp}
 use Rattle.std.specs.Map.{lookup}
@@ -9,7 +9,7 @@ use Rattle.wire_frames.specs.Framing.{Framing, fresh}
 use Rattle.tenant_store.specs.Tenancy.{Tenancy}
 use Rattle.path_hub.specs.declared.event.Event.{Event}
 use Rattle.path_hub.specs.declared.event.Reply.{Reply}
-use Rattle.path_hub.specs.Items.{Item, Streams, after_event, items_at, items_of, items_from}
+use Rattle.path_hub.specs.Items.{Item, Streams, after_event, items_at, items_of}
 use Rattle.path_hub.specs.Runs.{Run}
 use Rattle.path_hub.specs.Pending.{IsSound, told}
 

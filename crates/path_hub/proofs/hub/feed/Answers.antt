@@ -1,8 +1,8 @@
-use Rattle.std.proofs.Common.{◌≡◌, Bool, true, false, Option, Some, Ok, Err, sym, ap, ◌∙◌, subst, refl, cond, ℕ}
+use Rattle.std.proofs.Common.{◌≡◌, Bool, true, false, Some, Err, sym, ap, subst, refl}
 use Rattle.std.specs.Option.{is_some}
 use Rattle.std.proofs.lemmas.Result.{on_ok_weaker}
 use Rattle.wire_frames.specs.Framing.{Framing}
-use Rattle.path_hub.specs.Sessions.{session, Sessions, Sets, Feeds}
+use Rattle.path_hub.specs.Sessions.{session, Sets}
 use Rattle.path_hub.proofs.Feeding.{feeds_closed, feeds_open, feeds_some}
 use Rattle.path_hub.proofs.hub.feed.Goals as goal
 

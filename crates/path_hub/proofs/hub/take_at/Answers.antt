@@ -1,5 +1,5 @@
-use Rattle.std.proofs.Common.{◌≡◌, false, Some, Err, sym, ap, is_some, refl}
-use Rattle.path_hub.specs.Sessions.{session, Sets}
+use Rattle.std.proofs.Common.{◌≡◌, Some, Err, sym, ap}
+use Rattle.path_hub.specs.Sessions.{session}
 use Rattle.path_hub.specs.HubState.{state}
 use Rattle.path_hub.proofs.Calls.{kept, not_closed}
 use Rattle.path_hub.proofs.hub.take_at.Goals as goal

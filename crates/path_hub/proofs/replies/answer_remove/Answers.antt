@@ -1,10 +1,5 @@
-use Rattle.std.proofs.Common.{refl, [], sym, subst, ◌∙◌, ap, ◌++◌, ◌≡◌}
-use Rattle.std.specs.Map.{lookup}
-use Rattle.tenant_store.specs.Keyed.{at}
-use Rattle.tenant_store.specs.Maps.{Map, text_at}
+use Rattle.std.proofs.Common.{refl, []}
 use Rattle.wire_frames.specs.Requests.{Remove}
-use Rattle.wire_frames.specs.Replies.{reply}
-use Rattle.path_hub.specs.Answers.{Gives}
 use Rattle.path_hub.proofs.Steps.{gives_done}
 use Rattle.path_hub.proofs.replies.answer_remove.Goals as goal
 

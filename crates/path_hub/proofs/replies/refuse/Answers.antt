@@ -1,5 +1,5 @@
-use Rattle.std.proofs.Common.{◌≡◌, sym, ap, ◌∙◌, refl, Some}
-use Rattle.wire_frames.specs.Requests.{Short, BadCommand, BadFields, reading}
+use Rattle.std.proofs.Common.{◌≡◌, sym, ap, ◌∙◌, refl}
+use Rattle.wire_frames.specs.Requests.{BadCommand, BadFields, reading}
 use Rattle.wire_frames.specs.Readings.{refusal}
 use Rattle.path_hub.proofs.Steps.{serves_short, serves_none, serves_refused, shape_at, answers_at}
 use Rattle.path_hub.proofs.replies.refuse.Goals as goal

@@ -1,4 +1,3 @@
-use Rattle.std.proofs.Common.{refl}
 use Rattle.path_hub.proofs.Serve.{opened, not_opened, closes, ok_gives, err_gives}
 use Rattle.path_hub.proofs.serving.serve_connection.Goals as goal
 

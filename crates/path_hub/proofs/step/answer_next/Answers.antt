@@ -1,5 +1,4 @@
-use Rattle.std.proofs.Common.{◌≡◌, ◌++◌, ℕ, List, Bool, false, Some, sym, ap, ◌∙◌, subst, refl}
-use Rattle.wire_frames.specs.declared.framing.Next.{Next}
+use Rattle.std.proofs.Common.{◌≡◌, ◌++◌, ℕ, List, false, Some, sym, ap, ◌∙◌, subst, refl}
 use Rattle.wire_frames.specs.declared.framing.Next.TheVariants.{Frame}
 use Rattle.wire_frames.specs.Frames.{Front, Whole, Wait, Fault, front}
 use Rattle.wire_frames.specs.NextFrame.{next_of, next_at, lent_as}

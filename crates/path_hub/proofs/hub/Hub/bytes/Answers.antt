@@ -1,6 +1,3 @@
-use Rattle.std.proofs.Common.{true, subst, sym}
-use Rattle.std.specs.Bool.{MatchBool}
-use Rattle.path_hub.specs.Into.{AnswersOne, AnswersNone}
 use Rattle.path_hub.proofs.Alone.{at_true, at_false}
 use Rattle.path_hub.proofs.Calls.{taken_none, taken_more, taken_all, taken_stays, left_at_falls}
 use Rattle.path_hub.proofs.hub.Hub.bytes.Goals as goal
