@@ -5,9 +5,9 @@ ghost use Rattle.path_grammar.specs.View.{query_view};
 ghost use Rattle.path_types.specs.Verdict.{IsValidQuery, RefusesQueryText};
 ghost use Rattle.query_cache.specs.Texts.{is_held, Admits};
 ghost use Rattle.query_cache.specs.Kept.{is_text, Keeps};
-ghost use Rattle.query_cache.specs.Compiled.{query_in, Owns};
+ghost use Rattle.query_cache.specs.Compiled.{query_in, is_lent, Owns};
 
-use crate::compiled::Compiled;
+use crate::compiled::{Compiled, Found};
 use lru::LruCache;
 use path_grammar::QUERY_LIMIT;
 use path_types::{QueryFault, ValidQuery, compile};
@@ -60,28 +60,38 @@ impl Cache {
 
     /// The query of a text, as [`compile`] gives it, whatever the cache holds.
     ///
-    /// The list changes as [`Cache::admit`] says, which this calls before it lends the query. Where the text found no room, the
-    /// answer owns the query.
-    ///
-    /// # Errors
-    ///
-    /// Those of [`compile`], in its order. The list stays. `Memory` comes only from compiling.
-    pub fn lookup(&mut self, alloc: Global, text: &[u8]) -> Result<Compiled<'_>, QueryFault>
-        ensures valid { IfOk result (λ compiled. IsValidQuery text.now (query_view (query_in compiled))) }
-        ensures refused { IfErr result (λ fault. RefusesQueryText text.now fault) }
-    {
-        match self.admit(alloc, text)? {
-            Some(owned) => Ok(Compiled::Owned(owned)),
-            None => Ok(Compiled::Cached(self.lend(text))),
-        }
-    }
-
-    /// Brings a text to the front. A new text is compiled and drops the last of a full cache; where it finds no memory there,
-    /// its query is handed out and the list stays.
+    /// The text comes to the front. A new text drops the last of a full cache; where it finds no memory there, the answer owns
+    /// the query and the list stays.
     ///
     /// # Errors
     ///
     /// Those of [`compile`], in its order; a text that is too long is refused before the cache is asked. The list stays.
+    /// `Memory` comes only from compiling.
+    pub fn lookup(&mut self, alloc: Global, text: &[u8]) -> Result<Compiled<'_>, QueryFault>
+        ensures valid { IfOk result (λ compiled. IsValidQuery text.now (query_view (query_in compiled))) }
+        ensures list { IfOk result (λ compiled. Admits text.now (is_lent compiled) self.old compiled.cache.now) }
+        ensures refused { IfErr result (λ fault. RefusesQueryText text.now fault) }
+    {
+        let owned = self.admit(alloc, text)?;
+        let cache = &*self;
+        match owned {
+            Some(owned) => Ok(Compiled {
+                found: Found::Owned(owned),
+                cache,
+            }),
+            None => Ok(Compiled {
+                found: Found::Cached(cache.lend(text)),
+                cache,
+            }),
+        }
+    }
+
+    /// Brings a text to the front, as [`Cache::lookup`] does, and lends nothing. Where there is no room for it, its query is handed
+    /// out.
+    ///
+    /// # Errors
+    ///
+    /// Those of [`Cache::lookup`].
     pub fn admit(&mut self, alloc: Global, text: &[u8]) -> Result<Option<ValidQuery>, QueryFault>
         ensures valid { IfOk result (λ owned. Owns text.now owned) }
         ensures list { IfOk result (λ owned. Admits text.now (is_none owned) self.old self.new) }

@@ -2,15 +2,23 @@
 ghost use Rattle.std.specs.Prelude.{◌≡◌};
 ghost use Rattle.query_cache.specs.Compiled.{query_in, is_lent};
 
+use crate::cache::Cache;
 use path_types::ValidQuery;
 
-/// A query that was looked up: one that a cache lends, or one that its reader owns.
+/// Where the query of a text lies.
 #[derive(Drop)]
-pub enum Compiled<'a> {
+pub enum Found<'a> {
     /// The cache holds it.
     Cached(&'a ValidQuery),
     /// The cache found no room for it.
     Owned(ValidQuery),
+}
+
+/// A query that was looked up, and the cache as the look-up left it.
+#[derive(Drop)]
+pub struct Compiled<'a> {
+    pub found: Found<'a>,
+    pub cache: &'a Cache,
 }
 
 impl<'a> Compiled<'a> {
@@ -18,9 +26,9 @@ impl<'a> Compiled<'a> {
     pub fn query(&self) -> &ValidQuery
         ensures { result.now ≡ query_in self.now }
     {
-        match self {
-            Compiled::Cached(query) => *query,
-            Compiled::Owned(query) => query,
+        match &self.found {
+            Found::Cached(query) => *query,
+            Found::Owned(query) => query,
         }
     }
 
@@ -28,9 +36,9 @@ impl<'a> Compiled<'a> {
     pub fn is_cached(&self) -> bool
         ensures { result ≡ is_lent self.now }
     {
-        match self {
-            Compiled::Cached(_) => true,
-            Compiled::Owned(_) => false,
+        match &self.found {
+            Found::Cached(_) => true,
+            Found::Owned(_) => false,
         }
     }
 }

@@ -1,7 +1,7 @@
 -- What is written as a request is read as one.
-use Rattle.std.specs.Prelude.{◌≡◌, ℕ, ◌<◌, ◌≤◌, ◌^◌, ◌+◌, List, [], ◌∷◌, ◌++◌, length, take, drop, nat_lt, IsTrue, Bool, true, false, Option, Some, None, option_and_then, refl}
+use Rattle.std.specs.Prelude.{◌≡◌, ℕ, ◌<◌, ◌≤◌, ◌^◌, List, [], ◌∷◌, ◌++◌, length, take, drop, nat_lt, Bool, true, false, Some, None, option_and_then, refl}
 use Rattle.std.specs.Int.{w32, from_be_bytes, to_be_bytes}
-use Rattle.std.proofs.Common.{sym, ap, ◌∙◌, subst, arith, length-append, append_assoc, append-nil, cond, eqb}
+use Rattle.std.proofs.Common.{sym, ap, ◌∙◌, arith, length-append, append_assoc, append-nil, cond, eqb}
 use Rattle.std.proofs.lemmas.List.{take_at, drop_at}
 use Rattle.std.proofs.lemmas.Nat.{from_be_bytes-to_be_bytes_4}
 use Rattle.std.proofs.lemmas.Bool.Decides.{nat_tests}
@@ -83,11 +83,11 @@ parts_back command head key more body number asked e four sixteen spells known a
     let d5 : drop 5 body ≡ key ++ more = ap (drop 5) e ∙ drop_at head (key ++ more) 4 four in
     let d21 : drop 21 body ≡ more = ap (drop 21) e ∙ ap (λ (x : List ℕ). drop 20 x) (sym (append_assoc head key more)) ∙ drop_at (head ++ key) more 20 (omega (arith, length-append head key, four, sixteen)) in
     reading_of_parts body number key asked
-      (rw e (omega (arith, length-append head (key ++ more), length-append key more, four, sixteen)))
-      (ap is_known h ∙ known)
-      (ap (λ x. from_be_bytes w32 (take 4 x)) d1 ∙ ap (from_be_bytes w32) (take_at head (key ++ more) 4 four) ∙ spells)
-      (ap (take 16) d5 ∙ take_at key more 16 sixteen)
-      (ap (λ x. asked_at x (fields_of body)) h ∙ ap (asked_at command) d21 ∙ a)
+    (rw e (omega (arith, length-append head (key ++ more), length-append key more, four, sixteen)))
+    (ap is_known h ∙ known)
+    (ap (λ x. from_be_bytes w32 (take 4 x)) d1 ∙ ap (from_be_bytes w32) (take_at head (key ++ more) 4 four) ∙ spells)
+    (ap (take 16) d5 ∙ take_at key more 16 sixteen)
+    (ap (λ x. asked_at x (fields_of body)) h ∙ ap (asked_at command) d21 ∙ a)
 
 pub read_back : (number : ℕ) (key : List ℕ) (asked : Asked) → number < 2 ^ 32 → length key ≡ 16 → IsNamed asked → reading (written number key asked) ≡ Asks number key asked
 read_back number key asked few sixteen named = parts_back (command_byte asked) (to_be_bytes w32 number) key (fields asked) (written number key asked) number asked refl refl sixteen (from_be_bytes-to_be_bytes_4 number few) (known asked) (asked_back asked named)

@@ -1,4 +1,4 @@
-use Rattle.std.proofs.Common.{◌≡◌, ◌∙◌, sym, ap, subst, true, is_none}
+use Rattle.std.proofs.Common.{◌∙◌, sym, ap, subst, true, is_none}
 use Rattle.std.specs.Option.{is_some}
 use Rattle.std.specs.Map.{lookup}
 use Rattle.query_cache.specs.Texts.{Admits}
