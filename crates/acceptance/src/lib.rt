@@ -3,9 +3,13 @@
 #![tactic(auto)]
 
 #[cfg(test)]
+mod cache;
+#[cfg(test)]
 mod documents;
 #[cfg(test)]
 mod frames;
+#[cfg(test)]
+mod hub;
 #[cfg(test)]
 mod kernels;
 #[cfg(test)]
@@ -20,3 +24,5 @@ mod scripts;
 mod store;
 #[cfg(test)]
 mod trees;
+#[cfg(test)]
+mod wires;

@@ -38,7 +38,13 @@ fn keys(rt: HostRuntime) -> Result<(), Fail> {
         "00112233445566778899aabbccddeefg",
         "00112233445566778899aabbccddeeff ffeeddccbbaa99887766554433221100",
     ] {
-        assert!(rt; matches!(read_keys(rt.alloc(), bad.as_bytes()), Err(KeysFault::BadKeys)), "{bad}");
+        assert!(rt;
+            matches!(
+                read_keys(rt.alloc(), bad.as_bytes()),
+                Err(KeysFault::BadKeys)
+            ),
+            "{bad}"
+        );
     }
     Ok(())
 }
@@ -47,7 +53,10 @@ fn keys(rt: HostRuntime) -> Result<(), Fail> {
 fn replies_to_a_script(rt: HostRuntime) -> Result<(), Fail> {
     let usage = format!(in rt.alloc(); "1 open\n1 000000150700000004{KEY}\n1 close\n")?;
     let wanted = b"1 000000110000000004000000000000000000000000\n";
-    assert_eq!(rt; replayed(rt.alloc(), usage.as_str())?.as_slice(), wanted.as_slice());
+    assert_eq!(rt;
+        replayed(rt.alloc(), usage.as_str())?.as_slice(),
+        wanted.as_slice()
+    );
     assert_eq!(rt; replayed(rt.alloc(), "")?.as_slice(), b"".as_slice());
     let mut written = Vec::new(rt.alloc());
     replay_stream(rt.alloc(), &[KEY_BYTES], usage.as_bytes(), &mut written)?;
@@ -71,7 +80,10 @@ fn bad_lines(rt: HostRuntime) -> Result<(), Fail> {
         ("0 open\n4294967295 \n1 closed", 3),
     ] {
         let refused = replayed(rt.alloc(), script);
-        assert!(rt; matches!(refused, Err(ScriptFault::BadLine(found)) if found == number), "{script}");
+        assert!(rt;
+            matches!(refused, Err(ScriptFault::BadLine(found)) if found == number),
+            "{script}"
+        );
     }
     Ok(())
 }
@@ -87,6 +99,9 @@ fn refused_scripts(rt: HostRuntime) -> Result<(), Fail> {
     assert_eq!(rt; repeated, Err(ScriptFault::Keys(TenantsFault::RepeatedKey)));
     assert_eq!(rt; out.as_slice(), b"before".as_slice());
     let none = replay_stream(rt.alloc(), &[], b"".as_slice(), &mut out);
-    assert_eq!(rt; none, Err(ReplayStreamFault::Refused(ScriptFault::Keys(TenantsFault::NoKeys))));
+    assert_eq!(rt;
+        none,
+        Err(ReplayStreamFault::Refused(ScriptFault::Keys(TenantsFault::NoKeys)))
+    );
     Ok(())
 }
