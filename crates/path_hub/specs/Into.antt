@@ -1,4 +1,4 @@
--- A piece of a connection, and the bytes of the replies to it.
+-- A piece of a connection, and the bytes of the replies to it: this project's own.
 use Rattle.std.specs.Prelude.{◌≡◌, ◌<◌, ℕ, List, [], ◌++◌, length, map, Option, Some, None, Bool, true, false, Result, Ok, Err}
 use Rattle.std.specs.List.{flat_map}
 use Rattle.wire_frames.specs.Frames.{rest}

@@ -1,4 +1,4 @@
--- What follows from the contracts of the hub.
+-- What follows from the contracts of the hub: this project's own laws.
 use Rattle.std.specs.Prelude.{◌≡◌, ℕ, List, [], ◌∷◌, ◌++◌, map, Some, false}
 use Rattle.path_hub.specs.declared.wire.ConnEnd.TheVariants.{Done}
 use Rattle.path_hub.specs.Answers.{is_no_memory}

@@ -1,4 +1,4 @@
--- What a connection still has to be answered.
+-- What a connection still has to be answered: this project's own.
 use Rattle.std.specs.Prelude.{◌≡◌, ◌⊎◌, ℕ, List, [], ◌∷◌, ◌++◌, map, Option, Some, None, true, false, if◌then◌else◌}
 use Rattle.wire_frames.specs.Frames.{Whole, Wait, Fault, front, frames, rest, is_broken}
 use Rattle.wire_frames.specs.Framing.{Framing}

@@ -1,4 +1,4 @@
--- Replies to items, one each, and a tenant's own requests among them.
+-- Replies to items, one each, and a tenant's own requests among them: this project's own words, on which the headline rests.
 use Rattle.std.specs.Prelude.{◌≡◌, ℕ, List, [], ◌∷◌, length, Option, Some, None, Bool, false, not, ◌&&◌, nat_le, nat_eq, if◌then◌else◌}
 use Rattle.wire_frames.specs.Requests.{key_of}
 use Rattle.wire_frames.specs.Replies.{reply}

@@ -1,4 +1,4 @@
--- What serving a connection leaves.
+-- What serving a connection leaves: this project's own.
 use Rattle.std.specs.Prelude.{◌≡◌, ◌≢◌, ℕ, ◌+◌, ◌≤◌, List, [], ◌∷◌, ◌++◌, length, map, Some, None, true, false}
 use Rattle.wire_frames.specs.Frames.{is_broken}
 use Rattle.path_hub.specs.declared.wire.ConnEnd.{ConnEnd}

@@ -1,4 +1,4 @@
--- What a hub keeps of each connection, against the connection's whole stream.
+-- What a hub keeps of each connection, against the connection's whole stream: this project's own.
 use Rattle.std.specs.Prelude.{◌≡◌, ℕ, List, ◌++◌, map, Option, Some, None, false, ◌==◌, if◌then◌else◌}
 use Rattle.std.specs.Option.{option_map}
 use Rattle.std.specs.Ordering.{nat_cmp}

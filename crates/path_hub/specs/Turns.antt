@@ -1,4 +1,4 @@
--- A connection while it is served.
+-- A connection while it is served, in the contracts of private functions: this project's own.
 use Rattle.std.specs.Prelude.{◌≡◌, ◌≢◌, ℕ, ◌+◌, ◌<◌, ◌≤◌, List, [], length, map, Option, Some, None, false}
 use Rattle.wire_frames.specs.Framing.{Framing}
 use Rattle.path_hub.specs.declared.wire.ConnEnd.{ConnEnd}

@@ -1,4 +1,4 @@
--- What a look-up hands out.
+-- What a look-up hands out: this project's own.
 use Rattle.std.specs.Prelude.{ℕ, List, Bool, true, false, Option, IfSome}
 use Rattle.path_grammar.specs.declared.ast.Query.{Query}
 use Rattle.path_grammar.specs.View.{query_view}

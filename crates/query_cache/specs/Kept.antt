@@ -1,4 +1,4 @@
--- What is kept of each text: its bytes and its valid query.
+-- What is kept of each text, its bytes and its valid query: this project's own.
 use Rattle.std.specs.Prelude.{◌≡◌, ℕ, ◌<◌, ◌≤◌, ◌-◌, List, ◌∷◌, length, map, take, Bool, Option, Some, None}
 use Rattle.std.specs.List.{AllByRecursion}
 use Rattle.std.specs.declared.vec.Vec.{Vec}
