@@ -1,6 +1,6 @@
 //! Reads integers, and finds the end of numbers.
 
-ghost use Rattle.std.specs.Prelude.{◌≡◌, option_map, Option, Some, None, if◌then◌else◌, nat_le, pos};
+ghost use Rattle.std.specs.Prelude.{◌≡◌, option_map, Some, None, if◌then◌else◌, nat_le};
 ghost use Rattle.path_grammar.specs.Numbers.{decimal};
 ghost use Rattle.path_grammar.specs.Reading.{Gives};
 ghost use Rattle.path_grammar.specs.ReadingNumbers.{signed_literal, digits_at, int_at, part_at, digits_end, minus_zero_end, whole_end, fraction_end, sign_end, exponent_end, number_end};

@@ -10,7 +10,7 @@ ghost use Rattle.path_types.specs.Validity.{is_valid, are_valid, is_valid_select
 ghost use Rattle.tape_select.specs.Evaluation.{nodes_selected, exceeds_limit, is_empty, node_limit};
 ghost use Rattle.tape_select.specs.Functions.{applied, a_nodelist};
 ghost use Rattle.tape_select.specs.Running.{for_each, keep_run, evaluated_run, selected_run, selected_from_run, selected_by_run, from_run, holds_run, some_run, all_run, nodes_run, result_run, called_run, argued_run, then_some};
-ghost use Rattle.tape_select.specs.Nodelists.{nodes_of, Sound, Gives, GivesList, GivesValue, Stops};
+ghost use Rattle.tape_select.specs.Nodelists.{nodes_of, Sound, Gives, GivesList, GivesValue};
 ghost use Rattle.tape_select.specs.Sides.{GivesSide};
 
 use crate::compare::compare;

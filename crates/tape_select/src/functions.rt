@@ -1,7 +1,6 @@
 //! The functions of a query (RFC 9535, section 2.4), on arguments that are evaluated.
 
-ghost use Rattle.std.specs.Prelude.{◌≡◌, Some};
-ghost use Rattle.json_tape.specs.Document.{count};
+ghost use Rattle.std.specs.Prelude.{◌≡◌};
 ghost use Rattle.tape_select.specs.Functions.{a_value, a_nodelist, applied, length_value};
 ghost use Rattle.tape_select.specs.Nodelists.{nodes_of, Sound};
 ghost use Rattle.tape_select.specs.Sides.{side_value, IsSide};

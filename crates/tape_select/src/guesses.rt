@@ -2,10 +2,10 @@
 //!
 //! A guess only says where a search is to begin, so no fact rests on a hash.
 
-ghost use Rattle.std.specs.Prelude.{◌≡◌, ◌<◌, ◌≤◌, List, IfSome};
-ghost use Rattle.json_tape.specs.Document.{Doc, count, node_at, following, IsIn};
+ghost use Rattle.std.specs.Prelude.{◌<◌, List, IfSome};
+ghost use Rattle.json_tape.specs.Document.{Doc, count, following, IsIn};
 ghost use Rattle.json_tape.specs.Nodes.{Node};
-ghost use Rattle.tape_select.specs.Guessing.{AreGuesses, IsSpot};
+ghost use Rattle.tape_select.specs.Guessing.{AreGuesses};
 
 use json_tape::{Document, NodeId};
 

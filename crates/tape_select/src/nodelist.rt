@@ -1,8 +1,7 @@
 //! Lists of nodes, and the limit on their length.
 
-ghost use Rattle.std.specs.Prelude.{◌≡◌, ◌<◌, ◌≤◌, ◌∷◌, [], ◌++◌, ◌^◌, length, take, drop, reverse};
-ghost use Rattle.json_tape.specs.Document.{count, node_at, following, IsIn};
-ghost use Rattle.json_tape.specs.Nodes.{children, elements, is_named, visit};
+ghost use Rattle.std.specs.Prelude.{◌≡◌, ◌<◌, ◌∷◌, []};
+ghost use Rattle.json_tape.specs.Document.{count, node_at};
 ghost use Rattle.std.specs.Prelude.{Some, MatchResult};
 ghost use Rattle.tape_select.specs.Running.{add};
 ghost use Rattle.tape_select.specs.Nodelists.{nodes_of, Sound, Gives, Has};

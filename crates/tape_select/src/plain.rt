@@ -5,7 +5,7 @@
 ghost use Rattle.std.specs.Prelude.{◌≡◌, ◌<◌, Some, IsTrue, IfSome, map};
 ghost use Rattle.json_tape.specs.Document.{count, node_at};
 ghost use Rattle.json_tape.specs.Nodes.{children};
-ghost use Rattle.path_grammar.specs.Tree.{compare, not, test, single, lit, exprs_of};
+ghost use Rattle.path_grammar.specs.Tree.{compare, test, single, lit, exprs_of};
 ghost use Rattle.path_grammar.specs.View.{expr_view, comparable_view, nested_view, literal_view};
 ghost use Rattle.path_types.specs.Validity.{is_valid_expr, are_valid_exprs, is_valid_comparable, is_singular_query, is_literal};
 ghost use Rattle.tape_select.specs.Plain.{is_plain, are_plain, is_plain_side, IsTestOf};

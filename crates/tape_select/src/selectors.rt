@@ -1,6 +1,6 @@
 //! The selectors of all children and of an index.
 
-ghost use Rattle.std.specs.Prelude.{◌≡◌, ◌<◌, ◌≤◌, ◌∷◌, [], ◌++◌, ◌^◌, length, take, drop, reverse};
+ghost use Rattle.std.specs.Prelude.{◌≡◌, ◌<◌, length};
 ghost use Rattle.json_tape.specs.Document.{count, node_at, following, single, IsIn};
 ghost use Rattle.json_tape.specs.Nodes.{children, elements};
 ghost use Rattle.tape_select.specs.Selection.{nth, at_index, position_in};

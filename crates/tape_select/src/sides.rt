@@ -1,7 +1,6 @@
 //! The sides of a comparison.
 
-ghost use Rattle.std.specs.Prelude.{◌≡◌, ◌<◌, length};
-ghost use Rattle.json_tape.specs.Document.{count};
+ghost use Rattle.std.specs.Prelude.{◌≡◌};
 ghost use Rattle.tape_select.specs.Functions.{only_value};
 ghost use Rattle.tape_select.specs.Nodelists.{nodes_of, Sound};
 ghost use Rattle.tape_select.specs.Sides.{side_value, IsSide};

@@ -1,8 +1,8 @@
 //! The selector of a slice (RFC 9535, section 2.3.4).
 
-ghost use Rattle.std.specs.Prelude.{◌≡◌, ◌<◌, ◌≤◌, ◌∷◌, [], ◌++◌, ◌^◌, ◌≤ℤ◌, ◌<ℤ◌, ◌+ℤ◌, ℕ, pos, negsuc, unsigned_abs, length, take, drop, reverse};
-ghost use Rattle.json_tape.specs.Document.{count, node_at, following, IsIn};
-ghost use Rattle.json_tape.specs.Nodes.{children, elements, is_named, visit};
+ghost use Rattle.std.specs.Prelude.{◌≡◌, ◌<◌, ◌≤◌, ◌++◌, ◌^◌, ◌≤ℤ◌, ◌<ℤ◌, ◌+ℤ◌, ℕ, pos, negsuc, unsigned_abs, length, take, drop, reverse};
+ghost use Rattle.json_tape.specs.Document.{count, node_at};
+ghost use Rattle.json_tape.specs.Nodes.{elements};
 ghost use Rattle.tape_select.specs.Places.{is_place};
 ghost use Rattle.tape_select.specs.Selection.{picked, normalize, lower, upper, is_selected, in_order, start_default, stop_default, bound_or, step_of, sliced};
 ghost use Rattle.tape_select.specs.Running.{add};

@@ -1,11 +1,11 @@
 //! Values of a text, compared (RFC 9535, section 2.3.5.2.2).
 
-ghost use Rattle.std.specs.Prelude.{◌≡◌, ℕ, ◌<◌, ◌≤◌, ◌^◌, List, length, Some};
+ghost use Rattle.std.specs.Prelude.{◌≡◌, ◌<◌, length, Some};
 ghost use Rattle.json_tape.specs.Document.{count, node_at, following, IsIn, kind_of};
-ghost use Rattle.json_tape.specs.Tree.{Tree, source_of};
+ghost use Rattle.json_tape.specs.Tree.{source_of};
 ghost use Rattle.json_tape.specs.Nodes.{children};
 ghost use Rattle.tape_select.specs.Comparison.{equal_trees, less_trees, value_of, equal_results, less_results};
-ghost use Rattle.tape_select.specs.Pairs.{equal_each, same_name, are_twins, has_twin, each_has_twin, IsEnd};
+ghost use Rattle.tape_select.specs.Pairs.{equal_each, same_name, are_twins, each_has_twin, IsEnd};
 ghost use Rattle.tape_select.specs.Guessing.{AreGuesses};
 ghost use Rattle.tape_select.specs.Contents.{IsNumberText, content_value, IsContent, MatchTwin};
 
