@@ -149,8 +149,8 @@ impl Hub {
     /// # Errors
     ///
     /// `NoConnection` where the connection has no session, `Closed` where a framing fault came before. `Memory` where a growth
-    /// was refused: where the piece was not taken, nothing changes; where it was, some of what is whole is answered, and the
-    /// rest waits for the next call, which may bring an empty piece.
+    /// was refused: where the piece was not taken, nothing changes; where it was, the first frames are answered, in
+    /// order, and the others wait for the next call, which may bring an empty piece.
     pub fn bytes(
         &mut self,
         alloc: Global,
