@@ -8,6 +8,7 @@ use std::alloc::{AllocError, Global};
 pub const VERSION: &str = "0.1.0";
 
 /// What the command line asks for.
+#[derive(Drop)]
 pub enum Request<'a> {
     /// The lines of this query on standard input.
     Query(&'a str),
