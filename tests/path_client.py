@@ -1,3 +1,4 @@
+#!/usr/bin/env python3
 """A client of path_server, written from docs/PROTOCOL.md alone, with Python's standard library alone (3.8 or later).
 
     from path_client import connect

@@ -2,6 +2,7 @@
 
 Queries are those of names, indexes and wildcards alone, and a few that are refused. Texts are judged by Python's json.
 """
+import functools
 import json
 import re
 import struct
@@ -10,6 +11,7 @@ from json_verdict import verdict
 
 REQUEST_LIMIT = 2_097_152
 PAYLOAD_LIMIT = 4_194_299
+NODE_LIMIT = 65_536
 QUOTAS = (("TooManyCollections", 16), ("TooManyDocuments", 1_000), ("TooManyBytes", 16_777_216))
 STATUS = {name: number for number, name in enumerate(
     "Ok Short NoTenant BadCommand BadFields TooLong NotUtf8 NotJson TooDeep NumberLimit LoneSurrogate DuplicateName TooManyCollections "
@@ -29,6 +31,7 @@ class Refused(Exception):
 TOKEN = re.compile(r'"(?:[^"\\]|\\.)*"|[\[\]{}:,]|[^\s\[\]{}:,"]+')
 
 
+@functools.lru_cache(maxsize=64)
 def parsed(source):
     """An accepted text as (kind, start, end, children); a child is its step and its value. Places are those of bytes."""
     text = source.decode("utf-8")
@@ -100,6 +103,8 @@ def hits(source, steps):
     nodes = [((), parsed(source))]
     for step in steps:
         nodes = list(selected(nodes, step))
+        if len(nodes) > NODE_LIMIT:
+            raise Refused("TooManyNodes")
     return [(written(path), source[start:end]) for path, (_, start, end, _) in nodes]
 
 

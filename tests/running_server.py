@@ -1,0 +1,176 @@
+"""A running `path_server serve`, connections to it byte by byte, and a report of what failed, for the scripts of tests/.
+
+The program is the one that bin/path_server builds, or the one that the environment's PATH_SERVER names. It picks a free port itself.
+Every process that was started has ended when a script ends, however that comes.
+"""
+import os
+import re
+import select
+import signal
+import socket
+import subprocess
+import sys
+import tempfile
+import time
+from pathlib import Path
+
+from path_client import parse_address
+
+TOP = Path(__file__).resolve().parent.parent
+PROGRAM = os.environ.get("PATH_SERVER") or str(TOP / "crates/path_program/out/path_program")
+PATIENCE = 60.0
+END_LINE = re.compile(r"connection (\d+): (\w+)")
+
+
+class Report:
+    """Counts cases, and prints of each that failed what was sent, wanted and got."""
+
+    def __init__(self):
+        self.cases = self.failed = 0
+
+    def case(self, name, sent, wanted, got):
+        self.cases += 1
+        if wanted != got:
+            self.failed += 1
+            print(f"{name}\n  sent   {shown(sent)}\n  wanted {shown(wanted)}\n  got    {shown(got)}", flush=True)
+        return wanted == got
+
+    def close(self, what):
+        """Prints the sum and ends the script with its status."""
+        print(f"{what}: {self.cases} cases, {self.failed} of them differ")
+        sys.exit(1 if self.failed else 0)
+
+
+def shown(value):
+    """A value for the report: bytes in hexadecimal digits, and the middle of what is long left out."""
+    text = bytes(value).hex() if isinstance(value, (bytes, bytearray, memoryview)) else str(value)
+    return text if len(text) <= 600 else f"{text[:400]} .. {text[-100:]} ({len(text)} characters)"
+
+
+class Running:
+    """The server for some keys, which serves `count` connections and then ends by itself."""
+
+    def __init__(self, keys, count):
+        signal.signal(signal.SIGTERM, lambda *_: sys.exit(143))
+        self.errors = tempfile.TemporaryFile()
+        command = [PROGRAM, "serve", "127.0.0.1:0", ",".join(key.hex() for key in keys), str(count)]
+        self.process = subprocess.Popen(command, stdin=subprocess.DEVNULL, stdout=subprocess.PIPE, stderr=self.errors)
+        try:
+            self.address = self.read_address()
+        except BaseException:
+            self.stop()
+            raise
+
+    def read_address(self):
+        readable, _, _ = select.select([self.process.stdout], [], [], PATIENCE)
+        line = self.process.stdout.readline() if readable else b""
+        found = re.fullmatch(rb"listening (\S+:\d+)\n", line)
+        if not found:
+            sys.exit(f"{PROGRAM} serve: wanted the line `listening ADDRESS`, got {line!r} and {self.said()!r} on standard error")
+        return found[1].decode()
+
+    def __enter__(self):
+        return self
+
+    def __exit__(self, *_):
+        self.stop()
+
+    def stop(self):
+        if self.process.poll() is None:
+            self.process.kill()
+        self.process.wait()
+        self.process.stdout.close()
+
+    def said(self):
+        """What stands on standard error by now."""
+        self.errors.seek(0)
+        return self.errors.read().decode()
+
+    def ends(self):
+        """The names of the connections' ends on standard error, by number. A line of another form stands under the number -1."""
+        found = [(line, END_LINE.fullmatch(line)) for line in self.said().splitlines()]
+        return {int(it[1]) if it else -1: it[2] if it else line for line, it in found}
+
+    def resident(self):
+        """The resident memory in KiB, as Linux tells it."""
+        return int(re.search(r"VmRSS:\s*(\d+) kB", Path(f"/proc/{self.process.pid}/status").read_text())[1])
+
+    def finish(self, report):
+        """After the last connection: the program ends by itself, with status 0 and nothing more on standard output."""
+        try:
+            output, _ = self.process.communicate(timeout=PATIENCE)
+            report.case("the server after its last connection", "", (0, b""), (self.process.returncode, output))
+        except subprocess.TimeoutExpired:
+            report.case("the server after its last connection", "", "it ends", f"it runs on; standard error has {self.said()!r}")
+
+
+def open_connection(address):
+    connection = socket.create_connection(parse_address(address), PATIENCE)
+    connection.setsockopt(socket.IPPROTO_TCP, socket.TCP_NODELAY, 1)
+    return connection
+
+
+def talk(connection, pieces, patience=PATIENCE):
+    """Sends pieces, each by a call of its own, and takes in what comes meanwhile; then shuts the sending side down and reads on to the end.
+
+    Gives the bytes that came, and the end: `end`, `reset`, or `silence` where nothing moved for `patience` seconds.
+    """
+    connection.setblocking(False)
+    pieces, rest, sending, received = iter(pieces), b"", True, bytearray()
+    while True:
+        if sending and not rest:
+            rest = next(pieces, b"")
+            if not rest:
+                sending = shut(connection)
+        readable, writable, _ = select.select([connection], [connection] if sending else [], [], patience)
+        if not readable and not writable:
+            return bytes(received), "silence"
+        try:
+            if writable:
+                rest = rest[connection.send(rest):]
+        except OSError:
+            sending = False
+        try:
+            piece = connection.recv(1 << 20) if readable else None
+        except ConnectionError:
+            return bytes(received), "reset"
+        if piece == b"":
+            return bytes(received), "end"
+        received += piece or b""
+
+
+def shut(connection):
+    """Shuts the sending side down, where the other side has not ended the connection before; nothing more is to be sent."""
+    try:
+        connection.shutdown(socket.SHUT_WR)
+    except OSError:
+        pass
+    return False
+
+
+def reset(connection):
+    """Ends a connection by a reset."""
+    connection.setsockopt(socket.SOL_SOCKET, socket.SO_LINGER, b"\x01\x00\x00\x00\x00\x00\x00\x00")
+    connection.close()
+
+
+def frames_of(data):
+    """A stream cut into its frames, lengths included; the last may be in part."""
+    frames, at = [], 0
+    while at < len(data):
+        length = 4 + int.from_bytes(data[at:at + 4], "big")
+        frames.append(bytes(data[at:at + length]))
+        at += length
+    return frames
+
+
+def compare_replies(report, name, requests, wanted, got):
+    """One case: the replies to a connection's requests. Where they differ, the first that does is shown with its request."""
+    if b"".join(wanted) == got:
+        return report.case(name, "", True, True)
+    replies = frames_of(got)
+    for place, (request, reply) in enumerate(zip(requests, wanted)):
+        found = replies[place] if place < len(replies) else b""
+        if found != reply:
+            return report.case(f"{name}, request {place} of {len(requests)}", request, reply, found)
+    return report.case(f"{name}, behind the last reply", requests[-1:], b"", b"".join(replies[len(wanted):]))
