@@ -8,6 +8,7 @@ on standard error is what docs/PROTOCOL.md says of the ends. With `turns` a clie
 """
 import os
 import random
+import select
 import signal
 import socket
 import sys
@@ -25,6 +26,7 @@ FAULT_REPLY = bytes.fromhex("00000005ff00000000")
 BROKEN = {"ReadFault", "WriteFault"}
 MEBIBYTE = 1 << 20
 TEXTS = {"one": b'{"a":[1,2,3]}', "two": b" " * 300_000 + b'"x"', "three": b'[{"k":"\xc3\xa9"}]'}
+USAGE_REPLY = bytes.fromhex("00000011000000000100000001") + number(len(TEXTS)) + number(sum(map(len, TEXTS.values())))
 
 
 class Watch:
@@ -195,27 +197,19 @@ def drop_all(watch, moment):
 
 
 def never_reads(watch):
-    """A client asks for more than the buffers hold and reads nothing; one that waits behind it is served when it is gone."""
+    """A client asks for more than the buffers hold and reads nothing: one behind it waits, and is served once that one is gone."""
     watch.open("WriteFault")
-    request = Request.get("b", "two").frame(BYSTANDER, 0)
+    requests = [Request.get("b", "two").frame(BYSTANDER, place) for place in range(100)]
     stuck = open_connection(watch.server.address)
-    stuck.settimeout(1.0)
-    sent = 0
-    try:
-        while sent < 64 * MEBIBYTE:
-            sent += stuck.send(request * 1_000)
-    except socket.timeout:
-        pass
-    watch.report.case("a client that never reads", request, "it is not taken from for ever", "it is not taken from for ever" if sent < 64 * MEBIBYTE else sent)
-    with watch.client() as waiting:
-        waiting.timeout = 0.5
-        try:
-            got = waiting.usage()
-        except TimeoutError:
-            got = "no reply"
-        watch.report.case("a client behind one that is served", request, "no reply", got)
+    stuck.sendall(b"".join(requests))
+    watch.open()
+    waiting, usage = open_connection(watch.server.address), Request.usage().frame(BYSTANDER, 1)
+    waiting.sendall(usage)
+    readable, _, _ = select.select([waiting], [], [], 1.0)
+    watch.report.case("a client behind one that never reads", usage, "no reply", waiting.recv(100) if readable else "no reply")
     stuck.close()
-    watch.look("a client that never reads", request)
+    watch.report.case("a client that waited, served at last", usage, (USAGE_REPLY, "end"), talk(waiting, []))
+    watch.look("a client that never reads", requests[0])
 
 
 def half_closed(watch):
@@ -234,7 +228,6 @@ def half_closed(watch):
 def behind_a_fault(watch):
     """What stands behind a framing fault is no request: not in the same piece, not after the reply, and not where there is much."""
     before = Request.usage().frame(BYSTANDER, 1)
-    reply = bytes.fromhex("00000011000000000100000001") + number(len(TEXTS)) + number(sum(map(len, TEXTS.values())))
     behind = Request.drop("b").frame(BYSTANDER, 2)
     for name, stream in [("one piece", [before + FAULT + behind]), ("a piece each", [before, FAULT, behind, behind]),
                          ("cut within", [before + FAULT[:2], FAULT[2:] + behind]), ("much", [before + FAULT + behind * 100_000]),
@@ -242,7 +235,7 @@ def behind_a_fault(watch):
         watch.open("FrameFault")
         connection = open_connection(watch.server.address)
         got, end = talk(connection, stream)
-        watch.report.case(f"behind a framing fault: {name}", b"".join(stream), reply + FAULT_REPLY, got)
+        watch.report.case(f"behind a framing fault: {name}", b"".join(stream), USAGE_REPLY + FAULT_REPLY, got)
         watch.report.case(f"the end after a framing fault: {name}", b"".join(stream), "end or reset", "end or reset" if end != "silence" else end)
         watch.look(f"behind a framing fault: {name}", b"".join(stream))
     late_behind_a_fault(watch, behind)
