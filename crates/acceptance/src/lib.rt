@@ -9,6 +9,8 @@ mod documents;
 #[cfg(test)]
 mod frames;
 #[cfg(test)]
+mod hub;
+#[cfg(test)]
 mod kernels;
 #[cfg(test)]
 mod names;

@@ -6,13 +6,14 @@ use Rattle.std.specs.Map.{lookup, lookup_entry, remove_entry}
 use Rattle.std.specs.declared.vec.Vec.{Vec}
 use Rattle.std.specs.declared.alloc.Global.{Global}
 use Rattle.std.proofs.lemmas.Slice.Eq.{bytes_eq-Decides}
+use Rattle.std.proofs.lemmas.List.{length-map}
 use Rattle.lru.specs.LruCache.{LruCache, lru_cache, promoted, put_entries}
 use Rattle.std.specs.Option.{IsSome, is_none, option_copied}
 use Rattle.std.specs.Prelude.{OnErr, Result, Ok, Err}
 use Rattle.path_grammar.specs.declared.ast.Query.{Query}
 use Rattle.path_grammar.specs.View.{query_view}
 use Rattle.path_types.specs.Verdict.{IsValidQuery}
-use Rattle.query_cache.specs.Texts.{Held, same, is_held, without, after_use, Admits}
+use Rattle.query_cache.specs.Texts.{Held, same, is_held, without, after_use, Admits, IsWithin}
 use Rattle.query_cache.specs.Kept.{texts_of, is_text, IsKept, IsCache, Keeps}
 
 abbrev Entries : Type 0
@@ -121,6 +122,20 @@ cache_promoted text es cap c = by (is_some (lookup (is_text text) es)) refl
           some = c.some;
           limited = c.limited;
         })
+
+pub within : (es : Entries) (room : ℕ) → IsCache es room → IsWithin (record { texts = texts_of es; capacity = room })
+within es room c = subst (λ n. n ≤ room) (sym (length-map es (λ (e : Vec ℕ Global × Query). e.0.items))) c.few
+
+-- a held text is a query, and so within the limit
+pub long_not_held : (text : List ℕ) (es : Entries) (cap : ℕ) → IsCache es cap → 4096 < length text → is_held text (texts_of es) ≡ false
+long_not_held text es cap c l = by (is_some (lookup (is_text text) es)) refl
+  where
+    by : (b : Bool) → is_some (lookup (is_text text) es) ≡ b → is_held text (texts_of es) ≡ false
+    by false h = sym (held_entry text es) ∙ h
+    by true h =
+        let x = entry_of text es h in
+        let short : length text ≤ 4096 = subst (λ t. length t ≤ 4096) x.text_is (kept_entry text es x.entry c.each x.found).short in
+        absurd (omega (arith, l, short))
 
 -- ---- A new text
 

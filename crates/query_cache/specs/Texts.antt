@@ -1,5 +1,5 @@
 -- Which texts a cache holds, and how that list changes: this project's own rule. It is ordered by use, the most recently used first.
-use Rattle.std.specs.Prelude.{◌≡◌, ℕ, ◌-◌, List, [], ◌∷◌, take, Bool, true, false, nat_eq, if◌then◌else◌}
+use Rattle.std.specs.Prelude.{◌≡◌, ℕ, ◌-◌, ◌≤◌, List, [], ◌∷◌, length, take, Bool, true, false, nat_eq, if◌then◌else◌}
 use Rattle.std.specs.List.{list_any}
 use Rattle.std.specs.Cmp.Lexicographic.{pointwise}
 
@@ -7,6 +7,10 @@ use Rattle.std.specs.Cmp.Lexicographic.{pointwise}
 pub record Held : Type 0 where
   pub texts : List (List ℕ)
   pub capacity : ℕ
+
+-- the list is never longer than the capacity
+abbrev pub IsWithin : Held → Type 0
+IsWithin held = length held.texts ≤ held.capacity
 
 -- equal bytes
 abbrev pub same : List ℕ → List ℕ → Bool

@@ -1,13 +1,13 @@
 //! The cache.
-ghost use Rattle.std.specs.Prelude.{◌≡◌, ◌≤◌, [], IfOk, IfErr, OnErr, IsTrue, None, is_none};
+ghost use Rattle.std.specs.Prelude.{◌≡◌, ◌≤◌, [], length, IfOk, IfErr, OnErr, IsTrue, None, is_none, false};
+ghost use Rattle.std.specs.Borrow.{sem};
 ghost use Rattle.std.specs.Map.{lookup};
 ghost use Rattle.path_grammar.specs.View.{query_view};
 ghost use Rattle.path_types.specs.Verdict.{IsValidQuery, RefusesQueryText};
-ghost use Rattle.query_cache.specs.Texts.{is_held, Admits};
+ghost use Rattle.query_cache.specs.Texts.{is_held, Admits, IsWithin};
 ghost use Rattle.query_cache.specs.Kept.{is_text, Keeps};
-ghost use Rattle.query_cache.specs.Compiled.{query_in, is_lent, Owns};
 
-use crate::compiled::{Compiled, Found};
+use crate::compiled::Compiled;
 use lru::LruCache;
 use path_grammar::QUERY_LIMIT;
 use path_types::{QueryFault, ValidQuery, compile};
@@ -18,10 +18,11 @@ use std::num::NonZeroUsize;
 /// The most texts of a cache.
 pub const LARGEST_CAPACITY: usize = 1_024;
 
-/// Valid queries by their texts, the most recently used first.
+/// Valid queries by their texts, the most recently used first, and beside them the last one that found no room.
 #[derive(Drop)]
 pub struct Cache {
     queries: LruCache<Vec<u8>, ValidQuery>,
+    unlisted: Option<ValidQuery>,
 }
 
 impl Model for Cache {
@@ -36,6 +37,9 @@ impl Model for Cache {
 }
 
 impl Cache {
+    ghost use Rattle.query_cache.specs.Compiled.{query_in, Owns, LeavesList};
+    ghost use Rattle.query_cache.specs.Lending.{EndsAs};
+
     /// An empty cache for so many texts.
     ///
     /// # Errors
@@ -48,7 +52,10 @@ impl Cache {
     {
         let places = NonZeroUsize::new(capacity).unwrap();
         let queries = LruCache::new(alloc, places)?;
-        Ok(Cache { queries })
+        Ok(Cache {
+            queries,
+            unlisted: None,
+        })
     }
 
     /// Whether the text is held. It changes nothing.
@@ -60,28 +67,28 @@ impl Cache {
 
     /// The query of a text, as [`compile`] gives it, whatever the cache holds.
     ///
-    /// The text comes to the front. A new text drops the last of a full cache; where it finds no memory there, the answer owns
-    /// the query and the list stays.
+    /// The text comes to the front. A new text drops the last of a full cache; where it finds no memory there, the cache keeps its
+    /// query until the next one that finds none, and the list stays. The list is never longer than the capacity.
     ///
     /// # Errors
     ///
-    /// Those of [`compile`], in its order; a text that is too long is refused before the cache is asked. The list stays.
-    /// `Memory` comes only from compiling.
+    /// Those of [`compile`], in its order; a text that is too long is refused before the cache is asked, and one that is held
+    /// never. The list stays. `Memory` comes only from compiling.
     pub fn lookup(&mut self, alloc: Global, text: &[u8]) -> Result<Compiled<'_>, QueryFault>
         ensures valid { IfOk result (λ compiled. IsValidQuery text.now (query_view (query_in compiled))) }
-        ensures list { IfOk result (λ compiled. Admits text.now (is_lent compiled) self.old compiled.cache.now) }
         ensures refused { IfErr result (λ fault. RefusesQueryText text.now fault) }
+        ensures unheld { OnErr result (is_held text.now self.old.texts ≡ false) }
+        ensures* list { sem 𝓛 (EndsAs self.entry (λ cache. LeavesList text.now self.old result cache × IsWithin cache)) }
     {
-        let owned = self.admit(alloc, text)?;
-        let cache = &*self;
-        match owned {
-            Some(owned) => Ok(Compiled {
-                found: Found::Owned(owned),
-                cache,
-            }),
+        let unlisted = self.admit(alloc, text)?;
+        match unlisted {
             None => Ok(Compiled {
-                found: Found::Cached(cache.lend(text)),
-                cache,
+                query: self.lend(text),
+                cached: true,
+            }),
+            Some(query) => Ok(Compiled {
+                query: self.set_aside(query),
+                cached: false,
             }),
         }
     }
@@ -95,29 +102,40 @@ impl Cache {
     pub fn admit(&mut self, alloc: Global, text: &[u8]) -> Result<Option<ValidQuery>, QueryFault>
         ensures valid { IfOk result (λ owned. Owns text.now owned) }
         ensures list { IfOk result (λ owned. Admits text.now (is_none owned) self.old self.new) }
+        ensures few { IsWithin self.new }
         ensures refused { IfErr result (λ fault. RefusesQueryText text.now fault) }
+        ensures unheld { OnErr result (is_held text.now self.old.texts ≡ false) }
         ensures unchanged { OnErr result (self.new ≡ self.old) }
     {
+        let queries = &mut self.queries;
         if text.len() > QUERY_LIMIT {
             return Err(QueryFault::QueryTooLong);
         }
-        if self.queries.promote(text) {
+        if queries.promote(text) {
             return Ok(None);
         }
         let query = compile(alloc, text)?;
-        Ok(keep(&mut self.queries, alloc, text, query))
+        Ok(keep(queries, alloc, text, query))
     }
 
-    // Lends the query of a text that is held.
+    /// Lends the query of a text that is held.
     fn lend(&self, text: &[u8]) -> &ValidQuery
         requires { IsTrue (is_held text.now self.now.texts) }
         ensures { IsValidQuery text.now (query_view result.now) }
     {
         self.queries.peek(text).unwrap()
     }
+
+    /// Keeps a query beside the list, in the place of the last one, and lends it.
+    fn set_aside(&mut self, query: ValidQuery) -> &ValidQuery
+        ensures value { result.now ≡ query }
+        ensures* list { sem 𝓛 (EndsAs self.entry (λ cache. cache ≡ self.old)) }
+    {
+        self.unlisted.insert(query)
+    }
 }
 
-// Puts the query of a text that is not held to the front, or hands it back where there is no room for it.
+/// Puts the query of a text that is not held to the front, or hands it back where there is no room for it.
 fn keep(
     queries: &mut LruCache<Vec<u8>, ValidQuery>,
     alloc: Global,

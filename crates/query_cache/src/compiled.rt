@@ -1,44 +1,28 @@
 //! A compiled query, wherever it lies.
 ghost use Rattle.std.specs.Prelude.{◌≡◌};
-ghost use Rattle.query_cache.specs.Compiled.{query_in, is_lent};
+ghost use Rattle.query_cache.specs.Compiled.{query_in, is_listed};
 
-use crate::cache::Cache;
 use path_types::ValidQuery;
 
-/// Where the query of a text lies.
-#[derive(Drop)]
-pub enum Found<'a> {
-    /// The cache holds it.
-    Cached(&'a ValidQuery),
-    /// The cache found no room for it.
-    Owned(ValidQuery),
-}
-
-/// A query that was looked up, and the cache as the look-up left it.
-#[derive(Drop)]
+/// A query that was looked up, and that the cache lends.
+#[derive(Clone, Copy)]
 pub struct Compiled<'a> {
-    pub found: Found<'a>,
-    pub cache: &'a Cache,
+    pub(crate) query: &'a ValidQuery,
+    pub(crate) cached: bool,
 }
 
 impl<'a> Compiled<'a> {
     /// The query.
-    pub fn query(&self) -> &ValidQuery
+    pub fn query(&self) -> &'a ValidQuery
         ensures { result.now ≡ query_in self.now }
     {
-        match &self.found {
-            Found::Cached(query) => *query,
-            Found::Owned(query) => query,
-        }
+        self.query
     }
 
-    /// Whether the cache holds it.
+    /// Whether the cache holds its text. Otherwise there was no room for it, and it lasts until the next look-up.
     pub fn is_cached(&self) -> bool
-        ensures { result ≡ is_lent self.now }
+        ensures { result ≡ is_listed self.now }
     {
-        match &self.found {
-            Found::Cached(_) => true,
-            Found::Owned(_) => false,
-        }
+        self.cached
     }
 }

@@ -5,4 +5,4 @@ mod cache;
 mod compiled;
 
 pub use cache::{Cache, LARGEST_CAPACITY};
-pub use compiled::{Compiled, Found};
+pub use compiled::Compiled;
