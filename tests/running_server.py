@@ -48,13 +48,13 @@ def shown(value):
 
 
 class Running:
-    """The server for some keys, which serves `count` connections and then ends by itself."""
+    """The server for some keys, which serves `count` connections and then ends by itself; `more` is for its process."""
 
-    def __init__(self, keys, count):
+    def __init__(self, keys, count, **more):
         signal.signal(signal.SIGTERM, lambda *_: sys.exit(143))
         self.errors = tempfile.TemporaryFile()
         command = [PROGRAM, "serve", "127.0.0.1:0", ",".join(key.hex() for key in keys), str(count)]
-        self.process = subprocess.Popen(command, stdin=subprocess.DEVNULL, stdout=subprocess.PIPE, stderr=self.errors)
+        self.process = subprocess.Popen(command, stdin=subprocess.DEVNULL, stdout=subprocess.PIPE, stderr=self.errors, **more)
         try:
             self.address = self.read_address()
         except BaseException:
