@@ -51,6 +51,8 @@ class Running:
     """The server for some keys, which serves `count` connections and then ends by itself; `more` is for its process."""
 
     def __init__(self, keys, count, **more):
+        if not os.access(PROGRAM, os.X_OK):
+            sys.exit(f"no program {PROGRAM}: bin/path_server builds it")
         signal.signal(signal.SIGTERM, lambda *_: sys.exit(143))
         self.errors = tempfile.TemporaryFile()
         command = [PROGRAM, "serve", "127.0.0.1:0", ",".join(key.hex() for key in keys), str(count)]
