@@ -12,13 +12,12 @@ import sys
 import time
 
 from path_client import Hit, Refused, Request, connect
-from running_server import Report, Running
+from running_server import GIVE_BACK, Report, Running
 
 KEY = bytes(range(16))
 MEBIBYTE = 1 << 20
 PER_CONNECTION = 16
 ALLOWED = 1_024
-GIVE_BACK = {"MALLOC_MMAP_THRESHOLD_": "65536", "MALLOC_TRIM_THRESHOLD_": "65536"}
 TEXTS = 8
 
 

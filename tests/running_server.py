@@ -19,6 +19,8 @@ from path_client import parse_address
 TOP = Path(__file__).resolve().parent.parent
 PROGRAM = os.environ.get("PATH_SERVER") or str(TOP / "crates/path_program/out/path_program")
 PATIENCE = 60.0
+GIVE_BACK = {"MALLOC_MMAP_THRESHOLD_": "65536", "MALLOC_TRIM_THRESHOLD_": "65536"}
+"""Has glibc give back at once what is freed, so that a process has the memory that is in use and no more."""
 END_LINE = re.compile(r"connection (\d+): (\w+)")
 
 
