@@ -56,8 +56,8 @@ class Load:
 
     def next(self):
         pick = self.chance.randrange
-        place = pick(18)
-        command = self.chance.choice([1] * 10 + [2, 2, 3, 4, 7])
+        place = pick(40)
+        command = self.chance.choice([1] * 10 + [2, 2, 3, 3, 4, 7])
         if command == 1:
             return self.put(place, self.chance.choice([2, MEBIBYTE - 1] + [MEBIBYTE] * 5 + [MEBIBYTE + 1]))
         return body(command, HEAVY, {4: named(b"c"), 7: b""}.get(command, named(b"c") + named(b"%d" % place)))
@@ -102,7 +102,7 @@ class Requests:
 
     def next(self):
         kind = self.chance.randrange(400)
-        special = 0 if kind < 60 else 1 if kind < 63 else 2 if kind < 64 else None
+        special = 0 if kind < 60 else 1 if kind < 64 else 2 if kind < 66 else None
         return self.framed(self.plain.body() if special is None else self.special[special].next())
 
 

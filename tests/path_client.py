@@ -332,17 +332,17 @@ class Client:
         the Refused that the call would have raised. It takes in replies while it sends, so neither side ever waits for the other, and
         asks for further requests as those before them are sent. `timeout` bounds the whole.
         """
-        return list(self._exchange(requests))
+        return self._exchange(requests)
 
     def _call(self, request: Request) -> Any:
-        result = next(self._exchange([request]))
+        (result,) = self._exchange([request])
         if isinstance(result, Refused):
             raise result
         return result
 
-    def _exchange(self, requests: Iterable[Request]) -> Iterator[Any]:
-        """The results of requests, one by one. Closes the connection on every way out but the good one: what comes later over it
-        would be taken for the reply of another request.
+    def _exchange(self, requests: Iterable[Request]) -> List[Any]:
+        """The results of requests. Once something was sent, it closes the connection on every way out but the good one: what came
+        later over it would be taken for the reply to another request.
         """
         if self._connection is None:
             raise BrokenConnection("the connection is closed")
@@ -363,7 +363,7 @@ class Client:
             raise
         finally:
             self._number = frames.number
-        return iter(results)
+        return results
 
     def _move(self, frames: _Outgoing, deadline: float) -> None:
         """Waits until bytes can go out or have come in, and moves one piece each way."""
@@ -371,15 +371,17 @@ class Client:
         writers = [connection] if frames.rest else []
         seconds = deadline - time.monotonic()
         readable, writable, _ = select.select([connection], writers, [], max(0.0, seconds))
-        if not readable and not writable:
+        if seconds <= 0 or not (readable or writable):
             raise TimeoutError("no answer within {} seconds".format(self.timeout))
-        if readable:
-            piece = connection.recv(PIECE_BYTES)
-            if not piece:
-                raise BrokenConnection("the server ended the connection")
-            self._replies.feed(piece)
-        if writable:
-            frames.take(connection.send(frames.rest[:PIECE_BYTES]))
+        try:
+            piece = connection.recv(PIECE_BYTES) if readable else None
+            count = connection.send(frames.rest[:PIECE_BYTES]) if writable else 0
+        except OSError as fault:
+            raise BrokenConnection(str(fault)) from fault
+        if piece == b"":
+            raise BrokenConnection("the server ended the connection")
+        self._replies.feed(piece or b"")
+        frames.take(count)
 
     def _arrived(self, frames: _Outgoing) -> Iterator[Any]:
         """The results of the replies that have come in whole."""
@@ -417,7 +419,7 @@ class _Outgoing:
 
     def take(self, count: int) -> None:
         """Notes that the next `count` bytes are sent."""
-        self.sent = True
+        self.sent = self.sent or count > 0
         self.rest = self.rest[count:]
         if not self.rest:
             self.fill()

@@ -19,6 +19,8 @@ from path_client import parse_address
 TOP = Path(__file__).resolve().parent.parent
 PROGRAM = os.environ.get("PATH_SERVER") or str(TOP / "crates/path_program/out/path_program")
 PATIENCE = 60.0
+GIVE_BACK = {"MALLOC_MMAP_THRESHOLD_": "65536", "MALLOC_TRIM_THRESHOLD_": "65536"}
+"""Has glibc give back at once what is freed, so that a process has the memory that is in use and no more."""
 END_LINE = re.compile(r"connection (\d+): (\w+)")
 
 
@@ -48,13 +50,15 @@ def shown(value):
 
 
 class Running:
-    """The server for some keys, which serves `count` connections and then ends by itself."""
+    """The server for some keys, which serves `count` connections and then ends by itself; `more` is for its process."""
 
-    def __init__(self, keys, count):
+    def __init__(self, keys, count, **more):
+        if not os.access(PROGRAM, os.X_OK):
+            sys.exit(f"no program {PROGRAM}: bin/path_server builds it")
         signal.signal(signal.SIGTERM, lambda *_: sys.exit(143))
         self.errors = tempfile.TemporaryFile()
         command = [PROGRAM, "serve", "127.0.0.1:0", ",".join(key.hex() for key in keys), str(count)]
-        self.process = subprocess.Popen(command, stdin=subprocess.DEVNULL, stdout=subprocess.PIPE, stderr=self.errors)
+        self.process = subprocess.Popen(command, stdin=subprocess.DEVNULL, stdout=subprocess.PIPE, stderr=self.errors, **more)
         try:
             self.address = self.read_address()
         except BaseException:

@@ -1,0 +1,110 @@
+#!/usr/bin/env python3
+"""Tests the client in path_client.py on what no server of ours sends: replies that are none, a connection that ends, silence. What it must
+do then stands in docs/PROTOCOL.md.
+"""
+import socket
+import threading
+
+from path_client import BrokenConnection, Hit, Refused, Request, Usage, connect
+from running_server import Report
+
+KEY = bytes(16)
+SOUND = {
+    "usage": ("00000011 00 00000001 00000001 00000002 00000003", Usage(1, 2, 3)),
+    "put": ("00000005 00 00000001", None),
+    "get": ("00000006 00 00000001 31", b"1"),
+    "list": ("0000000d 00 00000001 00000002 0161 0162", ["a", "b"]),
+    "query": ("00000017 00 00000001 00000001 0164 00000003 24c3a9 00000001 31", [Hit("d", "$é", b"1")]),
+    "remove": ("00000005 0f 00000001", "NotFound"),
+    "drop": ("00000005 4d 00000001", "Status77"),
+}
+ARGUMENTS = {"usage": [], "put": ["c", "d", "1"], "get": ["c", "d"], "list": ["c"], "query": ["c", "$"], "remove": ["c", "d"], "drop": ["c"]}
+UNSOUND = [
+    ("the end", "usage", ""),
+    ("the end within a reply", "usage", "00000011 00 00000001 0000"),
+    ("a body below 5 bytes", "usage", "00000004 00 000000"),
+    ("a body above the limit", "usage", "00400001"),
+    ("another number", "put", "00000005 00 00000002"),
+    ("the number of an earlier request", "put", "00000005 00 00000000"),
+    ("a framing fault", "put", "00000005 ff 00000000"),
+    ("a payload where none is", "put", "00000006 00 00000001 00"),
+    ("a payload too short", "usage", "00000010 00 00000001 00000001 00000002 000000"),
+    ("a payload too long", "usage", "00000012 00 00000001 00000001 00000002 00000003 00"),
+    ("fewer names than their number", "list", "0000000b 00 00000001 00000002 0161"),
+    ("a name that is cut", "list", "0000000b 00 00000001 00000001 0261"),
+    ("a path that is not UTF-8", "query", "00000015 00 00000001 00000001 0164 00000001 ff 00000001 31"),
+    ("a value that is cut", "query", "00000015 00 00000001 00000001 0164 00000001 24 00000002 31"),
+]
+
+
+class Answering:
+    """A server for one connection that reads a request, answers it with given bytes, one at a time, and ends; or says nothing."""
+
+    def __init__(self, reply):
+        self.reply = reply
+        self.listener = socket.create_server(("127.0.0.1", 0))
+        self.address = self.listener.getsockname()
+        self.thread = threading.Thread(target=self.run, daemon=True)
+        self.thread.start()
+
+    def run(self):
+        connection, _ = self.listener.accept()
+        with connection, self.listener:
+            while self.reply is None and connection.recv(1 << 16):
+                pass
+            if self.reply is None:
+                return
+            connection.recv(1 << 16)
+            for place in range(len(self.reply)):
+                connection.sendall(self.reply[place:place + 1])
+            connection.shutdown(socket.SHUT_WR)
+            connection.recv(1)
+
+
+def result_of(call):
+    try:
+        return call()
+    except Refused as refused:
+        return refused.name
+    except (BrokenConnection, TimeoutError, ValueError) as fault:
+        return type(fault).__name__
+
+
+def check_answers(report):
+    for name, (digits, wanted) in SOUND.items():
+        with connect(Answering(bytes.fromhex(digits)).address, KEY, timeout=10.0) as client:
+            report.case(f"{name}: a reply in single bytes", digits, wanted, result_of(lambda: getattr(client, name)(*ARGUMENTS[name])))
+    for case, name, digits in UNSOUND:
+        with connect(Answering(bytes.fromhex(digits)).address, KEY, timeout=10.0) as client:
+            for turn in ("", ", and the next call"):
+                report.case(case + turn, digits, "BrokenConnection", result_of(lambda: getattr(client, name)(*ARGUMENTS[name])))
+
+
+def check_silence(report):
+    with connect(Answering(None).address, KEY, timeout=0.2) as client:
+        report.case("silence", "", "TimeoutError", result_of(client.usage))
+        report.case("after silence", "", "BrokenConnection", result_of(client.usage))
+
+
+def check_what_is_not_sent(report):
+    """A request that has no frame is refused before anything is sent, and the connection goes on."""
+    with connect(Answering(bytes.fromhex(SOUND["usage"][0])).address, KEY, timeout=10.0) as client:
+        report.case("a body above the limit", "", "ValueError", result_of(lambda: client.put("c", "d", " " * 2_097_152)))
+        report.case("a name of 256 bytes", "", "ValueError", result_of(lambda: client.list("c" * 256)))
+        report.case("the next request", "", SOUND["usage"][1], result_of(client.usage))
+    longest = Request.put("c", "d", b" " * (2_097_152 - 25))
+    report.case("the longest frame", "", "00200000", longest.frame(KEY, 0)[:4].hex())
+    report.case("a key of 15 bytes", "", "ValueError", result_of(lambda: connect("127.0.0.1:1", bytes(15))))
+    report.case("no address", "", "ValueError", result_of(lambda: connect("127.0.0.1", KEY)))
+
+
+def main():
+    report = Report()
+    check_answers(report)
+    check_silence(report)
+    check_what_is_not_sent(report)
+    report.close("tests/path_client.py")
+
+
+if __name__ == "__main__":
+    main()
