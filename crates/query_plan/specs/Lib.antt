@@ -1,0 +1,4 @@
+pub mod Charge
+pub mod Planned
+pub mod Making
+pub mod Slots

@@ -1,0 +1,12 @@
+//! Evaluation of a query by a plan, with an exact charge.
+//!
+//! [`Plan`] is a valid query made ready: the kind of each part is decided, singular queries are told apart, names and literals stand
+//! ready to be compared, and each query in a filter that begins at `$` has a slot of its own, so that what was found for it can be
+//! kept. It stands for the query's tree.
+#![tactic(auto)]
+
+mod making;
+mod plan;
+mod planning;
+
+pub use planning::Plan;
