@@ -2,6 +2,7 @@
 use Rattle.std.specs.Prelude.{ℕ, ◌+◌, List, [], ◌∷◌, map, Bool, true, false, Option, Some, None, nat_eq, if◌then◌else◌, codes}
 use Rattle.path_grammar.specs.Tree as tree
 use Rattle.path_grammar.specs.Tree.{OneSegment, Segments, segments_of, selectors_of, exprs_of}
+use Rattle.path_grammar.specs.View.{literal_view}
 use Rattle.query_plan.specs.declared.plan.Condition.TheOpen.{Condition-F, Operand-F, Selection-F, Nested-F, Stage-F}
 use Rattle.query_plan.specs.declared.plan.Condition.{Condition, fold-Condition}
 use Rattle.query_plan.specs.declared.plan.Operand.{Operand, fold-Operand}
@@ -9,7 +10,6 @@ use Rattle.query_plan.specs.declared.plan.Selection.{Selection, fold-Selection}
 use Rattle.query_plan.specs.declared.plan.Nested.{Nested, fold-Nested}
 use Rattle.query_plan.specs.declared.plan.Stage.{Stage, fold-Stage}
 use Rattle.query_plan.specs.declared.plan.Constant.{Constant}
-use Rattle.query_plan.specs.declared.plan.Constant.TheVariants as constants
 use Rattle.query_plan.specs.declared.plan.Link.{Link}
 use Rattle.query_plan.specs.declared.plan.Link.TheVariants.{Key, Place}
 use Rattle.query_plan.specs.declared.plan.Chain.{Chain}
@@ -46,10 +46,7 @@ own_claim (Some k) q = claim k q
 -- ---- Literals and singular queries
 
 abbrev pub constant_view : Constant → tree.Literal
-constant_view (constants.Number n) = tree.number n.digits.items
-constant_view (constants.Text v) = tree.text v.items
-constant_view (constants.Bool b) = tree.boolean b
-constant_view constants.Null = tree.null
+constant_view c = literal_view c.literal
 
 abbrev pub link_selector : Link → tree.Selector
 link_selector (Key n) = tree.name n.scalars.items

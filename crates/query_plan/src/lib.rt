@@ -5,8 +5,17 @@
 //! kept. It stands for the query's tree.
 #![tactic(auto)]
 
+mod answers;
+mod chains;
+mod fault;
 mod making;
+mod meter;
+mod nodes;
 mod plan;
 mod planning;
+mod sides;
+mod slices;
+mod state;
 
+pub use fault::SelectFault;
 pub use planning::Plan;

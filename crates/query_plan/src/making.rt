@@ -10,7 +10,7 @@ ghost use Rattle.query_plan.specs.Planned.{trees, all_claims, query_of, claims_o
 ghost use Rattle.query_plan.specs.Making.{is_valid_nodes};
 
 use crate::plan::{
-    Chain, Condition, Constant, Link, Name, Nested, Number, Operand, Parts, Selection, Stage,
+    Chain, Condition, Constant, Link, Name, Nested, Operand, Parts, Selection, Stage,
 };
 use path_grammar::{
     Argument, Call, Comparable, Expr, Literal, Segment, Selector, SubQuery, is_singular,
@@ -25,22 +25,23 @@ fn name(alloc: Global, name: &[char]) -> Result<Name, AllocError>
     Ok(Name { scalars })
 }
 
-fn constant(alloc: Global, literal: &Literal) -> Result<Constant, AllocError>
-    requires valid { IsTrue (is_literal (literal_view literal.now)) }
-    ensures { IfOk result (λ made. constant_view made ≡ literal_view literal.now) }
+fn literal(alloc: Global, literal: &Literal) -> Result<Literal, AllocError>
+    ensures { IfOk result (λ made. literal_view made ≡ literal_view literal.now) }
 {
     match literal {
-        Literal::Number(digits) => {
-            let digits = digits.to_vec(alloc)?;
-            Ok(Constant::Number(Number { digits }))
-        }
-        Literal::Text(scalars) => {
-            let scalars = scalars.to_vec(alloc)?;
-            Ok(Constant::Text(scalars))
-        }
-        Literal::Bool(is_true) => Ok(Constant::Bool(*is_true)),
-        Literal::Null => Ok(Constant::Null),
+        Literal::Number(digits) => Ok(Literal::Number(digits.to_vec(alloc)?)),
+        Literal::Text(scalars) => Ok(Literal::Text(scalars.to_vec(alloc)?)),
+        Literal::Bool(is_true) => Ok(Literal::Bool(*is_true)),
+        Literal::Null => Ok(Literal::Null),
     }
+}
+
+fn constant(alloc: Global, written: &Literal) -> Result<Constant, AllocError>
+    requires valid { IsTrue (is_literal (literal_view written.now)) }
+    ensures { IfOk result (λ made. constant_view made ≡ literal_view written.now) }
+{
+    let literal = literal(alloc, written)?;
+    Ok(Constant { literal })
 }
 
 // The slot of a query from the root: the next number.

@@ -1,9 +1,10 @@
 //! A query made ready for evaluation: a tree in which the kind of each part is decided.
 
 ghost use Rattle.std.specs.Prelude.{IsTrue};
-ghost use Rattle.path_types.specs.Numbers.{is_number};
+ghost use Rattle.path_grammar.specs.View.{literal_view};
+ghost use Rattle.path_types.specs.Validity.{is_literal};
 
-use path_grammar::{IntLit, Op};
+use path_grammar::{IntLit, Literal, Op};
 
 /// A name of a member, ready to be looked up.
 #[derive(Drop)]
@@ -11,20 +12,11 @@ pub struct Name {
     pub scalars: Vec<char>,
 }
 
-/// A number literal within the limits.
+/// A literal (RFC 9535, section 2.3.5.1). Where it is a number, that is within the limits.
 #[derive(Drop)]
-pub struct Number {
-    pub digits: Vec<u8>,
-    ghost number: { IsTrue (is_number digits.items) },
-}
-
-/// A literal (RFC 9535, section 2.3.5.1).
-#[derive(Drop)]
-pub enum Constant {
-    Number(Number),
-    Text(Vec<char>),
-    Bool(bool),
-    Null,
+pub struct Constant {
+    pub literal: Literal,
+    ghost valid: { IsTrue (is_literal (literal_view literal)) },
 }
 
 /// A segment of a singular query (RFC 9535, section 2.3.5.1).
