@@ -24,7 +24,11 @@ mod singular;
 mod slices;
 mod values;
 
+pub use compare::compare as compare_sides;
 pub use evaluation::select;
 pub use fault::SelectFault;
 pub use nodelist::NODE_LIMIT;
+pub use selectors::element;
+pub use sides::Side;
+pub use slices::{Places, slice_places};
 pub use values::{equal_values, less_values};

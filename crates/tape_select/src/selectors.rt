@@ -110,7 +110,7 @@ fn nth_from(doc: &Document, first: Option<NodeId>, place: u32) -> Option<NodeId>
     None
 }
 
-// The element with this index.
+/// The element with this index (RFC 9535, section 2.3.3).
 pub fn element(doc: &Document, n: NodeId, i: IntLit) -> Option<NodeId>
     requires { n.0 < count doc.now }
     ensures node { single doc.now result ≡ at_index i (elements (node_at doc.now n.0)) }

@@ -1,8 +1,8 @@
 //! The selector of a slice (RFC 9535, section 2.3.4).
 
-ghost use Rattle.std.specs.Prelude.{◌≡◌, ◌<◌, ◌≤◌, ◌++◌, ◌^◌, ◌≤ℤ◌, ◌<ℤ◌, ◌+ℤ◌, ℕ, pos, negsuc, unsigned_abs, length, take, drop, reverse};
+ghost use Rattle.std.specs.Prelude.{◌≡◌, ◌<◌, ◌≤◌, ◌++◌, ◌^◌, ◌≤ℤ◌, ◌<ℤ◌, ◌+ℤ◌, ℕ, List, pos, negsuc, unsigned_abs, length, take, drop, reverse};
 ghost use Rattle.json_tape.specs.Document.{count, node_at};
-ghost use Rattle.json_tape.specs.Nodes.{elements};
+ghost use Rattle.json_tape.specs.Nodes.{Node, elements};
 ghost use Rattle.tape_select.specs.Places.{is_place};
 ghost use Rattle.tape_select.specs.Selection.{picked, normalize, lower, upper, is_selected, in_order, start_default, stop_default, bound_or, step_of, sliced};
 ghost use Rattle.tape_select.specs.Running.{add};
@@ -14,12 +14,12 @@ use crate::selectors::{element_total, first_element};
 use json_tape::{Document, NodeId};
 use path_grammar::IntLit;
 
-// The places that a slice selects, the lowest first: `first`, `first + step` and so on, below `end`.
+/// The places that a slice selects, the lowest first: `first`, `first + step` and so on, below `end`.
 #[derive(Clone, Copy)]
-struct Places {
-    first: u64,
-    end: u64,
-    step: u64,
+pub struct Places {
+    pub first: u64,
+    pub end: u64,
+    pub step: u64,
 }
 
 // The elements at these places, in document order.
@@ -225,6 +225,24 @@ fn step_or_one(step: Option<IntLit>) -> i64
     }
 }
 
+/// The places of the elements that a slice selects from an array of so many (RFC 9535, section 2.3.4.2.2), ascending, whatever its
+/// step: where that is below 0, the last one is selected first, and where it is 0, none is.
+pub fn slice_places(
+    start: Option<IntLit>,
+    stop: Option<IntLit>,
+    step: Option<IntLit>,
+    total: u32,
+) -> Places
+    ensures step { result.step ≡ unsigned_abs (step_of step) }
+    ensures end { result.end ≤ 2 ^ 32 }
+    ensures places { (ns : List Node) → total ≡ length ns → in_order (step_of step) (picked (is_place result.first result.end result.step) 0 ns) ≡ sliced start stop step ns }
+{
+    let step = step_or_one(step);
+    let start = bound_or(start_default(step, total), start);
+    let stop = bound_or(stop_default(step, total), stop);
+    selected_places(start, stop, step, total)
+}
+
 // The elements of a slice.
 #[inline(never)]
 pub fn sliced(
@@ -239,10 +257,6 @@ pub fn sliced(
     requires sound { Sound doc.now out.old.items }
     ensures { Gives doc.now result out.new.items (add (nodes_of doc.now out.old.items) (sliced start stop step (elements (node_at doc.now n.0)))) }
 {
-    let step = step_or_one(step);
-    let total = element_total(doc, n);
-    let start = bound_or(start_default(step, total), start);
-    let stop = bound_or(stop_default(step, total), stop);
-    let places = selected_places(start, stop, step, total);
-    picked_in_order(doc, n, places, step, out)
+    let places = slice_places(start, stop, step, element_total(doc, n));
+    picked_in_order(doc, n, places, step_or_one(step), out)
 }

@@ -1,0 +1,44 @@
+-- Adding nodes one by one.
+use Rattle.std.proofs.Common.{◌≡◌, ℕ, ◌+◌, ◌<◌, List, [], ◌∷◌, ◌++◌, map, length, drop, get_or, refl, sym, ap, ◌∙◌, arith, append_assoc}
+use Rattle.std.specs.Prelude.{flat_map}
+use Rattle.query_plan.specs.Charge.{total_of}
+use Rattle.std.proofs.lemmas.Grind.{common_steps}
+use Rattle.std.proofs.lemmas.List.{drop_more}
+use Rattle.json_tape.specs.Nodes.{Node}
+use Rattle.json_tape.specs.Document.{Doc, node_at, count}
+use Rattle.json_tape.specs.declared.tape.NodeId.{NodeId}
+use Rattle.query_plan.specs.Paying.{Inside, Holds}
+use Rattle.tape_select.specs.Nodelists.{nodes_of}
+
+pub append_nil : (xs : List Node) → xs ++ [] ≡ xs
+append_nil [] = refl
+append_nil (x ∷ xs) = ap (λ ys. x ∷ ys) (append_nil xs)
+
+pub nodes_push : (d : Doc) (ks : List NodeId) (k : NodeId) → nodes_of d (ks ++ k ∷ []) ≡ nodes_of d ks ++ node_at d k.0 ∷ []
+nodes_push d [] k = refl
+nodes_push d (j ∷ ks) k = ap (λ ns. node_at d j.0 ∷ ns) (nodes_push d ks k)
+
+pub inside_push : (d : Doc) (ks : List NodeId) (k : NodeId) → Inside d ks → k.0 < count d → Inside d (ks ++ k ∷ [])
+inside_push d ks k a i = grind (arith, common_steps, a, i)
+
+pub has_push : (d : Doc) (ks : List NodeId) (k : NodeId) → Inside d ks → k.0 < count d → Holds d (ks ++ k ∷ []) (nodes_of d ks ++ node_at d k.0 ∷ [])
+has_push d ks k a i = record { same = nodes_push d ks k; inside = inside_push d ks k a i }
+
+-- the first of several, and then the others
+pub add_more : (out : List Node) (n : Node) (ns : List Node) → (out ++ n ∷ []) ++ ns ≡ out ++ n ∷ ns
+add_more out n ns = append_assoc out (n ∷ []) ns
+
+pub has_none : (d : Doc) (ks : List NodeId) → Inside d ks → Holds d ks (nodes_of d ks ++ [])
+has_none d ks a = record { same = sym (append_nil (nodes_of d ks)); inside = a }
+
+pub ruleset adding = (add_more, has_none, has_push, append_nil)
+
+pub flat_more : (f : Node → List Node) (d : Doc) (ids : List NodeId) (i : ℕ) (id : NodeId) → i < length ids
+    → flat_map f (nodes_of d (drop i ids)) ≡ f (node_at d (get_or ids i id).0) ++ flat_map f (nodes_of d (drop (i + 1) ids))
+flat_more f d ids i id lt = ap (λ (xs : List NodeId). flat_map f (nodes_of d xs)) (drop_more ids i id lt)
+
+pub sum_more : (f : Node → ℕ) (d : Doc) (ids : List NodeId) (i : ℕ) (id : NodeId) → i < length ids
+    → total_of f (nodes_of d (drop i ids)) ≡ f (node_at d (get_or ids i id).0) + total_of f (nodes_of d (drop (i + 1) ids))
+sum_more f d ids i id lt = ap (λ (xs : List NodeId). total_of f (nodes_of d xs)) (drop_more ids i id lt)
+
+pub ruleset each_node = (add_more, has_none, flat_more, sum_more, append_assoc)

@@ -1,0 +1,13 @@
+pub mod Singular
+pub mod Figures
+pub mod Claims
+pub mod Makings
+pub mod Calls
+pub mod Adding
+pub mod Totals
+pub mod Picking
+pub mod Turned
+pub mod Following
+pub mod Learnt
+pub mod Slots
+pub mod Containers

@@ -1,0 +1,21 @@
+//! Evaluation of a query by a plan, with an exact charge.
+//!
+//! [`Plan`] is a valid query made ready: the kind of each part is decided, singular queries are told apart, names and literals stand
+//! ready to be compared, and each query in a filter that begins at `$` has a slot of its own, so that what was found for it can be
+//! kept. It stands for the query's tree.
+#![tactic(auto)]
+
+mod answers;
+mod chains;
+mod fault;
+mod making;
+mod meter;
+mod nodes;
+mod plan;
+mod planning;
+mod sides;
+mod slices;
+mod state;
+
+pub use fault::SelectFault;
+pub use planning::Plan;

@@ -1,0 +1,101 @@
+//! A query made ready for evaluation: a tree in which the kind of each part is decided.
+
+ghost use Rattle.std.specs.Prelude.{IsTrue};
+ghost use Rattle.path_grammar.specs.View.{literal_view};
+ghost use Rattle.path_types.specs.Validity.{is_literal};
+
+use path_grammar::{IntLit, Literal, Op};
+
+/// A name of a member, ready to be looked up.
+#[derive(Drop)]
+pub struct Name {
+    pub scalars: Vec<char>,
+}
+
+/// A literal (RFC 9535, section 2.3.5.1). Where it is a number, that is within the limits.
+#[derive(Drop)]
+pub struct Constant {
+    pub literal: Literal,
+    ghost valid: { IsTrue (is_literal (literal_view literal)) },
+}
+
+/// A segment of a singular query (RFC 9535, section 2.3.5.1).
+#[derive(Drop)]
+pub enum Link {
+    Key(Name),
+    Place(IntLit),
+}
+
+/// A singular query in a filter: it selects one node at most.
+#[derive(Drop)]
+pub struct Chain {
+    /// For a query from the root the number of its slot.
+    pub slot: Option<u32>,
+    pub links: Vec<Link>,
+}
+
+/// A segment (RFC 9535, section 2.5).
+#[derive(Drop)]
+#[cycle(plan)]
+pub struct Stage {
+    /// Whether it selects from each input node and all its descendants, or from the input nodes alone.
+    pub descend: bool,
+    pub selections: Vec<Selection>,
+}
+
+/// A selector (RFC 9535, section 2.3).
+#[derive(Drop)]
+#[cycle(plan)]
+pub enum Selection {
+    Named(Name),
+    Wild,
+    At(IntLit),
+    Sliced {
+        start: Option<IntLit>,
+        stop: Option<IntLit>,
+        step: Option<IntLit>,
+    },
+    Where(Box<Condition>),
+}
+
+/// A logical expression (RFC 9535, section 2.3.5).
+#[derive(Drop)]
+#[cycle(plan)]
+pub enum Condition {
+    Any(Vec<Condition>),
+    Each(Vec<Condition>),
+    Not(Box<Condition>),
+    Compare(Operand, Op, Operand),
+    /// A singular query selects a node.
+    Leads(Chain),
+    /// A query selects some node.
+    Exists(Nested),
+}
+
+/// A side of a comparison, or the argument of `length` (RFC 9535, sections 2.3.5.1 and 2.4).
+#[derive(Drop)]
+#[cycle(plan)]
+pub enum Operand {
+    Constant(Constant),
+    Single(Chain),
+    Length(Box<Operand>),
+    Count(Nested),
+    Value(Nested),
+}
+
+/// A query in a filter.
+#[derive(Drop)]
+#[cycle(plan)]
+pub struct Nested {
+    /// For a query from the root the number of its slot.
+    pub slot: Option<u32>,
+    pub stages: Vec<Stage>,
+}
+
+/// The parts of a whole query.
+#[derive(Drop)]
+pub struct Parts {
+    pub stages: Vec<Stage>,
+    /// How many slots there are.
+    pub slots: u32,
+}

@@ -1,0 +1,157 @@
+//! The selector of a slice (RFC 9535, section 2.3.4).
+
+ghost use Rattle.std.specs.Prelude.{◌≡◌, ◌<◌, ◌≤◌, ◌++◌, ◌^◌, length, take, drop, reverse, unsigned_abs};
+ghost use Rattle.json_tape.specs.Document.{count, node_at, following, IsIn};
+ghost use Rattle.json_tape.specs.Nodes.{elements};
+ghost use Rattle.tape_select.specs.Nodelists.{nodes_of};
+ghost use Rattle.tape_select.specs.Places.{is_place};
+ghost use Rattle.tape_select.specs.Selection.{picked, in_order, sliced, step_of};
+ghost use Rattle.query_plan.specs.Paying.{Inside, Adds};
+
+use crate::fault::SelectFault;
+use crate::meter::Meter;
+use crate::nodes::{child_total, push};
+use json_tape::{Document, Kind, NodeId};
+use path_grammar::IntLit;
+use tape_select::{Places, slice_places};
+
+// The first element of an array.
+#[tactic(auto, using(crate::proofs::Totals::element_facts))]
+fn first_element(doc: &Document, n: NodeId) -> Option<NodeId>
+    requires { n.0 < count doc.now }
+    ensures nodes { following doc.now result ≡ elements (node_at doc.now n.0) }
+    ensures inside { IsIn doc.now result }
+{
+    match doc.kind(n) {
+        Kind::Array => doc.first_child(n),
+        _ => None,
+    }
+}
+
+// How many elements there are; a value that is no array has none.
+#[tactic(auto, using(crate::proofs::Totals::element_facts))]
+fn element_total(doc: &Document, n: NodeId) -> u32
+    requires { n.0 < count doc.now }
+    ensures { result ≡ length (elements (node_at doc.now n.0)) }
+{
+    match doc.kind(n) {
+        Kind::Array => child_total(doc, n),
+        _ => 0,
+    }
+}
+
+// The elements at these places, in document order.
+#[tactic(auto, using(crate::proofs::Picking::picking))]
+fn picked(
+    doc: &Document,
+    n: NodeId,
+    places: Places,
+    meter: &mut Meter,
+    out: &mut Vec<NodeId>,
+) -> Result<(), SelectFault>
+    requires step { 0 < places.step }
+    requires step_fits { places.step ≤ 2 ^ 63 }
+    requires end_fits { places.end ≤ 2 ^ 32 }
+    requires inside { n.0 < count doc.now }
+    requires sound { Inside doc.now out.old.items }
+    ensures { Adds doc.now result out.new.items (nodes_of doc.now out.old.items ++ picked (is_place places.first places.end places.step) 0 (elements (node_at doc.now n.0))) (length (picked (is_place places.first places.end places.step) 0 (elements (node_at doc.now n.0)))) meter.old.left meter.new.left }
+{
+    let mut child = first_element(doc, n);
+    let mut i = 0;
+    let mut wanted = places.first;
+    while wanted < places.end {
+        let Some(c) = child else {
+            break;
+        };
+        if i == wanted {
+            meter.spend(1)?;
+            push(doc, out, c)?;
+            wanted += places.step;
+        }
+        child = doc.next_sibling(c);
+        i += 1;
+    }
+    Ok(())
+}
+
+// Turns the end of a list round.
+fn reverse_from(out: &mut Vec<NodeId>, from: usize)
+    requires { from ≤ length out.old.items }
+    ensures { out.new.items ≡ take from out.old.items ++ reverse (drop from out.old.items) }
+{
+    out[from..].reverse();
+}
+
+// The elements at these places, the last first.
+#[tactic(auto, using(crate::proofs::Turned::turned))]
+fn picked_back(
+    doc: &Document,
+    n: NodeId,
+    places: Places,
+    meter: &mut Meter,
+    out: &mut Vec<NodeId>,
+) -> Result<(), SelectFault>
+    requires step { 0 < places.step }
+    requires step_fits { places.step ≤ 2 ^ 63 }
+    requires end_fits { places.end ≤ 2 ^ 32 }
+    requires inside { n.0 < count doc.now }
+    requires sound { Inside doc.now out.old.items }
+    ensures { Adds doc.now result out.new.items (nodes_of doc.now out.old.items ++ reverse (picked (is_place places.first places.end places.step) 0 (elements (node_at doc.now n.0)))) (length (reverse (picked (is_place places.first places.end places.step) 0 (elements (node_at doc.now n.0))))) meter.old.left meter.new.left }
+{
+    let from = out.len();
+    picked(doc, n, places, meter, out)?;
+    reverse_from(out, from);
+    Ok(())
+}
+
+// The elements at these places, ascending with a step above 0, descending with one below 0, none with 0.
+fn picked_in_order(
+    doc: &Document,
+    n: NodeId,
+    places: Places,
+    step: i64,
+    meter: &mut Meter,
+    out: &mut Vec<NodeId>,
+) -> Result<(), SelectFault>
+    requires step { places.step ≡ unsigned_abs step }
+    requires end_fits { places.end ≤ 2 ^ 32 }
+    requires inside { n.0 < count doc.now }
+    requires sound { Inside doc.now out.old.items }
+    ensures { Adds doc.now result out.new.items (nodes_of doc.now out.old.items ++ in_order step (picked (is_place places.first places.end places.step) 0 (elements (node_at doc.now n.0)))) (length (in_order step (picked (is_place places.first places.end places.step) 0 (elements (node_at doc.now n.0))))) meter.old.left meter.new.left }
+{
+    if 0 < step {
+        picked(doc, n, places, meter, out)
+    } else if step < 0 {
+        picked_back(doc, n, places, meter, out)
+    } else {
+        Ok(())
+    }
+}
+
+fn step_or_one(step: Option<IntLit>) -> i64
+    ensures { result ≡ step_of step }
+{
+    match step {
+        None => 1,
+        Some(IntLit::Beyond) => 0,
+        Some(IntLit::Within(i)) => i,
+    }
+}
+
+/// The elements of a slice, one unit for each that is selected.
+pub fn sliced(
+    doc: &Document,
+    n: NodeId,
+    start: Option<IntLit>,
+    stop: Option<IntLit>,
+    step: Option<IntLit>,
+    meter: &mut Meter,
+    out: &mut Vec<NodeId>,
+) -> Result<(), SelectFault>
+    requires inside { n.0 < count doc.now }
+    requires sound { Inside doc.now out.old.items }
+    ensures { Adds doc.now result out.new.items (nodes_of doc.now out.old.items ++ sliced start stop step (elements (node_at doc.now n.0))) (length (sliced start stop step (elements (node_at doc.now n.0)))) meter.old.left meter.new.left }
+{
+    let places = slice_places(start, stop, step, element_total(doc, n));
+    picked_in_order(doc, n, places, step_or_one(step), meter, out)
+}
