@@ -3,3 +3,8 @@ pub mod WholeTexts
 pub mod WholeScripts
 pub mod Following
 pub mod Splits
+pub mod Moves
+pub mod Framed
+pub mod Replying
+pub mod Calling
+pub mod WholeCalls

@@ -1,5 +1,5 @@
 -- Texts split at the first byte of one value: lines at line feeds, and a line at its first space.
-use Rattle.std.proofs.Common.{◌≡◌, ◌≢◌, ℕ, zero, suc, ◌<◌, ◌≤◌, ◌^◌, List, [], ◌∷◌, ◌++◌, ◌+◌, ◌-◌, length, take, drop, slice_index, refl, sym, ap, ◌∙◌, arith, eqb-true, nat_eq, Bool, true, false, decimal, Option, Some, None, Result, Ok, Err, inl, inr, IfOk, IfNone}
+use Rattle.std.proofs.Common.{◌≡◌, ◌≢◌, ℕ, zero, suc, ◌<◌, ◌≤◌, ◌^◌, List, [], ◌∷◌, ◌++◌, ◌+◌, ◌-◌, length, take, drop, slice_index, refl, sym, ◌∙◌, arith, eqb-true, nat_eq, true, false, decimal, Option, Some, None, Result, Ok, Err, inl, inr, IfOk, IfNone}
 use Rattle.std.proofs.lemmas.Bool.{eq-eqb}
 use Rattle.std.proofs.lemmas.Bool.Decides.{nat_tests}
 use Rattle.std.specs.declared.alloc.AllocError.{AllocError}
@@ -15,7 +15,8 @@ use lib.Pointwise.{pointwise}
 use Rattle.memchr.specs.Find.{NoneBefore, Nowhere, Passes, is_byte}
 use Rattle.path_server.specs.Splitting.{Lacks, IsSplit}
 use Rattle.path_hub.specs.declared.event.Event.{Event}
-use Rattle.path_server.specs.Scripts.{BeginsWith, IsBad, IsFirstBad, Says, Spells, SpellsEvents, in_front, lines_in}
+use Rattle.path_server.specs.TextLines.{IsBad, IsFirstBad, SpellAll, lines_in}
+use Rattle.path_server.specs.Scripts.{BeginsWith, Says, Spells}
 
 -- nowhere before the place is nowhere in what stands before it
 pub lacks_before : (mark : ℕ) (text : List ℕ) (k : ℕ) → Nowhere (Passes (is_byte mark) text) 0 k → Lacks mark (take k text)
@@ -114,40 +115,41 @@ pub no_beginning : (line : List ℕ) → Lacks 32 line → (conn : ℕ) (word : 
 no_beginning line lacks conn word b = has_mark 32 (decimal conn) word (rw b.line_is at lacks)
 
 -- a line whose word says nothing is bad
-pub says_nothing : (line : List ℕ) (conn : ℕ) (word : List ℕ) → BeginsWith line conn word → ((event : Event) → ¬ Says conn word event) → IsBad line
+pub says_nothing : (line : List ℕ) (conn : ℕ) (word : List ℕ) → BeginsWith line conn word → ((event : Event) → ¬ Says conn word event) → IsBad Spells line
 says_nothing line conn word b none event s =
     let same = one_beginning line conn s.conn word s.word b s.begins in
     none event (rw (same.0, same.1) s.says)
 
 pub bad_line : (line : List ℕ) (conn : ℕ) (word : List ℕ) (found : Result (Option Event) AllocError) → BeginsWith line conn word
-    → IfOk found (λ f. IfNone f ((event : Event) → ¬ Says conn word event)) → IfOk found (λ f. IfNone f (IsBad line))
+    → IfOk found (λ f. IfNone f ((event : Event) → ¬ Says conn word event)) → IfOk found (λ f. IfNone f (IsBad Spells line))
 bad_line line conn word (Ok None) b none = says_nothing line conn word b none
 bad_line line conn word (Ok (Some event)) b none = tt
 bad_line line conn word (Err e) b none = tt
 
--- ---- events
+-- ---- what lines spell
 
--- events that the rest spells go on what was read, and its first bad line is that of the script
-pub record GoesOn (script : List ℕ) (read : List Event) (rest : List ℕ) : Type 0 where
-  pub spelled : (events : List Event) → SpellsEvents rest events → SpellsEvents script (read ++ events)
-  pub bad : (number : ℕ) → IsFirstBad (suc (length read)) (lines_in rest) number → IsFirstBad 1 (lines_in script) number
+-- what the rest spells goes on what was read, and its first bad line is that of the text
+pub record GoesOn {A : Type 0} (spells : List ℕ → A → Type 0) (text : List ℕ) (read : List A) (rest : List ℕ) : Type 0 where
+  pub spelled : (things : List A) → SpellAll spells rest things → SpellAll spells text (read ++ things)
+  pub bad : (number : ℕ) → IsFirstBad spells (suc (length read)) (lines_in rest) number → IsFirstBad spells 1 (lines_in text) number
 
-pub goes_on_first : (script : List ℕ) → GoesOn script [] script
-goes_on_first script = record { spelled = λ events s. s; bad = λ number b. b }
+pub goes_on_first : {A : Type 0} (spells : List ℕ → A → Type 0) (text : List ℕ) → GoesOn spells text [] text
+goes_on_first spells text = record { spelled = λ things s. s; bad = λ number b. b }
 
-one_more : (read : List Event) (event : Event) → length (read ++ event ∷ []) ≡ suc (length read)
-one_more read event = let sum = length-append read (event ∷ []) in omega (arith, sum)
+one_more : {A : Type 0} (read : List A) (thing : A) → length (read ++ thing ∷ []) ≡ suc (length read)
+one_more read thing = let sum = length-append read (thing ∷ []) in omega (arith, sum)
 
-pub goes_on : (script : List ℕ) (read : List Event) (rest line others : List ℕ) (event : Event) → GoesOn script read rest → lines_in rest ≡ line ∷ lines_in others → Spells line event
-    → GoesOn script (read ++ event ∷ []) others
-goes_on script read rest line others event g lines s = record {
-  spelled = λ events more. rw (append_assoc read (event ∷ []) events) (g.spelled (event ∷ events) (rw lines (s, more)));
-  bad = λ number b. g.bad number (rw lines (inr (event, s, rw (one_more read event) at b)));
+pub goes_on : {A : Type 0} (spells : List ℕ → A → Type 0) (text : List ℕ) (read : List A) (rest line others : List ℕ) (thing : A) → GoesOn spells text read rest → lines_in rest ≡ line ∷ lines_in others → spells line thing
+    → GoesOn spells text (read ++ thing ∷ []) others
+goes_on spells text read rest line others thing g lines s = record {
+  spelled = λ things more. rw (append_assoc read (thing ∷ []) things) (g.spelled (thing ∷ things) (rw lines (s, more)));
+  bad = λ number b. g.bad number (rw lines (inr (thing, s, rw (one_more read thing) at b)));
 }
 
-pub bad_here : (script : List ℕ) (read : List Event) (rest line others : List ℕ) → GoesOn script read rest → lines_in rest ≡ line ∷ lines_in others → IsBad line → IsFirstBad 1 (lines_in script) (length read + 1)
-bad_here script read rest line others g lines b = g.bad (length read + 1) (rw lines (inl (b, (omega arith))))
+pub bad_here : {A : Type 0} (spells : List ℕ → A → Type 0) (text : List ℕ) (read : List A) (rest line others : List ℕ) → GoesOn spells text read rest → lines_in rest ≡ line ∷ lines_in others → IsBad spells line
+    → IsFirstBad spells 1 (lines_in text) (length read + 1)
+bad_here spells text read rest line others g lines b = g.bad (length read + 1) (rw lines (inl (b, (omega arith))))
 
-pub all_spelled : (script : List ℕ) (read : List Event) (rest : List ℕ) → GoesOn script read rest → length rest ≡ 0 → SpellsEvents script read
-all_spelled script read [] g none = rw (append-nil read) at (g.spelled [] tt)
-all_spelled script read (c ∷ rest) g none = absurd (omega (arith, none))
+pub all_spelled : {A : Type 0} (spells : List ℕ → A → Type 0) (text : List ℕ) (read : List A) (rest : List ℕ) → GoesOn spells text read rest → length rest ≡ 0 → SpellAll spells text read
+all_spelled spells text read [] g none = rw (append-nil read) at (g.spelled [] tt)
+all_spelled spells text read (c ∷ rest) g none = absurd (omega (arith, none))

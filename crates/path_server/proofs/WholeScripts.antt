@@ -1,10 +1,11 @@
--- A script that is cut one byte past the limit is refused as the whole script is, or it is the whole script.
-use Rattle.std.proofs.Common.{◌≡◌, ℕ, ◌<◌, ◌≤◌, min, List, [], length, take, arith, Option, None, Some}
-use Rattle.std.specs.Prelude.{IfSome}
+-- A text of lines that is cut one byte past the limit is refused as the whole text is, or it is the whole text.
+use Rattle.std.proofs.Common.{◌≡◌, ℕ, ◌≤◌, min, List, [], length, take, arith, Option, None, Some, Result, Ok, Err, ◌∙◌, subst, ap}
+use Rattle.std.specs.Prelude.{IfOk, IfSome}
 use Rattle.std.specs.Io.KnownBytes.{Appends}
 use Rattle.std.proofs.lemmas.List.{length-take, take_all}
 use Rattle.path_server.specs.Replays.{RefusesScript, Replays}
 use Rattle.path_server.specs.ReplayStream.{ReplaysStream}
+use Rattle.path_server.specs.CallStream.{IsReadFrom}
 use Rattle.path_server.specs.declared.replay.ScriptFault.{ScriptFault}
 use Rattle.path_server.specs.declared.replay.ScriptFault.TheVariants.{TooLong, BadLine, Keys, Memory}
 
@@ -32,3 +33,19 @@ pub script_replayed : (keys : List (List ℕ)) (cut lines : List ℕ) (left old 
     → ReplaysStream keys left old new
 script_replayed keys cut lines None old new e r w = tt
 script_replayed keys cut lines (Some script) old new e r w = (lines, replays_whole keys script [] lines (rw e at r), w)
+
+-- ---- the lines of a call
+
+read_from : (left cut : List ℕ) → cut ≡ take 67108865 left → IsReadFrom left cut
+read_from left cut e = record {
+  whole = λ short. e ∙ whole left (subst (λ x. length x ≤ 67108864) e short);
+  above = λ long. let size = cut_length left in let same = ap length e in omega (arith, size, same, long);
+}
+
+from_reader : (left : Option (List ℕ)) (cut : List ℕ) → IfSome left (λ l. cut ≡ take 67108865 l) → IfSome left (λ l. IsReadFrom l cut)
+from_reader None cut e = tt
+from_reader (Some left) cut e = read_from left cut e
+
+pub read_past_limit : {V E : Type 0} (items : V → List ℕ) (r : Result V E) (left : Option (List ℕ)) → IfOk r (λ v. IfSome left (λ l. items v ≡ take 67108865 l)) → IfOk r (λ v. IfSome left (λ l. IsReadFrom l (items v)))
+read_past_limit items (Ok v) left e = from_reader left (items v) e
+read_past_limit items (Err fault) left e = tt

@@ -4,6 +4,12 @@ pub mod Faults
 pub mod QueryStream
 pub mod Keys
 pub mod Splitting
+pub mod TextLines
 pub mod Scripts
+pub mod FrameLines
 pub mod Replays
 pub mod ReplayStream
+pub mod CallFaults
+pub mod Calls
+pub mod Exchanges
+pub mod CallStream

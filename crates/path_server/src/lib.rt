@@ -1,16 +1,26 @@
-//! What the program's subcommands do: a query on a single text, and a script of events replayed on a server of tenants; from bytes
-//! to bytes, and from a reader to a writer.
+//! What the program's subcommands do: a query on a single text, a script of events replayed on a server of tenants, and requests
+//! called over a wire; from bytes to bytes, and from a reader to a writer.
 #![tactic(auto)]
 
+mod call;
+mod call_fault;
+mod call_streams;
+mod exchange;
 mod fault;
+mod frame_lines;
 mod keys;
 mod lines;
 mod replay;
+mod request_lines;
 mod script;
 mod script_streams;
 mod streams;
+mod text_lines;
 mod texts;
 
+pub use call::call_over;
+pub use call_fault::CallFault;
+pub use call_streams::{CallStreamFault, call_stream, read_call};
 pub use fault::QueryTextFault;
 pub use keys::{KeysFault, read_keys};
 pub use replay::{SCRIPT_LIMIT, ScriptFault, replay_script};

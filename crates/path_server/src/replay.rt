@@ -4,9 +4,10 @@ ghost use Rattle.std.specs.Prelude.{◌≡◌, ◌++◌, IfErr, OnErr, OnOk, len
 ghost use Rattle.path_server.specs.Replays.{RefusesScript, Replays, of_lines, of_run, reply_line, reply_lines};
 ghost use Rattle.path_server.specs.declared.replay.ScriptFault.TheVariants.{Memory};
 
-use crate::script::{LinesFault, read_events};
+use crate::frame_lines::write_frame;
+use crate::text_lines::{LinesFault, read_lines};
 use itoa::Buffer;
-use path_hub::{Reply, RunFault, run};
+use path_hub::{Event, Reply, RunFault, run};
 use std::alloc::{AllocError, Global};
 use tenant_store::TenantsFault;
 use thiserror::Error;
@@ -67,12 +68,9 @@ fn write_reply(alloc: Global, reply: &Reply, out: &mut Vec<u8>) -> Result<(), Al
     ensures kept { take (length out.old.items) out.new.items ≡ out.old.items }
 {
     let mut buffer = Buffer::new();
-    let digits = hex::encode(alloc, reply.frame.as_slice())?;
     out.extend_from_slice(buffer.format(reply.conn).as_bytes())?;
     out.push(b' ')?;
-    out.extend_from_slice(digits.as_bytes())?;
-    out.push(b'\n')?;
-    Ok(())
+    write_frame(alloc, reply.frame.as_slice(), out)
 }
 
 // Appends the lines of replies; at a refusal a part of them may stand there.
@@ -119,7 +117,7 @@ pub fn replay_script(
     if script.len() > SCRIPT_LIMIT {
         return Err(ScriptFault::TooLong);
     }
-    let events = read_events(alloc, script)?;
+    let events: Vec<Event> = read_lines(alloc, script)?;
     let mut replies = Vec::new(alloc);
     run(alloc, keys, events.as_slice(), &mut replies)?;
     write_replies(alloc, replies.as_slice(), out)?;

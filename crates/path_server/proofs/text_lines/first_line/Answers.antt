@@ -1,7 +1,7 @@
 use Rattle.std.proofs.Common.{◌∙◌, ap}
 use Rattle.path_server.proofs.Splits.{lines_split, lines_last}
-use Rattle.path_server.specs.Scripts.{lines_in}
-use Rattle.path_server.proofs.script.first_line.Goals as goal
+use Rattle.path_server.specs.TextLines.{lines_in}
+use Rattle.path_server.proofs.text_lines.first_line.Goals as goal
 
 pub returns-in-Some-clause-lines : goal.returns-in-Some-clause-lines
 returns-in-Some-clause-lines c =

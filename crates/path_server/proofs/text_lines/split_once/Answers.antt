@@ -1,6 +1,5 @@
-use Rattle.std.proofs.Common.{◌≡◌, ℕ, ◌+◌, List, ◌∷◌, ◌++◌, take, drop, length, slice_index, sym, ◌∙◌}
-use Rattle.path_server.proofs.Splits.{lacks_before, lacks_all, split_there}
-use Rattle.path_server.proofs.script.split_once.Goals as goal
+use Rattle.path_server.proofs.Splits.{lacks_all, split_there}
+use Rattle.path_server.proofs.text_lines.split_once.Goals as goal
 
 pub returns-in-Some-clause-some : goal.returns-in-Some-clause-some
 returns-in-Some-clause-some c = split_there c.args.mark c.args.text.now c.in-Some.at c.in-Some.ensures
