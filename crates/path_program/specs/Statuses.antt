@@ -1,4 +1,4 @@
--- The exit statuses of the program, by what happened: 0 for help and the version, 1 for a refused text or script, 2 for a refused query, 3 for a command line or keys that are none, 4 for the streams and memory.
+-- The exit statuses of the program, by what happened: 0 for help and the version, 1 for a refused text, script or line, 2 for a refused query, 3 for a command line or keys that are none, 4 for the streams, the network and memory.
 use Rattle.std.specs.Prelude.{ℕ}
 use Rattle.clap.specs.Values.{kind_of}
 use Rattle.clap.specs.declared.error.kind.ErrorKind.{ErrorKind}
@@ -6,7 +6,7 @@ use Rattle.clap.specs.declared.error.kind.ErrorKind.TheVariants.{DisplayHelp, Di
 use Rattle.path_server.specs.declared.fault.QueryTextFault.{QueryTextFault}
 use Rattle.path_server.specs.declared.fault.QueryTextFault.TheVariants as refusal
 use Rattle.path_server.specs.declared.streams.QueryStreamFault.{QueryStreamFault}
-use Rattle.path_server.specs.declared.streams.QueryStreamFault.TheVariants.{Read, Refused, Write}
+use Rattle.path_server.specs.declared.streams.QueryStreamFault.TheVariants as stream
 use Rattle.path_server.specs.declared.script_streams.ReplayStreamFault.{ReplayStreamFault}
 use Rattle.path_server.specs.declared.script_streams.ReplayStreamFault.TheVariants as replay
 use Rattle.path_server.specs.declared.replay.ScriptFault.{ScriptFault}
@@ -16,7 +16,7 @@ use Rattle.path_server.specs.declared.keys.KeysFault.TheVariants as keys
 use Rattle.tenant_store.specs.declared.tenants.TenantsFault.{TenantsFault}
 use Rattle.tenant_store.specs.declared.tenants.TenantsFault.TheVariants as tenants
 use Rattle.path_program.specs.declared.failure.Failure.{Failure}
-use Rattle.path_program.specs.declared.failure.Failure.TheVariants.{CommandLine, Words, Query, Keys, Replay, Memory}
+use Rattle.path_program.specs.declared.failure.Failure.TheVariants.{CommandLine, Words, Query, Keys, Replay, Tenants, Net, Write, Memory}
 
 abbrev pub status_of_kind : ErrorKind → ℕ
 status_of_kind DisplayHelp = 0
@@ -39,9 +39,9 @@ status_of_refusal refusal.TooManyNodes = 2
 status_of_refusal refusal.Memory = 4
 
 abbrev pub status_of_query : QueryStreamFault → ℕ
-status_of_query (Read _) = 4
-status_of_query (Refused fault) = status_of_refusal fault
-status_of_query (Write _) = 4
+status_of_query (stream.Read _) = 4
+status_of_query (stream.Refused fault) = status_of_refusal fault
+status_of_query (stream.Write _) = 4
 
 abbrev pub status_of_keys : KeysFault → ℕ
 status_of_keys keys.BadKeys = 3
@@ -70,4 +70,7 @@ status_of Words = 3
 status_of (Query fault) = status_of_query fault
 status_of (Keys fault) = status_of_keys fault
 status_of (Replay fault) = status_of_replay fault
+status_of (Tenants fault) = status_of_tenants fault
+status_of Net = 4
+status_of Write = 4
 status_of Memory = 4

@@ -1,11 +1,19 @@
 //! The command line.
 
 use crate::failure::Failure;
+use clap::builder::ValueParser;
 use clap::{Arg, ArgAction, ArgMatches, Command, Error};
 use std::alloc::{AllocError, Global};
 
 /// The version, which `--version` prints behind the program's name.
 pub const VERSION: &str = "0.1.0";
+
+/// The most connections that one run of the program serves.
+const MOST_CONNECTIONS: u64 = 1_000_000;
+
+const KEYS_HELP: &str = "The tenants' keys: 32 hexadecimal digits each, joined by commas";
+
+const ADDRESS_HELP: &str = "A host, a colon and a port, as 127.0.0.1:7000 or [::1]:7000";
 
 /// What the command line asks for.
 #[derive(Drop)]
@@ -14,45 +22,57 @@ pub enum Request<'a> {
     Query(&'a str),
     /// The lines of the replies to the script on standard input, with tenants of these keys.
     Replay(&'a str),
+    /// A server at an address, with tenants of these keys, for so many connections.
+    Serve {
+        address: &'a str,
+        keys: &'a str,
+        count: u32,
+    },
 }
 
-// A subcommand with one word behind it.
-fn subcommand<'a>(
-    alloc: Global,
-    name: &'a str,
-    about: &'a str,
-    word: &'a str,
-    help: &'a str,
-) -> Result<Command<'a>, AllocError> {
-    let word = Arg::new(alloc, word)
+// A word behind a subcommand.
+fn word<'a>(alloc: Global, name: &'a str, help: &'a str) -> Arg<'a> {
+    Arg::new(alloc, name)
         .help(help)
         .required(true)
-        .action(ArgAction::Set);
-    Command::new(alloc, name).about(about).arg(word)
+        .action(ArgAction::Set)
+}
+
+fn query<'a>(alloc: Global) -> Result<Command<'a>, AllocError> {
+    Command::new(alloc, "query")
+        .about(
+            "Reads a JSON text and prints a line for each node that the query selects: its path, a tab and its text",
+        )
+        .arg(word(alloc, "QUERY", "A JSONPath query (RFC 9535)"))
+}
+
+fn replay<'a>(alloc: Global) -> Result<Command<'a>, AllocError> {
+    Command::new(alloc, "replay")
+        .about(
+            "Reads a script of connections' events and prints a line for each reply: its connection and its bytes",
+        )
+        .arg(word(alloc, "KEYS", KEYS_HELP))
+}
+
+fn serve<'a>(alloc: Global) -> Result<Command<'a>, AllocError> {
+    Command::new(alloc, "serve")
+        .about("Prints a line with the bound address and serves connections, one after the other")
+        .arg(word(alloc, "ADDR", ADDRESS_HELP))?
+        .arg(word(alloc, "KEYS", KEYS_HELP))?
+        .arg(word(alloc, "COUNT", "The number of connections, 1 to 1000000").value_parser(
+            ValueParser::Unsigned(1, MOST_CONNECTIONS),
+        ))
 }
 
 fn command<'a>(alloc: Global) -> Result<Command<'a>, AllocError> {
-    let query = subcommand(
-        alloc,
-        "query",
-        "Reads a JSON text and prints a line for each node that the query selects: its path, a tab and its text",
-        "QUERY",
-        "A JSONPath query (RFC 9535)",
-    )?;
-    let replay = subcommand(
-        alloc,
-        "replay",
-        "Reads a script of connections' events and prints a line for each reply: its connection and its bytes",
-        "KEYS",
-        "The tenants' keys: 32 hexadecimal digits each, joined by commas",
-    )?;
     Command::new(alloc, "path_server")
         .version(VERSION)
         .about("Keeps JSON texts and answers JSONPath queries")
         .subcommand_required(true)
         .disable_help_subcommand(true)
-        .subcommand(query)?
-        .subcommand(replay)
+        .subcommand(query(alloc)?)?
+        .subcommand(replay(alloc)?)?
+        .subcommand(serve(alloc)?)
 }
 
 fn parsed<'a>(alloc: Global, words: &'a [String]) -> Result<ArgMatches<'a>, Error> {
@@ -62,20 +82,24 @@ fn parsed<'a>(alloc: Global, words: &'a [String]) -> Result<ArgMatches<'a>, Erro
 /// The request that the words of a command line spell, of which the first is the program's name.
 pub fn read_request<'a>(alloc: Global, words: &'a [String]) -> Result<Request<'a>, Failure> {
     let matches = parsed(alloc, words).map_err(Failure::of_command_line)?;
-    if let Some(text) = word_of(&matches, "query", "QUERY") {
-        return Ok(Request::Query(text));
-    }
-    match word_of(&matches, "replay", "KEYS") {
-        Some(keys) => Ok(Request::Replay(keys)),
+    match request_of(&matches) {
+        Some(request) => Ok(request),
         None => Err(Failure::Words),
     }
 }
 
-// The word behind a subcommand, where that is the one.
-fn word_of<'a>(matches: &ArgMatches<'a>, subcommand: &str, word: &str) -> Option<&'a str> {
-    matches
-        .subcommand_matches(subcommand)
-        .and_then(|found| found.get_str(word))
+// What the subcommand and the words behind it ask for. Each subcommand has all of its words where the parse went well.
+fn request_of<'a>(matches: &ArgMatches<'a>) -> Option<Request<'a>> {
+    let (name, words) = matches.subcommand()?;
+    match name {
+        "query" => Some(Request::Query(words.get_str("QUERY")?)),
+        "replay" => Some(Request::Replay(words.get_str("KEYS")?)),
+        _ => Some(Request::Serve {
+            address: words.get_str("ADDR")?,
+            keys: words.get_str("KEYS")?,
+            count: words.get_one("COUNT")?,
+        }),
+    }
 }
 
 #[cfg(test)]
@@ -111,10 +135,26 @@ mod tests {
             status_of(&rt, &["path_server", "query", "$", "$"])?,
             Some(3)
         );
-        assert_eq!(rt;
-            status_of(&rt, &["path_server", "serve", "127.0.0.1:0"])?,
-            Some(3)
-        );
+        Ok(())
+    }
+
+    #[test]
+    fn counts_of_connections(rt: HostRuntime) -> Result<(), Fail> {
+        for (count, status) in [
+            ("1", None),
+            ("1000000", None),
+            ("0", Some(3)),
+            ("1000001", Some(3)),
+            ("18446744073709551617", Some(3)),
+            ("-1", Some(3)),
+            ("1.5", Some(3)),
+            ("", Some(3)),
+        ] {
+            let words = ["path_server", "serve", "127.0.0.1:0", "00", count];
+            assert_eq!(rt; status_of(&rt, &words)?, status, "{count}");
+        }
+        let short = ["path_server", "serve", "127.0.0.1:0", "00"];
+        assert_eq!(rt; status_of(&rt, &short)?, Some(3));
         Ok(())
     }
 }

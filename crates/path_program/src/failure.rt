@@ -24,6 +24,12 @@ pub enum Failure {
     Keys(KeysFault),
     /// The script on standard input is not replayed.
     Replay(ReplayStreamFault),
+    /// The keys are refused.
+    Tenants(TenantsFault),
+    /// The address is none, or it could not be bound or connected to, or a connection could not be accepted.
+    Net,
+    /// The line with the bound address could not be printed.
+    Write,
     /// A growth was refused.
     Memory,
 }
@@ -60,6 +66,9 @@ impl Failure {
             Failure::Query(fault) => query_status(*fault),
             Failure::Keys(fault) => keys_status(*fault),
             Failure::Replay(fault) => replay_status(*fault),
+            Failure::Tenants(fault) => tenants_status(*fault),
+            Failure::Net => 4,
+            Failure::Write => 4,
             Failure::Memory => 4,
         }
     }
@@ -93,6 +102,9 @@ impl fmt::Display for Failure {
             Failure::Query(fault) => writeln!(f, "path_server: {fault}"),
             Failure::Keys(fault) => writeln!(f, "path_server: {fault}"),
             Failure::Replay(fault) => writeln!(f, "path_server: {fault}"),
+            Failure::Tenants(fault) => writeln!(f, "path_server: {fault}"),
+            Failure::Net => writeln!(f, "path_server: NetFault"),
+            Failure::Write => writeln!(f, "path_server: WriteFault"),
             Failure::Memory => writeln!(f, "path_server: NoMemory"),
         }
     }
@@ -252,6 +264,15 @@ mod tests {
         ] {
             assert_end(&rt, &Failure::Replay(fault), name, 4)?;
         }
+        for (fault, name, status) in [
+            (TenantsFault::TooManyKeys, "TooManyKeys", 3),
+            (TenantsFault::RepeatedKey, "RepeatedKey", 3),
+            (TenantsFault::Memory, "NoMemory", 4),
+        ] {
+            assert_end(&rt, &Failure::Tenants(fault), name, status)?;
+        }
+        assert_end(&rt, &Failure::Net, "NetFault", 4)?;
+        assert_end(&rt, &Failure::Write, "WriteFault", 4)?;
         assert_end(&rt, &Failure::Keys(KeysFault::BadKeys), "BadKeys", 3)?;
         assert_end(&rt, &Failure::Keys(KeysFault::Memory), "NoMemory", 4)?;
         assert_end(&rt, &Failure::Words, "BadCommandLine", 3)?;

@@ -2,11 +2,16 @@
 #![tactic(auto)]
 
 mod command_line;
+mod end_lines;
 mod failure;
 
 use crate::command_line::{Request, read_request};
+use crate::end_lines::EndLines;
 use crate::failure::Failure;
+use path_hub::Hub;
 use path_server::{query_stream, read_keys, replay_stream};
+use socket_wire::serve_streams;
+use std::net::{Net, OpenListener, TcpListener};
 use std::process::ExitCode;
 use std::rt::Env;
 use std::{env, io};
@@ -34,7 +39,37 @@ fn replay<R: Input + Print + AllocGlobal>(rt: &R, keys: &str) -> Result<(), Fail
     .map_err(Failure::Replay)
 }
 
-fn run<R: Input + Print + Eprint + Env + AllocGlobal>(rt: &R) -> Result<(), Failure> {
+// Answers `path_server serve ADDR KEYS COUNT`.
+fn serve<R: Print + Eprint + Net + AllocGlobal>(
+    rt: &R,
+    address: &str,
+    keys: &str,
+    count: u32,
+) -> Result<(), Failure> {
+    let keys = read_keys(rt.alloc(), keys.as_bytes()).map_err(Failure::Keys)?;
+    let mut hub = Hub::new(rt.alloc(), keys.as_slice()).map_err(Failure::Tenants)?;
+    let listener = listen(rt, address)?;
+    serve_streams(
+        rt.alloc(),
+        &mut hub,
+        &listener,
+        count,
+        &mut EndLines::new(rt),
+    )
+    .map_err(|_| Failure::Net)
+}
+
+// Binds the address, and prints the one that is bound.
+fn listen<R: Print + Net>(rt: &R, address: &str) -> Result<R::Listener, Failure> {
+    let listener = TcpListener::bind(rt, address).map_err(|_| Failure::Net)?;
+    let bound = listener.local_addr().map_err(|_| Failure::Net)?;
+    match println!(rt; "listening {bound}") {
+        Ok(()) => Ok(listener),
+        Err(_) => Err(Failure::Write),
+    }
+}
+
+fn run<R: Input + Print + Eprint + Env + Net + AllocGlobal>(rt: &R) -> Result<(), Failure> {
     let mut words = Vec::new(rt.alloc());
     for word in env::args(rt).map_err(|error| Failure::of_words(&error))? {
         if words.push(word).is_err() {
@@ -44,6 +79,11 @@ fn run<R: Input + Print + Eprint + Env + AllocGlobal>(rt: &R) -> Result<(), Fail
     match read_request(rt.alloc(), words.as_slice())? {
         Request::Query(text) => query(rt, text),
         Request::Replay(keys) => replay(rt, keys),
+        Request::Serve {
+            address,
+            keys,
+            count,
+        } => serve(rt, address, keys, count),
     }
 }
 

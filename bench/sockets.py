@@ -1,0 +1,101 @@
+#!/usr/bin/env python3
+"""Times requests over one connection beside an echo in C of as many bytes: bench/sockets.py.
+
+It compiles bench/echo.c and bench/rounds.c (cc), starts the program as `path_server serve` and the echo, and times rounds of a request and
+its reply in turns: each line has the middle one of five medians for both, and their ratio. Build the program first, as bin/path_server
+does, or name it in the environment's PATH_SERVER.
+"""
+import os
+import statistics
+import struct
+import subprocess
+import sys
+import tempfile
+from pathlib import Path
+
+TOP = Path(__file__).resolve().parent.parent
+PROGRAM = os.environ.get("PATH_SERVER", TOP / "crates/path_program/out/path_program")
+KEY = bytes.fromhex("00112233445566778899aabbccddeeff")
+PUT, GET = 1, 2
+TURNS = 5
+
+
+def name(text):
+    return bytes([len(text)]) + text
+
+
+def request(command, document, text=b""):
+    body = struct.pack(">BI", command, 1) + KEY + name(b"c") + name(document) + text
+    return struct.pack(">I", len(body)) + body
+
+
+def reply(payload=b""):
+    return struct.pack(">IBI", 5 + len(payload), 0, 1) + payload
+
+
+def start(words):
+    """The process, and the port on the line that it prints."""
+    process = subprocess.Popen(words, stdout=subprocess.PIPE, encoding="ascii")
+    return process, int(process.stdout.readline().rpartition(":")[2])
+
+
+class Bench:
+    def __init__(self, folder, server_port, echo_port):
+        self.folder, self.server_port, self.echo_port = folder, server_port, echo_port
+
+    def median(self, port, request, reply, rounds):
+        (self.folder / "request").write_bytes(request)
+        (self.folder / "reply").write_bytes(reply)
+        words = [self.folder / "rounds", str(port), self.folder / "request", self.folder / "reply", str(rounds)]
+        return float(subprocess.run(words, check=True, stdout=subprocess.PIPE, encoding="ascii").stdout)
+
+    def compare(self, title, asked, answered, rounds):
+        """The echo is given the longer of the request and the reply."""
+        echoed = asked if len(asked) >= len(answered) else answered
+        pairs = []
+        for _ in range(TURNS):
+            echo = self.median(self.echo_port, echoed, echoed, rounds)
+            pairs.append((self.median(self.server_port, asked, answered, rounds), echo))
+        server, echo = (statistics.median(column) for column in zip(*pairs))
+        ratio = statistics.median(one / other for one, other in pairs)
+        print(f"{title}: {server:.1f} us, echo of {len(echoed)} bytes {echo:.1f} us, ratio {ratio:.2f}", flush=True)
+
+
+def text_of(length):
+    """A JSON text of so many bytes: an array of small objects."""
+    one = b'{"id":12345,"name":"tea","price":4.50,"tags":["a","b"]}'
+    text = b"[" + b",".join([one] * (length // (len(one) + 1) - 1))
+    return text + b" " * (length - 1 - len(text)) + b"]"
+
+
+def measure(bench):
+    small, large, string = b'{"a":[10,20]}', text_of(1 << 20), b'"' + b"x" * ((1 << 20) - 2) + b'"'
+    puts = [(b"dd", small), (b"large", large)]
+    for document, text in puts:
+        bench.median(bench.server_port, request(PUT, document, text), reply(), 1)
+    get = request(GET, b"dd")
+    assert len(get) == 30
+    bench.compare("GET, 30 bytes", get, reply(small), 20000)
+    bench.compare("GET, 30 bytes, 16 in a piece", get * 16, reply(small) * 16, 5000)
+    bench.compare("GET of 1 MiB", request(GET, b"large"), reply(large), 300)
+    bench.compare("PUT of 1 MiB, small objects", request(PUT, b"large", large), reply(), 100)
+    bench.compare("PUT of 1 MiB, one string", request(PUT, b"large", string), reply(), 100)
+
+
+def main():
+    if not os.access(PROGRAM, os.X_OK):
+        sys.exit(__doc__)
+    with tempfile.TemporaryDirectory() as room:
+        folder = Path(room)
+        for source in ("echo", "rounds"):
+            subprocess.run(["cc", "-O2", "-o", folder / source, TOP / f"bench/{source}.c"], check=True)
+        server, server_port = start([PROGRAM, "serve", "127.0.0.1:0", KEY.hex(), "1000"])
+        echo, echo_port = start([folder / "echo"])
+        try:
+            measure(Bench(folder, server_port, echo_port))
+        finally:
+            server.kill()
+            echo.kill()
+
+
+main()

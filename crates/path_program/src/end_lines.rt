@@ -1,0 +1,48 @@
+//! The lines on standard error that tell how connections ended.
+ghost use Rattle.std.specs.Prelude.{◌≡◌};
+
+use path_hub::ConnEnd;
+use socket_wire::{EndLog, Ending};
+use std::fmt;
+
+/// Prints a line for each connection that it is told of. A line that can't be printed is lost.
+#[derive(Drop)]
+pub struct EndLines<'a, R: Eprint> {
+    rt: &'a R,
+}
+
+impl<'a, R: Eprint> EndLines<'a, R> {
+    /// Lines on this standard error.
+    pub fn new(rt: &'a R) -> EndLines<'a, R> {
+        EndLines { rt }
+    }
+}
+
+impl<'a, R: Eprint> EndLog for EndLines<'a, R> {
+    fn tell(&mut self, ending: Ending) {
+        let _ = eprintln!(self.rt; "{}", EndLine(ending));
+    }
+}
+
+/// The line of a connection's end, without its line feed.
+#[derive(Clone, Copy)]
+struct EndLine(Ending);
+
+impl fmt::Display for EndLine {
+    fn fmt<W: fmt::Write>(&self, f: &mut fmt::Formatter<W>) -> fmt::Result {
+        let number = self.0.number;
+        let name = name_of(self.0.how);
+        write!(f, "connection {number}: {name}")
+    }
+}
+
+fn name_of(end: ConnEnd) -> &'static str {
+    match end {
+        ConnEnd::Done => "Done",
+        ConnEnd::ReadFault => "ReadFault",
+        ConnEnd::WriteFault => "WriteFault",
+        ConnEnd::FrameFault => "FrameFault",
+        ConnEnd::TurnLimit => "TurnLimit",
+        ConnEnd::Memory => "NoMemory",
+    }
+}

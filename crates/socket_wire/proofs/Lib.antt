@@ -1,0 +1,2 @@
+mod Chain
+mod Known

@@ -1,0 +1,10 @@
+//! Wires over streams of the system, such as sockets, and the loop that serves one connection after the other.
+#![tactic(auto)]
+
+mod end_log;
+mod serving;
+mod stream_wire;
+
+pub use end_log::{EndLog, Ending};
+pub use serving::{AcceptFault, serve_streams};
+pub use stream_wire::StreamWire;
