@@ -85,11 +85,11 @@ for_item : (key : List ℕ) (m : Map) (os : Tenancy) (body : Option (List ℕ)) 
 for_item key m os None frame mid h s = inl (record { test = refl; kept = ap (map_of key) s.1 ∙ h })
 for_item key m os (Some b) frame mid h s = for_body key m os b frame mid h _ _ _ refl refl refl s
 
-pub private_from_run : (is : List Item) (ts : List Told) (os new : Tenancy) (key : List ℕ) (m : Map) → Run os is ts new → map_of key os ≡ Some m → Alone m (own_requests key is ts) (own_replies key is ts)
-private_from_run [] [] os new key m r h = tt
-private_from_run [] (t ∷ ts) os new key m r h = absurd r
-private_from_run (i ∷ is) [] os new key m r h = absurd r
-private_from_run (i ∷ is) (t ∷ ts) os new key m r h = by (for_item key m os i.body t.frame r.0 h r.2) (λ n k. private_from_run is ts r.0 new key n r.3 k)
+pub isolated_from_run : (is : List Item) (ts : List Told) (os new : Tenancy) (key : List ℕ) (m : Map) → Run os is ts new → map_of key os ≡ Some m → Alone m (own_requests key is ts) (own_replies key is ts)
+isolated_from_run [] [] os new key m r h = tt
+isolated_from_run [] (t ∷ ts) os new key m r h = absurd r
+isolated_from_run (i ∷ is) [] os new key m r h = absurd r
+isolated_from_run (i ∷ is) (t ∷ ts) os new key m r h = by (for_item key m os i.body t.frame r.0 h r.2) (λ n k. isolated_from_run is ts r.0 new key n r.3 k)
   where
     by : IsFor key m i.body t.frame r.0 → ((n : Map) → map_of key r.0 ≡ Some n → Alone n (own_requests key is ts) (own_replies key is ts)) → Alone m (own_requests key (i ∷ is) (t ∷ ts)) (own_replies key (i ∷ is) (t ∷ ts))
     by (inl s) again = subst (λ b. Alone m (cond b (body_in i.body ∷ own_requests key is ts) (own_requests key is ts)) (cond b (t.frame ∷ own_replies key is ts) (own_replies key is ts))) (sym s.test) (again m s.kept)

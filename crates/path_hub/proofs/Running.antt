@@ -6,7 +6,7 @@ use Rattle.path_hub.specs.declared.event.Reply.{Reply}
 use Rattle.tenant_store.specs.Tenancy.{Tenancy}
 use Rattle.path_hub.specs.Items.{Item, Streams, after_event, items_at, items_from, streams_after, no_streams, items}
 use Rattle.path_hub.specs.Runs.{Run}
-use Rattle.path_hub.proofs.Alone.{run-append, private_from_run}
+use Rattle.path_hub.proofs.Alone.{run-append, isolated_from_run}
 use Rattle.path_hub.specs.Tenants.{fresh}
 use Rattle.path_hub.proofs.Keys.{map_of-fresh}
 use Rattle.path_hub.specs.Pending.{told}
@@ -57,7 +57,7 @@ replied keys os os' is out out' e r =
       out = r.out;
       last = os';
       run = run';
-      private = λ key has. private_from_run is (map told r.replies) (fresh keys) os' key [] run' (map_of-fresh keys key has.0 has.1 has.2);
+      isolated = λ key has. isolated_from_run is (map told r.replies) (fresh keys) os' key [] run' (map_of-fresh keys key has.0 has.1 has.2);
     }
 
 pub so_far_all : (keys : List (List ℕ)) (events : List Event) (i : ℕ) (os os' : Tenancy) (out out' : List Reply) (ss : Sessions) → length events ≤ i → os ≡ fresh keys → IsSoFar events i os out ss os' out' → Replied keys (items events) out out'

@@ -13,8 +13,8 @@ use Rattle.path_hub.specs.Runs.{Told, Run, own_requests, own_replies}
 use Rattle.path_hub.specs.Pending.{told}
 
 -- Each tenant's replies, those that memory ran out aside, are byte for byte those that its own requests get from a plain map.
-abbrev pub IsPrivate : List (List ℕ) → List Item → List Told → Type 0
-IsPrivate keys is ts = (key : List ℕ) → Contains keys key → Alone [] (own_requests key is ts) (own_replies key is ts)
+abbrev pub IsIsolated : List (List ℕ) → List Item → List Told → Type 0
+IsIsolated keys is ts = (key : List ℕ) → Contains keys key → Alone [] (own_requests key is ts) (own_replies key is ts)
 
 -- one reply for each of these items, in order and on the item's connection
 pub record Replied (keys : List (List ℕ)) (is : List Item) (before after : List Reply) : Type 0 where
@@ -22,7 +22,7 @@ pub record Replied (keys : List (List ℕ)) (is : List Item) (before after : Lis
   pub out : after ≡ before ++ replies
   pub last : Tenancy
   pub run : Run (fresh keys) is (map told replies) last
-  pub private : IsPrivate keys is (map told replies)
+  pub isolated : IsIsolated keys is (map told replies)
 
 pub record RepliedToSome (keys : List (List ℕ)) (is : List Item) (before after : List Reply) : Type 0 where
   pub first : List Item
