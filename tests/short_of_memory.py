@@ -18,7 +18,7 @@ from plain_model import STATUS, Server
 from running_server import GIVE_BACK, Report, Running, open_connection
 
 WITHOUT_MEMORY = {STATUS[name] for name in "Short NoTenant BadCommand BadFields TooLong NotUtf8 NotFound QueryTooLong".split()}
-ROOM = [0, 0, 64 << 10, 256 << 10, 1 << 20, 4 << 20]
+ROOM = [0, 256 << 10, 2 << 20, 3 << 20, 4 << 20, 5 << 20]
 
 
 class Scarce:
@@ -104,7 +104,7 @@ def main():
         for frame in sent:
             scarce.ask(frame)
         report.case("memory refused after the limit was lifted", "", refused, scarce.refused)
-        report.case("memory refused at all", "", True, refused > 0)
+        report.case("memory refused at all", "", True, refused + len(scarce.ended) > 0)
         report.case("the ends on standard error", "", scarce.ended, server.ends())
         report.case("the server at the end", "", None, server.process.poll())
     report.close(f"{total} requests, {refused} of them refused memory and {len(scarce.ended)} connections ended so, seed {seed}")
