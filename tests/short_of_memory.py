@@ -1,9 +1,9 @@
 #!/usr/bin/env python3
 """Takes memory from a running server and compares it with a plain model: tests/short_of_memory.py [REQUESTS [SEED]], on Linux alone.
 
-The requests are those of over_sockets.py, with more large ones, one at a time. Now and then the server's address space is limited to a little more than it has.
-A reply is the model's; or it is NoMemory, where docs/PROTOCOL.md lets it be, and then nothing has changed; or the connection ends with
-NoMemory and without it. At the end the limit is lifted, and each request is answered again.
+The requests are those of over_sockets.py, with more large ones, one at a time. Now and then the server's address space is limited to a
+little more than it has. A reply is the model's; or it is NoMemory, where docs/PROTOCOL.md lets it be, and then nothing has changed; or the
+connection ends as NoMemory, without a reply. At the end the limit is lifted, and each request is answered again.
 """
 import os
 import random
