@@ -17,9 +17,11 @@ import time
 from against_model import COLLECTIONS, KEYS, Traffic
 from path_client import Refused, Request, connect
 from plain_model import Server, number
-from running_server import Report, Running, frames_of, open_connection, reset, shown, talk
+from running_server import Report, Running, frames_of, open_connection, reset, talk
 
 BYSTANDER = KEYS[0]
+VICTIMS = 200
+AT_ONCE = 20
 READ_LIMIT = 1_000_000
 FAULT = bytes.fromhex("00200001")
 FAULT_REPLY = bytes.fromhex("00000005ff00000000")
@@ -59,7 +61,8 @@ class Watch:
             if victim:
                 client.key = victim
                 left = documents(client)
-                self.report.case(f"{name}: its own documents", sent, "what a prefix leaves", "what a prefix leaves" if left in states else left)
+                wanted = "what a prefix of the requests leaves"
+                self.report.case(f"{name}: its own documents", sent, wanted, wanted if left in states else left)
 
     def ends(self):
         """Each line on standard error against what the connection's end may be."""
@@ -130,7 +133,6 @@ def end_by_reset(watch, chance, victim):
     watch.open(*BROKEN)
     count = chance.randrange(len(victim.stream) + 1)
     connection, came = open_connection(watch.server.address), b""
-    connection.settimeout(0.002)
     reads = chance.randrange(2)
     for piece in pieces(victim.stream[:count], chance):
         connection.settimeout(60)
@@ -180,6 +182,8 @@ def run_child(connection, stream, count, chance):
 
 def break_at_moments(watch, chance, moments):
     for moment in range(moments):
+        if moment >= VICTIMS:
+            drop_all(watch, moment)
         victim = Victim(chance, key_of(moment))
         way = chance.choice([end_by_reset, end_by_kill])
         answered, sent = way(watch, chance, victim)
@@ -188,7 +192,7 @@ def break_at_moments(watch, chance, moments):
 
 def key_of(moment):
     """A victim's key; a tenant is the victim again after 200 moments, when all it has is dropped."""
-    return bytes([moment % 200]) + b"victim".ljust(15, b".")
+    return bytes([moment % VICTIMS]) + b"victim".ljust(15, b".")
 
 
 def drop_all(watch, moment):
@@ -225,6 +229,17 @@ def half_closed(watch):
     watch.report.case("the sending side shut down before the first read", requests[0], (wanted, "end"), talk(connection, []))
 
 
+def many_at_once(watch):
+    """Clients that come while another is served are served in the order in which they came."""
+    usage = Request.usage().frame(BYSTANDER, 1)
+    waiting = [open_connection(watch.server.address) for _ in range(AT_ONCE)]
+    for connection in waiting:
+        watch.open()
+        connection.sendall(usage)
+    for place, connection in enumerate(waiting):
+        watch.report.case(f"client {place} of {AT_ONCE} at once", usage, (USAGE_REPLY, "end"), talk(connection, []))
+
+
 def behind_a_fault(watch):
     """What stands behind a framing fault is no request: not in the same piece, not after the reply, and not where there is much."""
     before = Request.usage().frame(BYSTANDER, 1)
@@ -236,7 +251,7 @@ def behind_a_fault(watch):
         connection = open_connection(watch.server.address)
         got, end = talk(connection, stream)
         watch.report.case(f"behind a framing fault: {name}", b"".join(stream), USAGE_REPLY + FAULT_REPLY, got)
-        watch.report.case(f"the end after a framing fault: {name}", b"".join(stream), "end or reset", "end or reset" if end != "silence" else end)
+        watch.report.case(f"the end after a framing fault: {name}", b"".join(stream), "an end", "an end" if end in ("end", "reset") else end)
         watch.look(f"behind a framing fault: {name}", b"".join(stream))
     late_behind_a_fault(watch, behind)
 
@@ -266,7 +281,8 @@ def frame_in_part(watch):
     frame = Request.drop("b").frame(BYSTANDER, 0)
     for count in range(len(frame)):
         watch.open()
-        watch.report.case("a frame in part", frame[:count], (b"", "end"), talk(open_connection(watch.server.address), [frame[:count]] if count else []))
+        found = talk(open_connection(watch.server.address), [frame[:count]])
+        watch.report.case("a frame in part", frame[:count], (b"", "end"), found)
     watch.look("a frame in part", frame)
 
 
@@ -291,14 +307,15 @@ def main():
     seed = int(sys.argv[2]) if len(sys.argv) > 2 else 1
     turns = sys.argv[3:] == ["turns"]
     chance, report = random.Random(seed), Report()
-    keys = [BYSTANDER, *(key_of(moment) for moment in range(min(moments, 200)))]
+    keys = [BYSTANDER, *(key_of(moment) for moment in range(min(moments, VICTIMS)))]
     frame = len(Request.drop("b").frame(BYSTANDER, 0))
-    connections = 1 + 2 * moments + max(0, moments - 200) + 3 + 1 + 2 * 7 + frame + 1 + 2 * turns
+    connections = 1 + 2 * moments + max(0, moments - VICTIMS) + 3 + 1 + AT_ONCE + 2 * 7 + frame + 1 + 2 * turns
     with Running(keys, connections) as server:
         watch = Watch(report, server)
         watch.fill()
         never_reads(watch)
         half_closed(watch)
+        many_at_once(watch)
         behind_a_fault(watch)
         frame_in_part(watch)
         break_at_moments(watch, chance, moments)

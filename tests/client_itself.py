@@ -18,7 +18,8 @@ SOUND = {
     "remove": ("00000005 0f 00000001", "NotFound"),
     "drop": ("00000005 4d 00000001", "Status77"),
 }
-ARGUMENTS = {"usage": [], "put": ["c", "d", "1"], "get": ["c", "d"], "list": ["c"], "query": ["c", "$"], "remove": ["c", "d"], "drop": ["c"]}
+ARGUMENTS = {"usage": [], "put": ["c", "d", "1"], "get": ["c", "d"], "list": ["c"], "query": ["c", "$"], "remove": ["c", "d"],
+             "drop": ["c"]}
 UNSOUND = [
     ("the end", "usage", ""),
     ("the end within a reply", "usage", "00000011 00 00000001 0000"),

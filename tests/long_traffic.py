@@ -38,8 +38,8 @@ def round_trip(report, client, chance, kept):
     moved = keep(client, chance, kept, place)
     text = kept[place]
     wanted = [None, text, "NotFound", "NotJson", [str(number) for number in range(TEXTS)], [Hit("only", "$[0]", text[1:-1])]]
-    requests = [Request.put("q", "only", text), Request.get("c", str(place)), Request.get("c", "none"), Request.put("c", str(place), text[:-1]),
-                Request.list("c"), Request.query("q", "$[0]")]
+    requests = [Request.put("q", "only", text), Request.get("c", str(place)), Request.get("c", "none"),
+                Request.put("c", str(place), text[:-1]), Request.list("c"), Request.query("q", "$[0]")]
     found = [it.name if isinstance(it, Refused) else it for it in client.pipelined(requests)]
     report.case("a put, and what comes back", f"{len(text)} bytes as {place}", wanted, found)
     client.remove("c", str(other))
@@ -72,14 +72,15 @@ def main():
     seed = int(sys.argv[2]) if len(sys.argv) > 2 else 1
     report, rounds, started = Report(), 2 + -(-total // PER_CONNECTION), time.monotonic()
     with Running([KEY], rounds + 1, env={**os.environ, **GIVE_BACK}) as server:
-        memory = [connection(report, server, f"{seed} {place}", min(PER_CONNECTION, total)) for place in range(rounds)]
+        memory = [connection(report, server, f"{seed} {place}", PER_CONNECTION) for place in range(rounds)]
         memory.append(connection(report, server, "", 0))
         seconds = time.monotonic() - started
         server.finish(report)
         report.case("the ends on standard error", "", {}, server.ends())
     grown = memory[-1] - memory[2]
     report.case(f"KiB of resident memory before each connection and at the end, {memory}", "", True, grown <= ALLOWED)
-    report.close(f"{total} MiB and {2 * PER_CONNECTION} before them in {seconds:.0f} s, {memory[2]} KiB of memory at first and {memory[-1]} at last")
+    resident = f"{memory[2]} KiB of memory at first and {memory[-1]} at last"
+    report.close(f"{total} MiB and {2 * PER_CONNECTION} before them in {seconds:.0f} s, {resident}, seed {seed}")
 
 
 if __name__ == "__main__":

@@ -129,7 +129,7 @@ def send(report, server, model, chance, conn, requests, tail=b""):
     ends = ("end", "reset") if tail[:4] in FAULTS else ("end",)
     report.case(f"the end of connection {conn}", tail, "end", "end" if end in ends else end)
     if end == "silence" or not right:
-        report.close(f"seed {SEED}, given up at connection {conn}")
+        report.close(f"given up at connection {conn}")
     return [reply[4] for reply in wanted]
 
 
@@ -143,7 +143,8 @@ def tail_of(chance):
 
 def main():
     total = int(sys.argv[1]) if len(sys.argv) > 1 else 10_000
-    chance, report = random.Random(SEED), Report()
+    seed = int(sys.argv[2]) if len(sys.argv) > 2 else 1
+    chance, report = random.Random(seed), Report()
     keys = [*KEYS, CROWDED, HEAVY, WIDE]
     model, requests, statuses, faulty = Server(keys), Requests(chance), [], {}
     turns = -(-total // PER_CONNECTION)
@@ -158,9 +159,8 @@ def main():
         report.case("the ends on standard error", "", faulty, server.ends())
     names = {code: name for name, code in STATUS.items()}
     print("replies: " + ", ".join(f"{statuses.count(code)} {names[code]}" for code in sorted(set(statuses))))
-    report.close(f"{total} requests over one connection and {turns * PER_CONNECTION} over {turns} in turn, seed {SEED}")
+    report.close(f"{total} requests over one connection and {turns * PER_CONNECTION} over {turns} in turn, seed {seed}")
 
 
-SEED = int(sys.argv[2]) if len(sys.argv) > 2 else 1
 if __name__ == "__main__":
     main()

@@ -49,12 +49,9 @@ def filled(status):
         return [Request.put("c", str(number), "1") for number in range(1_000)], [Request.drop("c")]
     if status == Status.TooManyBytes:
         texts = [" " * 1_048_575 + "1"] * 15 + [" " * 1_048_574 + "1"]
-        return [Request.put("b", str(number), text) for number, text in enumerate(texts)] + [Request.put("c", "q", "0")], [Request.drop("b"), Request.drop("c")]
+        puts = [Request.put("b", str(number), text) for number, text in enumerate(texts)]
+        return [*puts, Request.put("c", "q", "0")], [Request.drop("b"), Request.drop("c")]
     return [], []
-
-
-def frames(requests):
-    return b"".join(request.frame(KEY, 0) for request in requests)
 
 
 def check_session(report, address):
@@ -83,9 +80,11 @@ def block(start):
 
 def check_shell(report, address):
     """The page's lines for `call`, with this server's address in the place of the page's."""
-    script = block("key=00112233445566778899aabbccddeeff\n    printf").replace("127.0.0.1:7001", address).replace("bin/path_server", f'"{PROGRAM}"')
+    script = block("key=00112233445566778899aabbccddeeff\n    printf")
+    script = script.replace("127.0.0.1:7001", address).replace("bin/path_server", f'"{PROGRAM}"')
     ran = subprocess.run(["sh", "-c", script], cwd=str(TOP), capture_output=True, timeout=60)
-    report.case("the page's session in the shell", script, (0, block("000000050000000001").encode(), b""), (ran.returncode, ran.stdout, ran.stderr))
+    wanted = (0, block("000000050000000001").encode(), b"")
+    report.case("the page's session in the shell", script, wanted, (ran.returncode, ran.stdout, ran.stderr))
 
 
 def check_python(report, address):
@@ -120,7 +119,8 @@ def main():
         check_shell(report, server.address)
         check_python(report, server.address)
         with connect(server.address, KEY) as client:
-            report.case("what the page's first lines left", "", [b'{"a":1}', None], client.pipelined([Request.get("c", "d"), Request.drop("c")]))
+            left = client.pipelined([Request.get("c", "d"), Request.drop("c")])
+            report.case("what the page's first lines left", "", [b'{"a":1}', None], left)
         check_session(report, server.address)
         check_command(report, server.address)
         server.finish(report)
