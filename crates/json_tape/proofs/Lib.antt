@@ -45,3 +45,5 @@ pub mod Words
 pub mod Marks
 pub mod WaySizes
 pub mod StopBits
+pub mod Joined
+pub mod Sides

@@ -5,6 +5,7 @@ pub mod Meaning
 pub mod Nodes
 pub mod Parts
 pub mod Tape
+pub mod Cells
 pub mod Verdict
 pub mod Spelling
 pub mod Reading
