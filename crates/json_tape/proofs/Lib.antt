@@ -47,3 +47,4 @@ pub mod WaySizes
 pub mod StopBits
 pub mod Joined
 pub mod Sides
+pub mod Keeping

@@ -12,6 +12,7 @@ pub mod Reading
 pub mod Document
 pub mod Answer
 pub mod Machine
+pub mod Opened
 pub mod Lexing
 pub mod Scanning
 pub mod Surrogates

@@ -1,6 +1,6 @@
 //! The entries of a text in few bytes: 16 for each value, and 12 more for each container.
 
-ghost use Rattle.std.specs.Prelude.{◌≡◌, ◌+◌, ◌++◌, ◌∷◌, [], ◌<◌, ◌≤◌, ◌^◌, IfOk, OnOk, true, false, length, slice_index_or};
+ghost use Rattle.std.specs.Prelude.{◌≡◌, ◌+◌, ◌++◌, ◌∷◌, [], ◌<◌, ◌≤◌, ◌^◌, IfOk, OnOk, OnErr, true, false, length, slice_index_or};
 ghost use Rattle.json_tape.specs.Machine.{change_at, closed};
 ghost use Rattle.json_tape.specs.Cells.{IsNear, is_container, container_at, leaf_entry, open_entry};
 
@@ -95,7 +95,8 @@ impl Tape {
         requires start { source.start < 2 ^ 24 }
         requires len { source.len < 2 ^ 24 }
         requires room { length self.old < 2 ^ 24 }
-        ensures { OnOk result (self.new ≡ self.old ++ leaf_entry kind seat source (length self.old) ∷ []) }
+        ensures added { OnOk result (self.new ≡ self.old ++ leaf_entry kind seat source (length self.old) ∷ []) }
+        ensures kept { OnErr result (self.new ≡ self.old) }
     {
         self.cells
             .push(Cell::new(kind, seat, source.start, source.len))?;
@@ -108,7 +109,8 @@ impl Tape {
         requires seat { IsNear seat }
         requires place { place < 2 ^ 24 }
         requires room { length self.old < 2 ^ 24 }
-        ensures { OnOk result (self.new ≡ self.old ++ open_entry kind seat place ∷ []) }
+        ensures added { OnOk result (self.new ≡ self.old ++ open_entry kind seat place ∷ []) }
+        ensures kept { OnErr result (self.new ≡ self.old) }
     {
         let number = self.sides.len() as u32;
         self.sides.push(Side {

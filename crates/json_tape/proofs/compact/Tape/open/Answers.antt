@@ -25,8 +25,8 @@ invariant_of-self-in-Ok c =
     subst (IsTape c.push-2.new.self.items) (sym c.in_ok-push.ensures.items)
     (subst (λ l. IsTape l (c.self.inside.sides.items ++ no_side ∷ [])) (sym c.in-Ok.ensures.items) (container_kept c.self.inside.cells.items c.self.inside.sides.items c.new.result no_side c.self.invariant h number (omega (arith, m, c.requires.room))))
 
-pub returns-in-Ok : goal.returns-in-Ok
-returns-in-Ok c =
+pub returns-in-Ok-clause-added : goal.returns-in-Ok-clause-added
+returns-in-Ok-clause-added c =
     let h = holder_kind c.new.result c.args.kind c.new.ensures.kind ∙ c.requires.container in
     let number : cell_span c.new.result ≡ length c.self.inside.sides.items = omega (arith, c.new.ensures.span, c.len-number.ensures, c.self.inside.sides.ok.0) in
     ap (λ l. entries_of l c.push.new.self.items) c.in-Ok.ensures.items ∙ ap (entries_of (c.self.inside.cells.items ++ c.new.result ∷ [])) c.in_ok-push.ensures.items
