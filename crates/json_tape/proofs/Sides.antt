@@ -45,18 +45,18 @@ alike : (j : ℕ) (k : ℕ) (cells : List Cell) (sides other : List Side) → Ar
 alike j k [] sides other n h = refl
 alike j k (c ∷ cells) sides other n h =
     elim (cases_Bool (holds c)) [
-      inl e ↦
-        let rest = rw e at n.1 in
-        let many : containers (c ∷ cells) ≡ suc (containers cells) = ap (λ b. cond b (suc (containers cells)) (containers cells)) e in
-        let first = seen_alike k c (get_or sides (cell_span c) no_side) (get_or other (cell_span c) no_side) (λ t. ap (λ i. get_or sides i no_side) (n.0 t) ∙ h j (omega arith) (omega (arith, many)) ∙ sym (ap (λ i. get_or other i no_side) (n.0 t))) in
-        ap (λ x. x ∷ entries_from (suc k) cells sides) first
-        ∙ ap (λ l. seen k c (get_or other (cell_span c) no_side) ∷ l) (alike (suc j) (suc k) cells sides other rest (λ i a b. h i (omega arith) (omega (arith, many))))
+      | inl e ↦
+          let rest = rw e at n.1 in
+          let many : containers (c ∷ cells) ≡ suc (containers cells) = ap (λ b. cond b (suc (containers cells)) (containers cells)) e in
+          let first = seen_alike k c (get_or sides (cell_span c) no_side) (get_or other (cell_span c) no_side) (λ t. ap (λ i. get_or sides i no_side) (n.0 t) ∙ h j (omega arith) (omega (arith, many)) ∙ sym (ap (λ i. get_or other i no_side) (n.0 t))) in
+          ap (λ x. x ∷ entries_from (suc k) cells sides) first
+          ∙ ap (λ l. seen k c (get_or other (cell_span c) no_side) ∷ l) (alike (suc j) (suc k) cells sides other rest (λ i a b. h i (omega arith) (omega (arith, many))))
       | inr e ↦
-        let rest = rw e at n.1 in
-        let many : containers (c ∷ cells) ≡ containers cells = ap (λ b. cond b (suc (containers cells)) (containers cells)) e in
-        let first = seen_alike k c (get_or sides (cell_span c) no_side) (get_or other (cell_span c) no_side) (λ t. absurd (false≢true (sym e ∙ t))) in
-        ap (λ x. x ∷ entries_from (suc k) cells sides) first
-        ∙ ap (λ l. seen k c (get_or other (cell_span c) no_side) ∷ l) (alike j (suc k) cells sides other rest (λ i a b. h i a (omega (arith, many))))
+          let rest = rw e at n.1 in
+          let many : containers (c ∷ cells) ≡ containers cells = ap (λ b. cond b (suc (containers cells)) (containers cells)) e in
+          let first = seen_alike k c (get_or sides (cell_span c) no_side) (get_or other (cell_span c) no_side) (λ t. absurd (false≢true (sym e ∙ t))) in
+          ap (λ x. x ∷ entries_from (suc k) cells sides) first
+          ∙ ap (λ l. seen k c (get_or other (cell_span c) no_side) ∷ l) (alike j (suc k) cells sides other rest (λ i a b. h i a (omega (arith, many))))
     ]
 
 -- ---- One more cell
@@ -65,7 +65,7 @@ pub containers-snoc : (cells : List Cell) (c : Cell) → containers (cells ++ c 
 containers-snoc [] c = elim (cases_Bool (holds c)) [ inl e ↦ rw e refl | inr e ↦ rw e refl ]
 containers-snoc (a ∷ cells) c =
     elim (cases_Bool (holds a)) [
-      inl e ↦ rw e (omega (arith, containers-snoc cells c))
+      | inl e ↦ rw e (omega (arith, containers-snoc cells c))
       | inr e ↦ rw e (containers-snoc cells c)
     ]
 
@@ -73,22 +73,25 @@ pub containers_few : (cells : List Cell) → containers cells ≤ length cells
 containers_few [] = omega arith
 containers_few (c ∷ cells) =
     elim (cases_Bool (holds c)) [
-      inl e ↦ rw e (omega (arith, containers_few cells))
+      | inl e ↦ rw e (omega (arith, containers_few cells))
       | inr e ↦ rw e (omega (arith, containers_few cells))
     ]
 
 pub numbered-snoc : (j : ℕ) (cells : List Cell) (c : Cell) → AreNumbered j cells → (holds c ≡ true → cell_span c ≡ j + containers cells) → AreNumbered j (cells ++ c ∷ [])
 numbered-snoc j [] c n h = ((λ t. h t ∙ omega arith), tt)
-numbered-snoc j (a ∷ cells) c n h = (n.0, elim (cases_Bool (holds a)) [
-      inl e ↦
+numbered-snoc j (a ∷ cells) c n h = (
+  n.0,
+  elim (cases_Bool (holds a)) [
+    | inl e ↦
         let rest = rw e at n.1 in
         let many : containers (a ∷ cells) ≡ suc (containers cells) = ap (λ b. cond b (suc (containers cells)) (containers cells)) e in
         rw e (numbered-snoc (suc j) cells c rest (λ t. let x = h t in omega (arith, x, many)))
-      | inr e ↦
+    | inr e ↦
         let rest = rw e at n.1 in
         let many : containers (a ∷ cells) ≡ containers cells = ap (λ b. cond b (suc (containers cells)) (containers cells)) e in
         rw e (numbered-snoc j cells c rest (λ t. let x = h t in omega (arith, x, many)))
-    ])
+  ],
+)
 
 -- the number of a container is one of those given
 pub number_within : (j : ℕ) (cells : List Cell) (n : ℕ) (c0 : Cell) → AreNumbered j cells → n < length cells → holds (get_or cells n c0) ≡ true
@@ -100,16 +103,16 @@ number_within j (c ∷ cells) zero c0 a l h =
     (omega arith, omega (arith, many))
 number_within j (c ∷ cells) (suc n) c0 a l h =
     elim (cases_Bool (holds c)) [
-      inl e ↦
-        let rest = rw e at a.1 in
-        let many : containers (c ∷ cells) ≡ suc (containers cells) = ap (λ b. cond b (suc (containers cells)) (containers cells)) e in
-        let w = number_within (suc j) cells n c0 rest (omega arith) h in
-        (let x = w.0 in omega arith, let x = w.1 in omega (arith, x, many))
+      | inl e ↦
+          let rest = rw e at a.1 in
+          let many : containers (c ∷ cells) ≡ suc (containers cells) = ap (λ b. cond b (suc (containers cells)) (containers cells)) e in
+          let w = number_within (suc j) cells n c0 rest (omega arith) h in
+          (let x = w.0 in omega arith, let x = w.1 in omega (arith, x, many))
       | inr e ↦
-        let rest = rw e at a.1 in
-        let many : containers (c ∷ cells) ≡ containers cells = ap (λ b. cond b (suc (containers cells)) (containers cells)) e in
-        let w = number_within j cells n c0 rest (omega arith) h in
-        (w.0, let x = w.1 in omega (arith, x, many))
+          let rest = rw e at a.1 in
+          let many : containers (c ∷ cells) ≡ containers cells = ap (λ b. cond b (suc (containers cells)) (containers cells)) e in
+          let w = number_within j cells n c0 rest (omega arith) h in
+          (w.0, let x = w.1 in omega (arith, x, many))
     ]
 
 -- ---- One side changed
@@ -124,24 +127,24 @@ entries-set j k (c ∷ cells) sides zero c0 s f a l h b g =
     let number = a.0 h in
     let changed = set sides (cell_span c) s in
     let first : seen k c (get_or changed (cell_span c) no_side) ≡ f (seen k c (get_or sides (cell_span c) no_side)) =
-        ap (λ x. seen k c x) (get_or-set_same sides (cell_span c) s no_side b) ∙ ap (λ x. cond x (container_seen c s) (leaf_seen k c)) h
-        ∙ sym (g (get_or sides (cell_span c) no_side)) ∙ sym (ap (λ x. f (cond x (container_seen c (get_or sides (cell_span c) no_side)) (leaf_seen k c))) h) in
+    ap (λ x. seen k c x) (get_or-set_same sides (cell_span c) s no_side b) ∙ ap (λ x. cond x (container_seen c s) (leaf_seen k c)) h
+    ∙ sym (g (get_or sides (cell_span c) no_side)) ∙ sym (ap (λ x. f (cond x (container_seen c (get_or sides (cell_span c) no_side)) (leaf_seen k c))) h) in
     ap (λ x. x ∷ entries_from (suc k) cells changed) first
     ∙ ap (λ l. f (seen k c (get_or sides (cell_span c) no_side)) ∷ l) (alike (suc j) (suc k) cells changed sides rest (λ i p q. get_or-set_other sides (cell_span c) i s no_side (λ e. absurd (omega arith))))
 entries-set j k (c ∷ cells) sides (suc n) c0 s f a l h b g =
     elim (cases_Bool (holds c)) [
-      inl e ↦
-        let rest = rw e at a.1 in
-        let w = number_within (suc j) cells n c0 rest (omega arith) h in
-        let number = a.0 e in
-        let first = get_or-set_other sides (cell_span (get_or cells n c0)) (cell_span c) s no_side (λ q. absurd (let x = w.0 in omega arith)) in
-        ap (λ x. seen k c x ∷ entries_from (suc k) cells (set sides (cell_span (get_or cells n c0)) s)) first
-        ∙ ap (λ l. seen k c (get_or sides (cell_span c) no_side) ∷ l) (entries-set (suc j) (suc k) cells sides n c0 s f rest (omega arith) h b g)
+      | inl e ↦
+          let rest = rw e at a.1 in
+          let w = number_within (suc j) cells n c0 rest (omega arith) h in
+          let number = a.0 e in
+          let first = get_or-set_other sides (cell_span (get_or cells n c0)) (cell_span c) s no_side (λ q. absurd (let x = w.0 in omega arith)) in
+          ap (λ x. seen k c x ∷ entries_from (suc k) cells (set sides (cell_span (get_or cells n c0)) s)) first
+          ∙ ap (λ l. seen k c (get_or sides (cell_span c) no_side) ∷ l) (entries-set (suc j) (suc k) cells sides n c0 s f rest (omega arith) h b g)
       | inr e ↦
-        let rest = rw e at a.1 in
-        let first = seen_alike k c (get_or (set sides (cell_span (get_or cells n c0)) s) (cell_span c) no_side) (get_or sides (cell_span c) no_side) (λ t. absurd (false≢true (sym e ∙ t))) in
-        ap (λ x. x ∷ entries_from (suc k) cells (set sides (cell_span (get_or cells n c0)) s)) first
-        ∙ ap (λ l. seen k c (get_or sides (cell_span c) no_side) ∷ l) (entries-set j (suc k) cells sides n c0 s f rest (omega arith) h b g)
+          let rest = rw e at a.1 in
+          let first = seen_alike k c (get_or (set sides (cell_span (get_or cells n c0)) s) (cell_span c) no_side) (get_or sides (cell_span c) no_side) (λ t. absurd (false≢true (sym e ∙ t))) in
+          ap (λ x. x ∷ entries_from (suc k) cells (set sides (cell_span (get_or cells n c0)) s)) first
+          ∙ ap (λ l. seen k c (get_or sides (cell_span c) no_side) ∷ l) (entries-set j (suc k) cells sides n c0 s f rest (omega arith) h b g)
     ]
 
 -- ---- What the methods of a tape show
@@ -198,8 +201,8 @@ unfolding entries_of
 leaf_added cells sides v c kind seat source q h k r x s l u =
     let many : 0 + length cells ≡ length v = (let m = length-entries 0 cells sides in let n = ap length q in omega arith) in
     let same : seen (0 + length cells) c (get_or sides (cell_span c) no_side) ≡ leaf_entry kind seat source (length v) =
-        ap (λ b. cond b (container_seen c (get_or sides (cell_span c) no_side)) (leaf_seen (0 + length cells) c)) h ∙ ap (λ i. leaf_seen i c) many
-        ∙ rw (k, r, x, s, l, u) refl in
+    ap (λ b. cond b (container_seen c (get_or sides (cell_span c) no_side)) (leaf_seen (0 + length cells) c)) h ∙ ap (λ i. leaf_seen i c) many
+    ∙ rw (k, r, x, s, l, u) refl in
     entries-snoc 0 cells c sides ∙ ap (λ y. entries_from 0 cells sides ++ y ∷ []) same ∙ ap (λ y. y ++ leaf_entry kind seat source (length v) ∷ []) q
 
 pub container_kept : (cells : List Cell) (sides : List Side) (c : Cell) (s : Side) → IsTape cells sides → holds c ≡ true → cell_span c ≡ length sides → length cells < 2 ^ 24 → IsTape (cells ++ c ∷ []) (sides ++ s ∷ [])
@@ -220,12 +223,12 @@ container_added cells sides v c kind seat place s t q h e k r x p l u =
     let more = sides ++ s ∷ [] in
     let many = t.counted in
     let found : get_or more (cell_span c) no_side ≡ no_side = ap (λ i. get_or more i no_side) l ∙ get_or-append_right sides (s ∷ []) (length sides) (length sides) no_side refl (omega arith)
-        ∙ (let z : length sides - length sides ≡ 0 = omega arith in ap (λ i. get_or (s ∷ []) i no_side) z) ∙ e in
+    ∙ (let z : length sides - length sides ≡ 0 = omega arith in ap (λ i. get_or (s ∷ []) i no_side) z) ∙ e in
     let zero_long : 0 - cell_start c ≡ 0 = omega arith in
     let same : seen (0 + length cells) c (get_or more (cell_span c) no_side) ≡ open_entry kind seat place =
-        ap (λ b. cond b (container_seen c (get_or more (cell_span c) no_side)) (leaf_seen (0 + length cells) c)) h ∙ ap (λ y. container_seen c y) found
-        ∙ ap (λ n. record { kind = cell_kind c; role = cell_role c; label = cell_label c; source = record { start = cell_start c; len = n }; up = cell_up c; children = 0; after = 0 }) zero_long
-        ∙ rw (k, r, x, p, u) refl in
+    ap (λ b. cond b (container_seen c (get_or more (cell_span c) no_side)) (leaf_seen (0 + length cells) c)) h ∙ ap (λ y. container_seen c y) found
+    ∙ ap (λ n. record { kind = cell_kind c; role = cell_role c; label = cell_label c; source = record { start = cell_start c; len = n }; up = cell_up c; children = 0; after = 0 }) zero_long
+    ∙ rw (k, r, x, p, u) refl in
     let before : entries_from 0 cells more ≡ entries_from 0 cells sides = alike 0 0 cells more sides t.numbered (λ i a b. get_or_append_left sides (s ∷ []) no_side i (omega (arith, many, b))) in
     entries-snoc 0 cells c more ∙ ap (λ y. entries_from 0 cells more ++ y ∷ []) same ∙ ap (λ y. y ++ open_entry kind seat place ∷ []) (before ∙ q)
 

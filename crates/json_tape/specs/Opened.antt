@@ -1,5 +1,5 @@
 -- What a builder keeps, so that its tape can take each entry: which entries are open, and that all numbers have room.
-use Rattle.std.specs.Prelude.{◌≡◌, ℕ, ◌^◌, ◌<◌, true, List, [], ◌∷◌, Option, IfSome}
+use Rattle.std.specs.Prelude.{◌≡◌, ℕ, ◌^◌, ◌<◌, true, List, [], ◌∷◌, IfSome}
 use Rattle.json_tape.specs.declared.tape.Extent.{Extent}
 use Rattle.json_tape.specs.declared.tape.Entry.{Entry}
 use Rattle.json_tape.specs.declared.tape.Level.{Level}

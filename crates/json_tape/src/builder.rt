@@ -206,8 +206,7 @@ impl Builder {
         match self.outer.pop() {
             None => Err(BuildFault::NotJson),
             Some(outer) => {
-                self.tape
-                    .close(self.top.entry, place, self.top.children);
+                self.tape.close(self.top.entry, place, self.top.children);
                 self.top = outer;
                 self.want = Want::Next;
                 self.name = None;

@@ -69,12 +69,7 @@ fn repeats_in(
 }
 
 // The hashes of the names of the object with this number, in place of those that were there.
-fn collect_hashes(
-    text: &str,
-    tape: &Tape,
-    n: u32,
-    hashes: &mut Vec<u64>,
-) -> Result<(), AllocError>
+fn collect_hashes(text: &str, tape: &Tape, n: u32, hashes: &mut Vec<u64>) -> Result<(), AllocError>
     requires inside { n < length tape.now }
     requires object { (ms : Members) × IsObject text.now tape.now n ms }
     requires short { length tape.now < 2 ^ 31 }

@@ -1,4 +1,4 @@
-use Rattle.std.proofs.Common.{◌+◌, refl, sym, ap, ◌∙◌, arith}
+use Rattle.std.proofs.Common.{◌+◌, refl, ap, ◌∙◌, arith}
 use Rattle.json_tape.specs.Cells.{holds}
 use Rattle.json_tape.proofs.Sides.{entries_many, closing_inside, side_inside, closing_done}
 use Rattle.json_tape.proofs.compact.Tape.close.Goals as goal

@@ -1,5 +1,4 @@
-use Rattle.std.proofs.Common.{◌≡◌, ◌<◌, length, sym, ap, ◌∙◌, arith, slice_index_or}
-use Rattle.json_tape.specs.Cells.{cell_span, holds}
+use Rattle.std.proofs.Common.{◌<◌, length, sym, ap, ◌∙◌, arith, slice_index_or}
 use Rattle.json_tape.proofs.Sides.{entries_many, side_inside, leaf_shown, container_shown}
 use Rattle.json_tape.proofs.compact.Tape.entry.Goals as goal
 
@@ -24,7 +23,7 @@ returns-then-holds c =
     let l = side_inside c.self.inside.cells.items c.self.inside.sides.items c.args.n c.index-cell.result.now c.self.invariant inside c.index-cell.ensures h in
     rw (c.kind.ensures, c.role.ensures, c.label.ensures, c.saturating_sub.ensures, c.up.ensures, c.start-start.ensures)
     (container_shown c.self.inside.cells.items c.self.inside.sides.items c.args.self.now c.args.n c.index-cell.result.now c.index-side.result.now _ c.self.view_is inside c.index-cell.ensures h l
-        (c.index-side.ensures ∙ ap (λ i. slice_index_or c.self.inside.sides.items i c.index-side.result.now) c.span.ensures))
+    (c.index-side.ensures ∙ ap (λ i. slice_index_or c.self.inside.sides.items i c.index-side.result.now) c.span.ensures))
 
 pub returns-else-holds : goal.returns-else-holds
 returns-else-holds c =

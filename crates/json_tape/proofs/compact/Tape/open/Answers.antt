@@ -1,5 +1,5 @@
 use Rattle.std.proofs.Common.{◌≡◌, [], ◌∷◌, ◌++◌, length, refl, sym, ap, ◌∙◌, subst, arith}
-use Rattle.json_tape.specs.Cells.{cell_span, entries_of, no_side, containers, IsTape}
+use Rattle.json_tape.specs.Cells.{cell_span, entries_of, no_side, IsTape}
 use Rattle.json_tape.proofs.Sides.{entries_many, holder_kind, containers_few, container_kept, container_added}
 use Rattle.json_tape.proofs.compact.Tape.open.Goals as goal
 
