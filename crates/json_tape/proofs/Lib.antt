@@ -45,3 +45,6 @@ pub mod Words
 pub mod Marks
 pub mod WaySizes
 pub mod StopBits
+pub mod Joined
+pub mod Sides
+pub mod Keeping

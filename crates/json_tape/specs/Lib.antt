@@ -5,12 +5,14 @@ pub mod Meaning
 pub mod Nodes
 pub mod Parts
 pub mod Tape
+pub mod Cells
 pub mod Verdict
 pub mod Spelling
 pub mod Reading
 pub mod Document
 pub mod Answer
 pub mod Machine
+pub mod Opened
 pub mod Lexing
 pub mod Scanning
 pub mod Surrogates

@@ -1,17 +1,20 @@
 // The tape builder: one call for each token.
 
-ghost use Rattle.std.specs.Prelude.{MatchResult, ◌≡◌, ◌^◌, ◌<◌, length, ◌↔◌, IsTrue, IsErrOf};
-ghost use Rattle.json_tape.specs.Machine.{Opening, Closing, Comma, Between, Text, Word, step, start, IsSmall, Took, takes_value as value_may_come, takes_name as name_may_come, closes as may_close, after_comma as want_after_comma, level_of, kind_of_shape, change_at, closed, first_of as want_first, label_for as label_in};
+ghost use Rattle.std.specs.Prelude.{MatchResult, IfSome, ◌≡◌, ◌^◌, ◌<◌, ◌↔◌, IsTrue, IsErrOf, true, false};
+ghost use Rattle.json_tape.specs.Machine.{Opening, Closing, Comma, Between, Text, Word, step, start, IsSmall, Took, takes_value as value_may_come, takes_name as name_may_come, closes as may_close, after_comma as want_after_comma, level_of, kind_of_shape, first_of as want_first, label_for as label_in};
 ghost use Rattle.json_tape.specs.Tape.{role_of, label_spot};
+ghost use Rattle.json_tape.specs.Cells.{IsNear, is_container};
+ghost use Rattle.json_tape.specs.Opened.{HasRoom};
 
-use crate::tape::{BuildFault, Entry, Extent, Kind, Level, Open, Role, Shape, Want};
+use crate::compact::Tape;
+use crate::tape::{BuildFault, Extent, Kind, Level, Open, Role, Seat, Shape, Want};
 use std::alloc::Global;
 use std::marker::Model;
 
 /// The tape so far.
 #[derive(Drop)]
 pub struct Builder {
-    entries: Vec<Entry>,
+    tape: Tape,
     top: Open,
     outer: Vec<Open>,
     want: Want,
@@ -22,10 +25,13 @@ pub struct Builder {
 impl Model for Builder {
     ghost use Rattle.std.specs.Prelude.{◌∷◌, reverse};
     ghost use Rattle.json_tape.specs.Machine.{State};
+    ghost use Rattle.json_tape.specs.Opened.{IsKept};
 
     ghost Value = { State };
 
-    ghost view = { λ b. record { entries = b.entries.items; opens = b.top ∷ reverse b.outer.items; want = b.want; name = b.name; deep = b.deepest } };
+    ghost view = { λ b. record { entries = b.tape; opens = b.top ∷ reverse b.outer.items; want = b.want; name = b.name; deep = b.deepest } };
+
+    ghost invariant = { λ b. IsKept (record { entries = b.tape; opens = b.top ∷ reverse b.outer.items; want = b.want; name = b.name; deep = b.deepest }) };
 }
 
 fn takes_value(want: Want) -> bool
@@ -71,11 +77,11 @@ impl Builder {
     pub fn new(alloc: Global, room: usize) -> Result<Builder, BuildFault>
         ensures { MatchResult result (λ b. b ≡ start) (λ f. f ≡ BuildFault.Memory) }
     {
-        let Ok(entries) = Vec::with_capacity(alloc, room) else {
+        let Ok(tape) = Tape::new(alloc, room) else {
             return Err(BuildFault::Memory);
         };
         Ok(Builder {
-            entries,
+            tape,
             top: Open {
                 level: Level::Root,
                 entry: 0,
@@ -90,23 +96,16 @@ impl Builder {
 
     /// A word, a number or a string that is a value.
     pub fn leaf(&mut self, source: Extent, kind: Kind) -> Result<(), BuildFault>
-        requires { IsSmall (2 ^ 31) self.old }
+        requires small { IsSmall (2 ^ 22) self.old }
+        requires room { HasRoom source }
+        requires scalar { is_container kind ≡ false }
         ensures { Took (step (Word source kind) self.old) result self.new }
     {
         if !takes_value(self.want) {
             return Err(BuildFault::NotJson);
         }
-        let label = label_for(self.top, self.name);
-        let entry = Entry {
-            kind,
-            role: label.role,
-            label: label.spot,
-            source,
-            up: self.top.entry,
-            children: 0,
-            after: self.entries.len() as u32 + 1,
-        };
-        if self.entries.push(entry).is_err() {
+        let seat = seat_in(self.top, self.name);
+        if self.tape.leaf(kind, seat, source).is_err() {
             return Err(BuildFault::Memory);
         }
         self.top.children += 1;
@@ -148,7 +147,8 @@ impl Builder {
 
     /// A string: a name where one may come, otherwise a value.
     pub fn text(&mut self, source: Extent) -> Result<(), BuildFault>
-        requires { IsSmall (2 ^ 31) self.old }
+        requires small { IsSmall (2 ^ 22) self.old }
+        requires room { HasRoom source }
         ensures { Took (step (Text source) self.old) result self.new }
     {
         if takes_name(self.want) {
@@ -162,27 +162,16 @@ impl Builder {
     /// An opening bracket or brace.
     #[inline(always)]
     pub fn open(&mut self, shape: Shape, place: u32) -> Result<(), BuildFault>
-        requires { IsSmall (2 ^ 31) self.old }
+        requires small { IsSmall (2 ^ 22) self.old }
+        requires near { place < 2 ^ 24 }
         ensures { Took (step (Opening shape place) self.old) result self.new }
     {
         if !takes_value(self.want) {
             return Err(BuildFault::NotJson);
         }
-        let number = self.entries.len() as u32;
-        let label = label_for(self.top, self.name);
-        let entry = Entry {
-            kind: kind_of(shape),
-            role: label.role,
-            label: label.spot,
-            source: Extent {
-                start: place,
-                len: 0,
-            },
-            up: self.top.entry,
-            children: 0,
-            after: 0,
-        };
-        if self.entries.push(entry).is_err() {
+        let number = self.tape.len();
+        let seat = seat_in(self.top, self.name);
+        if self.tape.open(kind_of(shape), seat, place).is_err() {
             return Err(BuildFault::Memory);
         }
         let outer = Open {
@@ -193,10 +182,7 @@ impl Builder {
         if self.outer.push(outer).is_err() {
             return Err(BuildFault::Memory);
         }
-        let depth = self.outer.len();
-        if self.deepest < depth {
-            self.deepest = depth;
-        }
+        self.deepest = self.deepest.max(self.outer.len());
         self.top = Open {
             level: Level::Inside(shape),
             entry: number,
@@ -209,8 +195,8 @@ impl Builder {
 
     /// A closing bracket or brace.
     pub fn close(&mut self, shape: Shape, place: u32) -> Result<(), BuildFault>
-        requires small { IsSmall (2 ^ 31) self.old }
-        requires near { place < 2 ^ 31 }
+        requires small { IsSmall (2 ^ 22) self.old }
+        requires near { place < 2 ^ 24 }
         ensures took { Took (step (Closing shape place) self.old) result self.new }
         ensures no_memory { IsErrOf result BuildFault.Memory → ⊥ }
     {
@@ -220,7 +206,7 @@ impl Builder {
         match self.outer.pop() {
             None => Err(BuildFault::NotJson),
             Some(outer) => {
-                finish(&mut self.entries, self.top.entry, place, self.top.children);
+                self.tape.close(self.top.entry, place, self.top.children);
                 self.top = outer;
                 self.want = Want::Next;
                 self.name = None;
@@ -246,55 +232,55 @@ impl Builder {
         self.deepest
     }
 
-    /// The entries, without room for more.
-    pub fn into_entries(self) -> Vec<Entry>
-        ensures { result.items ≡ self.entries }
+    /// The tape, without room for more.
+    pub fn into_tape(self) -> Tape
+        ensures { result ≡ self.entries }
     {
         let Builder {
-            mut entries,
+            mut tape,
             top: _,
             outer: _,
             want: _,
             name: _,
             deepest: _,
         } = self;
-        entries.shrink_to_fit();
-        entries
+        tape.shrink();
+        tape
     }
 }
 
 // How the next value lies in this container.
-#[derive(Clone, Copy)]
-struct Label {
-    role: Role,
-    spot: Extent,
-}
-
-fn label_for(outer: Open, name: Option<Extent>) -> Label
+#[inline(always)]
+fn seat_in(outer: Open, name: Option<Extent>) -> Seat
+    requires children { outer.children < 2 ^ 24 }
+    requires entry { outer.entry < 2 ^ 24 }
+    requires name { IfSome name HasRoom }
     ensures role { result.role ≡ role_of (label_in outer name) }
-    ensures spot { result.spot ≡ label_spot (label_in outer name) }
+    ensures label { result.label ≡ label_spot (label_in outer name) }
+    ensures up { result.up ≡ outer.entry }
+    ensures near { IsNear result }
 {
-    match (outer.level, name) {
-        (Level::Inside(Shape::Array), _) => Label {
-            role: Role::Element,
-            spot: Extent {
+    let (role, label) = match (outer.level, name) {
+        (Level::Inside(Shape::Array), _) => (
+            Role::Element,
+            Extent {
                 start: outer.children,
                 len: 0,
             },
-        },
-        (Level::Inside(Shape::Object), Some(spot)) => Label {
-            role: Role::Member,
-            spot,
-        },
-        _ => Label {
-            role: Role::Whole,
-            spot: Extent { start: 0, len: 0 },
-        },
+        ),
+        (Level::Inside(Shape::Object), Some(spot)) => (Role::Member, spot),
+        _ => (Role::Whole, Extent { start: 0, len: 0 }),
+    };
+    Seat {
+        role,
+        label,
+        up: outer.entry,
     }
 }
 
 fn kind_of(shape: Shape) -> Kind
-    ensures { result ≡ kind_of_shape shape }
+    ensures value { result ≡ kind_of_shape shape }
+    ensures container { is_container result ≡ true }
 {
     match shape {
         Shape::Array => Kind::Array,
@@ -308,30 +294,5 @@ fn first_of(shape: Shape) -> Want
     match shape {
         Shape::Array => Want::FirstValue,
         Shape::Object => Want::FirstName,
-    }
-}
-
-// Gives the entry of a container that is closed at this place its length, its children and its end.
-fn finish(entries: &mut Vec<Entry>, number: u32, place: u32, children: u32)
-    requires near { place < 2 ^ 31 }
-    requires short { length entries.old.items < 2 ^ 32 }
-    ensures { entries.new.items ≡ change_at entries.old.items number (closed place children (length entries.old.items)) }
-{
-    let number = number as usize;
-    if number < entries.len() {
-        let entry = entries[number];
-        let source = Extent {
-            start: entry.source.start,
-            len: (place + 1).saturating_sub(entry.source.start),
-        };
-        entries[number] = Entry {
-            kind: entry.kind,
-            role: entry.role,
-            label: entry.label,
-            source,
-            up: entry.up,
-            children,
-            after: entries.len() as u32,
-        };
     }
 }

@@ -13,6 +13,7 @@ ghost use Rattle.json_tape.specs.Nodes.{size, children, visit, is_named, first_w
 ghost use Rattle.json_tape.specs.Tape.{Top, tape_of};
 ghost use Rattle.json_tape.specs.Document.{tree_of, count, node_at, later, seen, following, single, root_of, counting, IsIn, IsDocument, IsMember, HasName, LeadIs, ParentIs, StandsIn, kind_of, length_of, string_meaning};
 
+use crate::compact::Tape;
 use crate::judge::{judge_tape, part_at};
 use crate::plain::{Words, is_meant_by, is_meant_plainly, words_of};
 use crate::reader::read;
@@ -28,7 +29,7 @@ pub const TEXT_LIMIT: usize = 1_048_576;
 #[derive(Drop)]
 pub struct Document {
     text: String,
-    entries: Vec<Entry>,
+    tape: Tape,
 }
 
 impl Model for Document {
@@ -37,9 +38,9 @@ impl Model for Document {
 
     ghost Value = { Doc };
 
-    ghost view = { λ d. record { text = string_bytes d.text; entries = d.entries.items } };
+    ghost view = { λ d. record { text = string_bytes d.text; entries = d.tape } };
 
-    ghost invariant = { λ d. IsDocument (record { text = string_bytes d.text; entries = d.entries.items }) };
+    ghost invariant = { λ d. IsDocument (record { text = string_bytes d.text; entries = d.tape }) };
 }
 
 impl Document {
@@ -59,19 +60,19 @@ impl Document {
         let Ok(checked) = simdutf8::basic::from_utf8(text) else {
             return Err(TextFault::NotUtf8);
         };
-        let tape = match read(alloc, text) {
-            Ok(tape) => tape,
+        let reading = match read(alloc, text) {
+            Ok(reading) => reading,
             Err(BuildFault::NotJson) => return Err(TextFault::NotJson),
             Err(BuildFault::Memory) => return Err(TextFault::Memory),
         };
-        if let Err(fault) = judge_tape(alloc, checked, &tape) {
+        if let Err(fault) = judge_tape(alloc, checked, &reading) {
             return Err(fault);
         }
         match String::from_str(alloc, checked) {
             Err(_) => Err(TextFault::Memory),
             Ok(text) => Ok(Document {
                 text,
-                entries: tape.entries,
+                tape: reading.tape,
             }),
         }
     }
@@ -91,7 +92,7 @@ impl Document {
         ensures some { 0 < result }
         ensures small { result < 2 ^ 31 }
     {
-        self.entries.len() as u32
+        self.tape.len()
     }
 
     /// The value that holds all others.
@@ -104,7 +105,7 @@ impl Document {
         ensures accepted { IsAccepted self.now.text (tree_of self.now) }
         ensures tape { self.now.entries ≡ tape_of (tree_of self.now) 0 Top 0 }
     {
-        let _ = &self.entries;
+        let _ = &self.tape;
         NodeId(0)
     }
 
@@ -113,7 +114,7 @@ impl Document {
         ensures document { IsDocument self.now }
         ensures value { result ≡ slice_index_or self.now.entries n.0 result }
     {
-        self.entries[n.0 as usize]
+        self.tape.entry(n.0)
     }
 
     /// What the value is.

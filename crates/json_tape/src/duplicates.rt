@@ -8,6 +8,7 @@ ghost use Rattle.json_tape.specs.Repeats.{meanings, repeats, hash_of, IsObject};
 ghost use Rattle.json_tape.specs.declared.tape.TextFault.TheVariants.{LoneSurrogate, DuplicateName};
 
 use crate::again::has_repeated;
+use crate::compact::Tape;
 use crate::hashes::hash;
 use crate::names::Name;
 use crate::scalars::unquoted;
@@ -15,7 +16,7 @@ use crate::tape::{Entry, Kind};
 use std::alloc::{AllocError, Global};
 
 /// Whether two names of one object mean the same, in a text without lone surrogates.
-pub fn has_duplicate(alloc: Global, text: &str, tape: &[Entry]) -> Result<bool, AllocError>
+pub fn has_duplicate(alloc: Global, text: &str, tape: &Tape) -> Result<bool, AllocError>
     requires spelt { IsJson text.now }
     requires stands { StandsForAll text.now tape.now }
     requires short { length tape.now < 2 ^ 31 }
@@ -23,8 +24,8 @@ pub fn has_duplicate(alloc: Global, text: &str, tape: &[Entry]) -> Result<bool, 
     ensures { IfOk result (λ found. IsTrue found ↔ Applies text.now DuplicateName) }
 {
     let mut hashes = Vec::new(alloc);
-    for (n, entry) in tape.iter().enumerate() {
-        if may_repeat(entry) {
+    for n in 0..tape.len() {
+        if may_repeat(tape.entry(n)) {
             let found = repeats_in(alloc, text, tape, n, &mut hashes)?;
             if found {
                 return Ok(true);
@@ -35,8 +36,8 @@ pub fn has_duplicate(alloc: Global, text: &str, tape: &[Entry]) -> Result<bool, 
 }
 
 // Only an object of two members or more has two names.
-fn may_repeat(entry: &Entry) -> bool
-    ensures { IsTrue result ↔ ((entry.now.kind ≡ Kind.Object) × (1 < entry.now.children)) }
+fn may_repeat(entry: Entry) -> bool
+    ensures { IsTrue result ↔ ((entry.kind ≡ Kind.Object) × (1 < entry.children)) }
 {
     match entry.kind {
         Kind::Object => entry.children > 1,
@@ -48,8 +49,8 @@ fn may_repeat(entry: &Entry) -> bool
 fn repeats_in(
     alloc: Global,
     text: &str,
-    tape: &[Entry],
-    n: usize,
+    tape: &Tape,
+    n: u32,
     hashes: &mut Vec<u64>,
 ) -> Result<bool, AllocError>
     requires inside { n < length tape.now }
@@ -68,24 +69,19 @@ fn repeats_in(
 }
 
 // The hashes of the names of the object with this number, in place of those that were there.
-fn collect_hashes(
-    text: &str,
-    tape: &[Entry],
-    n: usize,
-    hashes: &mut Vec<u64>,
-) -> Result<(), AllocError>
+fn collect_hashes(text: &str, tape: &Tape, n: u32, hashes: &mut Vec<u64>) -> Result<(), AllocError>
     requires inside { n < length tape.now }
     requires object { (ms : Members) × IsObject text.now tape.now n ms }
     requires short { length tape.now < 2 ^ 31 }
     ensures { OnOk result ((ms : Members) → IsObject text.now tape.now n ms → hashes.new.items ≡ map hash_of (meanings ms)) }
 {
     hashes.clear();
-    let end = tape[n].after as usize;
+    let end = tape.entry(n).after;
     let mut next = n + 1;
     while next < end {
-        let entry = tape[next];
+        let entry = tape.entry(next);
         hashes.push(hash(text, entry.label))?;
-        next = entry.after as usize;
+        next = entry.after;
     }
     Ok(())
 }
@@ -93,8 +89,8 @@ fn collect_hashes(
 // The names of the object with this number, in place of those that were there.
 fn collect<'a>(
     text: &'a str,
-    tape: &[Entry],
-    n: usize,
+    tape: &Tape,
+    n: u32,
     names: &mut Vec<Name<'a>>,
 ) -> Result<(), AllocError>
     requires inside { n < length tape.now }
@@ -103,12 +99,12 @@ fn collect<'a>(
     ensures { OnOk result ((ms : Members) → IsObject text.now tape.now n ms → names.new.items ≡ meanings ms) }
 {
     names.clear();
-    let end = tape[n].after as usize;
+    let end = tape.entry(n).after;
     let mut k = n + 1;
     while k < end {
-        let entry = tape[k];
+        let entry = tape.entry(k);
         names.push(Name::new(unquoted(text, entry.label)))?;
-        k = entry.after as usize;
+        k = entry.after;
     }
     Ok(())
 }

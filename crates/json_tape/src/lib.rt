@@ -12,6 +12,8 @@
 
 mod again;
 mod builder;
+mod cells;
+mod compact;
 mod document;
 mod duplicates;
 mod hashes;

@@ -8,8 +8,9 @@ ghost use Rattle.decimal_order.specs.Number.{IsNumber};
 ghost use Rattle.json_tape.specs.Answer.{IsJson, StandsForAll, HasDepth, IsNoJson};
 
 use crate::builder::Builder;
+use crate::compact::Tape;
 use crate::scan::quote_end;
-use crate::tape::{BuildFault, Entry, Extent, Kind, Shape};
+use crate::tape::{BuildFault, Extent, Kind, Shape};
 use decimal_order::{SHORT_LENGTH, scan};
 use std::alloc::Global;
 
@@ -125,8 +126,8 @@ fn past_sign(taken: Result<(), BuildFault>, i: usize) -> Result<usize, BuildFaul
 // A string.
 fn string(text: &[u8], i: usize, builder: &mut Builder) -> Result<usize, BuildFault>
     requires in_text { i < length text.now }
-    requires near { length text.now < 2 ^ 31 }
-    requires small { IsSmall (2 ^ 31) builder.old }
+    requires near { length text.now ≤ 2 ^ 22 }
+    requires small { IsSmall (2 ^ 22) builder.old }
     requires quote { slice_index text.now i ≡ 34 }
     requires utf8 { IsUtf8 text.now }
     ensures { Stepped text.now i builder.old result builder.new }
@@ -154,8 +155,8 @@ fn word(
     has_long: &mut bool,
 ) -> Result<usize, BuildFault>
     requires in_text { i < length text.now }
-    requires near { length text.now < 2 ^ 31 }
-    requires small { IsSmall (2 ^ 31) builder.old }
+    requires near { length text.now ≤ 2 ^ 22 }
+    requires small { IsSmall (2 ^ 22) builder.old }
     requires is_atom { atom (slice_index text.now i) ≡ true }
     ensures stepped { Stepped text.now i builder.old result builder.new }
     ensures marked { Marked text.now i has_long.old result has_long.new }
@@ -188,8 +189,8 @@ fn token(
     has_long: &mut bool,
 ) -> Result<usize, BuildFault>
     requires in_text { i < length text.now }
-    requires near { length text.now < 2 ^ 31 }
-    requires small { IsSmall (2 ^ 31) builder.old }
+    requires near { length text.now ≤ 2 ^ 22 }
+    requires small { IsSmall (2 ^ 22) builder.old }
     requires utf8 { IsUtf8 text.now }
     requires no_blank { blank (slice_index text.now i) ≡ false }
     ensures stepped { Stepped text.now i builder.old result builder.new }
@@ -207,10 +208,10 @@ fn token(
     }
 }
 
-/// The tape of a text, how many containers of it lie in one another at most, and whether a number of it may be long.
+/// What reading a text found: its tape, how many containers lie in one another at most, and whether a number may be long.
 #[derive(Drop)]
-pub struct Tape {
-    pub entries: Vec<Entry>,
+pub struct Reading {
+    pub tape: Tape,
     pub depth: usize,
     pub has_long: bool,
 }
@@ -219,16 +220,16 @@ pub struct Tape {
 const BYTES_PER_ENTRY: usize = 8;
 
 /// The tape of a text, or why there is none.
-pub fn read(alloc: Global, text: &[u8]) -> Result<Tape, BuildFault>
-    requires long { length text.now < 2 ^ 31 }
+pub fn read(alloc: Global, text: &[u8]) -> Result<Reading, BuildFault>
+    requires long { length text.now ≤ 2 ^ 22 }
     requires utf8 { IsUtf8 text.now }
     // A tape is given only where the text is JSON.
-    ensures spelt { IfOk result (λ tape. IsJson text.now) }
+    ensures spelt { IfOk result (λ reading. IsJson text.now) }
     // It stands for each tree that the text spells, so there is only one.
-    ensures stands { IfOk result (λ tape. StandsForAll text.now tape.entries.items) }
-    ensures short { IfOk result (λ tape. length tape.entries.items < 2 ^ 31) }
-    ensures depth { IfOk result (λ tape. HasDepth text.now tape.depth) }
-    ensures numbers { IfOk result (λ tape. tape.has_long ≡ false → AreShort tape.entries.items) }
+    ensures stands { IfOk result (λ reading. StandsForAll text.now reading.tape) }
+    ensures short { IfOk result (λ reading. length reading.tape < 2 ^ 31) }
+    ensures depth { IfOk result (λ reading. HasDepth text.now reading.depth) }
+    ensures numbers { IfOk result (λ reading. reading.has_long ≡ false → AreShort reading.tape) }
     // Unless memory runs out, a text is refused only where it spells no tree.
     ensures refused { IsErrOf result BuildFault.NotJson → IsNoJson text.now }
 {
@@ -247,8 +248,8 @@ pub fn read(alloc: Global, text: &[u8]) -> Result<Tape, BuildFault>
     }
     if builder.is_done() {
         let depth = builder.deepest();
-        Ok(Tape {
-            entries: builder.into_entries(),
+        Ok(Reading {
+            tape: builder.into_tape(),
             depth,
             has_long,
         })

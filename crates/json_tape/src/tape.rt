@@ -41,7 +41,13 @@ pub struct Entry {
     pub after: u32,
 }
 
-const _: () = prove!(size_of::<Entry>() <= 32);
+/// How a value lies: its role and its label in the one around it, and the number of that one.
+#[derive(Clone, Copy)]
+pub struct Seat {
+    pub role: Role,
+    pub label: Extent,
+    pub up: u32,
+}
 
 /// The number of a value in its document: the root has 0, and the others follow depth first, in document order.
 #[derive(Clone, Copy, Debug, Default, PartialEq, Eq)]

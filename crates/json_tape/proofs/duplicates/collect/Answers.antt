@@ -1,16 +1,20 @@
-use Rattle.std.proofs.Common.{◌∙◌, refl, sym, ap, subst, arith}
+use Rattle.std.proofs.Common.{◌∙◌, ◌+◌, ◌∷◌, ◌++◌, [], refl, sym, ap, subst, arith}
+use Rattle.std.proofs.lemmas.List.{get_or_read}
+use Rattle.json_tape.specs.declared.tape.Entry.{Entry}
 use Rattle.std.specs.Str.{chars}
 use Rattle.json_tape.specs.Spelling.{scalars_in}
 use Rattle.json_tape.proofs.Spelled.{quoted_at, scalars_at}
-use Rattle.json_tape.proofs.MembersLeft.{IsMet, next_left, met_none, met_more, met_all, given_names}
+use Rattle.json_tape.proofs.MembersLeft.{no_entry, IsMet, next_left, met_none, met_more, met_all, given_names}
 use Rattle.json_tape.proofs.duplicates.collect.Goals as goal
 
 pub loop-k-init : goal.loop-k-init
 loop-k-init c =
-    subst (IsMet (λ x. x) c.args.text.now c.args.tape.now c.args.n _ _) (sym c.clear.ensures.items) (met_none (λ x. x) c.args.text.now c.args.tape.now c.args.n)
+    let q = get_or_read c.args.tape.now c.args.n c.entry-end.result c.requires.inside c.entry-end.ensures no_entry in
+    subst (IsMet (λ x. x) c.args.text.now c.args.tape.now c.args.n _ _) (sym c.clear.ensures.items)
+    (subst (λ (e : Entry). IsMet (λ x. x) c.args.text.now c.args.tape.now c.args.n (c.args.n + 1) e.after []) (sym q) (met_none (λ x. x) c.args.text.now c.args.tape.now c.args.n))
 
-pub bounds-tape-k : goal.bounds-tape-k
-bounds-tape-k c =
+pub entry-entry-requires : goal.entry-entry-requires
+entry-entry-requires c =
     let o = c.requires.object in
     let b = c.loop-k.invariant o.0 o.1 in
     (next_left c.args.text.now c.args.tape.now c.args.n c.loop-k.k _ b.0 b.1 c.loop-k-test.true).inside
@@ -20,21 +24,27 @@ unquoted-requires c =
     let o = c.requires.object in
     let b = c.loop-k.invariant o.0 o.1 in
     let x = next_left c.args.text.now c.args.tape.now c.args.n c.loop-k.k _ b.0 b.1 c.loop-k-test.true in
-    quoted_at c.args.text.now c.args.text.now _ x.name.source x.name.characters refl x.label x.lies x.string
+    let q = get_or_read c.args.tape.now c.loop-k.k c.entry-entry.result x.inside c.entry-entry.ensures no_entry in
+    quoted_at c.args.text.now c.args.text.now _ x.name.source x.name.characters refl (ap (λ (e : Entry). e.label) q ∙ x.label) x.lies x.string
 
 pub loop-k-smaller : goal.loop-k-smaller
 loop-k-smaller c =
     let o = c.requires.object in
     let b = c.loop-k.invariant o.0 o.1 in
     let x = next_left c.args.text.now c.args.tape.now c.args.n c.loop-k.k _ b.0 b.1 c.loop-k-test.true in
-    let l = x.later in let t = c.loop-k-test.true in omega arith
+    let q = get_or_read c.args.tape.now c.loop-k.k c.entry-entry.result x.inside c.entry-entry.ensures no_entry in
+    let l = x.later in let a = ap (λ (e : Entry). e.after) q in let t = c.loop-k-test.true in omega arith
 
 pub loop-k-preserved : goal.loop-k-preserved
 loop-k-preserved c =
+    let o = c.requires.object in
+    let b = c.loop-k.invariant o.0 o.1 in
+    let q = get_or_read c.args.tape.now c.loop-k.k c.entry-entry.result (next_left c.args.text.now c.args.tape.now c.args.n c.loop-k.k _ b.0 b.1 c.loop-k-test.true).inside c.entry-entry.ensures no_entry in
     subst (IsMet (λ x. x) c.args.text.now c.args.tape.now c.args.n _ _) (sym c.in_ok-push.ensures.items)
+    (subst (λ (e : Entry). IsMet (λ x. x) c.args.text.now c.args.tape.now c.args.n e.after c.entry-end.result.after (c.loop-k.names.items ++ c.new.result ∷ [])) (sym q)
     (met_more (λ x. x) c.args.text.now c.args.tape.now c.args.n c.loop-k.k _ c.loop-k.names.items c.new.result c.loop-k-test.true
-    (λ ms o left x. c.new.ensures ∙ ap (λ l. scalars_in (chars l)) c.unquoted.ensures ∙ scalars_at c.args.text.now c.args.text.now _ x.name.source x.name.characters refl x.label x.lies x.string)
-    c.loop-k.invariant)
+    (λ ms o left x. c.new.ensures ∙ ap (λ l. scalars_in (chars l)) c.unquoted.ensures ∙ (scalars_at c.args.text.now c.args.text.now _ x.name.source x.name.characters refl (ap (λ (e : Entry). e.label) q ∙ x.label) x.lies x.string))
+    c.loop-k.invariant))
 
 pub returns : goal.returns
 returns c = λ ms o. met_all (λ x. x) c.args.text.now c.args.tape.now c.args.n c.loop-k.k _ c.loop-k.names.items c.loop-k-test.false c.loop-k.invariant ms o ∙ given_names ms

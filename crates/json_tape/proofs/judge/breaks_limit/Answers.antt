@@ -2,6 +2,6 @@ use Rattle.json_tape.proofs.Limits.{bad_none}
 use Rattle.json_tape.proofs.Marks.{short_good}
 use Rattle.json_tape.proofs.judge.breaks_limit.Goals as goal
 
-pub returns-else-tape : goal.returns-else-tape
-returns-else-tape c =
-    ((λ x. cc), (λ (t, part, h, p, q). absurd (bad_none c.args.text.now c.args.tape.now.entries.items t h (c.requires.stands t h) (short_good c.late_exponents_keep_limits.ensures c.args.text.now c.args.tape.now.entries.items t h (c.requires.stands t h) (c.requires.numbers c.if-tape.false)) (part, p, q))))
+pub returns-else-reading : goal.returns-else-reading
+returns-else-reading c =
+    ((λ x. cc), (λ (t, part, h, p, q). absurd (bad_none c.args.text.now c.args.reading.now.tape t h (c.requires.stands t h) (short_good c.late_exponents_keep_limits.ensures c.args.text.now c.args.reading.now.tape t h (c.requires.stands t h) (c.requires.numbers c.if-reading.false)) (part, p, q))))

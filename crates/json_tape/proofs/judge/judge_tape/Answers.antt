@@ -2,19 +2,19 @@ use Rattle.json_tape.specs.declared.tape.TextFault.TheVariants.{NumberLimit, Lon
 use Rattle.json_tape.proofs.Verdicts.{refused_deep, not_deep, refused_number, refused_lone, refused_twice, faultless, applies_at, applies_not}
 use Rattle.json_tape.proofs.judge.judge_tape.Goals as goal
 
-pub returns-then-tape-gt-DEPTH_LIMIT : goal.returns-then-tape-gt-DEPTH_LIMIT
-returns-then-tape-gt-DEPTH_LIMIT c = refused_deep c.args.text.now c.args.tape.now.depth c.requires.short c.utf8.text c.requires.spelt c.requires.depth c.if-tape-gt-DEPTH_LIMIT.true
+pub returns-then-reading-gt-DEPTH_LIMIT : goal.returns-then-reading-gt-DEPTH_LIMIT
+returns-then-reading-gt-DEPTH_LIMIT c = refused_deep c.args.text.now c.args.reading.now.depth c.requires.short c.utf8.text c.requires.spelt c.requires.depth c.if-reading-gt-DEPTH_LIMIT.true
 
 pub returns-then-breaks_limit : goal.returns-then-breaks_limit
 returns-then-breaks_limit c =
     refused_number c.args.text.now c.requires.short c.utf8.text c.requires.spelt
-    (not_deep c.args.text.now c.args.tape.now.depth c.requires.depth c.if-tape-gt-DEPTH_LIMIT.false)
+    (not_deep c.args.text.now c.args.reading.now.depth c.requires.depth c.if-reading-gt-DEPTH_LIMIT.false)
     (applies_at NumberLimit c.args.text.now c.as_bytes.result.now _ c.as_bytes.ensures.value c.breaks_limit.ensures c.if-breaks_limit.true)
 
 pub returns-then-has_lone : goal.returns-then-has_lone
 returns-then-has_lone c =
     refused_lone c.args.text.now c.requires.short c.utf8.text c.requires.spelt
-    (not_deep c.args.text.now c.args.tape.now.depth c.requires.depth c.if-tape-gt-DEPTH_LIMIT.false)
+    (not_deep c.args.text.now c.args.reading.now.depth c.requires.depth c.if-reading-gt-DEPTH_LIMIT.false)
     (applies_not NumberLimit c.args.text.now c.as_bytes.result.now _ c.as_bytes.ensures.value c.breaks_limit.ensures c.if-breaks_limit.false)
     (applies_at LoneSurrogate c.args.text.now c.as_bytes-2.result.now _ c.as_bytes-2.ensures.value c.has_lone.ensures c.if-has_lone.true)
 
@@ -24,7 +24,7 @@ has_duplicate-requires-clause-paired c = applies_not LoneSurrogate c.args.text.n
 pub returns-in-Ok-true : goal.returns-in-Ok-true
 returns-in-Ok-true c =
     refused_twice c.args.text.now c.requires.short c.utf8.text c.requires.spelt
-    (not_deep c.args.text.now c.args.tape.now.depth c.requires.depth c.if-tape-gt-DEPTH_LIMIT.false)
+    (not_deep c.args.text.now c.args.reading.now.depth c.requires.depth c.if-reading-gt-DEPTH_LIMIT.false)
     (applies_not NumberLimit c.args.text.now c.as_bytes.result.now _ c.as_bytes.ensures.value c.breaks_limit.ensures c.if-breaks_limit.false)
     (applies_not LoneSurrogate c.args.text.now c.as_bytes-2.result.now _ c.as_bytes-2.ensures.value c.has_lone.ensures c.if-has_lone.false)
     (c.in-Ok-true.ensures.0 c.in-Ok-true.field-0-test)
@@ -32,7 +32,7 @@ returns-in-Ok-true c =
 pub returns-in-Ok-false : goal.returns-in-Ok-false
 returns-in-Ok-false c =
     faultless c.args.text.now c.requires.short c.utf8.text c.requires.spelt
-    (not_deep c.args.text.now c.args.tape.now.depth c.requires.depth c.if-tape-gt-DEPTH_LIMIT.false)
+    (not_deep c.args.text.now c.args.reading.now.depth c.requires.depth c.if-reading-gt-DEPTH_LIMIT.false)
     (applies_not NumberLimit c.args.text.now c.as_bytes.result.now _ c.as_bytes.ensures.value c.breaks_limit.ensures c.if-breaks_limit.false)
     (applies_not LoneSurrogate c.args.text.now c.as_bytes-2.result.now _ c.as_bytes-2.ensures.value c.has_lone.ensures c.if-has_lone.false)
     (λ x. let y = c.in-Ok-false.ensures.1 x in let t = c.in-Ok-false.field-0-test in cc)

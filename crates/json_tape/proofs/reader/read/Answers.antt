@@ -31,7 +31,7 @@ pub returns-then-is_done-clause-spelt : goal.returns-then-is_done-clause-spelt
 returns-then-is_done-clause-spelt c = reads_json c.args.text.now c.loop-i.i c.loop-i.builder c.loop-i.invariant.0 c.loop-i-test.false (c.if-is_done.ensures.0 (search rules))
 
 pub returns-then-is_done-clause-stands : goal.returns-then-is_done-clause-stands
-returns-then-is_done-clause-stands c = λ t h. c.into_entries.ensures ∙ reads_tape c.args.text.now c.loop-i.i c.loop-i.builder c.loop-i.invariant.0 c.loop-i-test.false t h
+returns-then-is_done-clause-stands c = λ t h. c.into_tape.ensures ∙ reads_tape c.args.text.now c.loop-i.i c.loop-i.builder c.loop-i.invariant.0 c.loop-i-test.false t h
 
 pub returns-else-is_done-clause-refused : goal.returns-else-is_done-clause-refused
 returns-else-is_done-clause-refused c = λ e.
@@ -41,11 +41,11 @@ pub returns-then-is_done-clause-depth : goal.returns-then-is_done-clause-depth
 returns-then-is_done-clause-depth c = λ t h. c.deepest-depth.ensures ∙ reads_depth c.args.text.now c.loop-i.i c.loop-i.builder c.loop-i.invariant.0 c.loop-i-test.false t h
 
 pub returns-then-is_done-clause-short : goal.returns-then-is_done-clause-short
-returns-then-is_done-clause-short c = let e = c.into_entries.ensures in let l = c.loop-i.invariant.0.small.entries in let w = c.loop-i.invariant.0.within in let x = c.requires.long in let y = ap length e in omega arith
+returns-then-is_done-clause-short c = let e = c.into_tape.ensures in let l = c.loop-i.invariant.0.small.entries in let w = c.loop-i.invariant.0.within in let x = c.requires.long in let y = ap length e in omega arith
 
 pub loop-i-smaller : goal.loop-i-smaller
 loop-i-smaller c =
     let o = token_goes_on c.args.text.now c.loop-i.i c.in-Ok.end c.loop-i.builder c.token.new.builder c.in-Ok.ensures.stepped in let t = c.loop-i-test.true in omega arith
 
 pub returns-then-is_done-clause-numbers : goal.returns-then-is_done-clause-numbers
-returns-then-is_done-clause-numbers c = λ e. subst AreShort (sym c.into_entries.ensures) (c.loop-i.invariant.1.short e)
+returns-then-is_done-clause-numbers c = λ e. subst AreShort (sym c.into_tape.ensures) (c.loop-i.invariant.1.short e)

@@ -9,4 +9,4 @@ returns c =
     let z = some_entry c.args.self.now d in
     let m = small_count c.args.self.now d in
     let t = size_of_document c.args.self.now d in
-    record { size = omega (arith, k, t, c.len.ensures, c.self.inside.entries.ok.0); value = omega (arith, k, c.len.ensures, c.self.inside.entries.ok.0); some = omega (arith, k, z, c.len.ensures, c.self.inside.entries.ok.0); small = omega (arith, k, m, c.len.ensures, c.self.inside.entries.ok.0) }
+    record { size = omega (arith, k, t, c.len.ensures.value); value = omega (arith, k, c.len.ensures.value); some = omega (arith, k, z, c.len.ensures.value); small = omega (arith, k, m, c.len.ensures.value) }

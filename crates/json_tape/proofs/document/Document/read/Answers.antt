@@ -13,10 +13,10 @@ pub returns-in-Ok-from_str : goal.returns-in-Ok-from_str
 returns-in-Ok-from_str c =
     let same = c.in-Ok-from_str.ensures.ok ∙ c.in-Ok.ensures.0 in
     let none = subst IsFaultless c.in-Ok.ensures.0 c.in_default-judge_tape.ensures in
-    (same, is_accepted c.args.text.now (string_bytes c.in-Ok-from_str.text) c.in-Ok-read.tape.entries.items same c.in-Ok-read.ensures.spelt c.in-Ok-read.ensures.stands none)
+    (same, is_accepted c.args.text.now (string_bytes c.in-Ok-from_str.text) c.in-Ok-read.reading.tape same c.in-Ok-read.ensures.spelt c.in-Ok-read.ensures.stands none)
 
 pub invariant_of-result : goal.invariant_of-result
 invariant_of-result c =
     let same = c.in-Ok-from_str.ensures.ok ∙ c.in-Ok.ensures.0 in
     let none = subst IsFaultless c.in-Ok.ensures.0 c.in_default-judge_tape.ensures in
-    document c.args.text.now (string_bytes c.in-Ok-from_str.text) c.in-Ok-read.tape.entries.items same c.in-Ok-read.ensures.spelt c.in-Ok-read.ensures.stands none c.in-Ok-read.ensures.short
+    document c.args.text.now (string_bytes c.in-Ok-from_str.text) c.in-Ok-read.reading.tape same c.in-Ok-read.ensures.spelt c.in-Ok-read.ensures.stands none c.in-Ok-read.ensures.short

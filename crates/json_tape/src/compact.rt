@@ -1,0 +1,151 @@
+//! The entries of a text in few bytes: 16 for each value, and 12 more for each container.
+
+ghost use Rattle.std.specs.Prelude.{◌≡◌, ◌+◌, ◌++◌, ◌∷◌, [], ◌<◌, ◌≤◌, ◌^◌, IfOk, OnOk, OnErr, true, false, length, slice_index_or};
+ghost use Rattle.json_tape.specs.Machine.{change_at, closed};
+ghost use Rattle.json_tape.specs.Cells.{IsNear, is_container, container_at, leaf_entry, open_entry};
+
+use crate::cells::{Cell, Side};
+use crate::tape::{Entry, Extent, Kind, Seat, Shape};
+use std::alloc::{AllocError, Global};
+use std::marker::Model;
+
+/// The entries of the values that were met, depth first, each found by its number in constant time.
+#[derive(Drop)]
+pub struct Tape {
+    cells: Vec<Cell>,
+    // one for each container, in the order of the cells
+    sides: Vec<Side>,
+}
+
+impl Model for Tape {
+    ghost use Rattle.std.specs.Prelude.{List};
+    ghost use Rattle.json_tape.specs.Cells.{entries_of, IsTape};
+    ghost use Rattle.json_tape.specs.declared.tape.Entry.{Entry};
+
+    ghost Value = { List Entry };
+
+    ghost view = { λ t. entries_of t.cells.items t.sides.items };
+
+    ghost invariant = { λ t. IsTape t.cells.items t.sides.items };
+}
+
+impl Tape {
+    /// No entry, with room for so many.
+    #[tactic(auto, unfolding(crate::specs::Cells::entries_of))]
+    pub fn new(alloc: Global, room: usize) -> Result<Tape, AllocError>
+        ensures { IfOk result (λ tape. tape ≡ []) }
+    {
+        let cells = Vec::with_capacity(alloc, room)?;
+        Ok(Tape {
+            cells,
+            sides: Vec::new(alloc),
+        })
+    }
+
+    /// How many entries there are.
+    pub fn len(&self) -> u32
+        ensures value { result ≡ length self.now }
+        ensures small { result ≤ 2 ^ 24 }
+    {
+        self.cells.len() as u32
+    }
+
+    /// The entry with this number.
+    #[inline(always)]
+    pub fn entry(&self, n: u32) -> Entry
+        requires { n < length self.now }
+        ensures { result ≡ slice_index_or self.now n result }
+    {
+        let cell = self.cells[n as usize];
+        let start = cell.start();
+        if cell.holds() {
+            let side = self.sides[cell.span() as usize];
+            Entry {
+                kind: cell.kind(),
+                role: cell.role(),
+                label: cell.label(),
+                source: Extent {
+                    start,
+                    len: side.end.saturating_sub(start),
+                },
+                up: cell.up(),
+                children: side.children,
+                after: side.after,
+            }
+        } else {
+            Entry {
+                kind: cell.kind(),
+                role: cell.role(),
+                label: cell.label(),
+                source: Extent {
+                    start,
+                    len: cell.span(),
+                },
+                up: cell.up(),
+                children: 0,
+                after: n + 1,
+            }
+        }
+    }
+
+    /// One more value that holds no other.
+    pub fn leaf(&mut self, kind: Kind, seat: Seat, source: Extent) -> Result<(), AllocError>
+        requires scalar { is_container kind ≡ false }
+        requires seat { IsNear seat }
+        requires start { source.start < 2 ^ 24 }
+        requires len { source.len < 2 ^ 24 }
+        requires room { length self.old < 2 ^ 24 }
+        ensures added { OnOk result (self.new ≡ self.old ++ leaf_entry kind seat source (length self.old) ∷ []) }
+        ensures kept { OnErr result (self.new ≡ self.old) }
+    {
+        self.cells
+            .push(Cell::new(kind, seat, source.start, source.len))?;
+        Ok(())
+    }
+
+    /// One more container, which begins here and is not closed yet.
+    pub fn open(&mut self, kind: Kind, seat: Seat, place: u32) -> Result<(), AllocError>
+        requires container { is_container kind ≡ true }
+        requires seat { IsNear seat }
+        requires place { place < 2 ^ 24 }
+        requires room { length self.old < 2 ^ 24 }
+        ensures added { OnOk result (self.new ≡ self.old ++ open_entry kind seat place ∷ []) }
+        ensures kept { OnErr result (self.new ≡ self.old) }
+    {
+        let number = self.sides.len() as u32;
+        self.sides.push(Side {
+            end: 0,
+            children: 0,
+            after: 0,
+        })?;
+        match self.cells.push(Cell::new(kind, seat, place, number)) {
+            Ok(()) => Ok(()),
+            Err(_) => {
+                self.sides.pop();
+                Err(AllocError)
+            }
+        }
+    }
+
+    /// Closes the container with this number behind this place.
+    pub fn close(&mut self, number: u32, place: u32, children: u32)
+        requires container { container_at self.old number ≡ true }
+        requires place { place < 2 ^ 24 }
+        ensures { self.new ≡ change_at self.old number (closed place children (length self.old)) }
+    {
+        let side = self.cells[number as usize].span() as usize;
+        self.sides[side] = Side {
+            end: place + 1,
+            children,
+            after: self.cells.len() as u32,
+        };
+    }
+
+    /// Gives back the room for more entries.
+    pub fn shrink(&mut self)
+        ensures { self.new ≡ self.old }
+    {
+        self.cells.shrink_to_fit();
+        self.sides.shrink_to_fit();
+    }
+}
