@@ -1,15 +1,15 @@
 -- Requests called one after another.
 use Rattle.std.proofs.Common.{◌≡◌, ◌≢◌, ℕ, ◌+◌, ◌<◌, ◌≤◌, List, [], ◌∷◌, ◌++◌, length, map, sym, ap, ◌∙◌, subst, refl, arith, ◌⊎◌, inl, inr, suc, take, drop, slice_index_or, Ok, Err}
 use Rattle.std.specs.List.{All, flat_map}
-use Rattle.std.proofs.lemmas.List.{append-nil, append_assoc, map-append, map_more}
-use Rattle.std.proofs.Math.Seq.{split_at}
+use Rattle.std.proofs.lemmas.List.{append-nil, append_assoc, drop_at, length-append, map-append, map_more}
+use Rattle.std.proofs.Math.Seq.{drop-append-add, split_at}
 use Rattle.std.proofs.lemmas.List.Concat.{flat_map-append}
 use Rattle.std.proofs.lemmas.List.Elements.{All-nil, All-push}
 use Rattle.wire_frames.specs.Frames.{frame}
 use Rattle.path_hub.specs.Into.{joined}
 use Rattle.path_hub.specs.Wires.{Meaning, Move, Gave, Took, Moved, read_in, written_in}
 use Rattle.path_server.specs.FrameLines.{frame_line}
-use Rattle.path_server.specs.Calls.{AreReplies, AreTurns, Calls, frame_of, EndsCall, HoldsNoReply, IsPaced, IsTurn, StartsNext, longest_reply, reply_lines}
+use Rattle.path_server.specs.Calls.{AreReplies, AreTurns, Calls, frame_of, EndsCall, HoldsNoReply, IsAsked, IsPaced, IsTurn, StartsNext, longest_reply, reply_lines}
 use Rattle.path_server.specs.Exchanges.{Exchanges, IsReply}
 use Rattle.path_server.specs.declared.request_lines.Request.{Request}
 use Rattle.path_server.specs.declared.call_fault.CallFault.{CallFault}
@@ -143,6 +143,15 @@ called_all m n requests old new c = record {
   ends = (refl, refl, refl, turns_length requests c.bodies c.moved c.turns, c.failures);
 }
 
+drop_done : (done : List (List ℕ)) (request : List ℕ) (later : List (List ℕ)) → drop (length done + 1) (done ++ request ∷ later) ≡ later
+drop_done done request later = drop-append-add done (request ∷ later) 1
+
+asked : (done later bodies : List (List ℕ)) (request unsent : List ℕ) → length bodies ≡ length done → unsent ≡ [] → IsAsked (done ++ request ∷ later) bodies (unsent ++ joined later)
+asked done later bodies request unsent same all = record {
+  within = omega (arith, same, length-append done (request ∷ later));
+  whole = ap (λ x. x ++ joined later) all ∙ ap joined (sym (ap (λ k. drop (k + 1) (done ++ request ∷ later)) same ∙ drop_done done request later));
+}
+
 -- want of memory before the first request
 pub called_nothing : (m : Meaning) (requests : List (List ℕ)) (old : List ℕ) → Calls requests m old (Err Memory) m old
 called_nothing m requests old = record {
@@ -158,7 +167,7 @@ called_nothing m requests old = record {
   unlined = [];
   bodies_are = refl;
   appended = sym (append-nil old);
-  ends = ((omega arith), refl);
+  ends = ((omega arith), inl refl, refl);
 }
 
 -- the last reply has no line
@@ -176,7 +185,7 @@ called_unlined m k done later old mid new c same failures = record {
   unlined = c.body ∷ [];
   bodies_are = refl;
   appended = same ∙ c.lined;
-  ends = ((omega arith), failures);
+  ends = ((omega arith), inl (ap joined (sym (ap (λ k. drop k (done ++ later)) (turns_length done (c.bodies ++ c.body ∷ []) c.moved c.turns) ∙ drop_at done later (length done) refl))), failures);
 }
 
 regroup : (a p u l : List ℕ) → a ++ ((p ++ u) ++ l) ≡ (a ++ p) ++ (u ++ l)
@@ -229,7 +238,8 @@ breaks_written n k request pieces chunks unsent sent told nothing = record { pie
 
 no_memory : (m n k : Meaning) (done later : List (List ℕ)) (request old mid new reply : List ℕ) (c : Called m done old n mid) (x : Exchanges request n (Err Memory) k reply) → new ≡ mid → HoldsNoReply (joined x.chunks) ⊎ IsReply (joined x.chunks)
     → Calls (done ++ request ∷ later) m old (Err Memory) k new
-no_memory m n k done later request old mid new reply c x same (inl none) = called_broken m n k done later request old mid new Memory c (breaks_read n k request x.pieces x.chunks x.unsent x.sent x.told x.ends.0 none) same ((omega arith), x.ends.2 ∙ c.failures)
+unfolding breaks_read
+no_memory m n k done later request old mid new reply c x same (inl none) = called_broken m n k done later request old mid new Memory c (breaks_read n k request x.pieces x.chunks x.unsent x.sent x.told x.ends.0 none) same ((omega arith), inr (asked done later c.bodies request x.unsent (turns_length done c.bodies c.moved c.turns) x.ends.0), x.ends.2 ∙ c.failures)
 no_memory m n k done later request old mid new reply c x same (inr whole) =
     subst (λ qs. Calls qs m old (Err Memory) k new) (append_assoc done (request ∷ []) later)
     (called_unlined m k (done ++ request ∷ []) later old mid new (with_reply m n k done request old mid x.pieces x.chunks x.unsent c x.sent x.told x.ends.0 whole) same (x.ends.2 ∙ c.failures))
@@ -238,9 +248,9 @@ pub called_stops : (m n k : Meaning) (done later : List (List ℕ)) (request old
 unfolding breaks_read breaks_written
 called_stops m n k done later request old mid new reply TooLong c x same = absurd x.ends
 called_stops m n k done later request old mid new reply (BadLine number) c x same = absurd x.ends
-called_stops m n k done later request old mid new reply ReadFault c x same = called_broken m n k done later request old mid new ReadFault c (breaks_read n k request x.pieces x.chunks x.unsent x.sent x.told x.ends.0 x.ends.1) same (refl, fault_since (joined x.chunks) m n k c.failures x.ends.2)
+called_stops m n k done later request old mid new reply ReadFault c x same = called_broken m n k done later request old mid new ReadFault c (breaks_read n k request x.pieces x.chunks x.unsent x.sent x.told x.ends.0 x.ends.1) same (refl, asked done later c.bodies request x.unsent (turns_length done c.bodies c.moved c.turns) x.ends.0, fault_since (joined x.chunks) m n k c.failures x.ends.2)
 called_stops m n k done later request old mid new reply WriteFault c x same =
-    called_broken m n k done later request old mid new WriteFault c (breaks_written n k request x.pieces x.chunks x.unsent x.sent x.told x.ends.0) same (refl, ap joined x.ends.0, x.ends.1 ∙ ap (λ y. y + 1) c.failures)
+    called_broken m n k done later request old mid new WriteFault c (breaks_written n k request x.pieces x.chunks x.unsent x.sent x.told x.ends.0) same (refl, ap joined x.ends.0, (let same = turns_length done c.bodies c.moved c.turns in omega (arith, same, length-append done (request ∷ later))), x.ends.1 ∙ ap (λ y. y + 1) c.failures)
 called_stops m n k done later request old mid new reply Memory c x same = no_memory m n k done later request old mid new reply c x same x.ends.1
 
 -- the reply was read, and its line was refused

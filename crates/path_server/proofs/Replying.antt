@@ -122,7 +122,7 @@ too_long m n old head reply length' r none s above =
     record {
       chunks = r.chunks;
       told = r.told;
-      ends = (above_limit (joined r.chunks) long, inr (r.ends.2, inr (record { head = omega (arith, four); above = long })));
+      ends = (above_limit (joined r.chunks) long, inr (r.ends.2, inr (record { head = four; above = long })));
     }
 
 spells_more : (head part : List ℕ) (n : ℕ) → SpellsLength head n → length head ≡ 4 → SpellsLength (head ++ part) n

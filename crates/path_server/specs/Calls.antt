@@ -1,5 +1,5 @@
 -- Calls over a wire: requests are sent one by one, each once the reply to the one before was read whole. This project's own.
-use Rattle.std.specs.Prelude.{◌≡◌, ◌≢◌, ◌⊎◌, ◌+◌, ◌<◌, ◌≤◌, ℕ, List, [], ◌∷◌, ◌++◌, length, map, flat_map, Result, Ok, Err}
+use Rattle.std.specs.Prelude.{◌≡◌, ◌≢◌, ◌⊎◌, ◌+◌, ◌<◌, ◌≤◌, ℕ, List, [], ◌∷◌, ◌++◌, length, map, drop, flat_map, Result, Ok, Err}
 use Rattle.std.specs.List.{All}
 use Rattle.hex.specs.Hex.{decode_of}
 use Rattle.wire_frames.specs.Frames.{frame, body_length, longest_body}
@@ -90,23 +90,32 @@ pub record IsPaced (requests bodies : List (List ℕ)) (moves : List Move) : Typ
 
 -- ---- ends
 
--- a length above the limit
+-- a length above the limit, and nothing behind it
 pub record IsAboveLimit (bytes : List ℕ) : Type 0 where
-  pub head : 4 ≤ length bytes
+  pub head : length bytes ≡ 4
   pub above : longest_reply < body_length bytes
 
 -- why no whole reply was read: a read failed, the input was at its end, or the length is above the limit
 abbrev pub IsReadFault : (left : List ℕ) → Meaning → Meaning → Type 0
 IsReadFault left m n = (n.failures ≡ m.failures + 1) ⊎ ((n.failures ≡ m.failures) × (HasEnded n.traffic ⊎ IsAboveLimit left))
 
+-- the requests that were answered are written, and no more
+abbrev pub IsAnswered : (requests bodies : List (List ℕ)) (unsent : List ℕ) → Type 0
+IsAnswered requests bodies unsent = unsent ≡ joined (drop (length bodies) requests)
+
+-- the one after those that were answered is written whole too
+pub record IsAsked (requests bodies : List (List ℕ)) (unsent : List ℕ) : Type 0 where
+  pub within : length bodies < length requests
+  pub whole : unsent ≡ joined (drop (length bodies + 1) requests)
+
 -- Of a call: the bytes of requests that were not written, the bytes read behind the last whole reply, and the replies without a line.
 abbrev pub EndsCall : Result (Unit {0}) CallFault → (requests bodies : List (List ℕ)) (unsent left : List ℕ) (unlined : List (List ℕ)) → Meaning → Meaning → Type 0
 EndsCall (Ok u) requests bodies unsent left unlined m n = (unsent ≡ []) × (left ≡ []) × (unlined ≡ []) × (length bodies ≡ length requests) × (n.failures ≡ m.failures)
 EndsCall (Err TooLong) requests bodies unsent left unlined m n = ⊥
 EndsCall (Err (BadLine number)) requests bodies unsent left unlined m n = ⊥
-EndsCall (Err ReadFault) requests bodies unsent left unlined m n = (unlined ≡ []) × IsReadFault left m n
-EndsCall (Err WriteFault) requests bodies unsent left unlined m n = (unlined ≡ []) × (left ≡ []) × (n.failures ≡ m.failures + 1)
-EndsCall (Err Memory) requests bodies unsent left unlined m n = (length unlined ≤ 1) × (n.failures ≡ m.failures)
+EndsCall (Err ReadFault) requests bodies unsent left unlined m n = (unlined ≡ []) × IsAsked requests bodies unsent × IsReadFault left m n
+EndsCall (Err WriteFault) requests bodies unsent left unlined m n = (unlined ≡ []) × (left ≡ []) × (length bodies < length requests) × (n.failures ≡ m.failures + 1)
+EndsCall (Err Memory) requests bodies unsent left unlined m n = (length unlined ≤ 1) × (IsAnswered requests bodies unsent ⊎ IsAsked requests bodies unsent) × (n.failures ≡ m.failures)
 
 -- A prefix of the requests is written, and a line for each whole reply among the bytes read stands behind what stood there before.
 pub record Calls (requests : List (List ℕ)) (m : Meaning) (old : List ℕ) (end' : Result (Unit {0}) CallFault) (n : Meaning) (new : List ℕ) : Type 0 where

@@ -44,7 +44,7 @@ pub trait Line: Sized {
         ensures none { IfOk result (λ found. IfNone found (IsBad spells line.now)) };
 }
 
-// What stands before the first such byte, and behind it.
+/// What stands before the first such byte, and behind it.
 pub fn split_once(text: &[u8], mark: u8) -> Option<(&[u8], &[u8])>
     ensures some { IfSome result (λ parts. IsSplit mark text.now parts.0.now parts.1.now) }
     ensures none { IfNone result (Lacks mark text.now) }
