@@ -1,5 +1,6 @@
 /* Times rounds over one connection: rounds PORT REQUEST REPLY COUNT. A round sends the file REQUEST and reads as many bytes as the file
-   REPLY has; those of the first round are compared with it. Prints the median of COUNT rounds in microseconds. */
+   REPLY has; those of the first round are compared with it. Prints the median and the least of COUNT rounds
+   in microseconds. */
 #include <arpa/inet.h>
 #include <netinet/tcp.h>
 #include <poll.h>
@@ -99,6 +100,6 @@ int main(int words, char **word)
         times[at] = now() - begin;
     }
     qsort(times, count, sizeof *times, compare);
-    printf("%.2f\n", times[count / 2]);
+    printf("%.2f %.2f\n", times[count / 2], times[0]);
     return 0;
 }

@@ -2,7 +2,7 @@
 """Times requests over one connection beside an echo in C of as many bytes: bench/sockets.py.
 
 It compiles bench/echo.c and bench/rounds.c (cc), starts the program as `path_server serve` and the echo, and times rounds of a request and
-its reply in turns: each line has the middle one of five medians for both, and their ratio. Build the program first, as bin/path_server
+its reply in turns: each line has, for both, the middle one of five medians and the least time, and the ratios of these. Build the program first, as bin/path_server
 does, or name it in the environment's PATH_SERVER.
 """
 import os
@@ -39,26 +39,34 @@ def start(words):
     return process, int(process.stdout.readline().rpartition(":")[2])
 
 
+def middle(pairs):
+    """The middle one of the medians, and the least of all."""
+    medians, leasts = zip(*pairs)
+    return statistics.median(medians), min(leasts)
+
+
 class Bench:
     def __init__(self, folder, server_port, echo_port):
         self.folder, self.server_port, self.echo_port = folder, server_port, echo_port
 
-    def median(self, port, request, reply, rounds):
+    def times(self, port, request, reply, rounds):
+        """The median and the least time of a round."""
         (self.folder / "request").write_bytes(request)
         (self.folder / "reply").write_bytes(reply)
         words = [self.folder / "rounds", str(port), self.folder / "request", self.folder / "reply", str(rounds)]
-        return float(subprocess.run(words, check=True, stdout=subprocess.PIPE, encoding="ascii").stdout)
+        ran = subprocess.run(words, check=True, stdout=subprocess.PIPE, encoding="ascii")
+        return tuple(map(float, ran.stdout.split()))
 
     def compare(self, title, asked, answered, rounds):
         """The echo is given the longer of the request and the reply."""
         echoed = asked if len(asked) >= len(answered) else answered
-        pairs = []
+        servers, echoes = [], []
         for _ in range(TURNS):
-            echo = self.median(self.echo_port, echoed, echoed, rounds)
-            pairs.append((self.median(self.server_port, asked, answered, rounds), echo))
-        server, echo = (statistics.median(column) for column in zip(*pairs))
-        ratio = statistics.median(one / other for one, other in pairs)
-        print(f"{title}: {server:.1f} us, echo of {len(echoed)} bytes {echo:.1f} us, ratio {ratio:.2f}", flush=True)
+            echoes.append(self.times(self.echo_port, echoed, echoed, rounds))
+            servers.append(self.times(self.server_port, asked, answered, rounds))
+        (server, least), (echo, least_echo) = middle(servers), middle(echoes)
+        ratios = f"ratios {server / echo:.2f} and {least / least_echo:.2f}"
+        print(f"{title}: {server:.1f}, least {least:.1f} us; echo of {len(echoed)} bytes: {echo:.1f}, least {least_echo:.1f} us; {ratios}", flush=True)
 
 
 def text_of(length):
@@ -72,7 +80,7 @@ def measure(bench):
     small, large, string = b'{"a":[10,20]}', text_of(1 << 20), b'"' + b"x" * ((1 << 20) - 2) + b'"'
     puts = [(b"dd", small), (b"large", large)]
     for document, text in puts:
-        bench.median(bench.server_port, request(PUT, document, text), reply(), 1)
+        bench.times(bench.server_port, request(PUT, document, text), reply(), 1)
     get = request(GET, b"dd")
     assert len(get) == 30
     bench.compare("GET, 30 bytes", get, reply(small), 20000)

@@ -97,5 +97,59 @@ compare_fault 'path_server: WriteFault' "$("$program" --help 2>"$room/errors" >/
 )
 compare_fault 'path_server: NoMemory' "$?$(cat "$room/errors")"
 
+expect 3 '' any '' serve
+expect 3 '' any '' serve 127.0.0.1:0 "$key"
+expect 3 '' any '' serve 127.0.0.1:0 "$key" 0
+expect 3 '' any '' serve 127.0.0.1:0 "$key" 1000001
+expect 3 '' any '' serve 127.0.0.1:0 "$key" one
+expect 3 '' any '' call
+expect 3 '' 'path_server: BadKeys' '' serve 127.0.0.1:0 "$key," 1
+expect 3 '' 'path_server: BadKeys' '' serve nowhere '' 1
+expect 3 '' 'path_server: RepeatedKey' '' serve nowhere "$key,$key" 1
+expect 3 '' 'path_server: TooManyKeys' '' serve nowhere "$(printf '%032x,' $(seq 256))$other" 1
+expect 4 '' 'path_server: NetFault' '' serve nowhere "$key" 1
+expect 4 '' 'path_server: NetFault' '' serve 127.0.0.1:65536 "$key" 1
+expect 4 '' 'path_server: NetFault' '' serve '' "$key" 1
+expect 4 '' 'path_server: NetFault' '' call nowhere
+expect 4 '' 'path_server: NetFault' 'no frame' call 127.0.0.1:
+if [ "$(id -u)" = 0 ]; then
+    echo "a port that needs leave is not tried: root has it"
+else
+    expect 4 '' 'path_server: NetFault' '' serve 127.0.0.1:1 "$key" 1
+fi
+
+# A server of so many connections: its address is $address, its process $server.
+start_server() {
+    exec 3< <(exec "$program" serve 127.0.0.1:0 "$key" "$1" 2>"$room/server")
+    server=$!
+    read -r -t 10 _ address <&3
+}
+
+# The server ends with 0, and has printed no more.
+expect_served() {
+    wait "$server"
+    local ended="$?$(cat <&3 "$room/server")"
+    tried=$((tried + 1))
+    [ "$ended" = 0 ] || { printf 'serve: %.200s\n' "$ended" >&2; failed=$((failed + 1)); }
+}
+
+put="00000020 01 00000001 $key 0163 0164 7b2261223a317d"
+start_server 6
+expect 4 '' 'path_server: NetFault' '' serve "$address" "$key" 1
+expect 0 '' '' '' call "$address"
+expect 0 "000000050000000001$newline" '' "${put// /}\n" call "$address"
+expect 1 '' 'path_server: BadLine 2' "${put// /}\n00000005\n" call "$address"
+expect 1 '' 'path_server: BadLine 1' "${put// /}00\n" call "$address"
+expect 0 "000000110000000004000000010000000100000007$newline" '' "${usage// /}" call "$address"
+{ times 67108864 0; printf 0; } >"$room/input"
+compare 1 '' 'path_server: TooLong' call "$address"
+expect_served
+expect 4 '' 'path_server: NetFault' '' call "$address"
+compare_fault 'path_server: WriteFault' "$("$program" serve 127.0.0.1:0 "$key" 1 2>"$room/errors" >/dev/full; echo "$?$(cat "$room/errors")")"
+start_server 1
+compare_fault 'path_server: WriteFault' "$(echo "${usage// /}" | "$program" call "$address" 2>"$room/errors" >/dev/full; echo "$?$(cat "$room/errors")")"
+expect_served
+compare_fault 'path_server: ReadFault' "$("$program" call nowhere </ 2>"$room/errors"; echo "$?$(cat "$room/errors")")"
+
 echo "$tried cases, $failed of them differ"
 exit $((failed > 0))

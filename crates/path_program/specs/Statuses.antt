@@ -11,12 +11,16 @@ use Rattle.path_server.specs.declared.script_streams.ReplayStreamFault.{ReplaySt
 use Rattle.path_server.specs.declared.script_streams.ReplayStreamFault.TheVariants as replay
 use Rattle.path_server.specs.declared.replay.ScriptFault.{ScriptFault}
 use Rattle.path_server.specs.declared.replay.ScriptFault.TheVariants as script
+use Rattle.path_server.specs.declared.call_fault.CallFault.{CallFault}
+use Rattle.path_server.specs.declared.call_fault.CallFault.TheVariants as call
+use Rattle.path_server.specs.declared.call_streams.CallStreamFault.{CallStreamFault}
+use Rattle.path_server.specs.declared.call_streams.CallStreamFault.TheVariants as calling
 use Rattle.path_server.specs.declared.keys.KeysFault.{KeysFault}
 use Rattle.path_server.specs.declared.keys.KeysFault.TheVariants as keys
 use Rattle.tenant_store.specs.declared.tenants.TenantsFault.{TenantsFault}
 use Rattle.tenant_store.specs.declared.tenants.TenantsFault.TheVariants as tenants
 use Rattle.path_program.specs.declared.failure.Failure.{Failure}
-use Rattle.path_program.specs.declared.failure.Failure.TheVariants.{CommandLine, Words, Query, Keys, Replay, Tenants, Net, Write, Memory}
+use Rattle.path_program.specs.declared.failure.Failure.TheVariants.{CommandLine, Words, Query, Keys, Replay, Tenants, Net, Write, Read, Call, Memory}
 
 abbrev pub status_of_kind : ErrorKind → ℕ
 status_of_kind DisplayHelp = 0
@@ -64,6 +68,18 @@ status_of_replay (replay.Read _) = 4
 status_of_replay (replay.Refused fault) = status_of_script fault
 status_of_replay (replay.Write _) = 4
 
+abbrev pub status_of_call : CallFault → ℕ
+status_of_call call.TooLong = 1
+status_of_call (call.BadLine number) = 1
+status_of_call call.ReadFault = 4
+status_of_call call.WriteFault = 4
+status_of_call call.Memory = 4
+
+abbrev pub status_of_call_stream : CallStreamFault → ℕ
+status_of_call_stream (calling.Call fault) = status_of_call fault
+status_of_call_stream (calling.Unwritten fault) = status_of_call fault
+status_of_call_stream (calling.Write _) = 4
+
 abbrev pub status_of : Failure → ℕ
 status_of (CommandLine error) = status_of_kind (kind_of error)
 status_of Words = 3
@@ -73,4 +89,6 @@ status_of (Replay fault) = status_of_replay fault
 status_of (Tenants fault) = status_of_tenants fault
 status_of Net = 4
 status_of Write = 4
+status_of (Read _) = 4
+status_of (Call fault) = status_of_call_stream fault
 status_of Memory = 4

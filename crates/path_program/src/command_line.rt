@@ -28,6 +28,8 @@ pub enum Request<'a> {
         keys: &'a str,
         count: u32,
     },
+    /// The lines of the replies to the frames on standard input by the server at this address.
+    Call(&'a str),
 }
 
 // A word behind a subcommand.
@@ -64,6 +66,14 @@ fn serve<'a>(alloc: Global) -> Result<Command<'a>, AllocError> {
         ))
 }
 
+fn call<'a>(alloc: Global) -> Result<Command<'a>, AllocError> {
+    Command::new(alloc, "call")
+        .about(
+            "Sends the request frames on standard input, a line of hexadecimal digits each, and prints a line for each reply",
+        )
+        .arg(word(alloc, "ADDR", ADDRESS_HELP))
+}
+
 fn command<'a>(alloc: Global) -> Result<Command<'a>, AllocError> {
     Command::new(alloc, "path_server")
         .version(VERSION)
@@ -72,7 +82,8 @@ fn command<'a>(alloc: Global) -> Result<Command<'a>, AllocError> {
         .disable_help_subcommand(true)
         .subcommand(query(alloc)?)?
         .subcommand(replay(alloc)?)?
-        .subcommand(serve(alloc)?)
+        .subcommand(serve(alloc)?)?
+        .subcommand(call(alloc)?)
 }
 
 fn parsed<'a>(alloc: Global, words: &'a [String]) -> Result<ArgMatches<'a>, Error> {
@@ -94,11 +105,12 @@ fn request_of<'a>(matches: &ArgMatches<'a>) -> Option<Request<'a>> {
     match name {
         "query" => Some(Request::Query(words.get_str("QUERY")?)),
         "replay" => Some(Request::Replay(words.get_str("KEYS")?)),
-        _ => Some(Request::Serve {
+        "serve" => Some(Request::Serve {
             address: words.get_str("ADDR")?,
             keys: words.get_str("KEYS")?,
             count: words.get_one("COUNT")?,
         }),
+        _ => Some(Request::Call(words.get_str("ADDR")?)),
     }
 }
 
@@ -135,6 +147,11 @@ mod tests {
             status_of(&rt, &["path_server", "query", "$", "$"])?,
             Some(3)
         );
+        assert_eq!(rt;
+            status_of(&rt, &["path_server", "call", "127.0.0.1:1"])?,
+            None
+        );
+        assert_eq!(rt; status_of(&rt, &["path_server", "call"])?, Some(3));
         Ok(())
     }
 

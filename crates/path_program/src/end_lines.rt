@@ -1,5 +1,4 @@
 //! The lines on standard error that tell how connections ended.
-ghost use Rattle.std.specs.Prelude.{◌≡◌};
 
 use path_hub::ConnEnd;
 use socket_wire::{EndLog, Ending};
@@ -44,5 +43,26 @@ fn name_of(end: ConnEnd) -> &'static str {
         ConnEnd::FrameFault => "FrameFault",
         ConnEnd::TurnLimit => "TurnLimit",
         ConnEnd::Memory => "NoMemory",
+    }
+}
+
+#[cfg(test)]
+mod tests {
+    use super::*;
+    use std::test::Fail;
+
+    #[test]
+    fn lines(rt: HostRuntime) -> Result<(), Fail> {
+        for (how, line) in [
+            (ConnEnd::ReadFault, "connection 7: ReadFault"),
+            (ConnEnd::WriteFault, "connection 7: WriteFault"),
+            (ConnEnd::FrameFault, "connection 7: FrameFault"),
+            (ConnEnd::TurnLimit, "connection 7: TurnLimit"),
+            (ConnEnd::Memory, "connection 7: NoMemory"),
+        ] {
+            let printed = format!(in rt.alloc(); "{}", EndLine(Ending { number: 7, how }))?;
+            assert_eq!(rt; printed.as_str(), line);
+        }
+        Ok(())
     }
 }

@@ -3,10 +3,14 @@
 ghost use Rattle.std.specs.Prelude.{◌≡◌, ◌⊎◌, ◌↔◌};
 ghost use Rattle.std.specs.IoError.{error_kind};
 ghost use Rattle.clap.specs.Values.{kind_of};
-ghost use Rattle.path_program.specs.Statuses.{status_of, status_of_refusal, status_of_query, status_of_keys, status_of_tenants, status_of_script, status_of_replay, status_of_kind};
+ghost use Rattle.path_program.specs.Statuses.{status_of, status_of_refusal, status_of_query, status_of_keys, status_of_tenants, status_of_script, status_of_replay, status_of_call, status_of_call_stream, status_of_kind};
 
 use clap::error::ErrorKind as ParseKind;
-use path_server::{KeysFault, QueryStreamFault, QueryTextFault, ReplayStreamFault, ScriptFault};
+use path_server::{
+    CallFault, CallStreamFault, KeysFault, QueryStreamFault, QueryTextFault, ReplayStreamFault,
+    ScriptFault,
+};
+use standard_streams::ReadFault;
 use std::fmt;
 use std::io::{self, ErrorKind};
 use tenant_store::TenantsFault;
@@ -30,6 +34,10 @@ pub enum Failure {
     Net,
     /// The line with the bound address could not be printed.
     Write,
+    /// The request frames on standard input could not be read.
+    Read(ReadFault),
+    /// The request frames are not answered.
+    Call(CallStreamFault),
     /// A growth was refused.
     Memory,
 }
@@ -69,6 +77,8 @@ impl Failure {
             Failure::Tenants(fault) => tenants_status(*fault),
             Failure::Net => 4,
             Failure::Write => 4,
+            Failure::Read(_) => 4,
+            Failure::Call(fault) => call_stream_status(*fault),
             Failure::Memory => 4,
         }
     }
@@ -105,6 +115,8 @@ impl fmt::Display for Failure {
             Failure::Tenants(fault) => writeln!(f, "path_server: {fault}"),
             Failure::Net => writeln!(f, "path_server: NetFault"),
             Failure::Write => writeln!(f, "path_server: WriteFault"),
+            Failure::Read(fault) => writeln!(f, "path_server: {fault}"),
+            Failure::Call(fault) => writeln!(f, "path_server: {fault}"),
             Failure::Memory => writeln!(f, "path_server: NoMemory"),
         }
     }
@@ -190,10 +202,30 @@ fn tenants_status(fault: TenantsFault) -> u8
     }
 }
 
+fn call_stream_status(fault: CallStreamFault) -> u8
+    ensures { result ≡ status_of_call_stream fault }
+{
+    match fault {
+        CallStreamFault::Call(refusal) => call_status(refusal),
+        CallStreamFault::Unwritten(refusal) => call_status(refusal),
+        CallStreamFault::Write(_) => 4,
+    }
+}
+
+// 1 where a line is refused.
+fn call_status(fault: CallFault) -> u8
+    ensures { result ≡ status_of_call fault }
+{
+    match fault {
+        CallFault::TooLong | CallFault::BadLine(_) => 1,
+        CallFault::ReadFault | CallFault::WriteFault | CallFault::Memory => 4,
+    }
+}
+
 #[cfg(test)]
 mod tests {
     use super::*;
-    use standard_streams::{ReadFault, WriteFault};
+    use standard_streams::WriteFault;
     use std::process::Abort;
     use std::test::Fail;
 
@@ -264,6 +296,22 @@ mod tests {
         ] {
             assert_end(&rt, &Failure::Replay(fault), name, 4)?;
         }
+        for (fault, name, status) in [
+            (CallFault::TooLong, "TooLong", 1),
+            (CallFault::BadLine(7), "BadLine 7", 1),
+            (CallFault::ReadFault, "ReadFault", 4),
+            (CallFault::WriteFault, "WriteFault", 4),
+            (CallFault::Memory, "NoMemory", 4),
+        ] {
+            let told = Failure::Call(CallStreamFault::Call(fault));
+            assert_end(&rt, &told, name, status)?;
+            let unwritten = Failure::Call(CallStreamFault::Unwritten(fault));
+            assert_end(&rt, &unwritten, name, status)?;
+        }
+        let unwritten = Failure::Call(CallStreamFault::Write(WriteFault));
+        assert_end(&rt, &unwritten, "WriteFault", 4)?;
+        assert_end(&rt, &Failure::Read(ReadFault::Failed), "ReadFault", 4)?;
+        assert_end(&rt, &Failure::Read(ReadFault::Memory), "NoMemory", 4)?;
         for (fault, name, status) in [
             (TenantsFault::TooManyKeys, "TooManyKeys", 3),
             (TenantsFault::RepeatedKey, "RepeatedKey", 3),

@@ -9,9 +9,9 @@ use crate::command_line::{Request, read_request};
 use crate::end_lines::EndLines;
 use crate::failure::Failure;
 use path_hub::Hub;
-use path_server::{query_stream, read_keys, replay_stream};
-use socket_wire::serve_streams;
-use std::net::{Net, OpenListener, TcpListener};
+use path_server::{call_stream, query_stream, read_call, read_keys, replay_stream};
+use socket_wire::{StreamWire, serve_streams};
+use std::net::{Net, OpenListener, OpenStream, TcpListener, TcpStream};
 use std::process::ExitCode;
 use std::rt::Env;
 use std::{env, io};
@@ -69,6 +69,21 @@ fn listen<R: Print + Net>(rt: &R, address: &str) -> Result<R::Listener, Failure>
     }
 }
 
+// Answers `path_server call ADDR`.
+fn call<R: Input + Print + Net + AllocGlobal>(rt: &R, address: &str) -> Result<(), Failure> {
+    let lines = read_call(rt.alloc(), rt.reader()).map_err(Failure::Read)?;
+    let stream = TcpStream::connect(rt, address).map_err(|_| Failure::Net)?;
+    // without it no reply is wrong, and some come later
+    let _ = stream.set_nodelay(true);
+    call_stream(
+        rt.alloc(),
+        &mut StreamWire::new(stream),
+        lines.as_slice(),
+        &mut io::writer(rt),
+    )
+    .map_err(Failure::Call)
+}
+
 fn run<R: Input + Print + Eprint + Env + Net + AllocGlobal>(rt: &R) -> Result<(), Failure> {
     let mut words = Vec::new(rt.alloc());
     for word in env::args(rt).map_err(|error| Failure::of_words(&error))? {
@@ -84,6 +99,7 @@ fn run<R: Input + Print + Eprint + Env + Net + AllocGlobal>(rt: &R) -> Result<()
             keys,
             count,
         } => serve(rt, address, keys, count),
+        Request::Call(address) => call(rt, address),
     }
 }
 
