@@ -1,5 +1,5 @@
 -- The table of comparisons: one is read, one is kept.
-use Rattle.std.proofs.Common.{ℕ, zero, suc, ◌<◌, List, [], ◌∷◌, length, get_or, slice_set, Option, arith}
+use Rattle.std.proofs.Common.{ℕ, zero, suc, ◌<◌, List, [], ◌∷◌, ◌++◌, length, get_or, slice_set, Option, None, arith}
 use Rattle.json_tape.specs.Document.{Doc}
 use Rattle.query_plan.specs.Answered.{IsRight, AreRight}
 use Rattle.query_plan.specs.declared.answers.Answer.{Answer}
@@ -15,3 +15,9 @@ right_set d (y ∷ xs) zero x r h = (h, r.1)
 right_set d (y ∷ xs) (suc i) x r h = (r.0, right_set d xs i x r.1 h)
 
 pub ruleset answers = (right_at, right_set)
+
+pub right_push : (d : Doc) (xs : List (Option Answer)) → AreRight d xs → AreRight d (xs ++ None ∷ [])
+right_push d [] r = (tt, tt)
+right_push d (x ∷ xs) r = (r.0, right_push d xs r.1)
+
+pub ruleset room = (right_push)

@@ -11,3 +11,4 @@ pub mod Following
 pub mod Learnt
 pub mod Slots
 pub mod Containers
+pub mod Filtering

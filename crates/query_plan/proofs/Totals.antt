@@ -1,10 +1,12 @@
 -- How many children a value has.
-use Rattle.std.proofs.Common.{◌≡◌, ◌≢◌, ℕ, suc, ◌+◌, List, [], length, Some, Option, refl, sym, ap, ◌∙◌}
+use Rattle.std.proofs.Common.{◌≡◌, ◌≢◌, ℕ, suc, ◌+◌, ◌≤◌, List, [], ◌∷◌, length, Some, None, refl, sym, ap, arith}
 use Rattle.json_tape.specs.Tree.{Null, True, False, Num, Str, Tree, Leaf, Arr, Obj, Elements, NoElement, Element, Members, NoMember, Member}
 use Rattle.json_tape.specs.Nodes.{Node, Step, size, elements_from, members_from, elements_of, children_of, children, elements}
-use Rattle.json_tape.specs.Document.{kind_of, length_of}
+use Rattle.json_tape.specs.Document.{Doc, kind_of, length_of}
 use Rattle.json_tape.specs.Tape.{element_count, member_count}
-use Rattle.json_tape.specs.declared.tape.Kind.{Kind}
+use Rattle.json_tape.specs.declared.tape.NodeId.{NodeId}
+use Rattle.tape_select.specs.Functions.{only_value}
+use Rattle.tape_select.specs.Nodelists.{nodes_of}
 use Rattle.json_tape.specs.declared.tape.Kind.TheVariants as kinds
 
 length_elements : (up : List Step) (i k : ℕ) (es : Elements) → length (elements_from up i k es) ≡ element_count es
@@ -70,3 +72,14 @@ no_elements n a = no_elements_of n.way_up n.number n.tree a
 pub ruleset totals = (array_total, object_total, none_are)
 
 pub ruleset element_facts = (elements_are, no_elements)
+
+pub length_nodes : (d : Doc) (ids : List NodeId) → length (nodes_of d ids) ≡ length ids
+length_nodes d [] = refl
+length_nodes d (x ∷ xs) = ap suc (length_nodes d xs)
+
+pub more_nodes : (d : Doc) (ids : List NodeId) → 2 ≤ length ids → only_value (nodes_of d ids) ≡ None
+more_nodes d [] h = absurd (omega arith)
+more_nodes d (x ∷ []) h = absurd (omega arith)
+more_nodes d (x ∷ y ∷ xs) h = refl
+
+pub ruleset lists = (length_nodes, more_nodes)

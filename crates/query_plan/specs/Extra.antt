@@ -1,9 +1,10 @@
 -- The charge of selectors in two parts: 1 for each, and what it is charged beyond that for what it goes over.
-use Rattle.std.specs.Prelude.{ℕ, zero, suc, ◌+◌, length}
-use Rattle.path_grammar.specs.Tree.{Selectors, no_selectors, selector, Selector, name, wild, index, filter, slice}
+use Rattle.std.specs.Prelude.{ℕ, zero, suc, ◌+◌, List, length, flat_map}
+use Rattle.path_grammar.specs.Tree.{OneSegment, Selectors, no_selectors, selector, Selector, name, wild, index, filter, slice}
 use Rattle.json_tape.specs.Nodes.{Node, children, elements}
 use Rattle.tape_select.specs.Selection.{sliced}
-use Rattle.query_plan.specs.Charge.{total_of, charge_expr}
+use Rattle.tape_select.specs.Evaluation.{starts, selected}
+use Rattle.query_plan.specs.Charge.{total_of, charge_in, charge_expr}
 
 abbrev pub count_of : Selectors → ℕ
 count_of no_selectors = zero
@@ -19,3 +20,17 @@ extra_by root (filter e) n = length (children n) + total_of (λ child. 1 + charg
 abbrev pub extra_in : (root : Node) → Selectors → Node → ℕ
 extra_in root no_selectors n = 0
 extra_in root (selector s others) n = extra_by root s n + extra_in root others n
+
+-- what a segment selects from one node and is charged there, and the same of all nodes of a list
+module _ (root : Node) (s : OneSegment) where
+  abbrev pub nodes_from : Node → List Node
+  nodes_from n = flat_map (selected root s.selectors) (starts s.descend n)
+
+  abbrev pub charge_at : Node → ℕ
+  charge_at n = total_of (charge_in root s.selectors) (starts s.descend n)
+
+  abbrev pub nodes_after : List Node → List Node
+  nodes_after ns = flat_map nodes_from ns
+
+  abbrev pub charge_after : List Node → ℕ
+  charge_after ns = total_of charge_at ns

@@ -10,6 +10,10 @@ use Rattle.tape_select.specs.Evaluation.{evaluated, start}
 use Rattle.query_plan.specs.Charge.{charge_from}
 use Rattle.query_plan.specs.Planned.{Claims, look}
 use Rattle.query_plan.specs.declared.state.Found.{Found}
+use Rattle.query_plan.specs.declared.state.State.{State}
+use Rattle.query_plan.specs.Answered.{AreRight}
+use Rattle.tape_select.specs.Sides.{side_value, IsSide}
+use Rattle.tape_select.specs.declared.sides.Side.{Side}
 use Rattle.query_plan.specs.declared.fault.SelectFault.{SelectFault}
 use Rattle.query_plan.specs.Paying.{Refuses}
 
@@ -48,3 +52,11 @@ FindsNodes d r q from old new = MatchResult r (λ f. IsFound d from q f × (new 
 -- the same of a query in a filter, at a child
 abbrev pub FindsFor : Doc → Result Found SelectFault → Nested → Node → (old new : ℕ) → Type 0
 FindsFor d r (nested from_root q) n old new = FindsNodes d r q (start (node_at d 0) from_root n) old new
+
+-- the side is found, and its charge is paid
+abbrev pub FindsSide : Doc → Result Side SelectFault → Option Value → (charge old new : ℕ) → Type 0
+FindsSide d r value charge old new = MatchResult r (λ side. (side_value d side ≡ value) × IsSide d side × (new + charge ≡ old)) (λ e. Refuses charge old e)
+
+-- what is kept is right
+abbrev pub Keeps : Doc → Claims → State → Type 0
+Keeps d table s = Right d table s.slots.items × AreRight d s.answers.items

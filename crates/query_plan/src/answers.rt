@@ -16,6 +16,26 @@ pub struct Answer {
     pub is_equal: bool,
 }
 
+/// How many comparisons are kept at most.
+const PLACES: usize = 256;
+
+/// Makes room for comparisons, as far as there is memory, where there is none yet.
+#[tactic(auto, using(crate::proofs::Learnt::room))]
+pub fn make_room(doc: &Document, table: &mut Vec<Option<Answer>>)
+    requires { AreRight doc.now table.old.items }
+    ensures { AreRight doc.now table.new.items }
+{
+    let _ = doc;
+    if !table.is_empty() {
+        return;
+    }
+    for _ in 0..PLACES {
+        if table.push(None).is_err() {
+            return;
+        }
+    }
+}
+
 // The place of a pair.
 fn place(a: NodeId, b: NodeId, places: usize) -> usize
     requires { 0 < places }

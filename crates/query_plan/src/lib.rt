@@ -7,15 +7,18 @@
 
 mod answers;
 mod chains;
+mod evaluation;
 mod fault;
 mod making;
 mod meter;
 mod nodes;
 mod plan;
 mod planning;
+mod selecting;
 mod sides;
 mod slices;
 mod state;
 
 pub use fault::SelectFault;
 pub use planning::Plan;
+pub use selecting::Selected;

@@ -9,6 +9,7 @@ ghost use Rattle.query_plan.specs.Paying.{Inside, Holds, Adds};
 use crate::fault::SelectFault;
 use crate::meter::Meter;
 use json_tape::{Document, Kind, NodeId};
+use std::alloc::Global;
 
 /// One node more.
 #[tactic(auto, using(crate::proofs::Adding::adding))]
@@ -39,6 +40,17 @@ pub fn push_some(
         None => Ok(()),
         Some(found) => push(doc, out, found),
     }
+}
+
+/// A list of one node.
+#[tactic(auto, using(crate::proofs::Adding::adding))]
+pub fn lone(alloc: Global, doc: &Document, n: NodeId) -> Result<Vec<NodeId>, SelectFault>
+    requires { n.0 < count doc.now }
+    ensures { MatchResult result (λ v. Holds doc.now v.items (node_at doc.now n.0 ∷ [])) (λ e. e ≡ SelectFault.Memory) }
+{
+    let mut nodes = Vec::new(alloc);
+    push(doc, &mut nodes, n)?;
+    Ok(nodes)
 }
 
 /// How many children there are.

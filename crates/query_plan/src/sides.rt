@@ -8,7 +8,7 @@ ghost use Rattle.tape_select.specs.Sides.{side_value, IsSide};
 ghost use Rattle.query_plan.specs.Answered.{AreRight, is_container};
 ghost use Rattle.query_plan.specs.Memo.{value_found};
 
-use crate::answers::{Answer, equal_once};
+use crate::answers::{Answer, equal_once, make_room};
 use json_tape::{Document, Kind, NodeId};
 use path_grammar::{Literal, Op};
 use tape_select::{Side, compare_sides};
@@ -68,6 +68,7 @@ fn compare_containers(
     ensures held { result ≡ compared op (Some (value_of (node_at doc.now a.0).tree)) (Some (value_of (node_at doc.now b.0).tree)) }
     ensures after { AreRight doc.now answers.new.items }
 {
+    make_room(doc, answers);
     match op {
         Op::Eq | Op::Le => equal_once(doc, answers, a, b),
         Op::Ge => equal_once(doc, answers, b, a),

@@ -1,8 +1,11 @@
 //! What an evaluation keeps: what was found for the queries from the root.
 
-ghost use Rattle.std.specs.Prelude.{◌≡◌, ◌<◌, ◌∷◌, [], Some, IfSome};
-ghost use Rattle.json_tape.specs.Document.{count, node_at};
-ghost use Rattle.query_plan.specs.Memo.{Right, IsFoundAt, FindsNodes, FindsFor};
+ghost use Rattle.std.specs.Prelude.{◌≡◌, ◌<◌, length, Some, IfSome};
+ghost use Rattle.json_tape.specs.Document.{count, node_at, IsIn};
+ghost use Rattle.tape_select.specs.Functions.{only_value};
+ghost use Rattle.tape_select.specs.Nodelists.{nodes_of};
+ghost use Rattle.query_plan.specs.Paying.{Inside};
+ghost use Rattle.query_plan.specs.Memo.{Right, IsFoundAt, value_found, FindsNodes, FindsFor};
 ghost use Rattle.query_plan.specs.Planned.{claims_of, look, chain_view, links_view};
 ghost use Rattle.query_plan.specs.Slots.{AreClaimed};
 
@@ -57,6 +60,27 @@ pub fn keep(doc: &Document, plan: &Parts, slots: &mut [Option<Found>], slot: u32
     let _ = plan;
     if (slot as usize) < slots.len() {
         slots[slot as usize] = Some(found);
+    }
+}
+
+/// What is asked of a nodelist that was charged so much.
+#[tactic(auto, using(crate::proofs::Totals::lists))]
+pub fn found_in(doc: &Document, nodes: &[NodeId], charge: u64) -> Found
+    requires { Inside doc.now nodes.now }
+    ensures value { only_value (nodes_of doc.now nodes.now) ≡ value_found doc.now result.only }
+    ensures inside { IsIn doc.now result.only }
+    ensures total { result.total ≡ length (nodes_of doc.now nodes.now) }
+    ensures charge { result.charge ≡ charge }
+{
+    let _ = doc;
+    let only = match nodes {
+        [n] => Some(*n),
+        _ => None,
+    };
+    Found {
+        only,
+        total: nodes.len(),
+        charge,
     }
 }
 

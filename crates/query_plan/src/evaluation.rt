@@ -1,0 +1,444 @@
+//! Evaluation by a plan.
+
+ghost use Rattle.std.specs.Prelude.{◌≡◌, ◌<◌, ◌+◌, ◌*◌, ◌∷◌, [], ◌++◌, length, map, flat_map, filter, Some};
+ghost use Rattle.json_tape.specs.Document.{count, node_at};
+ghost use Rattle.json_tape.specs.Nodes.{children, visit};
+ghost use Rattle.path_grammar.specs.Tree.{exprs_of, selectors_of};
+ghost use Rattle.tape_select.specs.Evaluation.{evaluated, selected, selected_by, holds, some_hold, all_hold, result as side_result};
+ghost use Rattle.tape_select.specs.Nodelists.{nodes_of};
+ghost use Rattle.query_plan.specs.Charge.{total_of, charge_from, charge_expr, charge_exprs, charge_side};
+ghost use Rattle.query_plan.specs.Extra.{extra_in, extra_by, nodes_from, charge_at, nodes_after, charge_after};
+ghost use Rattle.query_plan.specs.Paying.{Inside, Adds, Finds, FindsList};
+ghost use Rattle.query_plan.specs.Planned.{trees, query_of, claims_of, all_claims, look, condition_view, operand_view, selection_view, nested_view, stage_view};
+ghost use Rattle.query_plan.specs.Slots.{AreClaimed};
+ghost use Rattle.query_plan.specs.Memo.{FindsNodes, FindsFor, FindsSide, Keeps};
+
+use crate::fault::SelectFault;
+use crate::nodes::{child_total, lone, push, push_some, wild};
+use crate::plan::{Condition, Nested, Operand, Parts, Selection, Stage};
+use crate::sides::{compare_once, length_of, side_found};
+use crate::slices::sliced;
+use crate::state::{Found, State, chain_found, found_in, keep, recall};
+use json_tape::{Document, NodeId};
+use std::alloc::Global;
+use tape_select::{Side, element};
+
+// The children for which a condition holds.
+#[cycle(evaluation)]
+#[tactic(auto, using(crate::proofs::Filtering::filtering))]
+fn filtered(
+    alloc: Global,
+    doc: &Document,
+    plan: &Parts,
+    condition: &Condition,
+    n: NodeId,
+    state: &mut State,
+    out: &mut Vec<NodeId>,
+) -> Result<(), SelectFault>
+    requires inside { n.0 < count doc.now }
+    requires claimed { AreClaimed (claims_of plan.now.stages.items) (condition_view condition.now).claims }
+    requires kept { Keeps doc.now (claims_of plan.now.stages.items) state.old }
+    requires sound { Inside doc.now out.old.items }
+    ensures added { Adds doc.now result out.new.items (nodes_of doc.now out.old.items ++ filter (holds (node_at doc.now 0) (condition_view condition.now).tree) (children (node_at doc.now n.0))) (2 * length (children (node_at doc.now n.0)) + total_of (charge_expr (node_at doc.now 0) (condition_view condition.now).tree) (children (node_at doc.now n.0))) state.old.meter.left state.new.meter.left }
+    ensures kept { Keeps doc.now (claims_of plan.now.stages.items) state.new }
+{
+    let total = child_total(doc, n);
+    state.meter.spend_each(2, u64::from(total))?;
+    let mut child = doc.first_child(n);
+    while let Some(c) = child {
+        if does_hold(alloc, doc, plan, condition, c, state)? {
+            push(doc, out, c)?;
+        }
+        child = doc.next_sibling(c);
+    }
+    Ok(())
+}
+
+#[cycle(evaluation)]
+#[tactic(auto, using(crate::proofs::Filtering::holding))]
+fn does_hold(
+    alloc: Global,
+    doc: &Document,
+    plan: &Parts,
+    condition: &Condition,
+    child: NodeId,
+    state: &mut State,
+) -> Result<bool, SelectFault>
+    requires inside { child.0 < count doc.now }
+    requires claimed { AreClaimed (claims_of plan.now.stages.items) (condition_view condition.now).claims }
+    requires kept { Keeps doc.now (claims_of plan.now.stages.items) state.old }
+    ensures found { Finds result (holds (node_at doc.now 0) (condition_view condition.now).tree (node_at doc.now child.0)) (charge_expr (node_at doc.now 0) (condition_view condition.now).tree (node_at doc.now child.0)) state.old.meter.left state.new.meter.left }
+    ensures kept { Keeps doc.now (claims_of plan.now.stages.items) state.new }
+{
+    match condition {
+        Condition::Any(operands) => some_hold(alloc, doc, plan, operands, child, state),
+        Condition::Each(operands) => all_hold(alloc, doc, plan, operands, child, state),
+        Condition::Not(operand) => {
+            let held = does_hold(alloc, doc, plan, operand, child, state)?;
+            Ok(!held)
+        }
+        Condition::Compare(left, op, right) => {
+            let left = side_of(alloc, doc, plan, left, child, state)?;
+            let right = side_of(alloc, doc, plan, right, child, state)?;
+            Ok(compare_once(doc, *op, &left, &right, &mut state.answers))
+        }
+        Condition::Leads(chain) => {
+            let found = chain_found(doc, plan, chain, child, state)?;
+            Ok(found.total != 0)
+        }
+        Condition::Exists(query) => {
+            let found = found(alloc, doc, plan, query, child, state)?;
+            Ok(found.total != 0)
+        }
+    }
+}
+
+// All operands are tried, since each is charged.
+#[cycle(evaluation)]
+#[tactic(auto, using(crate::proofs::Filtering::somes))]
+fn some_hold(
+    alloc: Global,
+    doc: &Document,
+    plan: &Parts,
+    operands: &[Condition],
+    child: NodeId,
+    state: &mut State,
+) -> Result<bool, SelectFault>
+    requires inside { child.0 < count doc.now }
+    requires claimed { AreClaimed (claims_of plan.now.stages.items) (all_claims (map condition_view operands.now)) }
+    requires kept { Keeps doc.now (claims_of plan.now.stages.items) state.old }
+    ensures found { Finds result (some_hold (node_at doc.now 0) (exprs_of (trees (map condition_view operands.now))) (node_at doc.now child.0)) (charge_exprs (node_at doc.now 0) (exprs_of (trees (map condition_view operands.now))) (node_at doc.now child.0)) state.old.meter.left state.new.meter.left }
+    ensures kept { Keeps doc.now (claims_of plan.now.stages.items) state.new }
+{
+    let mut some = false;
+    for operand in operands {
+        let held = does_hold(alloc, doc, plan, operand, child, state)?;
+        some |= held;
+    }
+    Ok(some)
+}
+
+#[cycle(evaluation)]
+#[tactic(auto, using(crate::proofs::Filtering::alls))]
+fn all_hold(
+    alloc: Global,
+    doc: &Document,
+    plan: &Parts,
+    operands: &[Condition],
+    child: NodeId,
+    state: &mut State,
+) -> Result<bool, SelectFault>
+    requires inside { child.0 < count doc.now }
+    requires claimed { AreClaimed (claims_of plan.now.stages.items) (all_claims (map condition_view operands.now)) }
+    requires kept { Keeps doc.now (claims_of plan.now.stages.items) state.old }
+    ensures found { Finds result (all_hold (node_at doc.now 0) (exprs_of (trees (map condition_view operands.now))) (node_at doc.now child.0)) (charge_exprs (node_at doc.now 0) (exprs_of (trees (map condition_view operands.now))) (node_at doc.now child.0)) state.old.meter.left state.new.meter.left }
+    ensures kept { Keeps doc.now (claims_of plan.now.stages.items) state.new }
+{
+    let mut all = true;
+    for operand in operands {
+        let held = does_hold(alloc, doc, plan, operand, child, state)?;
+        all &= held;
+    }
+    Ok(all)
+}
+
+// A side of a comparison.
+#[cycle(evaluation)]
+#[tactic(auto, using(crate::proofs::Filtering::siding))]
+fn side_of<'a>(
+    alloc: Global,
+    doc: &Document,
+    plan: &Parts,
+    operand: &'a Operand,
+    child: NodeId,
+    state: &mut State,
+) -> Result<Side<'a>, SelectFault>
+    requires inside { child.0 < count doc.now }
+    requires claimed { AreClaimed (claims_of plan.now.stages.items) (operand_view operand.now).claims }
+    requires kept { Keeps doc.now (claims_of plan.now.stages.items) state.old }
+    ensures found { FindsSide doc.now result (side_result (node_at doc.now 0) (operand_view operand.now).tree (node_at doc.now child.0)) (charge_side (node_at doc.now 0) (operand_view operand.now).tree (node_at doc.now child.0)) state.old.meter.left state.new.meter.left }
+    ensures kept { Keeps doc.now (claims_of plan.now.stages.items) state.new }
+{
+    match operand {
+        Operand::Constant(constant) => Ok(Side::Literal(&constant.literal)),
+        Operand::Single(chain) => {
+            let found = chain_found(doc, plan, chain, child, state)?;
+            Ok(side_found(doc, found.only))
+        }
+        Operand::Length(operand) => {
+            let side = side_of(alloc, doc, plan, operand, child, state)?;
+            Ok(length_of(doc, side))
+        }
+        Operand::Count(query) => {
+            let found = found(alloc, doc, plan, query, child, state)?;
+            Ok(Side::Whole(found.total))
+        }
+        Operand::Value(query) => {
+            let found = found(alloc, doc, plan, query, child, state)?;
+            Ok(side_found(doc, found.only))
+        }
+    }
+}
+
+// What is asked of a query in a filter. From the root it is found once.
+#[cycle(evaluation)]
+fn found(
+    alloc: Global,
+    doc: &Document,
+    plan: &Parts,
+    query: &Nested,
+    child: NodeId,
+    state: &mut State,
+) -> Result<Found, SelectFault>
+    requires inside { child.0 < count doc.now }
+    requires claimed { AreClaimed (claims_of plan.now.stages.items) (nested_view query.now).claims }
+    requires kept { Keeps doc.now (claims_of plan.now.stages.items) state.old }
+    ensures found { FindsFor doc.now result (nested_view query.now).tree (node_at doc.now child.0) state.old.meter.left state.new.meter.left }
+    ensures kept { Keeps doc.now (claims_of plan.now.stages.items) state.new }
+{
+    match query.slot {
+        None => found_from(alloc, doc, plan, &query.stages, child, state),
+        Some(slot) => found_once(alloc, doc, plan, &query.stages, slot, state),
+    }
+}
+
+#[cycle(evaluation)]
+fn found_once(
+    alloc: Global,
+    doc: &Document,
+    plan: &Parts,
+    stages: &[Stage],
+    slot: u32,
+    state: &mut State,
+) -> Result<Found, SelectFault>
+    requires mine { look (claims_of plan.now.stages.items) slot ≡ Some (query_of stages.now) }
+    requires claimed { AreClaimed (claims_of plan.now.stages.items) (claims_of stages.now) }
+    requires kept { Keeps doc.now (claims_of plan.now.stages.items) state.old }
+    ensures found { FindsNodes doc.now result (query_of stages.now) (node_at doc.now 0) state.old.meter.left state.new.meter.left }
+    ensures kept { Keeps doc.now (claims_of plan.now.stages.items) state.new }
+{
+    match recall(doc, plan, &state.slots, slot) {
+        Some(found) => {
+            state.meter.spend(found.charge)?;
+            Ok(found)
+        }
+        None => {
+            let found = found_from(alloc, doc, plan, stages, doc.root(), state)?;
+            keep(doc, plan, &mut state.slots, slot, found);
+            Ok(found)
+        }
+    }
+}
+
+#[cycle(evaluation)]
+fn found_from(
+    alloc: Global,
+    doc: &Document,
+    plan: &Parts,
+    stages: &[Stage],
+    n: NodeId,
+    state: &mut State,
+) -> Result<Found, SelectFault>
+    requires inside { n.0 < count doc.now }
+    requires claimed { AreClaimed (claims_of plan.now.stages.items) (claims_of stages.now) }
+    requires kept { Keeps doc.now (claims_of plan.now.stages.items) state.old }
+    ensures found { FindsNodes doc.now result (query_of stages.now) (node_at doc.now n.0) state.old.meter.left state.new.meter.left }
+    ensures kept { Keeps doc.now (claims_of plan.now.stages.items) state.new }
+{
+    let units = state.meter.left;
+    let nodes = all_selected(alloc, doc, plan, stages, n, state)?;
+    Ok(found_in(doc, &nodes, units - state.meter.left))
+}
+
+/// The nodes that the stages select from a node.
+#[cycle(evaluation)]
+pub fn all_selected(
+    alloc: Global,
+    doc: &Document,
+    plan: &Parts,
+    stages: &[Stage],
+    n: NodeId,
+    state: &mut State,
+) -> Result<Vec<NodeId>, SelectFault>
+    requires inside { n.0 < count doc.now }
+    requires claimed { AreClaimed (claims_of plan.now.stages.items) (claims_of stages.now) }
+    requires kept { Keeps doc.now (claims_of plan.now.stages.items) state.old }
+    ensures found { FindsList doc.now result (evaluated (node_at doc.now 0) (query_of stages.now) (node_at doc.now n.0 ∷ [])) (charge_from (node_at doc.now 0) (query_of stages.now) (node_at doc.now n.0 ∷ [])) state.old.meter.left state.new.meter.left }
+    ensures kept { Keeps doc.now (claims_of plan.now.stages.items) state.new }
+{
+    let mut nodes = lone(alloc, doc, n)?;
+    for stage in stages {
+        nodes = after_stage(alloc, doc, plan, stage, &nodes, state)?;
+    }
+    Ok(nodes)
+}
+
+#[cycle(evaluation)]
+#[tactic(auto, using(crate::proofs::Filtering::each_input))]
+fn after_stage(
+    alloc: Global,
+    doc: &Document,
+    plan: &Parts,
+    stage: &Stage,
+    input: &[NodeId],
+    state: &mut State,
+) -> Result<Vec<NodeId>, SelectFault>
+    requires from { Inside doc.now input.now }
+    requires claimed { AreClaimed (claims_of plan.now.stages.items) (stage_view stage.now).claims }
+    requires kept { Keeps doc.now (claims_of plan.now.stages.items) state.old }
+    ensures found { FindsList doc.now result (nodes_after (node_at doc.now 0) (stage_view stage.now).tree (nodes_of doc.now input.now)) (charge_after (node_at doc.now 0) (stage_view stage.now).tree (nodes_of doc.now input.now)) state.old.meter.left state.new.meter.left }
+    ensures kept { Keeps doc.now (claims_of plan.now.stages.items) state.new }
+{
+    let mut out = Vec::new(alloc);
+    for n in input {
+        from_node(alloc, doc, plan, stage, *n, state, &mut out)?;
+    }
+    Ok(out)
+}
+
+fn selector_total(stage: &Stage) -> u64
+    ensures { result ≡ length stage.now.selections.items }
+{
+    stage.selections.len() as u64
+}
+
+// How many nodes there are in a node, itself included.
+#[tactic(auto, using(crate::proofs::Filtering::visit_length))]
+fn visit_total(doc: &Document, n: NodeId) -> u64
+    requires { n.0 < count doc.now }
+    ensures { result ≡ length (visit (node_at doc.now n.0)) }
+{
+    u64::from(doc.after(n) - n.0)
+}
+
+// What a segment selects from one node. Each selector's unit is paid here, for all nodes at once.
+#[cycle(evaluation)]
+fn from_node(
+    alloc: Global,
+    doc: &Document,
+    plan: &Parts,
+    stage: &Stage,
+    n: NodeId,
+    state: &mut State,
+    out: &mut Vec<NodeId>,
+) -> Result<(), SelectFault>
+    requires inside { n.0 < count doc.now }
+    requires claimed { AreClaimed (claims_of plan.now.stages.items) (stage_view stage.now).claims }
+    requires kept { Keeps doc.now (claims_of plan.now.stages.items) state.old }
+    requires sound { Inside doc.now out.old.items }
+    ensures added { Adds doc.now result out.new.items (nodes_of doc.now out.old.items ++ nodes_from (node_at doc.now 0) (stage_view stage.now).tree (node_at doc.now n.0)) (charge_at (node_at doc.now 0) (stage_view stage.now).tree (node_at doc.now n.0)) state.old.meter.left state.new.meter.left }
+    ensures kept { Keeps doc.now (claims_of plan.now.stages.items) state.new }
+{
+    let selectors = selector_total(stage);
+    if stage.descend {
+        state.meter.spend_each(visit_total(doc, n), selectors)?;
+        visited(alloc, doc, plan, &stage.selections, n, state, out)
+    } else {
+        state.meter.spend(selectors)?;
+        selected_from(alloc, doc, plan, &stage.selections, n, state, out)
+    }
+}
+
+// What the selectors select from a node and all its descendants.
+#[cycle(evaluation)]
+#[tactic(auto, using(crate::proofs::Filtering::visiting))]
+fn visited(
+    alloc: Global,
+    doc: &Document,
+    plan: &Parts,
+    selections: &[Selection],
+    n: NodeId,
+    state: &mut State,
+    out: &mut Vec<NodeId>,
+) -> Result<(), SelectFault>
+    requires inside { n.0 < count doc.now }
+    requires claimed { AreClaimed (claims_of plan.now.stages.items) (all_claims (map selection_view selections.now)) }
+    requires kept { Keeps doc.now (claims_of plan.now.stages.items) state.old }
+    requires sound { Inside doc.now out.old.items }
+    ensures added { Adds doc.now result out.new.items (nodes_of doc.now out.old.items ++ flat_map (selected (node_at doc.now 0) (selectors_of (trees (map selection_view selections.now)))) (visit (node_at doc.now n.0))) (total_of (extra_in (node_at doc.now 0) (selectors_of (trees (map selection_view selections.now)))) (visit (node_at doc.now n.0))) state.old.meter.left state.new.meter.left }
+    ensures kept { Keeps doc.now (claims_of plan.now.stages.items) state.new }
+{
+    let end = doc.after(n);
+    for k in n.0..end {
+        selected_within(alloc, doc, plan, selections, NodeId(k), state, out)?;
+    }
+    Ok(())
+}
+
+// What the selectors select from one node. From one without children they select nothing.
+#[cycle(evaluation)]
+fn selected_within(
+    alloc: Global,
+    doc: &Document,
+    plan: &Parts,
+    selections: &[Selection],
+    n: NodeId,
+    state: &mut State,
+    out: &mut Vec<NodeId>,
+) -> Result<(), SelectFault>
+    requires inside { n.0 < count doc.now }
+    requires claimed { AreClaimed (claims_of plan.now.stages.items) (all_claims (map selection_view selections.now)) }
+    requires kept { Keeps doc.now (claims_of plan.now.stages.items) state.old }
+    requires sound { Inside doc.now out.old.items }
+    ensures added { Adds doc.now result out.new.items (nodes_of doc.now out.old.items ++ selected (node_at doc.now 0) (selectors_of (trees (map selection_view selections.now))) (node_at doc.now n.0)) (extra_in (node_at doc.now 0) (selectors_of (trees (map selection_view selections.now))) (node_at doc.now n.0)) state.old.meter.left state.new.meter.left }
+    ensures kept { Keeps doc.now (claims_of plan.now.stages.items) state.new }
+{
+    match doc.first_child(n) {
+        None => Ok(()),
+        Some(_) => selected_from(alloc, doc, plan, selections, n, state, out),
+    }
+}
+
+// What the selectors select from one node.
+#[cycle(evaluation)]
+#[tactic(auto, using(crate::proofs::Filtering::selections))]
+fn selected_from(
+    alloc: Global,
+    doc: &Document,
+    plan: &Parts,
+    selections: &[Selection],
+    n: NodeId,
+    state: &mut State,
+    out: &mut Vec<NodeId>,
+) -> Result<(), SelectFault>
+    requires inside { n.0 < count doc.now }
+    requires claimed { AreClaimed (claims_of plan.now.stages.items) (all_claims (map selection_view selections.now)) }
+    requires kept { Keeps doc.now (claims_of plan.now.stages.items) state.old }
+    requires sound { Inside doc.now out.old.items }
+    ensures added { Adds doc.now result out.new.items (nodes_of doc.now out.old.items ++ selected (node_at doc.now 0) (selectors_of (trees (map selection_view selections.now))) (node_at doc.now n.0)) (extra_in (node_at doc.now 0) (selectors_of (trees (map selection_view selections.now))) (node_at doc.now n.0)) state.old.meter.left state.new.meter.left }
+    ensures kept { Keeps doc.now (claims_of plan.now.stages.items) state.new }
+{
+    for selection in selections {
+        selected_by(alloc, doc, plan, selection, n, state, out)?;
+    }
+    Ok(())
+}
+
+#[cycle(evaluation)]
+#[tactic(auto, using(crate::proofs::Filtering::filter_charge))]
+fn selected_by(
+    alloc: Global,
+    doc: &Document,
+    plan: &Parts,
+    selection: &Selection,
+    n: NodeId,
+    state: &mut State,
+    out: &mut Vec<NodeId>,
+) -> Result<(), SelectFault>
+    requires inside { n.0 < count doc.now }
+    requires claimed { AreClaimed (claims_of plan.now.stages.items) (selection_view selection.now).claims }
+    requires kept { Keeps doc.now (claims_of plan.now.stages.items) state.old }
+    requires sound { Inside doc.now out.old.items }
+    ensures added { Adds doc.now result out.new.items (nodes_of doc.now out.old.items ++ selected_by (node_at doc.now 0) (selection_view selection.now).tree (node_at doc.now n.0)) (extra_by (node_at doc.now 0) (selection_view selection.now).tree (node_at doc.now n.0)) state.old.meter.left state.new.meter.left }
+    ensures kept { Keeps doc.now (claims_of plan.now.stages.items) state.new }
+{
+    match selection {
+        Selection::Named(name) => push_some(doc, out, doc.member(n, &name.scalars)),
+        Selection::Wild => wild(doc, n, &mut state.meter, out),
+        Selection::At(i) => push_some(doc, out, element(doc, n, *i)),
+        Selection::Sliced { start, stop, step } => {
+            sliced(doc, n, *start, *stop, *step, &mut state.meter, out)
+        }
+        Selection::Where(condition) => filtered(alloc, doc, plan, condition, n, state, out),
+    }
+}
