@@ -1,9 +1,9 @@
 //! JSON texts (RFC 8259) as tapes.
 //!
 //! `Document::read` accepts exactly the texts within the limits in which no string or name spells a lone surrogate and no
-//! object has two names that mean the same. It keeps their bytes, and has one entry of 32 bytes for each value. The readers of
-//! `Document` tell each value's kind, bytes, length, children and name, each in constant time but for those that go over the
-//! characters of a string or a name, and for `member`, which goes over the members of an object.
+//! object has two names that mean the same. It keeps their bytes, and has one entry for each value: 16 bytes, and 12 more for an
+//! array or an object. The readers of `Document` tell each value's kind, bytes, length, children and name, each in constant time but
+//! for those that go over the characters of a string or a name, and for `member`, which goes over the members of an object.
 //!
 //! A text is walked once, token by token, and its entries are then judged. Open containers stand in a list, so that depth
 //! costs no stack. Nothing is parsed into numbers or strings: those are cut from the text where they are asked for. The
