@@ -5,6 +5,8 @@
 #[cfg(test)]
 mod cache;
 #[cfg(test)]
+mod calls;
+#[cfg(test)]
 mod documents;
 #[cfg(test)]
 mod frames;
