@@ -1,9 +1,5 @@
 -- Arrays and objects are compared as trees.
-use Rattle.std.proofs.Common.{◌≡◌, ◌||◌, Bool, true, false, Some, refl}
-use Rattle.std.specs.Prelude.{IsTrue}
-use Rattle.std.specs.Prelude.{not as opposite}
-use Rattle.path_grammar.specs.declared.ast.Op.{Op}
-use Rattle.path_grammar.specs.declared.ast.Op.TheVariants.{Eq, Ne, Le, Ge, Lt, Gt}
+use Rattle.std.proofs.Common.{◌≡◌, true, refl}
 use Rattle.json_tape.specs.Tree.{Tree, Leaf, Arr, Obj}
 use Rattle.tape_select.specs.Comparison.{value_of, a_container}
 use Rattle.query_plan.specs.Answered.{is_container}

@@ -14,12 +14,12 @@ use Rattle.json_tape.specs.Nodes.{Node, Step, children, children_of, elements, e
 use Rattle.json_tape.specs.Document.{Doc, node_at, seen, counting}
 use Rattle.json_tape.specs.declared.tape.NodeId.{NodeId}
 use Rattle.tape_select.specs.Selection.{at_index, nth_if, position_in, step_of, in_order, sliced}
-use Rattle.tape_select.specs.Functions.{value_argued, length_value, only_value, whole_number}
-use Rattle.tape_select.specs.Evaluation.{starts, evaluated, selected, selected_by, holds, some_hold, all_hold, is_empty, nodes, result, argued}
+use Rattle.tape_select.specs.Functions.{value_argued, length_value}
+use Rattle.tape_select.specs.Evaluation.{evaluated, selected, selected_by, holds, some_hold, all_hold, is_empty, result, argued}
 use Rattle.tape_select.specs.Nodelists.{nodes_of}
 use Rattle.query_plan.specs.Charge.{total_of, charge_from, charge_in, charge_by, charge_expr, charge_exprs, charge_side, charge_nested}
 use Rattle.query_plan.specs.Extra.{count_of, extra_by, extra_in, nodes_from, charge_at, nodes_after, charge_after}
-use Rattle.query_plan.specs.Planned.{Claims, both, With, trees, tree_in, all_claims, query_of, claims_of, as_argument, calling, condition_view, selection_view, stage_view, condition_step, operand_step, selection_step, nested_step, stage_step}
+use Rattle.query_plan.specs.Planned.{Claims, both, With, trees, all_claims, query_of, claims_of, as_argument, calling, condition_view, selection_view, stage_view, condition_step, operand_step, selection_step, nested_step, stage_step}
 use Rattle.query_plan.specs.Slots.{AreClaimed}
 use Rattle.query_plan.specs.declared.plan.Condition.TheFolds.{fold_out-Stage}
 use Rattle.query_plan.specs.declared.plan.Condition.{Condition}

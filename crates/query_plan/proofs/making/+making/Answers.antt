@@ -1,7 +1,5 @@
 use Rattle.std.proofs.Common.{rules, ◌∙◌, map, refl}
-use Rattle.std.specs.Prelude.{IsTrue}
 use Rattle.path_grammar.specs.Tree.{exprs_of}
-use Rattle.path_grammar.specs.Tree as tree
 use Rattle.path_grammar.specs.View.{segments_view, selectors_view, segment_view, selector_view, expr_view}
 use Rattle.path_types.specs.Validity.{is_valid, are_valid, are_valid_exprs, is_valid_selector, is_valid_expr}
 use Rattle.query_plan.specs.Planned.{selection_view, stage_view, condition_view}
