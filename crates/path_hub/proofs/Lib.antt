@@ -10,4 +10,5 @@ pub mod Pieces
 pub mod Calls
 pub mod Serve
 pub mod Writing
+pub mod Sent
 pub mod Once

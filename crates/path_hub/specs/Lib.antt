@@ -10,5 +10,6 @@ pub mod Headline
 pub mod Wires
 pub mod Serving
 pub mod Turns
+pub mod Sending
 pub mod MemoryWires
 pub mod Laws

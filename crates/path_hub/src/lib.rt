@@ -7,6 +7,7 @@ mod hub;
 mod laws;
 mod memory_wire;
 mod replies;
+mod sending;
 mod serving;
 mod step;
 mod wire;

@@ -5,7 +5,8 @@ ghost use Rattle.path_hub.specs.Serving.{ServesConnection, longest_piece};
 ghost use Rattle.path_hub.specs.Turns.{Turns, PieceTurns, IsPiece, EndsTurns, KeepsFailures};
 
 use crate::hub::Hub;
-use crate::wire::{ConnEnd, Wire, write_all};
+use crate::sending::send_replies;
+use crate::wire::{ConnEnd, Wire};
 use std::alloc::{AllocError, Global};
 use wire_frames::splits_from_the_front;
 
@@ -104,8 +105,7 @@ fn answer_piece<W: Wire>(
 {
     splits_from_the_front();
     out.clear();
-    let answered = hub.bytes(alloc, conn, piece, out);
-    let written = write_all(wire, out);
+    let (answered, written) = send_replies(alloc, hub, conn, wire, piece, out);
     if answered.is_err() {
         return Some(ConnEnd::Memory);
     }
