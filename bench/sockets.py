@@ -2,21 +2,25 @@
 """Times requests over one connection beside an echo in C of as many bytes: bench/sockets.py.
 
 It compiles bench/echo.c and bench/rounds.c (cc), starts the program as `path_server serve` and the echo, and times rounds of a request and
-its reply in turns: each line has, for both, the middle one of five medians and the least time, and the ratios of these. Build the program first, as bin/path_server
-does, or name it in the environment's PATH_SERVER.
+its reply in turns: each line has, for both, the middle one of five medians and the least time, and the ratios of these. Where there is
+redis-server, its GET and SET of the same texts follow, timed the same way. Build the program first, as bin/path_server does, or name it
+in the environment's PATH_SERVER.
 """
 import os
+import shutil
+import socket
 import statistics
 import struct
 import subprocess
 import sys
 import tempfile
+import time
 from pathlib import Path
 
 TOP = Path(__file__).resolve().parent.parent
 PROGRAM = os.environ.get("PATH_SERVER", TOP / "crates/path_program/out/path_program")
 KEY = bytes.fromhex("00112233445566778899aabbccddeeff")
-PUT, GET = 1, 2
+PUT, GET, QUERY = 1, 2, 5
 TURNS = 5
 
 
@@ -24,9 +28,23 @@ def name(text):
     return bytes([len(text)]) + text
 
 
-def request(command, document, text=b""):
-    body = struct.pack(">BI", command, 1) + KEY + name(b"c") + name(document) + text
+def request(command, fields):
+    body = struct.pack(">BI", command, 1) + KEY + fields
     return struct.pack(">I", len(body)) + body
+
+
+def put(document, text, collection=b"c"):
+    return request(PUT, name(collection) + name(document) + text)
+
+
+def get(document):
+    return request(GET, name(b"c") + name(document))
+
+
+def hits(*found):
+    """The payload of hits: a document's name, a path and a value each."""
+    lengths = [name(document) + struct.pack(">I", len(path)) + path + struct.pack(">I", len(value)) + value for document, path, value in found]
+    return struct.pack(">I", len(found)) + b"".join(lengths)
 
 
 def reply(payload=b""):
@@ -78,16 +96,40 @@ def text_of(length):
 
 def measure(bench):
     small, large, string = b'{"a":[10,20]}', text_of(1 << 20), b'"' + b"x" * ((1 << 20) - 2) + b'"'
-    puts = [(b"dd", small), (b"large", large)]
-    for document, text in puts:
-        bench.times(bench.server_port, request(PUT, document, text), reply(), 1)
-    get = request(GET, b"dd")
-    assert len(get) == 30
-    bench.compare("GET, 30 bytes", get, reply(small), 20000)
-    bench.compare("GET, 30 bytes, 16 in a piece", get * 16, reply(small) * 16, 5000)
-    bench.compare("GET of 1 MiB", request(GET, b"large"), reply(large), 300)
-    bench.compare("PUT of 1 MiB, small objects", request(PUT, b"large", large), reply(), 100)
-    bench.compare("PUT of 1 MiB, one string", request(PUT, b"large", string), reply(), 100)
+    for first in (put(b"dd", small), put(b"large", large), put(b"d", small, b"q")):
+        bench.times(bench.server_port, first, reply(), 1)
+    short = get(b"dd")
+    assert len(short) == 30
+    bench.compare("GET, 30 bytes", short, reply(small), 20000)
+    bench.compare("GET, 30 bytes, 16 in a piece", short * 16, reply(small) * 16, 5000)
+    bench.compare("QUERY $.a[1]", request(QUERY, name(b"q") + b"$.a[1]"), reply(hits((b"d", b"$['a'][1]", b"20"))), 20000)
+    bench.compare("GET of 1 MiB", get(b"large"), reply(large), 300)
+    bench.compare("PUT of 1 MiB, small objects", put(b"large", large), reply(), 100)
+    bench.compare("PUT of 1 MiB, one string", put(b"large", string), reply(), 100)
+
+
+def redis_words(*words):
+    """A command as Redis reads it: an array of strings, each behind its length."""
+    return b"*%d\r\n" % len(words) + b"".join(b"$%d\r\n%s\r\n" % (len(word), word) for word in words)
+
+
+def measure_redis(bench):
+    """Redis with the same texts, on a port that was free just now, keeping nothing on disk."""
+    with socket.socket() as taken:
+        taken.bind(("127.0.0.1", 0))
+        port = taken.getsockname()[1]
+    words = ["redis-server", "--port", str(port), "--save", "", "--appendonly", "no", "--daemonize", "no"]
+    redis = subprocess.Popen(words, stdout=subprocess.DEVNULL)
+    try:
+        time.sleep(1)
+        for title, text, rounds in (("13 bytes", b'{"a":[10,20]}', 20000), ("1 MiB", text_of(1 << 20), 300)):
+            put, get = redis_words(b"SET", b"d", text), redis_words(b"GET", b"d")
+            stored = [bench.times(port, put, b"+OK\r\n", rounds // 3) for _ in range(TURNS)]
+            got = [bench.times(port, get, b"$%d\r\n%s\r\n" % (len(text), text), rounds) for _ in range(TURNS)]
+            for name, pairs in (("GET", got), ("SET", stored)):
+                print("Redis, {} of {}: {:.1f}, least {:.1f} us".format(name, title, *middle(pairs)), flush=True)
+    finally:
+        redis.kill()
 
 
 def main():
@@ -100,7 +142,10 @@ def main():
         server, server_port = start([PROGRAM, "serve", "127.0.0.1:0", KEY.hex(), "1000"])
         echo, echo_port = start([folder / "echo"])
         try:
-            measure(Bench(folder, server_port, echo_port))
+            bench = Bench(folder, server_port, echo_port)
+            measure(bench)
+            if shutil.which("redis-server"):
+                measure_redis(bench)
         finally:
             server.kill()
             echo.kill()
