@@ -12,3 +12,4 @@ pub mod Learnt
 pub mod Slots
 pub mod Containers
 pub mod Filtering
+pub mod Plainness

@@ -1,7 +1,6 @@
 -- What a query selects (RFC 9535, sections 2.1.2, 2.3.5, 2.4 and 2.5).
-use Rattle.std.specs.Prelude.{ℕ, List, [], ◌∷◌, ◌++◌, Bool, true, false, ◌&&◌, ◌||◌, length, nat_lt, flat_map, Option, Some, None}
+use Rattle.std.specs.Prelude.{List, [], ◌∷◌, ◌++◌, Bool, true, false, ◌&&◌, ◌||◌, flat_map, Option, Some, None}
 use Rattle.std.specs.Prelude.{filter as keep, not as opposite}
-use Rattle.std.specs.List.{list_any}
 use Rattle.path_grammar.specs.Tree.{Segments, no_segments, segment, Selectors, no_selectors, selector, Selector, name, wild, index, filter, slice, Expr, any, each, not, compare, test, test_call, Exprs, no_exprs, expr, Nested, nested, Comparable, lit, single, func, Call, call, no_arguments, argument, Argument, lit_argument, nodes_argument, func_argument, logical_argument}
 use Rattle.json_tape.specs.Tree.{Tree}
 use Rattle.json_tape.specs.Nodes.{Node, children, elements, visit, is_named, first_where}

@@ -9,3 +9,4 @@ pub mod Making
 pub mod Slots
 pub mod Answered
 pub mod Memo
+pub mod Plain

@@ -15,6 +15,7 @@ ghost use Rattle.tape_select.specs.Memo.{FindsNodes, FindsFor, FindsSide, Keeps}
 
 use crate::fault::SelectFault;
 use crate::nodes::{child_total, lone, push, push_some, wild};
+use crate::plain::{filtered_plainly, units_of};
 use crate::plan::{Condition, Nested, Operand, Parts, Selection, Stage};
 use crate::sides::{compare_once, length_of, side_found};
 use crate::slices::sliced;
@@ -25,8 +26,36 @@ use tape_values::{Side, element};
 
 // The children for which a condition holds.
 #[cycle(evaluation)]
-#[tactic(auto, using(crate::proofs::Filtering::filtering))]
+#[tactic(auto, using(crate::proofs::Plainness::all_charged))]
 fn filtered(
+    alloc: Global,
+    doc: &Document,
+    plan: &Parts,
+    condition: &Condition,
+    n: NodeId,
+    state: &mut State,
+    out: &mut Vec<NodeId>,
+) -> Result<(), SelectFault>
+    requires inside { n.0 < count doc.now }
+    requires claimed { AreClaimed (claims_of plan.now.stages.items) (condition_view condition.now).claims }
+    requires kept { Keeps doc.now (claims_of plan.now.stages.items) state.old }
+    requires sound { Inside doc.now out.old.items }
+    ensures added { Adds doc.now result out.new.items (nodes_of doc.now out.old.items ++ filter (holds (node_at doc.now 0) (condition_view condition.now).tree) (children (node_at doc.now n.0))) (2 * length (children (node_at doc.now n.0)) + total_of (charge_expr (node_at doc.now 0) (condition_view condition.now).tree) (children (node_at doc.now n.0))) state.old.meter.left state.new.meter.left }
+    ensures kept { Keeps doc.now (claims_of plan.now.stages.items) state.new }
+{
+    match units_of(condition) {
+        Some(units) => {
+            let State { meter, answers, .. } = state;
+            filtered_plainly(doc, condition, units, n, meter, answers, out)
+        }
+        None => filtered_each(alloc, doc, plan, condition, n, state, out),
+    }
+}
+
+// The same, paid child by child.
+#[cycle(evaluation)]
+#[tactic(auto, using(crate::proofs::Filtering::filtering))]
+fn filtered_each(
     alloc: Global,
     doc: &Document,
     plan: &Parts,

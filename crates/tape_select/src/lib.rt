@@ -12,6 +12,7 @@ mod fault;
 mod making;
 mod meter;
 mod nodes;
+mod plain;
 mod plan;
 mod planning;
 mod selecting;

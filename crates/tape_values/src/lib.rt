@@ -16,7 +16,7 @@ mod sides;
 mod slices;
 mod values;
 
-pub use compare::compare as compare_sides;
+pub use compare::{compare as compare_sides, compare_found};
 pub use indexes::element;
 pub use sides::Side;
 pub use slices::{Places, slice_places};

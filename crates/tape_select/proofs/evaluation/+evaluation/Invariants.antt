@@ -13,8 +13,8 @@ use Rattle.tape_select.specs.Planned.{claims_of, query_of, trees, all_claims, co
 use Rattle.tape_select.specs.Slots.{AreClaimed}
 use Rattle.tape_select.proofs.evaluation.+evaluation.Given as goal
 
-abbrev pub invariant-filtered-loop-child : goal.invariant-filtered-loop-child
-invariant-filtered-loop-child l = record {
+abbrev pub invariant-filtered_each-loop-child : goal.invariant-filtered_each-loop-child
+invariant-filtered_each-loop-child l = record {
   same : nodes_of l.doc l.out.items ++ keep (holds (node_at l.doc 0) (condition_view l.condition).tree) (following l.doc l.child)
       ≡ nodes_of l.doc l.initial.out.items ++ keep (holds (node_at l.doc 0) (condition_view l.condition).tree) (following l.doc l.initial.child);
   paid : l.state.meter.left + total_of (charge_expr (node_at l.doc 0) (condition_view l.condition).tree) (following l.doc l.initial.child)
@@ -24,8 +24,8 @@ invariant-filtered-loop-child l = record {
   sound : Inside l.doc l.out.items;
 }
 
-abbrev pub decreases-filtered-loop-child : goal.decreases-filtered-loop-child
-decreases-filtered-loop-child l = length (following l.doc l.child)
+abbrev pub decreases-filtered_each-loop-child : goal.decreases-filtered_each-loop-child
+decreases-filtered_each-loop-child l = length (following l.doc l.child)
 
 abbrev pub invariant-some_hold-loop-operand : goal.invariant-some_hold-loop-operand
 invariant-some_hold-loop-operand l = record {
