@@ -6,7 +6,9 @@ ghost use Rattle.json_tape.specs.Document.{count};
 use json_tape::{Document, NodeId, TextFault};
 use path_grammar::parse;
 use path_server::{QueryTextFault, query_text};
+use path_types::{ValidQuery, compile};
 use std::alloc::{AllocError, Global};
+use tape_select::{BUDGET, SelectFault, select};
 use tape_values::{equal_values, less_values};
 
 /// A word as an answer.
@@ -78,6 +80,41 @@ pub fn query_count(alloc: Global, query: &[u8], text: &[u8]) -> Result<Vec<u8>, 
             Ok(format!(in alloc; "{count}")?.into_bytes())
         }
         Err(fault) => Ok(format!(in alloc; "{fault}")?.into_bytes()),
+    }
+}
+
+/// What a query on a text is charged, or the name of what refuses it. With so many units it ends, and with one less it does not.
+pub fn query_charge(alloc: Global, query: &[u8], text: &[u8]) -> Result<Vec<u8>, AllocError> {
+    let Ok(query) = compile(alloc, query) else {
+        return word(alloc, "no query");
+    };
+    let document = match Document::read(alloc, text) {
+        Ok(document) => document,
+        Err(fault) => return text_fault(alloc, fault),
+    };
+    match select(alloc, &query, &document, BUDGET) {
+        Ok(selected) => {
+            let charge = selected.charge;
+            if !is_least(alloc, &query, &document, charge) {
+                return word(alloc, "other units");
+            }
+            Ok(format!(in alloc; "{charge}")?.into_bytes())
+        }
+        Err(fault) => Ok(format!(in alloc; "{fault}")?.into_bytes()),
+    }
+}
+
+// Whether so many units suffice, and one less does not.
+fn is_least(alloc: Global, query: &ValidQuery, document: &Document, units: u64) -> bool {
+    if select(alloc, query, document, units).is_err() {
+        return false;
+    }
+    match units.checked_sub(1) {
+        None => true,
+        Some(fewer) => match select(alloc, query, document, fewer) {
+            Ok(_) => false,
+            Err(fault) => fault == SelectFault::Costly,
+        },
     }
 }
 

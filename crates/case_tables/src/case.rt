@@ -35,6 +35,12 @@ pub enum Case<'a> {
         query: &'a [u8],
         text: &'a [u8],
     },
+    /// What a query on a text is charged, or the name of what refuses it.
+    Charge {
+        wanted: &'a [u8],
+        query: &'a [u8],
+        text: &'a [u8],
+    },
     /// The paths and values of the hits of a query on a text.
     Hits {
         query: &'a [u8],
@@ -152,6 +158,11 @@ fn read_triple<'a>(
             text: second,
         }),
         b"count" => Some(Case::Count {
+            wanted,
+            query: first,
+            text: second,
+        }),
+        b"charge" => Some(Case::Charge {
             wanted,
             query: first,
             text: second,

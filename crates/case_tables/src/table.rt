@@ -1,8 +1,8 @@
 //! A table of cases: each line is tried as it comes.
 
 use crate::answers::{
-    grammar_verdict, lines, lines_or_name, query_count, query_verdict, text_length, text_verdict,
-    value_order, word,
+    grammar_verdict, lines, lines_or_name, query_charge, query_count, query_verdict, text_length,
+    text_verdict, value_order, word,
 };
 use crate::case::{Case, read_case};
 use crate::numbers::{break_of_order, limits_of, number_order};
@@ -144,6 +144,11 @@ fn answer_word(alloc: Global, case: &Case<'_>) -> Result<Outcome, AllocError> {
             query,
             text,
         } => (wanted, query_count(alloc, query, text)?),
+        Case::Charge {
+            wanted,
+            query,
+            text,
+        } => (wanted, query_charge(alloc, query, text)?),
         Case::Number { wanted, text } => (wanted, word(alloc, limits_of(text))?),
         Case::Numbers {
             wanted,
