@@ -48,3 +48,7 @@ pub mod StopBits
 pub mod Joined
 pub mod Sides
 pub mod Keeping
+pub mod Bridge
+pub mod Counting
+pub mod Walking
+pub mod PlaceWalk

@@ -18,3 +18,7 @@ pub mod Scanning
 pub mod Surrogates
 pub mod Limits
 pub mod Repeats
+pub mod Bridge
+pub mod Counting
+pub mod Walking
+pub mod Building

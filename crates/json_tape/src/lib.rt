@@ -19,6 +19,7 @@ mod duplicates;
 mod hashes;
 mod judge;
 pub mod laws;
+pub mod places;
 mod names;
 mod plain;
 mod reader;
