@@ -10,7 +10,7 @@ pub mod Steps
 pub mod PlainLanes
 pub mod Wholes
 pub mod Calls
-pub mod ReaderLoop
+pub mod WalkEnds
 pub mod Numbers
 pub mod Fits
 pub mod Shown
@@ -52,3 +52,4 @@ pub mod Bridge
 pub mod Counting
 pub mod Walking
 pub mod PlaceWalk
+pub mod Placing

@@ -22,3 +22,4 @@ pub mod Bridge
 pub mod Counting
 pub mod Walking
 pub mod Building
+pub mod Placing

@@ -6,6 +6,7 @@ ghost use Rattle.json_tape.specs.Scanning.{turn as turn_of, is_short as short, i
 ghost use Rattle.json_tape.specs.Surrogates.{number_of_hex, past_char, past_unit, past_byte, lone};
 
 use std::simd::prelude::*;
+use structural_index::Looks;
 
 /// Where a scan of a string stands: between characters, behind a backslash, or before a hexadecimal digit after which this many must come.
 #[derive(Clone, Copy)]
@@ -197,6 +198,29 @@ fn quote_end_past(text: &[u8], start: usize) -> Option<usize>
                 k += 1;
             }
         }
+    }
+    None
+}
+
+/// The same through looks, each byte once.
+#[inline(never)]
+#[tactic(auto, using(crate::proofs::Steps::quote_step, crate::proofs::Steps::quote_over))]
+pub fn quote_past(looks: &mut Looks<'_>, start: usize) -> Option<usize>
+    requires { start ≤ length looks.old.0 }
+    ensures value { result ≡ string_end Mode.Between start (drop start looks.old.0) }
+    ensures bound { IfSome result (λ end. (start < end) × (end ≤ length looks.old.0)) }
+    ensures same { looks.new.0 ≡ looks.old.0 }
+    ensures looked { IfSome result (λ end. looks.new.1 + start ≤ looks.old.1 + end) }
+{
+    let mut mode = Mode::Between;
+    let mut k = start;
+    while k < looks.length() {
+        match next_turn(mode, looks.at(k)) {
+            Turn::Stop => return Some(k + 1),
+            Turn::Fail => return None,
+            Turn::Go(next) => mode = next,
+        }
+        k += 1;
     }
     None
 }
