@@ -203,7 +203,7 @@ fn quote_end_past(text: &[u8], start: usize) -> Option<usize>
 }
 
 /// The same through looks, each byte once.
-#[inline(never)]
+#[inline(always)]
 #[tactic(auto, using(crate::proofs::Steps::quote_step, crate::proofs::Steps::quote_over))]
 pub fn quote_past(looks: &mut Looks<'_>, start: usize) -> Option<usize>
     requires { start ≤ length looks.old.0 }
@@ -330,6 +330,9 @@ fn first_escape(bytes: &[u8]) -> usize
 pub fn is_lone(bytes: &[u8]) -> bool
     ensures { result ≡ lone bytes.now }
 {
+    if !bytes.contains(&b'\\') {
+        return false;
+    }
     let mut state = Surrogates {
         mode: Mode::Between,
         unit: 0,

@@ -4,7 +4,7 @@
 ghost use Rattle.std.specs.Prelude.{◌≡◌, ◌+◌, ◌-◌, ◌^◌, ◌<◌, ◌≤◌, length, get_or, slice_index, IfOk, IfSome, IsUtf8, IsErrOf, IsTrue, true, false};
 ghost use Rattle.structural_index.specs.Answer.{IsIndexOf};
 ghost use Rattle.json_tape.specs.Machine.{IsSmall};
-ghost use Rattle.json_tape.specs.Lexing.{is_blank as blank, is_atom as atom, WordIs, Stepped, ended, Marked, DigitsStand};
+ghost use Rattle.json_tape.specs.Lexing.{is_blank as blank, is_atom as atom, WordIs, Stepped, ended, Marked, DigitsStand, IsFraction};
 ghost use Rattle.json_tape.specs.Limits.{AreShort};
 ghost use Rattle.decimal_order.specs.Number.{IsNumber};
 ghost use Rattle.json_tape.specs.Answer.{IsJson, StandsForAll, HasDepth, IsNoJson};
@@ -20,13 +20,15 @@ use decimal_order::{SHORT_LENGTH, scan};
 use std::alloc::Global;
 use structural_index::{Index, Looks, index};
 
-// How many of the bytes, from the first, are digits.
+// The place past the digits that stand here.
 #[inline(always)]
-fn digits_before(bytes: &[u8]) -> usize
-    ensures few { result ≤ length bytes.now }
-    ensures digits { DigitsStand bytes.now 0 result }
+fn digits_end(bytes: &[u8], start: usize) -> usize
+    requires { start ≤ length bytes.now }
+    ensures lower_bound { start ≤ result }
+    ensures upper_bound { result ≤ length bytes.now }
+    ensures digits { DigitsStand bytes.now start result }
 {
-    let mut k = 0;
+    let mut k = start;
     while k < bytes.len() {
         if !bytes[k].is_ascii_digit() {
             return k;
@@ -36,19 +38,62 @@ fn digits_before(bytes: &[u8]) -> usize
     k
 }
 
-// Whether these bytes, of which so many at the beginning are digits, are a whole number without a sign.
+// How many bytes at the beginning are a minus sign.
 #[inline(always)]
-#[tactic(auto, using(crate::proofs::Wholes::whole_number))]
-fn is_whole(bytes: &[u8], digits: usize) -> bool
-    requires { DigitsStand bytes.now 0 digits }
-    ensures { IsTrue result → IsNumber bytes.now }
+fn sign_length(bytes: &[u8]) -> usize
+    requires { 0 < length bytes.now }
+    ensures few { result ≤ 1 }
+    ensures minus { result ≡ 1 → get_or bytes.now 0 0 ≡ 45 }
 {
-    if digits == 0 || digits != bytes.len() {
-        return false;
-    }
-    bytes[0] != b'0'
+    if bytes[0] == b'-' { 1 } else { 0 }
 }
 
+// Whether there are digits from one place to before another, and the first is no 0 before another one.
+#[inline(always)]
+fn has_no_leading_zero(bytes: &[u8], start: usize, end: usize) -> bool
+    requires { end ≤ length bytes.now }
+    ensures some { IsTrue result → start < end }
+    ensures first { IsTrue result → get_or bytes.now start 0 ≡ 48 → end ≤ start + 1 }
+{
+    if start >= end {
+        return false;
+    }
+    bytes[start] != b'0' || end - start == 1
+}
+
+// Whether the bytes from a point on are one and digits.
+#[inline(always)]
+fn is_fraction(bytes: &[u8], point: usize) -> bool
+    requires { point < length bytes.now }
+    ensures { IsTrue result → IsFraction bytes.now point }
+{
+    if bytes[point] != b'.' || point + 1 >= bytes.len() {
+        return false;
+    }
+    digits_end(bytes, point + 1) == bytes.len()
+}
+
+// Whether the bytes are a number without an exponent.
+#[inline(always)]
+fn is_plain_number(bytes: &[u8]) -> bool
+    ensures { IsTrue result → IsNumber bytes.now }
+{
+    if bytes.is_empty() {
+        return false;
+    }
+    let start = sign_length(bytes);
+    let point = digits_end(bytes, start);
+    if !has_no_leading_zero(bytes, start, point) {
+        return false;
+    }
+    if point < bytes.len() {
+        is_fraction(bytes, point)
+    } else {
+        true
+    }
+}
+
+#[inline(never)]
 fn word_kind(bytes: &[u8]) -> Option<Kind>
     ensures { WordIs bytes.now result }
 {
@@ -67,13 +112,12 @@ fn word_kind(bytes: &[u8]) -> Option<Kind>
     None
 }
 
-// The kind of a word or a number, of whose bytes so many at the beginning are digits.
+// The kind of a word or a number.
 #[inline(always)]
-fn kind_of(bytes: &[u8], digits: usize) -> Option<Kind>
-    requires { DigitsStand bytes.now 0 digits }
+fn kind_of(bytes: &[u8]) -> Option<Kind>
     ensures { WordIs bytes.now result }
 {
-    if is_whole(bytes, digits) {
+    if is_plain_number(bytes) {
         Some(Kind::Number)
     } else {
         word_kind(bytes)
@@ -203,7 +247,7 @@ fn word(
     if bytes.len() > SHORT_LENGTH {
         *has_long = true;
     }
-    match kind_of(bytes, digits_before(bytes)) {
+    match kind_of(bytes) {
         None => Err(BuildFault::NotJson),
         Some(kind) => {
             let source = Extent {
