@@ -53,3 +53,4 @@ pub mod Counting
 pub mod Walking
 pub mod PlaceWalk
 pub mod Placing
+pub mod LoneSteps

@@ -20,7 +20,6 @@ mod hashes;
 mod judge;
 pub mod laws;
 mod names;
-pub mod places;
 mod plain;
 mod scalars;
 mod scan;
