@@ -10,7 +10,7 @@ pub mod Steps
 pub mod PlainLanes
 pub mod Wholes
 pub mod Calls
-pub mod ReaderLoop
+pub mod WalkEnds
 pub mod Numbers
 pub mod Fits
 pub mod Shown
@@ -48,3 +48,9 @@ pub mod StopBits
 pub mod Joined
 pub mod Sides
 pub mod Keeping
+pub mod Bridge
+pub mod Counting
+pub mod Walking
+pub mod PlaceWalk
+pub mod Placing
+pub mod LoneSteps

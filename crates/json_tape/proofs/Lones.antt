@@ -80,7 +80,7 @@ lone_none text tape t h e none (part, h', q) = let p = placed h' in by_part part
     by_part (Arr s es) n up label a q = absurd q
 
 -- where no byte is a backslash, no surrogate is spelt
-lone_slashless : (bs : List ℕ) → has_backslash bs ≡ false → lone bs ≡ false
+pub lone_slashless : (bs : List ℕ) → has_backslash bs ≡ false → lone bs ≡ false
 lone_slashless [] h = refl
 lone_slashless (b ∷ bs) h = let n = neither (nat_eq b 92) (has_backslash bs) h in let e = n.0 in rw e (lone_slashless bs n.1)
 

@@ -9,7 +9,7 @@ use Rattle.json_tape.specs.declared.scan.Mode.TheVariants.{Between}
 use Rattle.json_tape.specs.Scanning.{string_end, ArePlain}
 use Rattle.json_tape.specs.Spelling.{SpellPlainly}
 use Rattle.json_tape.proofs.Steps.{plain_step}
-use Rattle.json_tape.proofs.StopBits.{HasLane, combined, repeated, off, none as nothing_set}
+use Rattle.structural_index.proofs.Lanes.{HasLane, combined, repeated, off, none as nothing_set}
 
 -- ---- Bytes that stand for themselves
 

@@ -49,8 +49,7 @@ plain_step text k start h t e =
     sym s ∙ e
 
 -- and one that is no backslash spells no surrogate
-pub lone_plain : (bytes : List ℕ) (k : ℕ) → k < length bytes → (get_or bytes k 0 ≡ 92 → ⊥) → lone (drop k bytes) ≡ lone bytes → lone (drop (k + 1) bytes) ≡ lone bytes
-lone_plain bytes k h n e =
+pub lone_plain : (bytes : List ℕ) (k : ℕ) → k < length bytes → (get_or bytes k 0 ≡ 92 → ⊥) → lone (drop (k + 1) bytes) ≡ lone (drop k bytes)
+lone_plain bytes k h n =
     let t : eqb (get_or bytes k 0) 92 ≡ false = grind (arith, nat_tests) in
-    let s : lone (drop k bytes) ≡ lone (drop (k + 1) bytes) = ap lone (drop_more bytes k 0 h) ∙ rw t refl in
-    sym s ∙ e
+    sym (ap lone (drop_more bytes k 0 h) ∙ rw t refl)

@@ -1,33 +1,81 @@
--- A run of digits is a whole number.
-use Rattle.std.proofs.Common.{◌≡◌, ◌≢◌, ℕ, suc, ◌+◌, ◌<◌, inl, inr, true, cond, List, [], ◌∷◌, length, drop, get_or, refl, sym, ap, ◌∙◌, arith, append-nil}
-use Rattle.std.proofs.lemmas.Bool.Decides.{nat_tests}
-use Rattle.decimal_order.specs.Number.{IsDigit, AreDigits, IsNumber}
-use Rattle.json_tape.specs.Lexing.{is_atom, atom_end, DigitsStand}
-use Rattle.json_tape.proofs.Steps.{atom_step}
+-- A number without an exponent, by its digits.
+use Rattle.std.proofs.Common.{◌≡◌, ℕ, zero, suc, ◌+◌, ◌-◌, ◌<◌, ◌≤◌, inl, inr, List, [], ◌∷◌, ◌++◌, length, take, drop, get_or, refl, sym, ap, subst, ◌∙◌, arith, append-nil}
+use Rattle.std.proofs.lemmas.List.{drop_more, take_all, take-append-drop, length-drop, drop_all}
+use Rattle.std.proofs.lemmas.Bool.{cases_lt}
+use Rattle.decimal_order.specs.Number.{IsDigit, AreDigits, AreSomeDigits, Optional, IsMinus, IsInt, IsFrac, IsNumber}
+use Rattle.json_tape.specs.Lexing.{DigitsStand, IsFraction}
 
-digit_atom : (b : ℕ) → IsDigit b → is_atom b ≡ true
-digit_atom b h = grind (arith, nat_tests)
+-- the digits from a place on, as a list
+digits_part : (bs : List ℕ) (n a : ℕ) → a + n ≤ length bs → DigitsStand bs a (a + n) → AreDigits (take n (drop a bs))
+digits_part bs zero a l h = tt
+digits_part bs (suc n) a l h =
+    let rest = digits_part bs n (a + 1) (omega arith) (λ k from to. h k (omega arith) (omega arith)) in
+    subst (λ x. AreDigits (take (suc n) x)) (sym (drop_more bs a 0 (omega arith))) (h a (omega arith) (omega arith), rest)
 
-pub digit_step : (text : List ℕ) (k : ℕ) → k < length text → IsDigit (get_or text k 0) → atom_end (k + 1) (drop (k + 1) text) ≡ atom_end k (drop k text)
-digit_step text k h d = sym (atom_step text k h ∙ ap (λ b. cond b (atom_end (k + 1) (drop (k + 1) text)) k) (digit_atom (get_or text k 0) d))
+digits_last : (bs : List ℕ) (a : ℕ) → a < length bs → DigitsStand bs a (length bs) → AreSomeDigits (drop a bs)
+digits_last bs a l h =
+    let z : a + (length bs - a) ≡ length bs = omega arith in
+    let long = length-drop a bs in
+    let all = digits_part bs (length bs - a) a (omega arith) (subst (DigitsStand bs a) (sym z) h) in
+    some (drop a bs) (omega (arith, long)) (subst AreDigits (take_all (length bs - a) (drop a bs) (omega (arith, long))) all)
+  where
+    some : (ds : List ℕ) → 0 < length ds → AreDigits ds → AreSomeDigits ds
+    some [] l h = absurd (omega arith)
+    some (d ∷ ds) l h = h
 
-digits_stand : (bs : List ℕ) → DigitsStand bs 0 (length bs) → AreDigits bs
-digits_stand [] h = tt
-digits_stand (b ∷ bs) h = (h 0 (omega arith) (omega arith), digits_stand bs (λ k from to. h (suc k) (omega arith) (omega arith)))
+int_part : (bs : List ℕ) (n a : ℕ) → a + suc n ≤ length bs → DigitsStand bs a (a + suc n) → (get_or bs a 0 ≡ 48 → n ≡ 0) → IsInt (take (suc n) (drop a bs))
+int_part bs n a l h lead =
+    let d = h a (omega arith) (omega arith) in
+    let rest = digits_part bs n (a + 1) (omega arith) (λ k from to. h k (omega arith) (omega arith)) in
+    subst (λ x. IsInt (take (suc n) x)) (sym (drop_more bs a 0 (omega arith))) (by_lead (get_or bs a 0) (take n (drop (a + 1) bs)) d rest (λ e. ap (λ m. take m (drop (a + 1) bs)) (lead e)))
+  where
+    by_lead : (b : ℕ) (ds : List ℕ) → IsDigit b → AreDigits ds → (b ≡ 48 → ds ≡ []) → IsInt (b ∷ ds)
+    by_lead b ds d rest none = elim (cases_lt 48 b) [
+      | inl a ↦ inr (a, d.1, rest)
+      | inr a ↦ (let e : b ≡ 48 = omega (arith, d.0) in inl (e, none e))
+    ]
 
-pub whole_number : (bytes : List ℕ) (n : ℕ) → n ≡ length bytes → 0 < n → get_or bytes 0 0 ≢ 48 → DigitsStand bytes 0 n → IsNumber bytes
-whole_number [] n e p f h = absurd (omega arith)
-whole_number (b ∷ bs) n e p f h =
-    let d = h 0 (omega arith) p in
-    let rest = digits_stand bs (λ k from to. h (suc k) (omega arith) (omega (arith, e))) in
-    record {
-      minus = [];
-      int = b ∷ bs;
-      frac = [];
-      exp = [];
-      is_minus = inl refl;
-      is_int = inr (omega (arith, d.0), d.1, rest);
-      is_frac = inl refl;
-      is_exp = inl refl;
-      whole = sym (append-nil (b ∷ bs));
-    }
+drop_twice : (bs : List ℕ) (a n : ℕ) → drop n (drop a bs) ≡ drop (a + n) bs
+drop_twice bs zero n = let z : n ≡ 0 + n = omega arith in ap (λ k. drop k bs) z
+drop_twice [] (suc a) n = drop_none n ∙ sym (drop_none (suc a + n))
+  where
+    drop_none : (n : ℕ) → drop {A = ℕ} n [] ≡ []
+    drop_none zero = refl
+    drop_none (suc n) = refl
+drop_twice (b ∷ bs) (suc a) n = let z : suc (a + n) ≡ suc a + n = omega arith in drop_twice bs a n ∙ ap (λ k. drop k (b ∷ bs)) z
+
+minus_part : (bs : List ℕ) (start : ℕ) → start ≤ 1 → (start ≡ 1 → get_or bs 0 0 ≡ 45) → start < length bs → Optional IsMinus (take start bs)
+minus_part bs zero l m i = inl refl
+minus_part [] (suc zero) l m i = absurd (omega arith)
+minus_part (b ∷ bs) (suc zero) l m i = inr (ap (λ x. x ∷ []) (m refl))
+minus_part bs (suc (suc n)) l m i = absurd (omega arith)
+
+number_of : (bs : List ℕ) (start n : ℕ) → start ≤ 1 → (start ≡ 1 → get_or bs 0 0 ≡ 45) → start + suc n ≤ length bs → DigitsStand bs start (start + suc n) → (get_or bs start 0 ≡ 48 → n ≡ 0) → Optional IsFrac (drop (start + suc n) bs) → IsNumber bs
+number_of bs start n one m l digits lead f = record {
+  minus = take start bs;
+  int = take (suc n) (drop start bs);
+  frac = drop (start + suc n) bs;
+  exp = [];
+  is_minus = minus_part bs start one m (omega arith);
+  is_int = int_part bs n start l digits lead;
+  is_frac = f;
+  is_exp = inl refl;
+  whole =
+      sym (take-append-drop start bs) ∙ ap (λ x. take start bs ++ x)
+      (sym (take-append-drop (suc n) (drop start bs)) ∙ ap (λ x. take (suc n) (drop start bs) ++ x) (drop_twice bs start (suc n) ∙ sym (append-nil (drop (start + suc n) bs))));
+}
+
+-- digits alone, behind a sign or none
+pub whole_number : (bs : List ℕ) (start point : ℕ) → start ≤ 1 → (start ≡ 1 → get_or bs 0 0 ≡ 45) → start < point → point ≡ length bs → DigitsStand bs start point → (get_or bs start 0 ≡ 48 → point ≤ start + 1) → IsNumber bs
+whole_number bs start point one m p l digits lead =
+    let n = point - (start + 1) in
+    let z : start + suc n ≡ point = omega arith in
+    number_of bs start n one m (omega (arith, z, l)) (subst (DigitsStand bs start) (sym z) digits) (λ e. let few = lead e in omega arith) (inl (drop_all (start + suc n) bs (omega (arith, z, l))))
+
+-- and a fraction
+pub decimal_number : (bs : List ℕ) (start point : ℕ) → start ≤ 1 → (start ≡ 1 → get_or bs 0 0 ≡ 45) → start < point → point < length bs → DigitsStand bs start point → (get_or bs start 0 ≡ 48 → point ≤ start + 1) → IsFraction bs point → IsNumber bs
+decimal_number bs start point one m p l digits lead f =
+    let n = point - (start + 1) in
+    let z : start + suc n ≡ point = omega arith in
+    let frac = subst IsFrac (sym (drop_more bs point 0 l)) (f.0, digits_last bs (point + 1) f.1 f.2) in
+    number_of bs start n one m (omega (arith, z, l)) (subst (DigitsStand bs start) (sym z) digits) (λ e. let few = lead e in omega arith) (inr (subst (λ x. IsFrac (drop x bs)) (sym z) frac))

@@ -2,7 +2,8 @@
 use Rattle.std.proofs.Common.{Bool, ◌⊎◌, inl, inr, ◌≡◌, ◌≢◌, ℕ, zero, suc, ◌+◌, ◌-◌, ◌*◌, ◌%◌, ◌^◌, ◌<◌, ◌≤◌, eqb, leb, ltb, cond, bit_or, true, false, List, [], ◌∷◌, length, drop, map, replicate, get_or, Fits, w8, refl, sym, ap, ◌∙◌, subst, arith}
 use Rattle.std.proofs.lemmas.Simd.{length-chunk, get_or-chunk}
 use lib.Lanes.{chunk, zip2, mask_l, top}
-use Rattle.json_tape.proofs.StopBits.{loaded, stands_alone, none as nothing_set}
+use Rattle.structural_index.proofs.Lanes.{loaded, none as nothing_set}
+use Rattle.json_tape.proofs.StopBits.{stands_alone}
 use Rattle.std.specs.Prelude.{bytes_eq}
 use Rattle.std.specs.Str.{chars}
 use Rattle.std.proofs.lemmas.Bool.{cases_eq, cases_lt}

@@ -18,3 +18,8 @@ pub mod Scanning
 pub mod Surrogates
 pub mod Limits
 pub mod Repeats
+pub mod Bridge
+pub mod Counting
+pub mod Walking
+pub mod Building
+pub mod Placing

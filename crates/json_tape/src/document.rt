@@ -16,8 +16,8 @@ ghost use Rattle.json_tape.specs.Document.{tree_of, count, node_at, later, seen,
 use crate::compact::Tape;
 use crate::judge::{judge_tape, part_at};
 use crate::plain::{Words, is_meant_by, is_meant_plainly, words_of};
-use crate::reader::read;
 use crate::scalars::{Scalars, unquoted};
+use crate::second_stage::read;
 use crate::tape::{BuildFault, Entry, Kind, Lead, NodeId, Role, TextFault};
 use std::alloc::Global;
 use std::marker::Model;

@@ -7,9 +7,9 @@ ghost use Rattle.json_tape.specs.Spelling.{scalars_in, unquoted as inside, IsQuo
 ghost use Rattle.json_tape.specs.Repeats.{next_hash as hash_next, hash_of};
 
 use crate::scalars::{Scalars, unquoted};
-use crate::scan::lanes_before;
 use crate::tape::Extent;
 use std::simd::prelude::*;
+use structural_index::lanes_before;
 
 const FACTOR: u64 = 0x9E37_79B9_7F4A_7C15;
 

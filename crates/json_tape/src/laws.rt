@@ -7,6 +7,8 @@ ghost use Rattle.json_tape.specs.Meaning.{Means, HasLone, meaning};
 ghost use Rattle.json_tape.specs.Nodes.{way_size};
 ghost use Rattle.json_tape.specs.Verdict.{text_limit};
 ghost use Rattle.json_tape.specs.Document.{count, node_at};
+ghost use Rattle.json_tape.specs.Bridge.{StringsEndAtQuotes};
+ghost use Rattle.json_tape.specs.Counting.{PlacesAreTokens, SourceBytesAreTheTrees};
 
 use crate::document::Document;
 
@@ -32,3 +34,19 @@ pub fn ways_are_short(doc: &Document)
 {
     let _ = doc.root();
 }
+
+/// A string of the grammar that begins at an opening quote ends at the next quote that is not escaped.
+pub fn strings_end_at_quotes()
+    ensures { StringsEndAtQuotes }
+{}
+
+/// A JSON text has a place for each token of its tree.
+pub fn places_are_tokens()
+    ensures { PlacesAreTokens }
+{}
+
+/// The bytes of a JSON text that are in no whitespace and in no structural character outside strings are the
+/// source bytes of the names, strings, numbers and words of its tree.
+pub fn source_bytes_are_the_trees()
+    ensures { SourceBytesAreTheTrees }
+{}

@@ -21,12 +21,14 @@ mod judge;
 pub mod laws;
 mod names;
 mod plain;
-mod reader;
 mod scalars;
 mod scan;
+mod second_stage;
 mod tape;
 
+pub use compact::Tape;
 pub use document::{Document, TEXT_LIMIT};
 pub use judge::DEPTH_LIMIT;
 pub use scalars::Scalars;
-pub use tape::{Kind, Lead, NodeId, TextFault};
+pub use second_stage::build;
+pub use tape::{BuildFault, Kind, Lead, NodeId, TextFault};

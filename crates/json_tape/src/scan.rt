@@ -1,11 +1,11 @@
 // Strings: runs of bytes that stand for themselves, and what is between them byte by byte.
 
-ghost use Rattle.std.specs.Prelude.{IsTrue, ℕ, ◌≡◌, ◌+◌, ◌<◌, ◌≤◌, length, drop, IfSome};
-ghost use Rattle.std.specs.Int.{bit_at};
+ghost use Rattle.std.specs.Prelude.{IsTrue, ◌≡◌, false, ◌+◌, ◌<◌, ◌≤◌, length, drop, IfSome};
 ghost use Rattle.json_tape.specs.Scanning.{turn as turn_of, is_short as short, is_hex as hex, string_end, ArePlain};
-ghost use Rattle.json_tape.specs.Surrogates.{number_of_hex, past_char, past_unit, past_byte, lone};
+ghost use Rattle.json_tape.specs.Surrogates.{number_of_hex, past_char, past_unit, past_byte, standing, lone_from, lone, AreSlashless};
 
 use std::simd::prelude::*;
+use structural_index::{Looks, lanes_before};
 
 /// Where a scan of a string stands: between characters, behind a backslash, or before a hexadecimal digit after which this many must come.
 #[derive(Clone, Copy)]
@@ -111,16 +111,6 @@ fn plain_run(text: &[u8], at: usize) -> usize
     lanes_before(stops.to_bitmask(), LANES)
 }
 
-/// How many of so many lanes come before the first whose bit is set.
-#[inline(always)]
-pub fn lanes_before(stops: u64, lanes: usize) -> usize
-    requires { lanes < 64 }
-    ensures few { result ≤ lanes }
-    ensures clear { (i : ℕ) → i < result → bit_at stops i ≡ 0 }
-{
-    (stops | (1 << lanes)).trailing_zeros() as usize
-}
-
 // The place of the first byte from here on that does not stand for itself, or the end of the text.
 #[inline(always)]
 #[tactic(auto, using(crate::proofs::Steps::plain_step))]
@@ -197,6 +187,29 @@ fn quote_end_past(text: &[u8], start: usize) -> Option<usize>
                 k += 1;
             }
         }
+    }
+    None
+}
+
+/// The same through looks, each byte once.
+#[inline(always)]
+#[tactic(auto, using(crate::proofs::Steps::quote_step, crate::proofs::Steps::quote_over))]
+pub fn quote_past(looks: &mut Looks<'_>, start: usize) -> Option<usize>
+    requires { start ≤ length looks.old.0 }
+    ensures value { result ≡ string_end Mode.Between start (drop start looks.old.0) }
+    ensures bound { IfSome result (λ end. (start < end) × (end ≤ length looks.old.0)) }
+    ensures same { looks.new.0 ≡ looks.old.0 }
+    ensures looked { IfSome result (λ end. looks.new.1 + start ≤ looks.old.1 + end) }
+{
+    let mut mode = Mode::Between;
+    let mut k = start;
+    while k < looks.length() {
+        match next_turn(mode, looks.at(k)) {
+            Turn::Stop => return Some(k + 1),
+            Turn::Fail => return None,
+            Turn::Go(next) => mode = next,
+        }
+        k += 1;
     }
     None
 }
@@ -285,13 +298,27 @@ fn after_byte(state: Surrogates, b: u8) -> Option<Surrogates>
     }
 }
 
-// The place of the first backslash, or the end.
-#[tactic(auto, using(crate::proofs::Steps::lone_plain))]
-fn first_escape(bytes: &[u8]) -> usize
-    ensures bound { result ≤ length bytes.now }
-    ensures passed { lone (drop result bytes.now) ≡ lone bytes.now }
+// How many bytes of a load, from its first, are no backslash.
+#[inline(always)]
+fn slashless_run(bytes: &[u8], at: usize) -> usize
+    requires { at + LANES ≤ length bytes.now }
+    ensures few { result ≤ LANES }
+    ensures none { AreSlashless bytes.now at (at + result) }
 {
-    let mut k = 0;
+    let lanes = u8x16::from_slice(&bytes[at..]);
+    lanes_before(lanes.simd_eq(u8x16::splat(b'\\')).to_bitmask(), LANES)
+}
+
+// The place of the first backslash from here on, or the end.
+#[inline(always)]
+#[tactic(auto, using(crate::proofs::Steps::lone_plain))]
+fn first_escape_slowly(bytes: &[u8], start: usize) -> usize
+    requires { start ≤ length bytes.now }
+    ensures bound { result ≤ length bytes.now }
+    ensures from { start ≤ result }
+    ensures passed { lone (drop result bytes.now) ≡ lone (drop start bytes.now) }
+{
+    let mut k = start;
     while k < bytes.len() {
         if bytes[k] == b'\\' {
             return k;
@@ -299,6 +326,50 @@ fn first_escape(bytes: &[u8]) -> usize
         k += 1;
     }
     k
+}
+
+// The same, many bytes at a time while there are as many.
+#[inline(always)]
+#[tactic(auto, using(crate::proofs::LoneSteps::lone_plains))]
+fn first_escape(bytes: &[u8], start: usize) -> usize
+    requires { start ≤ length bytes.now }
+    ensures bound { result ≤ length bytes.now }
+    ensures from { start ≤ result }
+    ensures passed { lone (drop result bytes.now) ≡ lone (drop start bytes.now) }
+{
+    let mut k = start;
+    while bytes.len() - k >= LANES {
+        let run = slashless_run(bytes, k);
+        k += run;
+        if run < LANES {
+            return k;
+        }
+    }
+    first_escape_slowly(bytes, k)
+}
+
+fn is_new(state: Surrogates) -> bool
+    ensures { IsTrue result → state ≡ standing Mode.Between 0 false }
+{
+    match state.mode {
+        Mode::Between => state.unit == 0 && !state.high,
+        Mode::Escape | Mode::Hex(_) => false,
+    }
+}
+
+// The place at which a search goes on: where nothing is left of what stands before, the next backslash.
+#[inline(always)]
+fn past_plain(state: Surrogates, bytes: &[u8], start: usize) -> usize
+    requires { start ≤ length bytes.now }
+    ensures bound { result ≤ length bytes.now }
+    ensures from { start ≤ result }
+    ensures passed { lone_from state (drop result bytes.now) ≡ lone_from state (drop start bytes.now) }
+{
+    if is_new(state) {
+        first_escape(bytes, start)
+    } else {
+        start
+    }
 }
 
 /// Whether a surrogate of this string is lone.
@@ -311,11 +382,14 @@ pub fn is_lone(bytes: &[u8]) -> bool
         unit: 0,
         high: false,
     };
-    let escapes = &bytes[first_escape(bytes)..];
-    for b in escapes {
-        match after_byte(state, *b) {
+    let mut k = first_escape(bytes, 0);
+    while k < bytes.len() {
+        match after_byte(state, bytes[k]) {
             None => return true,
-            Some(next) => state = next,
+            Some(next) => {
+                state = next;
+                k = past_plain(next, bytes, k + 1);
+            }
         }
     }
     state.high

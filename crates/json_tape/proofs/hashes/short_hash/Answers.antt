@@ -1,6 +1,7 @@
 use Rattle.std.proofs.Common.{◌≡◌, ◌≢◌, ℕ, ◌+◌, ◌-◌, ◌<◌, ◌≤◌, get_or, subst, arith}
 use lib.Lanes.{chunk}
-use Rattle.json_tape.proofs.StopBits.{loaded, stands_alone}
+use Rattle.structural_index.proofs.Lanes.{loaded}
+use Rattle.json_tape.proofs.StopBits.{stands_alone}
 use Rattle.json_tape.proofs.ShortHashes.{short_hashed}
 use Rattle.json_tape.proofs.hashes.short_hash.Goals as goal
 

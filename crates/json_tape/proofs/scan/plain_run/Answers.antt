@@ -2,7 +2,8 @@ use Rattle.std.proofs.Common.{◌≡◌, ◌+◌, ◌-◌, ◌<◌, get_or, ap, 
 use lib.Lanes.{chunk}
 use Rattle.json_tape.specs.declared.scan.Mode.TheVariants.{Between}
 use Rattle.json_tape.specs.Scanning.{turn}
-use Rattle.json_tape.proofs.StopBits.{loaded, turns_on}
+use Rattle.structural_index.proofs.Lanes.{loaded}
+use Rattle.json_tape.proofs.StopBits.{turns_on}
 use Rattle.json_tape.proofs.scan.plain_run.Goals as goal
 
 pub returns-clause-plain : goal.returns-clause-plain

@@ -1,0 +1,265 @@
+-- What a token costs and shows at its place: strings by the byte before the next place, words by their run.
+use Rattle.std.proofs.Common.{◌≡◌, ℕ, zero, suc, ◌+◌, ◌-◌, ◌<◌, ◌≤◌, inl, inr, Bool, true, false, cond, List, [], ◌∷◌, ◌++◌, length, take, drop, get_or, filter, Option, Some, None, refl, sym, ap, subst, ◌∙◌, arith, append_assoc, length-append}
+use Rattle.std.specs.List.{range_with_len}
+use Rattle.std.specs.Prelude.{Ok, Err, IsUtf8}
+use Rattle.std.proofs.lemmas.Bool.{cases_lt}
+use Rattle.std.proofs.lemmas.List.{get_or_default, take-append-drop, drop_more, length-take-le, length-drop}
+use Rattle.structural_index.specs.Places.{byte, is_place, places, IsUnclosed}
+use Rattle.structural_index.specs.Seams.{IsSpan, IsAtomRun, is_plain_atom, next_place}
+use Rattle.json_tape.specs.Placing.{IsIndexed, ClosesBefore, StringEnds}
+use Rattle.json_tape.specs.Scanning.{string_end, turn, next_of}
+use Rattle.json_tape.specs.declared.scan.Mode.{Mode}
+use Rattle.json_tape.specs.declared.scan.Mode.TheVariants.{Between}
+use Rattle.json_tape.specs.declared.scan.Turn.{Turn}
+use Rattle.json_tape.specs.declared.scan.Turn.TheVariants.{Stop, Fail, Go}
+use Rattle.json_tape.specs.declared.tape.BuildFault.{BuildFault}
+use Rattle.json_tape.specs.declared.tape.Kind.{Kind}
+use Rattle.json_tape.specs.declared.tape.BuildFault.TheVariants.{NotJson, Memory}
+use Rattle.json_tape.specs.Lexing.{quote_end, atom_end, is_blank, is_atom, IsToken, sign, text, word, Taken, Stepped, Refused, WordIs, IsWord}
+use Rattle.json_tape.specs.Machine.{Token, Text, Word, State, run_at, step, Took}
+use Rattle.json_tape.specs.Walking.{weight}
+use Rattle.json_tape.proofs.Bridge.{plain_spells, scan_ends, same_classes}
+use Rattle.json_tape.proofs.Walking.{look_back, place_number, stands_value}
+use Rattle.json_tape.proofs.Calls.{behind, word_none, word_ok, word_err}
+use Rattle.json_tape.proofs.Tokens.{quote_found, refused_all}
+use Rattle.json_tape.proofs.Steps.{atom_step, atom_over}
+use Rattle.json_tape.proofs.PlaceWalk.{Walks, walks_token, plain_taken, same_default}
+
+-- ---- A scan of a part and of all
+
+-- a scan that ends within a part ends there in all of it, wherever that stands
+pub scan_more : (xs ys : List ℕ) (m : Mode) (k d e : ℕ) → string_end m k xs ≡ Some e → string_end m (k + d) (xs ++ ys) ≡ Some (e + d)
+scan_more [] ys m k d e h = absurd (cc)
+scan_more (b ∷ xs) ys m k d e h = go (λ n g. scan_more xs ys n (k + 1) d e g) (turn m b) h
+  where
+    go : ((n : Mode) → string_end n (k + 1) xs ≡ Some e → string_end n (k + 1 + d) (xs ++ ys) ≡ Some (e + d)) → (t : Turn) → next_of t (k + 1) (λ n. string_end n (k + 1) xs) ≡ Some e → next_of t (k + d + 1) (λ n. string_end n (k + d + 1) (xs ++ ys)) ≡ Some (e + d)
+    go ih Stop g = let l : k + 1 ≡ e = cc in let f : k + d + 1 ≡ e + d = omega arith in ap Some f
+    go ih Fail g = absurd (cc)
+    go ih (Go n) g =
+        let f : k + 1 + d ≡ k + d + 1 = omega arith in
+        subst (λ x. string_end n x (xs ++ ys) ≡ Some (e + d)) f (ih n g)
+
+scan_past : (bs : List ℕ) (m : Mode) (k e : ℕ) → string_end m k bs ≡ Some e → k < e
+scan_past [] m k e h = absurd (cc)
+scan_past (b ∷ bs) m k e h = go (λ n g. scan_past bs n (k + 1) e g) (turn m b) h
+  where
+    go : ((n : Mode) → string_end n (k + 1) bs ≡ Some e → k + 1 < e) → (t : Turn) → next_of t (k + 1) (λ n. string_end n (k + 1) bs) ≡ Some e → k < e
+    go ih Stop g = let l : k + 1 ≡ e = cc in omega arith
+    go ih Fail g = absurd (cc)
+    go ih (Go n) g = let l = ih n g in omega arith
+
+-- a scan that does not end within a part ends behind it
+pub scan_behind : (xs ys : List ℕ) (m : Mode) (k d e : ℕ) → string_end m k xs ≡ None → string_end m (k + d) (xs ++ ys) ≡ Some e → k + d + length xs < e
+scan_behind [] ys m k d e h g = let l = scan_past ys m (k + d) e g in omega arith
+scan_behind (b ∷ xs) ys m k d e h g = go (λ n h g. scan_behind xs ys n (k + 1) d e h g) (turn m b) h g
+  where
+    go : ((n : Mode) → string_end n (k + 1) xs ≡ None → string_end n (k + 1 + d) (xs ++ ys) ≡ Some e → k + 1 + d + length xs < e) → (t : Turn) → next_of t (k + 1) (λ n. string_end n (k + 1) xs) ≡ None → next_of t (k + d + 1) (λ n. string_end n (k + d + 1) (xs ++ ys)) ≡ Some e → k + d + suc (length xs) < e
+    go ih Stop h g = absurd (cc)
+    go ih Fail h g = absurd (cc)
+    go ih (Go n) h g =
+        let f : k + d + 1 ≡ k + 1 + d = omega arith in
+        let l = ih n h (subst (λ x. string_end n x (xs ++ ys) ≡ Some e) f g) in omega arith
+
+-- ---- Strings
+
+-- found by the scan of all bytes from its first character on
+pub found_string : (bytes : List ℕ) (i end : ℕ) → IsUtf8 bytes → i < length bytes → get_or bytes i 0 ≡ 34 → quote_end (i + 1) (drop (i + 1) bytes) ≡ Some end → StringEnds bytes i (Some end)
+found_string bytes i end u h q e =
+    let c = quote_found (i + 1) (drop (i + 1) bytes) end (behind bytes i u h q) e in
+    let long = length-append c.inside (34 ∷ []) in
+    let last = c.end in (
+      i + 1 + length c.inside,
+      (omega arith),
+      record {
+        bytes = 34 ∷ (c.inside ++ 34 ∷ []);
+        rest = c.rest;
+        characters = c.characters;
+        stands = drop_more bytes i 0 h ∙ ap (λ b. b ∷ drop (i + 1) bytes) q ∙ ap (λ l. 34 ∷ l) (c.is ∙ sym (append_assoc c.inside (34 ∷ []) c.rest));
+        is_string = (c.inside, c.are, refl);
+        end = omega arith;
+      },
+    )
+
+pub scanned_string : (bytes : List ℕ) (i : ℕ) (r : Option ℕ) → IsUtf8 bytes → i < length bytes → get_or bytes i 0 ≡ 34 → r ≡ quote_end (i + 1) (drop (i + 1) bytes) → StringEnds bytes i r
+scanned_string bytes i None u h q e = sym e
+scanned_string bytes i (Some end) u h q e = found_string bytes i end u h q (sym e)
+
+-- found between the opening quote and the quote before the next place
+pub plain_string : (bytes : List ℕ) (i m : ℕ) → IsIndexed bytes false → IsSpan bytes i m → StringEnds bytes i (Some (suc m))
+plain_string bytes i m x span =
+    let within = span.within in
+    (m, refl, plain_spells bytes i m x.utf8 x.controls span (λ k a b e. x.backslashes refl (k, omega arith, e)))
+
+abbrev pub part_of : List ℕ → (i next : ℕ) → List ℕ
+part_of bytes i next = take (next - (i + 1)) (drop (i + 1) bytes)
+
+pub part_found : (bytes : List ℕ) (i m e : ℕ) → IsUtf8 bytes → get_or bytes i 0 ≡ 34 → IsSpan bytes i m → string_end Between 0 (part_of bytes i (suc m)) ≡ Some e → StringEnds bytes i (Some (suc m))
+part_found bytes i m e u q span h =
+    let within = span.within in let after = span.after in
+    let n = suc m - (i + 1) in
+    let whole = scan_more (part_of bytes i (suc m)) (drop n (drop (i + 1) bytes)) Between 0 (i + 1) e h in
+    let z : 0 + (i + 1) ≡ i + 1 = omega arith in
+    let all : string_end Between (i + 1) (drop (i + 1) bytes) ≡ Some (e + (i + 1)) = ap (string_end Between (i + 1)) (sym (take-append-drop n (drop (i + 1) bytes))) ∙ ap (λ k. string_end Between k (part_of bytes i (suc m) ++ drop n (drop (i + 1) bytes))) (sym z) ∙ whole in
+    let same = scan_ends bytes i m (e + (i + 1)) u span all in
+    found_string bytes i (suc m) u (omega arith) q (all ∙ ap Some same)
+
+pub part_none : (bytes : List ℕ) (i m : ℕ) → IsUtf8 bytes → IsSpan bytes i m → string_end Between 0 (part_of bytes i (suc m)) ≡ None → StringEnds bytes i None
+part_none bytes i m u span h = by_scan (string_end Between (i + 1) (drop (i + 1) bytes)) refl
+  where
+    by_scan : (r : Option ℕ) → string_end Between (i + 1) (drop (i + 1) bytes) ≡ r → string_end Between (i + 1) (drop (i + 1) bytes) ≡ None
+    by_scan None e = e
+    by_scan (Some x) e =
+        let within = span.within in let after = span.after in
+        let n = suc m - (i + 1) in
+        let same = scan_ends bytes i m x u span e in
+        let left = length-drop (i + 1) bytes in
+        let long = length-take-le n (drop (i + 1) bytes) (omega (arith, left)) in
+        let z : 0 + (i + 1) ≡ i + 1 = omega arith in
+        let l = scan_behind (part_of bytes i (suc m)) (drop n (drop (i + 1) bytes)) Between 0 (i + 1) x h (ap (λ k. string_end Between k (part_of bytes i (suc m) ++ drop n (drop (i + 1) bytes))) z ∙ ap (string_end Between (i + 1)) (take-append-drop n (drop (i + 1) bytes)) ∙ e) in
+        absurd (omega (arith, same, long, l))
+
+-- by the test that the code makes
+abbrev pub HasQuoteBefore : List ℕ → (i next : ℕ) → Type 0
+HasQuoteBefore bytes i next = (i + 1 < next) × (get_or bytes (next - 1) 0 ≡ 34)
+
+span_before : (bytes : List ℕ) (i next : ℕ) → ClosesBefore bytes i next → next ≤ length bytes → get_or bytes i 0 ≡ 34 → HasQuoteBefore bytes i next → (m : ℕ) × (next ≡ suc m) × IsSpan bytes i m
+span_before bytes i next c l q (a, b) =
+    let e : next ≡ suc (next - 1) = omega arith in
+    (next - 1, e, c (next - 1) e (omega arith) (sym (same_default bytes i (omega arith)) ∙ q) (sym (same_default bytes (next - 1) (omega arith)) ∙ b))
+
+pub plain_before : (bytes : List ℕ) (i next : ℕ) → IsIndexed bytes false → ClosesBefore bytes i next → next ≤ length bytes → get_or bytes i 0 ≡ 34 → HasQuoteBefore bytes i next → StringEnds bytes i (Some next)
+plain_before bytes i next x c l q h =
+    let (m, e, span) = span_before bytes i next c l q h in
+    subst (λ n. StringEnds bytes i (Some n)) (sym e) (plain_string bytes i m x span)
+
+pub part_before : (bytes : List ℕ) (i next end : ℕ) → IsUtf8 bytes → ClosesBefore bytes i next → next ≤ length bytes → get_or bytes i 0 ≡ 34 → HasQuoteBefore bytes i next → string_end Between 0 (part_of bytes i next) ≡ Some end → StringEnds bytes i (Some next)
+part_before bytes i next end u c l q h found =
+    let (m, e, span) = span_before bytes i next c l q h in
+    subst (λ n. StringEnds bytes i (Some n)) (sym e) (part_found bytes i m end u q span (ap (λ n. string_end Between 0 (part_of bytes i n)) (sym e) ∙ found))
+
+pub no_part_before : (bytes : List ℕ) (i next : ℕ) → IsUtf8 bytes → ClosesBefore bytes i next → next ≤ length bytes → get_or bytes i 0 ≡ 34 → HasQuoteBefore bytes i next → string_end Between 0 (part_of bytes i next) ≡ None → StringEnds bytes i None
+no_part_before bytes i next u c l q h none =
+    let (m, e, span) = span_before bytes i next c l q h in
+    part_none bytes i m u span (ap (λ n. string_end Between 0 (part_of bytes i n)) (sym e) ∙ none)
+
+-- the builder's call for it
+pub string_taken : (bytes : List ℕ) (i end : ℕ) (s new : State) (r : Unit {0}) → StringEnds bytes i (Some end) → Took (step (Text (run_at i (end - i))) s) (Ok r) new → Taken bytes i end s new
+string_taken bytes i end s new r (j, e, x) t =
+    subst (λ n. Taken bytes i n s new) (sym e) (plain_taken bytes i j s new x (ap (λ n. step (Text (run_at i (n - i))) s) (sym e) ∙ t))
+
+pub string_fails : (bytes : List ℕ) (i end : ℕ) (s new : State) (f : BuildFault) → StringEnds bytes i (Some end) → Took {A = Unit {0}} (step (Text (run_at i (end - i))) s) (Err f) new → Stepped bytes i s (Err f) new
+string_fails bytes i end s new Memory x t = tt
+string_fails bytes i end s new NotJson (j, e, x) t =
+    let last = x.end in
+    let size : end - i ≡ length x.bytes = omega arith in
+    refused_all bytes x.bytes x.rest i (Text (run_at i (length x.bytes))) s x.stands (text x.characters x.is_string) (ap (λ n. step (Text (run_at i n)) s) (sym size) ∙ t)
+
+-- ---- Words and numbers
+
+atom_run : (bytes : List ℕ) (n i : ℕ) → i + n ≤ length bytes → ((k : ℕ) → i ≤ k → k < i + n → is_plain_atom (byte bytes k) ≡ true) → (i + n < length bytes → is_plain_atom (byte bytes (i + n)) ≡ false) → atom_end i (drop i bytes) ≡ i + n
+atom_run bytes zero i l each over = elim (cases_lt i (length bytes)) [
+  | inl a ↦ (let z : i + 0 ≡ i = omega arith in
+      let none : is_atom (get_or bytes i 0) ≡ false = ap is_atom (same_default bytes i a) ∙ sym (same_classes (byte bytes i)).atom ∙ ap (λ x. is_plain_atom (byte bytes x)) (sym z) ∙ over (omega arith) in
+      atom_step bytes i a ∙ ap (λ b. cond b (atom_end (i + 1) (drop (i + 1) bytes)) i) none ∙ sym z)
+  | inr a ↦ (let z : i + 0 ≡ i = omega arith in atom_over bytes i a ∙ sym z)
+]
+atom_run bytes (suc n) i l each over =
+    let z : i + 1 + n ≡ i + suc n = omega arith in
+    let is : is_atom (get_or bytes i 0) ≡ true = ap is_atom (same_default bytes i (omega arith)) ∙ sym (same_classes (byte bytes i)).atom ∙ each i (omega arith) (omega arith) in
+    atom_step bytes i (omega arith) ∙ ap (λ b. cond b (atom_end (i + 1) (drop (i + 1) bytes)) i) is
+    ∙ atom_run bytes n (i + 1) (omega arith) (λ k a b. each k (omega arith) (omega arith)) (λ a. ap (λ x. is_plain_atom (byte bytes x)) z ∙ over (omega arith)) ∙ z
+
+pub run_ends : (bytes : List ℕ) (i n : ℕ) → IsAtomRun bytes i (i + n) → i + n ≡ atom_end i (drop i bytes)
+run_ends bytes i n r = sym (atom_run bytes n i r.to r.each r.over)
+
+-- ---- The price of a token
+
+pub token_weighs : {p : ℕ} {vs rest : List ℕ} {tok : Token} → IsToken p vs tok rest → length vs ≤ weight tok + 1
+token_weighs (sign h) = omega arith
+token_weighs (text cs h) = omega arith
+token_weighs (word a n k) = omega arith
+
+pub taken_weighs : (bytes : List ℕ) (i j now later : ℕ) (s new : State) → (taken : Taken bytes i j s new) → later + i ≤ now + j + 2 → later ≤ now + 3 + weight taken.tok
+taken_weighs bytes i j now later s new taken h = let w = token_weighs taken.is_token in let e = taken.end in omega arith
+
+-- ---- The places
+
+-- no place is behind the end
+places_in : (p : ℕ → Bool) (n a d k : ℕ) → a + n ≤ d → get_or (filter p (range_with_len a n)) k d ≤ d
+places_in p zero a d k l = omega arith
+places_in p (suc n) a d k l = go (λ k. places_in p n (a + 1) d k (omega arith)) (p a) k
+  where
+    go : ((k : ℕ) → get_or (filter p (range_with_len (a + 1) n)) k d ≤ d) → (b : Bool) (k : ℕ) → get_or (cond b (a ∷ filter p (range_with_len (a + 1) n)) (filter p (range_with_len (a + 1) n))) k d ≤ d
+    go ih true zero = omega arith
+    go ih true (suc k) = ih k
+    go ih false k = ih k
+
+pub place_in : (bytes : List ℕ) (k : ℕ) → get_or (places bytes) k (length bytes) ≤ length bytes
+place_in bytes k = places_in (is_place bytes) (length bytes - 0) 0 (length bytes) k (omega arith)
+
+-- the bytes that a run lends
+size_back : (i n : ℕ) → i + n - i ≡ n
+size_back i n = omega arith
+
+run_bytes : (bytes bs : List ℕ) (i : ℕ) → bs ≡ take (length bs) (drop i bytes) → bs ≡ take (i + length bs - i) (drop i bytes)
+run_bytes bytes bs i e = e ∙ ap (λ n. take n (drop i bytes)) (sym (size_back i (length bs)))
+
+pub word_absent : (bytes bs : List ℕ) (i : ℕ) (s : State) → i < length bytes → is_atom (get_or bytes i 0) ≡ true → bs ≡ take (length bs) (drop i bytes) → IsAtomRun bytes i (i + length bs) → WordIs bs None → Refused bytes i s
+word_absent bytes bs i s h q e r w = word_none bytes i (i + length bs) s h q (run_ends bytes i (length bs) r) (subst (λ l. WordIs l None) (run_bytes bytes bs i e) w)
+
+pub word_taken : (bytes bs : List ℕ) (i : ℕ) (k : Kind) (s new : State) (x : Unit {0}) → i < length bytes → is_atom (get_or bytes i 0) ≡ true → bs ≡ take (length bs) (drop i bytes) → IsAtomRun bytes i (i + length bs) → IsWord bs k → Took (step (Word (run_at i (length bs)) k) s) (Ok x) new → Taken bytes i (i + length bs) s new
+word_taken bytes bs i k s new x h q e r w t =
+    word_ok bytes i (i + length bs) k s new x h q (run_ends bytes i (length bs) r) (subst (λ l. IsWord l k) (run_bytes bytes bs i e) w) (ap (λ n. step (Word (run_at i n) k) s) (size_back i (length bs)) ∙ t)
+
+pub word_fails : (bytes bs : List ℕ) (i : ℕ) (k : Kind) (s new : State) (f : BuildFault) → i < length bytes → is_atom (get_or bytes i 0) ≡ true → bs ≡ take (length bs) (drop i bytes) → IsAtomRun bytes i (i + length bs) → IsWord bs k → Took {A = Unit {0}} (step (Word (run_at i (length bs)) k) s) (Err f) new → Stepped bytes i s (Err f) new
+word_fails bytes bs i k s new f h q e r w t =
+    word_err bytes i (i + length bs) k s new f h q (run_ends bytes i (length bs) r) (subst (λ l. IsWord l k) (run_bytes bytes bs i e) w) (subst (λ n. Took {A = Unit {0}} (step (Word (run_at i n) k) s) (Err f) new) (sym (size_back i (length bs))) t)
+
+-- ---- By the list of places
+
+-- the list that the code reads: the place with number k, and the one behind it
+pub record IsListed (bytes items : List ℕ) (k i next : ℕ) : Type 0 where
+  pub list : items ≡ places bytes
+  pub number : k < length items
+  pub here : i ≡ get_or items k 0
+  pub behind : next ≡ get_or items (k + 1) (length bytes)
+
+pub place_here : (bytes items : List ℕ) (k i next : ℕ) → IsListed bytes items k i next → get_or (places bytes) k (length bytes) ≡ i
+place_here bytes items k i next h = ap (λ (l : List ℕ). get_or l k (length bytes)) (sym h.list) ∙ get_or_default items k (length bytes) 0 h.number ∙ sym h.here
+
+pub walks_here : (bytes items : List ℕ) (k i next before now : ℕ) (s : State) → IsListed bytes items k i next → Walks bytes k (get_or (places bytes) k (length bytes)) before now s → Walks bytes k i before now s
+walks_here bytes items k i next before now s h w = subst (λ x. Walks bytes k x before now s) (place_here bytes items k i next h) w
+
+pub next_in : (bytes items : List ℕ) (k i next : ℕ) → IsListed bytes items k i next → next ≤ length bytes
+next_in bytes items k i next h =
+    let e : next ≡ get_or (places bytes) (k + 1) (length bytes) = h.behind ∙ ap (λ (l : List ℕ). get_or l (k + 1) (length bytes)) h.list in
+    let l = place_in bytes (k + 1) in omega arith
+
+pub walks_closes : (bytes items : List ℕ) (k i next before now : ℕ) (s : State) → IsListed bytes items k i next → (IsUnclosed bytes → ⊥) → Walks bytes k i before now s → ClosesBefore bytes i next
+walks_closes bytes items k i next before now s h u w m e l q q' =
+    let f : suc k ≡ k + 1 = omega arith in
+    look_back bytes k i m u w.here q (ap (λ n. get_or (places bytes) n (length bytes)) f ∙ ap (λ (l : List ℕ). get_or l (k + 1) (length bytes)) (sym h.list) ∙ sym h.behind ∙ e) l q'
+
+pub walks_inside : (bytes items : List ℕ) (k i next before now : ℕ) (s : State) → IsListed bytes items k i next → Walks bytes k i before now s → i < length bytes
+walks_inside bytes items k i next before now s h w = let number = place_number bytes k i w.here in number.over (let a = h.number in let e = ap length h.list in omega arith)
+
+pub walks_solid : (bytes : List ℕ) (k i before now : ℕ) (s : State) → Walks bytes k i before now s → i < length bytes → is_blank (get_or bytes i 0) ≡ false
+walks_solid bytes k i before now s w l = let number = place_number bytes k i w.here in ap is_blank (same_default bytes i l) ∙ number.solid l
+
+-- behind the last place the text is over
+pub walks_over : (bytes : List ℕ) (k i before now : ℕ) (s : State) → Walks bytes k i before now s → length (places bytes) ≤ k → length bytes ≤ i
+walks_over bytes k i before now s w l = elim (cases_lt i (length bytes)) [
+  | inl a ↦ (let number = place_number bytes k i w.here in let b = number.more a in absurd (omega arith))
+  | inr a ↦ a
+]
+
+pub walks_on : (bytes : List ℕ) (k i j before now later : ℕ) (s new : State) → Walks bytes k i before now s → i < length bytes → Taken bytes i j s new → later + i ≤ now + j + 2 → Walks bytes (k + 1) (get_or (places bytes) (k + 1) (length bytes)) before later new
+walks_on bytes k i j before now later s new w l taken p =
+    let on = walks_token bytes k i j before now later s new w l taken (taken_weighs bytes i j now later s new taken p) in
+    let at : next_place bytes j ≡ get_or (places bytes) (suc k) (length bytes) = stands_value bytes (suc k) (next_place bytes j) on.here in
+    let f : suc k ≡ k + 1 = omega arith in
+    subst (λ n. Walks bytes n (get_or (places bytes) n (length bytes)) before later new) f (subst (λ x. Walks bytes (suc k) x before later new) at on)
+
+-- what the scan of a lent part says
+pub scanned_part : (bytes other part : List ℕ) (i next : ℕ) (r : Option ℕ) → other ≡ bytes → part ≡ take (next - (i + 1)) (drop (i + 1) other) → r ≡ string_end Between 0 part → string_end Between 0 (part_of bytes i next) ≡ r
+scanned_part bytes other part i next r e f g = ap (λ b. string_end Between 0 (take (next - (i + 1)) (drop (i + 1) b))) (sym e) ∙ ap (string_end Between 0) (sym f) ∙ sym g

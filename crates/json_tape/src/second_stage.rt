@@ -1,0 +1,399 @@
+//! Builds the tape of a text from the places of its index, one token each (Langdale and Lemire, "Parsing Gigabytes of JSON per
+//! Second", section 3.2).
+
+ghost use Rattle.std.specs.Prelude.{◌≡◌, ◌+◌, ◌-◌, ◌^◌, ◌<◌, ◌≤◌, length, get_or, slice_index, IfOk, IfSome, IsUtf8, IsErrOf, IsTrue, true, false};
+ghost use Rattle.structural_index.specs.Answer.{IsIndexOf};
+ghost use Rattle.json_tape.specs.Machine.{IsSmall};
+ghost use Rattle.json_tape.specs.Lexing.{is_blank as blank, is_atom as atom, WordIs, Stepped, ended, Marked, DigitsStand, IsFraction};
+ghost use Rattle.json_tape.specs.Limits.{AreShort};
+ghost use Rattle.decimal_order.specs.Number.{IsNumber};
+ghost use Rattle.json_tape.specs.Answer.{IsJson, StandsForAll, HasDepth, IsNoJson};
+ghost use Rattle.json_tape.specs.Building.{IsBounded};
+ghost use Rattle.json_tape.specs.Verdict.{text_limit};
+ghost use Rattle.json_tape.specs.Placing.{IsIndexed, ClosesBefore, StringEnds};
+
+use crate::builder::Builder;
+use crate::compact::Tape;
+use crate::scan::{quote_end, quote_past};
+use crate::tape::{BuildFault, Extent, Kind, Shape};
+use decimal_order::{SHORT_LENGTH, scan};
+use std::alloc::Global;
+use structural_index::{Index, Looks, index};
+
+// The place past the digits that stand here.
+#[inline(always)]
+fn digits_end(bytes: &[u8], start: usize) -> usize
+    requires { start ≤ length bytes.now }
+    ensures lower_bound { start ≤ result }
+    ensures upper_bound { result ≤ length bytes.now }
+    ensures digits { DigitsStand bytes.now start result }
+{
+    let mut k = start;
+    while k < bytes.len() {
+        if !bytes[k].is_ascii_digit() {
+            return k;
+        }
+        k += 1;
+    }
+    k
+}
+
+// How many bytes at the beginning are a minus sign.
+#[inline(always)]
+fn sign_length(bytes: &[u8]) -> usize
+    requires { 0 < length bytes.now }
+    ensures few { result ≤ 1 }
+    ensures minus { result ≡ 1 → get_or bytes.now 0 0 ≡ 45 }
+{
+    if bytes[0] == b'-' { 1 } else { 0 }
+}
+
+// Whether there are digits from one place to before another, and the first is no 0 before another one.
+#[inline(always)]
+fn has_no_leading_zero(bytes: &[u8], start: usize, end: usize) -> bool
+    requires { end ≤ length bytes.now }
+    ensures some { IsTrue result → start < end }
+    ensures first { IsTrue result → get_or bytes.now start 0 ≡ 48 → end ≤ start + 1 }
+{
+    if start >= end {
+        return false;
+    }
+    bytes[start] != b'0' || end - start == 1
+}
+
+// Whether the bytes from a point on are one and digits.
+#[inline(always)]
+fn is_fraction(bytes: &[u8], point: usize) -> bool
+    requires { point < length bytes.now }
+    ensures { IsTrue result → IsFraction bytes.now point }
+{
+    if bytes[point] != b'.' || point + 1 >= bytes.len() {
+        return false;
+    }
+    digits_end(bytes, point + 1) == bytes.len()
+}
+
+// Whether the bytes are a number without an exponent.
+#[inline(always)]
+fn is_plain_number(bytes: &[u8]) -> bool
+    ensures { IsTrue result → IsNumber bytes.now }
+{
+    if bytes.is_empty() {
+        return false;
+    }
+    let start = sign_length(bytes);
+    let point = digits_end(bytes, start);
+    if !has_no_leading_zero(bytes, start, point) {
+        return false;
+    }
+    if point < bytes.len() {
+        is_fraction(bytes, point)
+    } else {
+        true
+    }
+}
+
+#[inline(never)]
+fn word_kind(bytes: &[u8]) -> Option<Kind>
+    ensures { WordIs bytes.now result }
+{
+    if scan(bytes).is_some() {
+        return Some(Kind::Number);
+    }
+    if bytes == b"null".as_slice() {
+        return Some(Kind::Null);
+    }
+    if bytes == b"true".as_slice() {
+        return Some(Kind::Bool(true));
+    }
+    if bytes == b"false".as_slice() {
+        return Some(Kind::Bool(false));
+    }
+    None
+}
+
+// The kind of a word or a number.
+#[inline(always)]
+fn kind_of(bytes: &[u8]) -> Option<Kind>
+    ensures { WordIs bytes.now result }
+{
+    if is_plain_number(bytes) {
+        Some(Kind::Number)
+    } else {
+        word_kind(bytes)
+    }
+}
+
+// The place behind place number k, or the end of the text.
+#[inline(always)]
+fn place_behind(places: &[u32], k: usize, end: usize) -> usize
+    requires { k < length places.now }
+    ensures { result ≡ get_or places.now (k + 1) end }
+{
+    if k + 1 < places.len() {
+        places[k + 1] as usize
+    } else {
+        end
+    }
+}
+
+// Where the token of one byte at i ends, if the builder took it.
+#[inline(always)]
+fn past_sign(taken: Result<(), BuildFault>, i: usize) -> Result<usize, BuildFault>
+    requires { i < 2 ^ 31 }
+    ensures { result ≡ ended (i + 1) taken }
+{
+    match taken {
+        Ok(()) => Ok(i + 1),
+        Err(fault) => Err(fault),
+    }
+}
+
+// Whether a quote other than the one at i stands right before this place.
+#[inline(always)]
+fn has_quote_before(looks: &mut Looks<'_>, i: usize, next: usize) -> bool
+    requires near { next ≤ length looks.old.0 }
+    requires short { length looks.old.0 ≤ 2 ^ 22 }
+    ensures behind { IsTrue result → i + 1 < next }
+    ensures quote { IsTrue result → slice_index looks.old.0 (next - 1) ≡ 34 }
+    ensures same { looks.new.0 ≡ looks.old.0 }
+    ensures looked { looks.new.1 ≤ looks.old.1 + 1 }
+{
+    if next < 2 || i >= next - 1 {
+        return false;
+    }
+    looks.at(next - 1) == b'"'
+}
+
+// The place past the string that begins at i, where the place behind it is this one.
+#[inline(always)]
+fn string_end(looks: &mut Looks<'_>, i: usize, next: usize, escapes: bool) -> Option<usize>
+    requires in_text { i < length looks.old.0 }
+    requires near { next ≤ length looks.old.0 }
+    requires short { length looks.old.0 ≤ 2 ^ 22 }
+    requires quote { slice_index looks.old.0 i ≡ 34 }
+    requires indexed { IsIndexed looks.old.0 escapes }
+    requires closes { ClosesBefore looks.old.0 i next }
+    ensures ends { StringEnds looks.old.0 i result }
+    ensures bound { IfSome result (λ end. (i < end) × (end ≤ length looks.old.0)) }
+    ensures same { looks.new.0 ≡ looks.old.0 }
+    ensures looked { IfSome result (λ end. looks.new.1 + i ≤ looks.old.1 + end) }
+{
+    if !has_quote_before(looks, i, next) {
+        return quote_past(looks, i + 1);
+    }
+    if !escapes {
+        return Some(next);
+    }
+    match quote_end(looks.part(i + 1, next), 0) {
+        Some(_) => Some(next),
+        None => None,
+    }
+}
+
+// A string.
+#[inline(always)]
+fn string(
+    looks: &mut Looks<'_>,
+    i: usize,
+    next: usize,
+    escapes: bool,
+    builder: &mut Builder,
+) -> Result<usize, BuildFault>
+    requires in_text { i < length looks.old.0 }
+    requires near { next ≤ length looks.old.0 }
+    requires short { length looks.old.0 ≤ 2 ^ 22 }
+    requires small { IsSmall (2 ^ 22) builder.old }
+    requires quote { slice_index looks.old.0 i ≡ 34 }
+    requires indexed { IsIndexed looks.old.0 escapes }
+    requires closes { ClosesBefore looks.old.0 i next }
+    ensures stepped { Stepped looks.old.0 i builder.old result builder.new }
+    ensures same { looks.new.0 ≡ looks.old.0 }
+    ensures looked { IfOk result (λ end. looks.new.1 + i ≤ looks.old.1 + end) }
+{
+    match string_end(looks, i, next, escapes) {
+        None => Err(BuildFault::NotJson),
+        Some(end) => {
+            let source = Extent {
+                start: i as u32,
+                len: (end - i) as u32,
+            };
+            match builder.text(source) {
+                Ok(()) => Ok(end),
+                Err(fault) => Err(fault),
+            }
+        }
+    }
+}
+
+// A word or a number. One of few bytes is within the limits.
+#[inline(always)]
+fn word(
+    looks: &mut Looks<'_>,
+    i: usize,
+    builder: &mut Builder,
+    has_long: &mut bool,
+) -> Result<usize, BuildFault>
+    requires in_text { i < length looks.old.0 }
+    requires short { length looks.old.0 ≤ 2 ^ 22 }
+    requires small { IsSmall (2 ^ 22) builder.old }
+    requires is_atom { atom (slice_index looks.old.0 i) ≡ true }
+    ensures stepped { Stepped looks.old.0 i builder.old result builder.new }
+    ensures marked { Marked looks.old.0 i has_long.old result has_long.new }
+    ensures same { looks.new.0 ≡ looks.old.0 }
+    ensures looked { IfOk result (λ end. looks.new.1 + i ≤ looks.old.1 + end + 1) }
+{
+    let bytes = looks.atoms(i);
+    if bytes.len() > SHORT_LENGTH {
+        *has_long = true;
+    }
+    match kind_of(bytes) {
+        None => Err(BuildFault::NotJson),
+        Some(kind) => {
+            let source = Extent {
+                start: i as u32,
+                len: bytes.len() as u32,
+            };
+            match builder.leaf(source, kind) {
+                Ok(()) => Ok(i + bytes.len()),
+                Err(fault) => Err(fault),
+            }
+        }
+    }
+}
+
+// The token at i, where the place behind it is this one. Marks where a word is long.
+#[inline(always)]
+fn token(
+    looks: &mut Looks<'_>,
+    i: usize,
+    next: usize,
+    escapes: bool,
+    builder: &mut Builder,
+    has_long: &mut bool,
+) -> Result<usize, BuildFault>
+    requires in_text { i < length looks.old.0 }
+    requires near { next ≤ length looks.old.0 }
+    requires short { length looks.old.0 ≤ 2 ^ 22 }
+    requires small { IsSmall (2 ^ 22) builder.old }
+    requires indexed { IsIndexed looks.old.0 escapes }
+    requires closes { ClosesBefore looks.old.0 i next }
+    requires no_blank { blank (slice_index looks.old.0 i) ≡ false }
+    ensures stepped { Stepped looks.old.0 i builder.old result builder.new }
+    ensures marked { Marked looks.old.0 i has_long.old result has_long.new }
+    ensures same { looks.new.0 ≡ looks.old.0 }
+    ensures looked { IfOk result (λ end. looks.new.1 + i ≤ looks.old.1 + end + 2) }
+{
+    match looks.at(i) {
+        b'"' => string(looks, i, next, escapes, builder),
+        b'[' => past_sign(builder.open(Shape::Array, i as u32), i),
+        b']' => past_sign(builder.close(Shape::Array, i as u32), i),
+        b'{' => past_sign(builder.open(Shape::Object, i as u32), i),
+        b'}' => past_sign(builder.close(Shape::Object, i as u32), i),
+        b',' => past_sign(builder.comma(), i),
+        b':' => past_sign(builder.colon(), i),
+        _ => word(looks, i, builder, has_long),
+    }
+}
+
+/// What reading a text found: its tape, how many containers lie in one another at most, and whether a number may be long.
+#[derive(Drop)]
+pub struct Reading {
+    pub tape: Tape,
+    pub depth: usize,
+    pub has_long: bool,
+}
+
+/// The tape of a text and its marks, or why there is none, by the places of its index.
+#[inline(always)]
+fn walk(alloc: Global, index: &Index, looks: &mut Looks<'_>) -> Result<Reading, BuildFault>
+    requires short { length looks.old.0 ≤ 2 ^ 22 }
+    requires utf8 { IsUtf8 looks.old.0 }
+    requires index { IsIndexOf index.now looks.old.0 }
+    ensures same { looks.new.0 ≡ looks.old.0 }
+    // A tape is given only where the text is JSON.
+    ensures spelt { IfOk result (λ reading. IsJson looks.old.0) }
+    // It stands for each tree that the text spells, so there is only one.
+    ensures stands { IfOk result (λ reading. StandsForAll looks.old.0 reading.tape) }
+    ensures few { IfOk result (λ reading. length reading.tape < 2 ^ 31) }
+    ensures depth { IfOk result (λ reading. HasDepth looks.old.0 reading.depth) }
+    ensures numbers { IfOk result (λ reading. reading.has_long ≡ false → AreShort reading.tape) }
+    // Unless memory runs out, a text is refused only where it spells no tree.
+    ensures refused { IsErrOf result BuildFault.NotJson → IsNoJson looks.old.0 }
+    ensures looked { IfOk result (λ reading. IsBounded looks.old.0 looks.old.1 looks.new.1) }
+{
+    if index.unclosed || index.control_inside {
+        return Err(BuildFault::NotJson);
+    }
+    let places = index.places.as_slice();
+    let mut builder = Builder::new(alloc, places.len() / 2 + 1)?;
+    let mut has_long = false;
+    for k in 0..places.len() {
+        let i = places[k] as usize;
+        let next = place_behind(places, k, looks.length());
+        match token(
+            looks,
+            i,
+            next,
+            index.has_backslash,
+            &mut builder,
+            &mut has_long,
+        ) {
+            Ok(_) => {}
+            Err(fault) => return Err(fault),
+        }
+    }
+    if builder.is_done() {
+        let depth = builder.deepest();
+        Ok(Reading {
+            tape: builder.into_tape(),
+            depth,
+            has_long,
+        })
+    } else {
+        Err(BuildFault::NotJson)
+    }
+}
+
+/// Builds the tape of the text that is looked at, from the places of its index.
+///
+/// Errors: `NotJson` where the grammar has no tree for the bytes; `Memory` where a growth was refused.
+pub fn build(alloc: Global, index: &Index, looks: &mut Looks<'_>) -> Result<Tape, BuildFault>
+    requires short { length looks.old.0 ≤ text_limit }
+    requires utf8 { IsUtf8 looks.old.0 }
+    requires index { IsIndexOf index.now looks.old.0 }
+    ensures same { looks.new.0 ≡ looks.old.0 }
+    // A tape is given only where the text is JSON.
+    ensures spelt { IfOk result (λ tape. IsJson looks.old.0) }
+    // It stands for each tree that the text spells, so there is only one.
+    ensures stands { IfOk result (λ tape. StandsForAll looks.old.0 tape) }
+    // Unless memory runs out, a text is refused only where it spells no tree.
+    ensures refused { IsErrOf result BuildFault.NotJson → IsNoJson looks.old.0 }
+    // At most three looks for each place, and one for each source byte of a string, a number or a word.
+    ensures looked { IfOk result (λ tape. IsBounded looks.old.0 looks.old.1 looks.new.1) }
+{
+    match walk(alloc, index, looks) {
+        Ok(reading) => Ok(reading.tape),
+        Err(fault) => Err(fault),
+    }
+}
+
+/// The tape of a text, by its index, or why there is none.
+pub fn read(alloc: Global, text: &[u8]) -> Result<Reading, BuildFault>
+    requires long { length text.now ≤ 2 ^ 22 }
+    requires utf8 { IsUtf8 text.now }
+    // A tape is given only where the text is JSON.
+    ensures spelt { IfOk result (λ reading. IsJson text.now) }
+    // It stands for each tree that the text spells, so there is only one.
+    ensures stands { IfOk result (λ reading. StandsForAll text.now reading.tape) }
+    ensures short { IfOk result (λ reading. length reading.tape < 2 ^ 31) }
+    ensures depth { IfOk result (λ reading. HasDepth text.now reading.depth) }
+    ensures numbers { IfOk result (λ reading. reading.has_long ≡ false → AreShort reading.tape) }
+    // Unless memory runs out, a text is refused only where it spells no tree.
+    ensures refused { IsErrOf result BuildFault.NotJson → IsNoJson text.now }
+{
+    let Ok(found) = index(alloc, text) else {
+        return Err(BuildFault::Memory);
+    };
+    walk(alloc, &found, &mut Looks::new(text))
+}
