@@ -1,4 +1,6 @@
 pub mod Refusals
+pub mod Breaking
+pub mod Walking
 pub mod WholeTexts
 pub mod WholeScripts
 pub mod Following

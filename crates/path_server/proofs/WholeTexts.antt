@@ -5,8 +5,9 @@ use Rattle.std.specs.Io.KnownBytes.{Keeps, Appends}
 use Rattle.std.proofs.lemmas.List.{length-take, take_all}
 use Rattle.json_tape.specs.Verdict.{IsRefused}
 use Rattle.json_tape.specs.declared.tape.TextFault.TheVariants as text
+use Rattle.standard_streams.specs.Fronts.{WritesFront}
 use Rattle.path_server.specs.QueryText.{Refuses, Answers}
-use Rattle.path_server.specs.QueryStream.{AnswersStream}
+use Rattle.path_server.specs.QueryStream.{AnswersStream, BreaksOff}
 use Rattle.path_server.specs.declared.fault.QueryTextFault.{QueryTextFault}
 use Rattle.path_server.specs.declared.fault.QueryTextFault.TheVariants.{TooLong, NotUtf8, NotJson, TooDeep, NumberLimit, LoneSurrogate, DuplicateName, QueryTooLong, NotWellFormed, NotValid, TooManyNodes, Memory}
 
@@ -46,6 +47,14 @@ refused_whole query cut (Some document) fault e r = refuses_whole query document
 pub answered_whole : (query cut lines : List ℕ) (left old new : Option (List ℕ)) → IfSome left (λ document. cut ≡ take 1048577 document) → Answers query cut [] lines → Appends old new lines → AnswersStream query left old new
 answered_whole query cut lines None old new e a w = tt
 answered_whole query cut lines (Some document) old new e a w = (lines, answers_whole query document [] lines (rw e at a), w)
+
+pub breaks_whole : (query cut lines : List ℕ) (left old new : Option (List ℕ)) → IfSome left (λ document. cut ≡ take 1048577 document) → Answers query cut [] lines → WritesFront lines old new → BreaksOff query left old new
+breaks_whole query cut lines None old new e a w = tt
+breaks_whole query cut lines (Some document) old new e a w = (lines, answers_whole query document [] lines (rw e at a), w)
+
+pub not_refused : (query : List ℕ) (left : Option (List ℕ)) → IfSome left (λ document. Refuses query document Memory)
+not_refused query None = tt
+not_refused query (Some document) = tt
 
 pub keeps_same : (known : Option (List ℕ)) → Keeps known known
 keeps_same None = tt

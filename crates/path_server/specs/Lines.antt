@@ -2,6 +2,10 @@
 use Rattle.std.specs.Prelude.{ℕ, List, [], ◌∷◌, ◌++◌, flat_map}
 use Rattle.tenant_store.specs.Hits.{Hit}
 
+-- a hit's path and a tab
+abbrev pub head_of : Hit → List ℕ
+head_of h = h.path ++ 9 ∷ []
+
 -- a hit's path, a tab, its source bytes and a line feed
 abbrev pub line_of : Hit → List ℕ
 line_of h = h.path ++ 9 ∷ (h.source ++ 10 ∷ [])

@@ -1,15 +1,31 @@
 //! The lines of hits.
 
-ghost use Rattle.std.specs.Prelude.{◌≡◌, ◌<◌, ◌++◌, IfOk, OnErr, length, take, map};
+ghost use Rattle.std.specs.Prelude.{◌≡◌, ◌<◌, ◌++◌, IfOk, OnErr, OnOk, length, take, map};
 ghost use Rattle.std.specs.List.{All};
 ghost use Rattle.json_tape.specs.Document.{count, node_at};
 ghost use Rattle.tape_select.specs.Nodelists.{nodes_of};
 ghost use Rattle.tenant_store.specs.Hits.{hit_of};
-ghost use Rattle.path_server.specs.Lines.{line_of, lines_of};
+ghost use Rattle.path_server.specs.Lines.{head_of, line_of, lines_of};
 
 use json_tape::{Document, NodeId};
 use normal_paths::write_path;
 use std::alloc::{AllocError, Global};
+
+/// Appends what a node's line begins with, the path and the tab; at a refusal a part of it may stand there.
+pub fn write_head(
+    alloc: Global,
+    document: &Document,
+    node: NodeId,
+    out: &mut Vec<u8>,
+) -> Result<(), AllocError>
+    requires { node.0 < count document.now }
+    ensures written { OnOk result (out.new.items ≡ out.old.items ++ head_of (hit_of (node_at document.now node.0))) }
+    ensures kept { take (length out.old.items) out.new.items ≡ out.old.items }
+{
+    write_path(alloc, document, node, out)?;
+    out.push(b'\t')?;
+    Ok(())
+}
 
 // Appends the line of a node; at a refusal a part of it may stand there.
 fn write_line(
@@ -22,8 +38,7 @@ fn write_line(
     ensures written { IfOk result (λ _. out.new.items ≡ out.old.items ++ line_of (hit_of (node_at document.now node.0))) }
     ensures kept { take (length out.old.items) out.new.items ≡ out.old.items }
 {
-    write_path(alloc, document, node, out)?;
-    out.push(b'\t')?;
+    write_head(alloc, document, node, out)?;
     out.extend_from_slice(document.text(node))?;
     out.push(b'\n')?;
     Ok(())

@@ -4,9 +4,10 @@ ghost use Rattle.std.specs.Prelude.{OnOk, IfErr};
 ghost use Rattle.path_server.specs.QueryStream.{AnswersStream, FailsStream};
 
 use crate::fault::QueryTextFault;
-use crate::texts::query_text;
+use crate::found::find;
+use crate::pieces::{PieceFault, write_pieces};
 use json_tape::TEXT_LIMIT;
-use standard_streams::{ReadFault, WriteFault, read_past, write_whole};
+use standard_streams::{ReadFault, WriteFault, read_past};
 use std::alloc::Global;
 use std::io::{Read, Write};
 use thiserror::Error;
@@ -17,7 +18,7 @@ pub enum QueryStreamFault {
     /// The text could not be read.
     #[error("{0}")]
     Read(ReadFault),
-    /// The query on the text is refused.
+    /// The query on the text is refused, or a growth was.
     #[error("{0}")]
     Refused(QueryTextFault),
     /// The lines could not be written whole.
@@ -25,10 +26,11 @@ pub enum QueryStreamFault {
     Write(WriteFault),
 }
 
-/// Reads a text to its end, at most one byte past [`json_tape::TEXT_LIMIT`], and writes what [`query_text`] appends for it.
+/// Reads a text to its end, at most one byte past [`json_tape::TEXT_LIMIT`], and writes what [`crate::query_text`] appends for it, in
+/// pieces of some 65,536 bytes, so that no more of it is held than a piece and a path.
 ///
-/// A text that is not read (Read) or refused (Refused, by what [`query_text`] refuses) writes nothing; Write comes where the
-/// lines are not written whole, and some of their bytes may be written then.
+/// A text that is not read (Read) or refused (Refused, by what [`crate::query_text`] refuses) writes nothing. Once lines are written,
+/// a refused growth (Refused, with Memory) or a writer that does not take them (Write) breaks them off: a front of them is written.
 pub fn query_stream<R: Read + Drop, W: Write>(
     alloc: Global,
     query: &[u8],
@@ -42,12 +44,13 @@ pub fn query_stream<R: Read + Drop, W: Write>(
         Ok(document) => document,
         Err(fault) => return Err(QueryStreamFault::Read(fault)),
     };
-    let mut lines = Vec::new(alloc);
-    if let Err(fault) = query_text(alloc, query, document.as_slice(), &mut lines) {
-        return Err(QueryStreamFault::Refused(fault));
-    }
-    match write_whole(writer, lines.as_slice()) {
+    let found = match find(alloc, query, document.as_slice()) {
+        Ok(found) => found,
+        Err(fault) => return Err(QueryStreamFault::Refused(fault)),
+    };
+    match write_pieces(alloc, &found.document, found.nodes.as_slice(), writer) {
         Ok(()) => Ok(()),
-        Err(fault) => Err(QueryStreamFault::Write(fault)),
+        Err(PieceFault::Memory) => Err(QueryStreamFault::Refused(QueryTextFault::Memory)),
+        Err(PieceFault::Write(fault)) => Err(QueryStreamFault::Write(fault)),
     }
 }

@@ -4,11 +4,9 @@ ghost use Rattle.std.specs.Prelude.{◌≡◌, IfErr, OnErr, OnOk};
 ghost use Rattle.path_server.specs.QueryText.{Answers, Refuses};
 
 use crate::fault::QueryTextFault;
+use crate::found::find;
 use crate::lines::write_lines;
-use json_tape::Document;
-use path_types::compile;
 use std::alloc::Global;
-use tape_select::select;
 
 /// Appends a line for each node that a query selects from a text, in the query's order: the normalized path (RFC 9535,
 /// section 2.7), a tab, the source bytes of the value and a line feed.
@@ -26,9 +24,7 @@ pub fn query_text(
     ensures refused { IfErr result (λ fault. Refuses query.now document.now fault) }
     ensures unchanged { OnErr result (out.new.items ≡ out.old.items) }
 {
-    let document = Document::read(alloc, document)?;
-    let query = compile(alloc, query)?;
-    let nodes = select(alloc, &query, &document)?;
-    write_lines(alloc, &document, nodes.as_slice(), out)?;
+    let found = find(alloc, query, document)?;
+    write_lines(alloc, &found.document, found.nodes.as_slice(), out)?;
     Ok(())
 }

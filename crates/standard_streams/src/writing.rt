@@ -1,9 +1,10 @@
 //! A text written whole.
 
-ghost use Rattle.std.specs.Prelude.{OnOk};
+ghost use Rattle.std.specs.Prelude.{OnErr, OnOk};
 ghost use Rattle.std.specs.Io.KnownBytes.{Appends};
+ghost use Rattle.standard_streams.specs.Fronts.{WritesFront};
 
-use std::io::Write;
+use std::io::{ErrorKind, Write};
 use thiserror::Error;
 
 /// A writer did not take all bytes.
@@ -13,12 +14,23 @@ pub struct WriteFault;
 
 /// Writes all bytes to a writer.
 ///
-/// WriteFault comes where a write fails or takes nothing: some of the bytes may be written then.
+/// WriteFault comes where a write fails or takes nothing: a front of the bytes may be written then. A write that a signal interrupted
+/// is tried again.
 pub fn write_whole<W: Write>(writer: &mut W, bytes: &[u8]) -> Result<(), WriteFault>
     ensures written { OnOk result (Appends (W.contents writer.old) (W.contents writer.new) bytes.now) }
+    ensures front { OnErr result (WritesFront bytes.now (W.contents writer.old) (W.contents writer.new)) }
 {
-    match writer.write_all(bytes) {
-        Ok(()) => Ok(()),
-        Err(_) => Err(WriteFault),
+    let mut rest = bytes;
+    for _ in 0..u64::MAX {
+        if rest.is_empty() {
+            return Ok(());
+        }
+        match writer.write(rest) {
+            Ok(0) => return Err(WriteFault),
+            Ok(taken) => rest = &rest[taken..],
+            Err(error) if error.kind() == ErrorKind::Interrupted => {}
+            Err(_) => return Err(WriteFault),
+        }
     }
+    Err(WriteFault)
 }

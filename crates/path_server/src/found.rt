@@ -1,0 +1,35 @@
+//! What a query finds in a text.
+
+ghost use Rattle.std.specs.Prelude.{◌<◌, [], IfErr, IfOk, map};
+ghost use Rattle.std.specs.List.{All};
+ghost use Rattle.json_tape.specs.Document.{count};
+ghost use Rattle.tape_select.specs.Nodelists.{nodes_of};
+ghost use Rattle.tenant_store.specs.Hits.{hit_of};
+ghost use Rattle.path_server.specs.Lines.{lines_of};
+ghost use Rattle.path_server.specs.QueryText.{Answers, Refuses};
+
+use crate::fault::QueryTextFault;
+use json_tape::{Document, NodeId};
+use path_types::compile;
+use std::alloc::Global;
+use tape_select::select;
+
+/// A text that was read, and the nodes that a query selects from it, in the query's order.
+#[derive(Drop)]
+pub struct Found {
+    pub document: Document,
+    pub nodes: Vec<NodeId>,
+}
+
+/// Reads a text and a query, and finds the nodes that the query selects, or why one of the two is refused: what
+/// [`crate::query_text`] refuses, in its order.
+pub fn find(alloc: Global, query: &[u8], document: &[u8]) -> Result<Found, QueryTextFault>
+    ensures answered { IfOk result (λ found. Answers query.now document.now [] (lines_of (map hit_of (nodes_of found.document found.nodes.items)))) }
+    ensures inside { IfOk result (λ found. All (λ node. node.0 < count found.document) found.nodes.items) }
+    ensures refused { IfErr result (λ fault. Refuses query.now document.now fault) }
+{
+    let document = Document::read(alloc, document)?;
+    let query = compile(alloc, query)?;
+    let nodes = select(alloc, &query, &document)?;
+    Ok(Found { document, nodes })
+}
