@@ -1,10 +1,10 @@
 #!/usr/bin/env python3
 """Runs the exchanges of tests/exchanges.txt through `path_server replay` and compares each reply: tests/exchanges.py [WORD].
 
-The head of the table says what its lines are. A short exchange is run again with all pieces cut into single bytes, and one that
-the table marks also with its connections by turns. Beside them stand scripts and keys that are refused, each with its line on
-standard error. With a WORD, only what has it in its name is run. The program is the one that bin/path_server builds, or the one
-that the environment's PATH_SERVER names.
+The head of the table says what its lines are. A short exchange is run again with all pieces cut into single bytes, and one
+that the table marks also with its connections by turns. Beside them stand scripts and keys that are refused, each with its
+line on standard error. With a WORD, only what has it in its name is run. The program is the one that bin/path_server builds,
+or the one that the environment's PATH_SERVER names.
 """
 import itertools
 import os

@@ -1,4 +1,5 @@
-/* Makes calls of the C library fail in the program that it is loaded into by LD_PRELOAD, and counts them: for tests/refused_growths.py.
+/* Makes calls of the C library fail in the program that it is loaded into by LD_PRELOAD, and counts them, for
+   tests/refused_growths.py.
 
    FAILING_KIND    memory (malloc, calloc, realloc), read (read, recv) or write (write, send)
    FAILING_AT      which call of that kind fails, from 1 on; 0 for none
@@ -32,7 +33,8 @@ static enum kind failing = KINDS;
 static int goes_on, is_ready;
 
 __attribute__((constructor)) static void start(void) {
-    const char *kind = getenv("FAILING_KIND"), *number = getenv("FAILING_AT"), *on = getenv("FAILING_ON"), *file = getenv("FAILING_COUNTS");
+    const char *kind = getenv("FAILING_KIND"), *number = getenv("FAILING_AT");
+    const char *on = getenv("FAILING_ON"), *file = getenv("FAILING_COUNTS");
     for (int k = 0; kind && k < KINDS; k++)
         if (!strcmp(kind, NAMES[k]))
             failing = k;
@@ -81,6 +83,11 @@ ssize_t recv(int fd, void *into, size_t size, int flags) {
 
 ssize_t write(int fd, const void *from, size_t size) {
     return fails(WRITE, EIO) ? -1 : syscall(SYS_write, fd, from, size);
+}
+
+/* glibc's other name of it */
+ssize_t __write(int fd, const void *from, size_t size) {
+    return write(fd, from, size);
 }
 
 ssize_t send(int fd, const void *from, size_t size, int flags) {
