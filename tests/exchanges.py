@@ -21,8 +21,8 @@ LINE = re.compile(r"(\d+) (?:(open|close)|([<>])(?: (.*))?)")
 BAD_LINES = {"1  open": 1, "\n": 1, "1 open\n\n1 close": 2, "01 open": 1, "+1 open": 1, "-1 open": 1, "4294967296 open": 1,
              "1 Open": 1, "1 0": 1, "1 0g": 1, "1": 1, " 1 open": 1, "1 open ": 1, "1 open\r\n": 1, "1\topen": 1, "open": 1,
              "1 00 00": 1, "0 open\n4294967295 \n1 closed": 3, "1 open\n2 open\n3 ope": 3, "1 open\n\x00": 2, "1 open\n1 é": 2}
-BAD_KEYS = ["", ",", KEYS["A"] + ",", "," + KEYS["A"], KEYS["A"][1:], KEYS["A"] + "0", KEYS["A"][:-1] + "g",
-            KEYS["A"] + " " + KEYS["B"], KEYS["A"] + ",," + KEYS["B"], KEYS["A"] + ", " + KEYS["B"], KEYS["A"] + "\n"]
+BAD_KEYS = ["", ",", KEYS["A"] + ",", "," + KEYS["A"], KEYS["A"][1:], KEYS["A"][:-1], KEYS["A"] + "0",
+            KEYS["A"][:-1] + "g", KEYS["A"] + " " + KEYS["B"], KEYS["A"] + ",," + KEYS["B"], KEYS["A"] + ", " + KEYS["B"], KEYS["A"] + "\n"]
 
 
 class Exchange:
