@@ -216,12 +216,17 @@ class Evaluation:
         self.root, self.picked, self.charged = root, {}, {}
 
     def nodes(self, segments, node):
-        """The nodes that segments select from a node, in order, with duplicates (2.5)."""
-        found = [node]
+        """The nodes that segments select from a node, in order, with duplicates, one after the other (2.5)."""
+        found = iter([node])
         for segment in segments:
-            starts = [it for start in found for it in self.inputs(segment, start)]
-            found = [it for start in starts for part in segment[1] for it in self.select(part, start)]
+            found = self.step(segment, found)
         return found
+
+    def step(self, segment, nodes):
+        for start in nodes:
+            for node in self.inputs(segment, start):
+                for part in segment[1]:
+                    yield from self.select(part, node)
 
     @staticmethod
     def inputs(segment, node):
@@ -258,7 +263,7 @@ class Evaluation:
         if kind == "not":
             return not self.holds(part[1], child)
         if kind == "test":
-            return bool(self.asked(part[1], child))
+            return any(True for _ in self.asked(part[1], child))
         left, right = self.value(part[1], child), self.value(part[3], child)
         low, high = (right, left) if part[2] in (">", ">=") else (left, right)
         less = part[2] not in ("==", "!=") and low[0] == high[0] and low[0] in ("number", "string") and low[1] < high[1]
@@ -272,23 +277,27 @@ class Evaluation:
         if part[0] == "literal":
             return part[1]
         if part[0] == "query":
-            found = self.asked(part[1], child)
-            return meaning(found[0]) if found else NOTHING
+            found = next(self.asked(part[1], child), None)
+            return meaning(found) if found else NOTHING
         if part[1] == "length":
             kind, *of = self.value(part[2], child)
             return ("number", Decimal(len(of[0]))) if kind in ("string", "array", "object") else NOTHING
-        found = self.asked(part[2][1], child)
+        found = list(self.asked(part[2][1], child))
         if part[1] == "count":
             return "number", Decimal(len(found))
         return meaning(found[0]) if len(found) == 1 else NOTHING
 
     def charge(self, segments, node, at=0):
         """The charge of the segments from the one at a place on."""
+        if at == len(segments):
+            return 0
         key = id(segments), at, id(node)
-        if at < len(segments) and key not in self.charged:
-            self.charged[key] = sum(self.cost(part, it) + sum(self.charge(segments, to, at + 1) for to in self.select(part, it))
-                                    for it in self.inputs(segments[at], node) for part in segments[at][1])
-        return self.charged[key] if at < len(segments) else 0
+        if key not in self.charged:
+            pairs = [(part, it) for it in self.inputs(segments[at], node) for part in segments[at][1]]
+            own = sum(self.cost(part, it) for part, it in pairs)
+            rest = (self.charge(segments, to, at + 1) for part, it in pairs for to in self.select(part, it))
+            self.charged[key] = own if at + 1 == len(segments) else own + sum(rest)
+        return self.charged[key]
 
     def cost(self, selector, node):
         """What a selector costs on a node, but for what the segments behind it do."""
@@ -303,13 +312,18 @@ class Evaluation:
         return 1 + 2 * len(node.children) + sum(asked)
 
 
+def asked(source, query):
+    """The charge of a query on an accepted text, and the paths and values of its hits, one after the other."""
+    root = tree(source)
+    evaluation, segments = Evaluation(root), query_of(query)
+    return evaluation.charge(segments, root), ((it.path(), source[it.start:it.end]) for it in evaluation.nodes(segments, root))
+
+
 def charge(source, query):
     """The charge of a query on an accepted text."""
-    root = tree(source)
-    return Evaluation(root).charge(query_of(query), root)
+    return asked(source, query)[0]
 
 
 def hits(source, query):
     """The paths and values of the nodes that a query selects in an accepted text."""
-    root = tree(source)
-    return [(it.path(), source[it.start:it.end]) for it in Evaluation(root).nodes(query_of(query), root)]
+    return list(asked(source, query)[1])
