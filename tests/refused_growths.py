@@ -46,11 +46,10 @@ def session():
     wide = b"[" + b'{"k":[1,2]},' * 60 + b"0]"
     bodies = [body(1, 0, c, d, text), body(2, 0, c, d), body(5, 0, c, b"$.a[1]"), body(1, 0, c, e, wide), body(4, 0, c),
               body(1, 1, c, d, b"[7]"), body(5, 0, c, b"$[*].k"), body(1, 0, c, d, b"{"),
-              body(1, 0, c, d, b'{"a":1,"\\u0061":2}'),
-              body(1, 0, x, d, b'"s"'), body(1, 0, x, d, b'"' + b"s" * 3_000 + b'"'), body(5, 0, x, b"$"),
-              body(5, 0, c, b"$['b'].*"), body(5, 0, c, b"$["), body(7, 0), body(3, 0, c, e), body(3, 0, c, e), body(5, 1, c, b"$.a[1]"), body(2, 0, c, e),
-              body(6, 0, x), body(4, 0, x), body(7, 1), body(9, 0), body(2, 0, b"\x00"), b"\x07", body(1, 0, c, e, b"1"),
-              body(5, 0, c, b"$"), body(7, 0)]
+              body(1, 0, c, d, b'{"a":1,"\\u0061":2}'), body(1, 0, x, d, b'"s"'), body(1, 0, x, d, b'"' + b"s" * 3_000 + b'"'),
+              body(5, 0, x, b"$"), body(5, 0, c, b"$['b'].*"), body(5, 0, c, b"$["), body(7, 0), body(3, 0, c, e),
+              body(3, 0, c, e), body(5, 1, c, b"$.a[1]"), body(2, 0, c, e), body(6, 0, x), body(4, 0, x), body(7, 1),
+              body(9, 0), body(2, 0, b"\x00"), b"\x07", body(1, 0, c, e, b"1"), body(5, 0, c, b"$"), body(7, 0)]
     return [number(len(it)) + it for it in bodies]
 
 
