@@ -3,8 +3,9 @@
 
 So many clients (200) are killed or end their connection by a reset, each at a random byte or a random time of its requests. After each,
 the next is served; its own tenant has what a prefix of its requests leaves, of which those that were answered are part; and another
-tenant has every byte that it had. So it is after a client that never reads, and after each that sends behind its framing fault. What stands
-on standard error is what docs/PROTOCOL.md says of the ends. With `turns` a client also has the 1,000,000 reads of a connection.
+tenant has every byte that it had. So it is after a client that never reads, after one that asks on until nothing more goes out, for
+which the server takes no more memory than for a few replies, and after each that sends behind its framing fault. What stands on
+standard error is what docs/PROTOCOL.md says of the ends. With `turns` a client also has the 1,000,000 reads of a connection.
 """
 import os
 import random
@@ -27,6 +28,7 @@ FAULT = bytes.fromhex("00200001")
 FAULT_REPLY = bytes.fromhex("00000005ff00000000")
 BROKEN = {"ReadFault", "WriteFault"}
 MEBIBYTE = 1 << 20
+GROWN_KIB = 4_096
 TEXTS = {"one": b'{"a":[1,2,3]}', "two": b" " * 300_000 + b'"x"', "three": b'[{"k":"\xc3\xa9"}]'}
 USAGE_REPLY = bytes.fromhex("00000011000000000100000001") + number(len(TEXTS)) + number(sum(map(len, TEXTS.values())))
 
@@ -216,6 +218,23 @@ def never_reads(watch):
     watch.look("a client that never reads", requests[0])
 
 
+def asks_on(watch):
+    """A client asks until nothing more goes out and reads nothing: what is owed to it takes no more memory than a few replies."""
+    watch.open(*BROKEN)
+    before = watch.server.resident()
+    request = Request.get("b", "two").frame(BYSTANDER, 1)
+    connection, sent = open_connection(watch.server.address), 0
+    connection.setblocking(False)
+    rest = request * 3_000
+    while select.select([], [connection], [], 1.0)[1] and sent < 64 * MEBIBYTE:
+        sent += connection.send(rest[sent % len(request):])
+    grown = watch.server.resident() - before
+    watch.report.case("requests that go out, none of whose replies is read", request, True, 65_536 < sent < 64 * MEBIBYTE)
+    watch.report.case(f"KiB more for a client that never reads: {grown}", request, True, grown <= GROWN_KIB)
+    connection.close()
+    watch.look("a client that asks on and never reads", request)
+
+
 def half_closed(watch):
     """A client that shuts its sending side down and then waits gets all its replies."""
     watch.open()
@@ -309,11 +328,12 @@ def main():
     chance, report = random.Random(seed), Report()
     keys = [BYSTANDER, *(key_of(moment) for moment in range(min(moments, VICTIMS)))]
     frame = len(Request.drop("b").frame(BYSTANDER, 0))
-    connections = 1 + 2 * moments + max(0, moments - VICTIMS) + 3 + 1 + AT_ONCE + 2 * 7 + frame + 1 + 2 * turns
+    connections = 1 + 2 * moments + max(0, moments - VICTIMS) + 3 + 2 + 1 + AT_ONCE + 2 * 7 + frame + 1 + 2 * turns
     with Running(keys, connections) as server:
         watch = Watch(report, server)
         watch.fill()
         never_reads(watch)
+        asks_on(watch)
         half_closed(watch)
         many_at_once(watch)
         behind_a_fault(watch)

@@ -35,9 +35,6 @@ const FOUR_REPLIES: [&str; 4] = [
 /// A puts `1` at c/d.
 const PUT: &str = "0000001a 01 00000001 A 0163 0164 31";
 
-/// A puts `[7]` at c/d.
-const PUT_LIST: &str = "0000001c 01 00000001 A 0163 0164 5b375d";
-
 /// What the digit adds to a byte's value, or `None` where it is none.
 fn digit_of(byte: u8) -> Option<u8> {
     match byte {
@@ -107,132 +104,6 @@ fn answers(
 ) -> Result<(), Fail> {
     let got = answer(hub, alloc, &bytes_of(alloc, &[request])?)?;
     same(at, &got, &bytes_of(alloc, &[reply])?)
-}
-
-/// The same of requests to a new hub of tenant A, one after another.
-fn answers_all(alloc: Global, session: &[(&str, &str)]) -> Result<(), Fail> {
-    let mut hub = hub_of(alloc, &[A])?;
-    for (at, (request, reply)) in session.iter().enumerate() {
-        answers(&mut hub, alloc, at, request, reply)?;
-    }
-    Ok(())
-}
-
-#[test]
-fn answers_four_requests(rt: HostRuntime) -> Result<(), Fail> {
-    let mut hub = hub_of(rt.alloc(), &[A])?;
-    for (at, (request, reply)) in FOUR_REQUESTS.iter().zip(FOUR_REPLIES.iter()).enumerate() {
-        answers(&mut hub, rt.alloc(), at, request, reply)?;
-    }
-    Ok(())
-}
-
-#[test]
-fn refuses_requests_in_order(rt: HostRuntime) -> Result<(), Fail> {
-    answers_all(
-        rt.alloc(),
-        &[
-            ("00000000", "00000005 01 00000000"),
-            ("00000005 07 00000009", "00000005 01 00000009"),
-            ("00000015 07 00000004 B", "00000005 02 00000004"),
-            ("00000015 09 00000007 A", "00000005 03 00000007"),
-            ("00000015 09 00000007 B", "00000005 02 00000007"),
-            ("00000016 02 00000008 A 00", "00000005 04 00000008"),
-            ("00000016 07 00000008 A 00", "00000005 04 00000008"),
-        ],
-    )
-}
-
-#[test]
-fn lists_documents_in_key_order(rt: HostRuntime) -> Result<(), Fail> {
-    answers_all(
-        rt.alloc(),
-        &[
-            (
-                "0000001a 01 00000001 A 0163 0162 31",
-                "00000005 00 00000001",
-            ),
-            (
-                "0000001a 01 00000002 A 0163 0161 31",
-                "00000005 00 00000002",
-            ),
-            (
-                "0000001a 01 00000003 A 0163 0142 31",
-                "00000005 00 00000003",
-            ),
-            (
-                "0000001c 01 00000004 A 0163 03612e31 31",
-                "00000005 00 00000004",
-            ),
-            (
-                "00000017 04 00000009 A 0163",
-                "00000013 00 00000009 00000004 0142 0161 03612e31 0162",
-            ),
-            ("00000019 03 0000000a A 0163 0162", "00000005 00 0000000a"),
-            ("00000019 03 0000000b A 0163 0162", "00000005 0f 0000000b"),
-            ("00000017 06 0000000c A 0178", "00000005 0f 0000000c"),
-            (
-                "00000017 04 0000000d A 0178",
-                "00000009 00 0000000d 00000000",
-            ),
-            (
-                "00000018 05 0000000e A 0178 24",
-                "00000009 00 0000000e 00000000",
-            ),
-            ("00000019 05 0000000f A 0178 245b", "00000005 11 0000000f"),
-        ],
-    )
-}
-
-/// Fails where the query on c, in request 1, gets another reply.
-fn answers_query(hub: &mut Hub, alloc: Global, query: &[u8], reply: &str) -> Result<(), Fail> {
-    let length = u32::try_from(query.len())?.wrapping_add(23);
-    let mut frame = Vec::from_slice(alloc, &length.to_be_bytes())?;
-    write_bytes("05 00000001 A 0163", &mut frame)?;
-    frame.extend_from_slice(query)?;
-    let got = answer(hub, alloc, &frame)?;
-    same(query.len(), &got, &bytes_of(alloc, &[reply])?)
-}
-
-/// The hub keeps 64 compiled queries, so that the first one is compiled again.
-#[test]
-fn forgets_queries_without_a_trace(rt: HostRuntime) -> Result<(), Fail> {
-    let alloc = rt.alloc();
-    let hit = "00000018 00 00000001 00000001 0164 00000004 245b305d 00000001 37";
-    let mut hub = hub_of(alloc, &[A])?;
-    answers(&mut hub, alloc, 0, PUT_LIST, "00000005 00 00000001")?;
-    answers_query(&mut hub, alloc, b"$[0]", hit)?;
-    for i in 1..=64 {
-        let query = format!(in alloc; "$[{i}]")?;
-        answers_query(
-            &mut hub,
-            alloc,
-            query.as_bytes(),
-            "00000009 00 00000001 00000000",
-        )?;
-    }
-    answers_query(&mut hub, alloc, b"$[0]", hit)
-}
-
-/// A query of the head and so many times `.a`.
-fn long_query(alloc: Global, head: &[u8], times: usize) -> Result<Vec<u8>, Fail> {
-    let mut query = Vec::from_slice(alloc, head)?;
-    for _ in 0..times {
-        query.extend_from_slice(b".a")?;
-    }
-    Ok(query)
-}
-
-#[test]
-fn judges_the_length_of_a_query(rt: HostRuntime) -> Result<(), Fail> {
-    let alloc = rt.alloc();
-    let mut hub = hub_of(alloc, &[A])?;
-    let longest = long_query(alloc, b"$.ab", 2_046)?;
-    let longer = long_query(alloc, b"$", 2_048)?;
-    assert_eq!(rt; (longest.len(), longer.len()), (4_096, 4_097));
-    answers(&mut hub, alloc, 0, PUT_LIST, "00000005 00 00000001")?;
-    answers_query(&mut hub, alloc, &longest, "00000009 00 00000001 00000000")?;
-    answers_query(&mut hub, alloc, &longer, "00000005 10 00000001")
 }
 
 /// B puts `[2]` at c/d, and a length above the limit follows.
@@ -398,44 +269,6 @@ fn answers_two_tenants_by_turns(rt: HostRuntime) -> Result<(), Fail> {
         alloc,
         &["00000005 00 00000001", "00000005 ff 00000000"],
     )
-}
-
-/// B puts `2` at c/d, queries `$.a`, and drops the collection.
-const OTHERS: [&str; 3] = [
-    "0000001a 01 00000001 B 0163 0164 32",
-    "0000001a 05 00000002 B 0163 242e61",
-    "00000017 06 00000003 B 0163",
-];
-
-/// All of another tenant's requests between each two of a tenant.
-fn between(alloc: Global, requests: &[&str], others: &[u8]) -> Result<Vec<Event>, Fail> {
-    let mut events = opened(alloc)?;
-    for request in requests {
-        push_piece(&mut events, alloc, 1, &bytes_of(alloc, &[*request])?)?;
-        push_piece(&mut events, alloc, 2, others)?;
-    }
-    Ok(events)
-}
-
-/// Fails where connection 1 gets other replies than the four.
-fn gets_the_four(alloc: Global, events: &[Event]) -> Result<(), Fail> {
-    let mut out = Vec::new(alloc);
-    run(alloc, &[B, A], events, &mut out)?;
-    gets(1, &out, alloc, &FOUR_REPLIES)
-}
-
-/// A tenant's requests in one piece, a byte at a time, and between those of another tenant: the replies are the same.
-#[test]
-fn alone(rt: HostRuntime) -> Result<(), Fail> {
-    let alloc = rt.alloc();
-    let mine = bytes_of(alloc, &FOUR_REQUESTS)?;
-    let others = bytes_of(alloc, &OTHERS)?;
-    let mut whole = opened(alloc)?;
-    push_piece(&mut whole, alloc, 1, &mine)?;
-    gets_the_four(alloc, &whole)?;
-    gets_the_four(alloc, &by_turns(alloc, &mine, b"")?)?;
-    gets_the_four(alloc, &by_turns(alloc, &mine, &others)?)?;
-    gets_the_four(alloc, &between(alloc, &FOUR_REQUESTS, &others)?)
 }
 
 /// What a wire took.

@@ -6,11 +6,6 @@ use std::alloc::Global;
 use std::test::Fail;
 use tenant_store::{CollName, DocName, StoreFault, Tenant, Tenants, TenantsFault, Usage};
 
-/// As many collections as a tenant may have.
-const COLLECTIONS: [&str; 16] = [
-    "a", "b", "c", "d", "e", "f", "g", "h", "i", "j", "k", "l", "m", "n", "o", "p",
-];
-
 fn collection_name(name: &str) -> Result<CollName<'_>, Fail> {
     match CollName::read(name.as_bytes()) {
         Some(name) => Ok(name),
@@ -158,104 +153,6 @@ fn writes_hits_behind_what_stands_there(rt: HostRuntime) -> Result<(), Fail> {
 }
 
 #[test]
-fn refuses_a_seventeenth_collection(rt: HostRuntime) -> Result<(), Fail> {
-    let alloc = rt.alloc();
-    let mut tenant = Tenant::new(alloc);
-    for name in COLLECTIONS {
-        assert_eq!(rt; put(&mut tenant, alloc, name, "x", b"1")?, Ok(()));
-    }
-    assert_eq!(rt;
-        put(&mut tenant, alloc, "q", "x", b"1")?,
-        Err(StoreFault::TooManyCollections)
-    );
-    assert_eq!(rt;
-        put(&mut tenant, alloc, "q", "x", b"{")?,
-        Err(StoreFault::NotJson)
-    );
-    assert_eq!(rt; remove(&mut tenant, "a", "x")?, Ok(()));
-    assert_eq!(rt; put(&mut tenant, alloc, "q", "x", b"1")?, Ok(()));
-    assert_eq!(rt;
-        tenant.usage(),
-        Usage {
-            collections: 16,
-            documents: 16,
-            bytes: 16
-        }
-    );
-    Ok(())
-}
-
-#[test]
-fn refuses_a_document_past_a_thousand(rt: HostRuntime) -> Result<(), Fail> {
-    let alloc = rt.alloc();
-    let mut tenant = Tenant::new(alloc);
-    for i in 0..1000u32 {
-        let name = format!(in alloc; "d{i}")?;
-        assert_eq!(rt;
-            put(&mut tenant, alloc, "c", name.as_str(), b"[1]")?,
-            Ok(())
-        );
-    }
-    assert_eq!(rt;
-        put(&mut tenant, alloc, "c", "e", b"[1]")?,
-        Err(StoreFault::TooManyDocuments)
-    );
-    assert_eq!(rt;
-        put(&mut tenant, alloc, "d", "e", b"[1]")?,
-        Err(StoreFault::TooManyDocuments)
-    );
-    assert_eq!(rt; put(&mut tenant, alloc, "c", "d7", b"[1,2]")?, Ok(()));
-    assert_eq!(rt;
-        put(&mut tenant, alloc, "c", "e", b"{")?,
-        Err(StoreFault::NotJson)
-    );
-    assert_eq!(rt;
-        tenant.usage(),
-        Usage {
-            collections: 1,
-            documents: 1000,
-            bytes: 3002
-        }
-    );
-    Ok(())
-}
-
-#[test]
-fn refuses_bytes_past_the_quota_and_keeps_the_old_text(rt: HostRuntime) -> Result<(), Fail> {
-    let alloc = rt.alloc();
-    let mut tenant = Tenant::new(alloc);
-    let longest = string_of(alloc, 1_048_574)?;
-    for i in 0..15u32 {
-        let name = format!(in alloc; "d{i}")?;
-        assert_eq!(rt;
-            put(&mut tenant, alloc, "c", name.as_str(), longest.as_slice())?,
-            Ok(())
-        );
-    }
-    let shorter = string_of(alloc, 1_048_573)?;
-    assert_eq!(rt;
-        put(&mut tenant, alloc, "c", "p", shorter.as_slice())?,
-        Ok(())
-    );
-    assert_eq!(rt; put(&mut tenant, alloc, "c", "q", b"0")?, Ok(()));
-    assert_eq!(rt;
-        tenant.usage(),
-        Usage {
-            collections: 1,
-            documents: 17,
-            bytes: 16_777_216
-        }
-    );
-    assert_eq!(rt; put(&mut tenant, alloc, "c", "q", b"1")?, Ok(()));
-    assert_eq!(rt;
-        put(&mut tenant, alloc, "c", "q", b"10")?,
-        Err(StoreFault::TooManyBytes)
-    );
-    assert_eq!(rt; get(&tenant, "c", "q")?, b"1".as_slice());
-    Ok(())
-}
-
-#[test]
 fn refuses_more_nodes_than_the_limit(rt: HostRuntime) -> Result<(), Fail> {
     let alloc = rt.alloc();
     let mut tenant = Tenant::new(alloc);
@@ -300,39 +197,6 @@ fn refuses_a_payload_past_the_limit(rt: HostRuntime) -> Result<(), Fail> {
     let refused = ask(&tenant, alloc, "$[0,0,0,0]", "c", &mut payload)?;
     assert_eq!(rt; refused, Err(StoreFault::ReplyTooLarge));
     assert_eq!(rt; payload.as_slice(), b"\x07".as_slice());
-    Ok(())
-}
-
-#[test]
-fn tells_the_first_document_that_shows_a_fault(rt: HostRuntime) -> Result<(), Fail> {
-    let alloc = rt.alloc();
-    let string = string_of(alloc, 1_048_558)?;
-    let long = array_of(alloc, string.as_slice())?;
-    let wide = zeros(alloc, 65_537)?;
-    let mut payload = Vec::new(alloc);
-    let mut first_long = Tenant::new(alloc);
-    assert_eq!(rt;
-        put(&mut first_long, alloc, "c", "b", wide.as_slice())?,
-        Ok(())
-    );
-    assert_eq!(rt;
-        put(&mut first_long, alloc, "c", "a", long.as_slice())?,
-        Ok(())
-    );
-    let refused = ask(&first_long, alloc, "$[*,*,*,*]", "c", &mut payload)?;
-    assert_eq!(rt; refused, Err(StoreFault::ReplyTooLarge));
-    let mut first_wide = Tenant::new(alloc);
-    assert_eq!(rt;
-        put(&mut first_wide, alloc, "c", "b", long.as_slice())?,
-        Ok(())
-    );
-    assert_eq!(rt;
-        put(&mut first_wide, alloc, "c", "a", wide.as_slice())?,
-        Ok(())
-    );
-    let refused = ask(&first_wide, alloc, "$[*,*,*,*]", "c", &mut payload)?;
-    assert_eq!(rt; refused, Err(StoreFault::TooManyNodes));
-    assert!(rt; payload.is_empty());
     Ok(())
 }
 

@@ -1,0 +1,323 @@
+#!/usr/bin/env python3
+"""Times `path_server query` on texts and queries that were made to take long: bench/hostile.py [SECONDS [WORD]].
+
+Each text has up to 1,048,576 bytes, each query up to 4,096. A row of the table is the shape, how the program ended, its
+seconds of processor time, and the aim: 1 s, and 1.5 s for what has a charge of nearly 10,000,000 units. The program has a
+stack of 256 KiB, and is stopped after so many SECONDS (5). With a WORD, only the rows that have it in their names are run. The
+last line is the number of rows above their aim, and the exit status is 1 where there is one. The program is the one that
+bin/path_server builds, or the one that the environment's PATH_SERVER names.
+"""
+import collections
+import functools
+import itertools
+import os
+import resource
+import subprocess
+import sys
+import tempfile
+from pathlib import Path
+
+PROGRAM = os.environ.get("PATH_SERVER") or str(Path(__file__).resolve().parent.parent / "crates/path_program/out/path_program")
+TEXT, QUERY, STACK = 1_048_576, 4_096, 256 << 10
+AIM, AIM_OF_UNITS = 1.0, 1.5
+NUMBER, STRING = "7" * 256, '"' + "s" * 998 + '"'
+LEAVES = {"zeros": "0", "words": "true", "long numbers": NUMBER, "strings": '"a"', "long strings": STRING,
+          "escapes": '"' + "\\u0061" * 160 + '"', "arrays": "[0]", "empty arrays": "[]", "objects": '{"a":0}',
+          "deep": "[" * 20 + "]" * 20}
+
+
+# ---- texts
+
+def many(part, open_with="[", close_with="]", room=TEXT, last=""):
+    """A container with the part as often as there is room, and perhaps another behind."""
+    count = (room - len(open_with.encode()) - len(close_with.encode()) - len(last.encode()) - 1) // (len(part.encode()) + 1)
+    return open_with + ",".join([part] * count + [last] * bool(last)) + close_with
+
+
+def members(names, value="0", room=TEXT):
+    """An object with these names, as many as there is room for."""
+    parts, size = [], 2
+    for name in names:
+        part = f'"{name}":{value}'
+        size += len(part.encode()) + 1
+        if size > room:
+            break
+        parts.append(part)
+    return "{" + ",".join(parts) + "}", len(parts)
+
+
+def numbered(count=200_000):
+    return (f"k{at:05}" for at in range(count))
+
+
+def escaped(count=200_000):
+    return (f"\\u006b{at:05}" for at in range(count))
+
+
+def long_names(count=20_000):
+    return (f"\\u006b{at:05}".ljust(68, "x") for at in range(count))
+
+
+def scalars(low=0x80):
+    return itertools.chain(range(low, 0xD800), range(0xE000, 0x110000))
+
+
+def fnv(state, scalar):
+    return (state ^ scalar) * 0x01000193 % 2**32
+
+
+@functools.lru_cache(maxsize=None)
+def meeting(state):
+    """Pairs of characters that bring this state of the FNV hash to one other state, and that one."""
+    found = collections.defaultdict(list)
+    for first in scalars():
+        found[fnv(state, first) >> 21].append(first)
+    firsts = max(found.values(), key=len)
+    high = fnv(state, firsts[0]) & ~0x1FFFFF | 0x20000
+    pairs = [(first, fnv(state, first) ^ high) for first in firsts]
+    return [chr(a) + chr(b) for a, b in pairs if 0x80 <= b < 0xD800 or 0xE000 <= b < 0x110000], fnv(0, high)
+
+
+def meeting_by_fnv():
+    """Names that meet in the hash by which the members of two objects are guessed to be twins."""
+    first, state = meeting(0x811C9DC5)
+    second, _ = meeting(state)
+    return (a + b for a in first for b in second)
+
+
+def meeting_by_places():
+    """Names that meet in the hash by which repeated names are looked for: a character counts 256 times as much as the next."""
+    return (chr(0x20000 + a) + chr(0x30000 - 256 * a + b) + chr(0x40000 - 256 * b) for a in range(200) for b in range(300))
+
+
+def twins(names, value="0", turned=True, last="0"):
+    """Two objects of the same members, in opposite orders."""
+    one, count = members(names, value, TEXT // 2 - 2)
+    order = one[1:-1].split(f":{value},")
+    order = [part.removesuffix(f":{value}") for part in order][::-1 if turned else 1]
+    other = "{" + ",".join(f"{name}:{last if at == count - 1 else value}" for at, name in enumerate(order)) + "}"
+    return f"[{one},{other}]"
+
+
+def nested(depth, step):
+    """The value within such steps, the innermost first."""
+    text = "0"
+    for at in range(depth):
+        text = step(text, at)
+    return text
+
+
+# ---- queries
+
+def filled(part, between="||", start="$[?", end="]"):
+    """A query with the part as often as 4,096 bytes have room."""
+    count = (QUERY - len(start) - len(end) + len(between)) // (len(part.encode()) + len(between))
+    return start + between.join([part] * count) + end
+
+
+def within(depth, start, inner, end="]"):
+    return start * depth + inner + end * depth
+
+
+# ---- rows
+
+def rooted():
+    """A query from the root in a filter, asked of each child."""
+    for name, leaf in LEAVES.items():
+        text = many(leaf)
+        yield f"{name}, not the last one", text, "$[?@!=$[-1]]"
+        yield f"{name}, below the last one, often", text, filled("@<$[-1]")
+        yield f"{name}, all of them counted", text, "$[?count($[*])<2]"
+    for name, leaf in LEAVES.items():
+        text, count = members(numbered(), leaf)
+        yield f"members that are {name}, not the last one", text, f"$[?@!=$.k{count - 1:05}]"
+    text = '{"items":' + many('{"name":"tea","price":4,"tags":["a","b"]}', room=TEXT - 11) + "}"
+    yield "prices above the last one", text, "$.items[?@.price>$.items[-1].price]"
+    yield "tags as many as those of the last one", text, "$.items[?count(@.tags[*])==count($.items[-1].tags[*])]"
+    yield "names of the descendants of the root", text, "$.items[?@.name==value($..nothing)]"
+
+
+def levels():
+    """Filters in one another, each from the root."""
+    for name, leaf in LEAVES.items():
+        yield f"four {name}, 32 filters in one another", many(leaf, room=4 * len(leaf) + 10), within(31, "$[?", "$[?@]")
+    yield "zeros, 32 filters in one another", many("0"), within(31, "$[?", "$[?@]")
+    yield "zeros, 32 filters of children in one another", many("[0]"), "$" + "[?@" * 31 + "[?@]" + "]" * 31
+    yield "brackets, a filter of descendants in each", many(nested(100, lambda it, _: f"[{it}]")), "$..[?@..[?@..[?@]]]"
+
+
+def equality():
+    """Two values that are compared with one another as often as a query can ask."""
+    names = {"plain names": numbered, "escaped names": escaped, "long names": long_names, "names that meet": meeting_by_fnv,
+             "names that meet by places": meeting_by_places}
+    often, unlike = filled("@==$[0]", "&&"), filled("@!=$[0]", "&&")
+    for name, made in names.items():
+        for value in ("0", '"a"', "[0]"):
+            yield f"two objects of {name}, values {value}, turned", twins(made(), value), "$[?@!=$[0]]"
+        yield f"two objects of {name}, turned, often", twins(made()), often
+        yield f"two objects of {name}, one value unlike, often", twins(made(), turned=False, last="1"), unlike
+    for name, leaf in LEAVES.items():
+        half = many(leaf, room=TEXT // 2 - 2)
+        yield f"two arrays of {name}, often", f"[{half},{half}]", often
+    same = '"' + "x" * (TEXT // 2 - 8)
+    yield "two strings, often", f'[{same}",{same}"]', often
+    spelt = "\\u0078" * (TEXT // 8)
+    yield "two strings, one escaped, often", f'["{"x" * (TEXT // 8)}","{spelt}"]', often
+    yield "two strings, which is less, often", f'[{same}a",{same}b"]', filled("@>=$[0]", "&&")
+    yield "numbers of 256 digits, which is less, often", many(NUMBER), filled("@<=$[0]", "&&")
+    yield "numbers of one value with other exponents", many("1e999999999", last="10e999999998"), filled("@==$[-1]", "&&")
+
+
+def depths():
+    """Values as deep as they may be."""
+    def turned(way):
+        return nested(126, lambda it, at: f'{{"a":{it},"b":{at}}}' if at % 2 == way else f'{{"b":{at},"a":{it}}}')
+    yield "two objects 126 deep, turned at each level", f"[{turned(0)},{turned(1)}]", "$[?@==$[0]]"
+    array = nested(126, lambda it, _: f"[{it}]")
+    yield "two arrays 126 deep", f"[{array},{array}]", "$[?@==$[0]]"
+    wide = nested(126, lambda it, _: "{" + ",".join(f'"{c}":0' for c in "bcdefghijklmnopqrst") + f',"a":{it}}}')
+    yield "two wide objects 126 deep", f"[{wide},{wide}]", filled("@==$[0]", "&&")
+    brackets = "[" * 126 + many("0", room=TEXT - 260) + "]" * 126
+    for query in ("$..[0]..[0]..zz", "$..*..zz", "$..[-1]..[-1]..zz", "$..[?@]..zz", "$..[:1]..[:1]..zz", "$..[?@[0]]..zz",
+                  "$..*..*..*..zz"):
+        yield f"126 brackets round zeros, {query}", brackets, query
+    braces = '{"a":' * 126 + many("0", room=TEXT - 800) + "}" * 126
+    for query in ("$..a..a..zz", "$..a..a..a..a..zz", "$..['a','b']..['a','b']..zz", "$..[?@.a]..zz", "$..[?@..a]..zz"):
+        yield f"126 braces round zeros, {query}", braces, query
+
+
+def selectors():
+    """Many selectors on one node, and many nodes."""
+    for name in ("zeros", "arrays", "objects"):
+        text = many(LEAVES[name])
+        for part in ("-1", "400000", "-2:", "::100000", "'a'"):
+            yield f"{name}, {part} as often as may be", text, filled(part, ",", "$[")
+        yield f"{name}, a filter as often as may be", text, filled("?@[0]==1", ",", "$[") + ".zz"
+    text, count = members(numbered())
+    yield "a wide object, its last name often", text, filled(f"'k{count - 1:05}'", ",", "$[")
+    yield "a wide object, names that it has not", text, filled("'k'", ",", "$..[")
+    for name, made in {"": meeting_by_fnv, " by places": meeting_by_places}.items():
+        text, count = members(made())
+        last = next(itertools.islice(made(), count - 1, None))
+        yield f"a wide object whose names meet{name}, its last often", text, filled(f"'{last}'", ",", "$[")
+
+
+def filters():
+    """Long expressions on many nodes."""
+    for name in ("arrays", "objects", "zeros"):
+        text = many(LEAVES[name])
+        yield f"{name}, 780 names in a filter of descendants", text, filled("@.b", "||", "$..[?@.a&&(", ")]")
+        yield f"{name}, names in a filter", text, filled("@.b", "||")
+        yield f"{name}, comparisons in a filter", text, filled("@.b==1")
+        yield f"{name}, chains in a filter", text, filled("@.a.b.c.d==1", "||")
+        yield f"{name}, negations in a filter", text, filled("!@.b", "&&", end="&&@.b]")
+    for of in ("'a'", "@", "@[0]", "$[0]"):
+        for name, leaf in {"a long string": '"' + "é" * 250_000 + '"', "a long escaped string": '"' + "\\u00e9" * 100_000 + '"',
+                           "an array": many("0", room=500_000)}.items():
+            text = "[" + leaf + ",0" * 150_000 + "]"
+            yield f"{name} and zeros, the length of {of}", text, f"$[?length({of})<9]"
+            yield f"{name} and zeros, the length of {of}, often", text, filled(f"length({of})<9")
+    text = many("[0,1,2,3,4,5,6,7]")
+    holding = ("count(@.*)>1", "count(@..*)>1", "@[::-1]", "count(@[?@>$[0][3]])>3")
+    for part in (*holding, "value(@..*)==1", "length(@)>9", "@[?@>7]"):
+        yield f"arrays of eight, {part}", text, f"$[?{part}]"
+        yield f"arrays of eight, {part}, often", text, filled(part, "&&" if part in holding else "||")
+
+
+def readings():
+    """Texts and queries that take long to read."""
+    of_names = {"long names": long_names, "names that meet by places": meeting_by_places, "names that meet": meeting_by_fnv}
+    for name, made in of_names.items():
+        text, _ = members(itertools.chain(made(), ["last"]))
+        yield f"one object of {name}", text, "$.none"
+    few, _ = members(itertools.islice(meeting_by_places(), 20))
+    yield "many objects whose names meet by places", many(few), "$.none"
+    text, _ = members(itertools.chain(["\u4000\u8000", "\u4001\u7f00"], long_names()), room=TEXT)
+    yield "long names, and two that meet", text, "$.none"
+    for name in LEAVES:
+        yield f"a text of {name}", many(LEAVES[name]), "$.none"
+    yield "brackets without an end", "[" * TEXT, "$"
+    yield "quotes and backslashes", '"' + "\\\\" * (TEXT // 2 - 1) + '"', "$.none"
+    queries = {"parentheses": "$[?" + "(" * 4_000, "negations": "$[?" + within(31, "!(", "@", ")") + "]",
+               "blanks": "$" + " " * 4_090 + ".a", "filters": "$" + "[?@" * 1_000, "commas": "$[" + "0," * 2_000,
+               "escapes": "$['" + "\\u0061" * 680 + "']", "calls": "$[?" + "count(" * 600,
+               "arguments": "$[?" + within(31, "length(", "@", ")") + "==1]"}
+    for name, query in queries.items():
+        yield f"a query of {name}", "[0]", query
+
+
+def units():
+    """Queries whose charge is nearly 10,000,000 units, and that select nothing."""
+    zeros, wide, eights = many("0", room=200_003), many("0", room=1_000_003), "[0,0,0,0,0,0,0,0]"
+
+    def often(part, count, between=",", end="]"):
+        return "$[" + between.join([part] * count) + end
+
+    rows = {"wildcards": (zeros, often("*", 49, end="].zz")),
+            "slices": (zeros, often(":", 49, end="].zz")),
+            "slices downwards": (zeros, often("::-1", 49, end="].zz")),
+            "filters by literals": (zeros, often("?@==1", 49)),
+            "filters by names": (zeros, "$[?" + "||".join(["@.a"] * 97) + "]"),
+            "filters from the root": (zeros, "$[?" + "||".join(["$[0]==1"] * 97) + "]"),
+            "counts of wildcards": (zeros, "$[?" + "||".join(["count(@.*)>1"] * 97) + "]"),
+            "names of descendants": (wide, "$..[" + ",".join(f"'{name}'" for name in "abcdefghijklmnopqrs") + "]"),
+            "indexes of descendants": (wide, "$..[" + ",".join(["0"] * 19) + "].zz"),
+            "names in a wide object": (members(numbered(), room=300_000)[0], "$[?" + "||".join(["@.a.b"] * 360) + "]"),
+            "comparisons of containers": (many(eights, room=396_000), "$[?" + "||".join(["@!=$[0]"] * 450) + "]"),
+            "filters in filters": (many(eights, room=200_000), "$[?" + "||".join(["@[?@>1]"] * 48) + "]"),
+            "hits": (many("0", room=10_403), often("*", 1_900))}
+    for name, (text, query) in rows.items():
+        yield f"10,000,000 units of {name}", text, query
+
+
+ROWS = {rooted: AIM, levels: AIM, equality: AIM, depths: AIM, selectors: AIM, filters: AIM, readings: AIM, units: AIM_OF_UNITS}
+
+
+def limit_stack():
+    resource.setrlimit(resource.RLIMIT_STACK, (STACK, resource.getrlimit(resource.RLIMIT_STACK)[1]))
+
+
+def processor_time():
+    used = resource.getrusage(resource.RUSAGE_CHILDREN)
+    return used.ru_utime + used.ru_stime
+
+
+def run(text, query, seconds):
+    """How the program ended on a text and a query, and its processor time."""
+    assert len(text.encode()) <= TEXT and len(query.encode()) <= QUERY, (len(text.encode()), len(query.encode()))
+    with tempfile.TemporaryFile() as source:
+        source.write(text.encode())
+        source.seek(0)
+        pipes = {"stdin": source, "stdout": subprocess.DEVNULL, "stderr": subprocess.PIPE}
+        before = processor_time()
+        with subprocess.Popen([PROGRAM, "query", query], preexec_fn=limit_stack, **pipes) as process:
+            try:
+                said = process.communicate(timeout=seconds)[1].decode().replace("path_server: ", "").strip()
+            except subprocess.TimeoutExpired:
+                process.kill()
+                said = "stopped"
+    taken = processor_time() - before
+    return f"signal {-process.returncode}" if process.returncode < 0 and said != "stopped" else said or "done", taken
+
+
+def main():
+    seconds = float(sys.argv[1]) if len(sys.argv) > 1 else 5.0
+    word = sys.argv[2] if len(sys.argv) > 2 else ""
+    if not os.access(PROGRAM, os.X_OK):
+        sys.exit(f"no program {PROGRAM}: bin/path_server builds it")
+    count = above = 0
+    print("| shape | end | seconds | aim |\n|---|---|---|---|")
+    for made, aim in ROWS.items():
+        for name, text, query in made():
+            if word not in name:
+                continue
+            end, taken = run(text, query, seconds)
+            is_above = taken > aim or end == "stopped" or end.startswith("signal")
+            count, above = count + 1, above + is_above
+            print(f"| {name} | {end} | {taken:.3f} | {aim}{' ABOVE' if is_above else ''} |", flush=True)
+    print(f"hostile: {count} rows, {above} above their aim")
+    sys.exit(1 if above else 0)
+
+
+if __name__ == "__main__":
+    main()

@@ -1,0 +1,95 @@
+/* Makes calls of the C library fail in the program that it is loaded into by LD_PRELOAD, and counts them, for
+   tests/refused_growths.py.
+
+   FAILING_KIND    memory (malloc, calloc, realloc), read (read, recv) or write (write, send)
+   FAILING_AT      which call of that kind fails, from 1 on; 0 for none
+   FAILING_ON      1: those behind it fail too
+   FAILING_COUNTS  a file of 24 bytes that holds how many calls of each kind there were so far, in this order
+
+   Calls are counted from the program's own first one. Nothing is looked up by its name, which could itself take memory. */
+#include <errno.h>
+#include <fcntl.h>
+#include <stddef.h>
+#include <stdint.h>
+#include <stdlib.h>
+#include <string.h>
+#include <sys/mman.h>
+#include <sys/syscall.h>
+#include <sys/types.h>
+#include <unistd.h>
+
+enum kind { MEMORY, READ, WRITE, KINDS };
+
+extern void *__libc_malloc(size_t);
+extern void *__libc_calloc(size_t, size_t);
+extern void *__libc_realloc(void *, size_t);
+extern long syscall(long, ...);
+
+static const char *const NAMES[KINDS] = {"memory", "read", "write"};
+static uint64_t own[KINDS];
+static uint64_t *counts = own;
+static uint64_t at;
+static enum kind failing = KINDS;
+static int goes_on, is_ready;
+
+__attribute__((constructor)) static void start(void) {
+    const char *kind = getenv("FAILING_KIND"), *number = getenv("FAILING_AT");
+    const char *on = getenv("FAILING_ON"), *file = getenv("FAILING_COUNTS");
+    for (int k = 0; kind && k < KINDS; k++)
+        if (!strcmp(kind, NAMES[k]))
+            failing = k;
+    at = number ? strtoull(number, NULL, 10) : 0;
+    goes_on = on && *on == '1';
+    int fd = file ? open(file, O_RDWR) : -1;
+    if (fd >= 0) {
+        void *page = mmap(NULL, sizeof own, PROT_READ | PROT_WRITE, MAP_SHARED, fd, 0);
+        if (page != MAP_FAILED)
+            counts = page;
+        close(fd);
+    }
+    is_ready = 1;
+}
+
+/* Counts a call; whether it is to fail. */
+static int fails(enum kind kind, int error) {
+    if (!is_ready)
+        return 0;
+    uint64_t place = ++counts[kind];
+    if (kind != failing || at == 0 || (goes_on ? place < at : place != at))
+        return 0;
+    errno = error;
+    return 1;
+}
+
+void *malloc(size_t size) {
+    return fails(MEMORY, ENOMEM) ? NULL : __libc_malloc(size);
+}
+
+void *calloc(size_t count, size_t size) {
+    return fails(MEMORY, ENOMEM) ? NULL : __libc_calloc(count, size);
+}
+
+void *realloc(void *old, size_t size) {
+    return fails(MEMORY, ENOMEM) ? NULL : __libc_realloc(old, size);
+}
+
+ssize_t read(int fd, void *into, size_t size) {
+    return fails(READ, EIO) ? -1 : syscall(SYS_read, fd, into, size);
+}
+
+ssize_t recv(int fd, void *into, size_t size, int flags) {
+    return fails(READ, ECONNRESET) ? -1 : syscall(SYS_recvfrom, fd, into, size, flags, NULL, NULL);
+}
+
+ssize_t write(int fd, const void *from, size_t size) {
+    return fails(WRITE, EIO) ? -1 : syscall(SYS_write, fd, from, size);
+}
+
+/* glibc's other name of it */
+ssize_t __write(int fd, const void *from, size_t size) {
+    return write(fd, from, size);
+}
+
+ssize_t send(int fd, const void *from, size_t size, int flags) {
+    return fails(WRITE, ECONNRESET) ? -1 : syscall(SYS_sendto, fd, from, size, flags, NULL, 0);
+}
