@@ -9,7 +9,7 @@ use standard_streams::{ReadFault, WriteFault, read_past, write_whole};
 use std::alloc::Global;
 use std::io::{self, ErrorKind, Read, Write};
 use std::test::Fail;
-use tape_select::select;
+use tape_select::{BUDGET, select};
 
 // What stands in the vector before a call stands there after it, refused or not.
 #[test]
@@ -37,7 +37,7 @@ fn path_lengths(rt: HostRuntime) -> Result<(), Fail> {
 fn selected(alloc: Global, query: &str, text: &str) -> Option<Vec<NodeId>> {
     let query = check(parse(alloc, query.as_bytes()).ok()?).ok()?;
     let document = Document::read(alloc, text.as_bytes()).ok()?;
-    select(alloc, &query, &document).ok()
+    Some(select(alloc, &query, &document, BUDGET).ok()?.nodes)
 }
 
 #[test]

@@ -7,7 +7,7 @@ use json_tape::{Document, NodeId, TextFault};
 use path_grammar::parse;
 use path_server::{QueryTextFault, query_text};
 use std::alloc::{AllocError, Global};
-use tape_select::{equal_values, less_values};
+use tape_values::{equal_values, less_values};
 
 /// A word as an answer.
 pub fn word(alloc: Global, text: &str) -> Result<Vec<u8>, AllocError> {

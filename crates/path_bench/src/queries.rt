@@ -4,7 +4,7 @@ use json_tape::Document;
 use path_grammar::parse;
 use path_types::check;
 use std::alloc::Global;
-use tape_select::select;
+use tape_select::Plan;
 
 /// What the calls of this module answer.
 #[repr(C)]
@@ -52,7 +52,7 @@ pub extern "C" fn path_bench_compile(alloc: Global, query: &[u8], rounds: usize)
     }
 }
 
-/// Reads a text and compiles a query, once, and evaluates it so many times.
+/// Reads a text, compiles a query and makes its plan, once, and evaluates it so many times.
 #[unsafe(no_mangle)]
 pub extern "C" fn path_bench_select(
     alloc: Global,
@@ -69,12 +69,15 @@ pub extern "C" fn path_bench_select(
     let Ok(valid) = check(parsed) else {
         return REFUSED;
     };
+    let Ok(plan) = Plan::new(alloc, &valid) else {
+        return REFUSED;
+    };
     let mut count = 0;
     for _ in 0..rounds {
-        let Ok(nodes) = select(alloc, &valid, &document) else {
+        let Ok(selected) = plan.select(alloc, &document, u64::MAX) else {
             return REFUSED;
         };
-        count = nodes.len() as u64;
+        count = selected.nodes.len() as u64;
     }
     Counted {
         count,

@@ -1,100 +1,61 @@
--- A segment of one name or one index gives one node at most, so it is never over the limit.
-use Rattle.std.proofs.Common.{◌≡◌, ℕ, ◌+◌, ◌<◌, ◌≤◌, Bool, true, false, ◌&&◌, List, [], ◌∷◌, length, get_or, drop, Option, Some, None, refl, sym, ap, ◌∙◌, arith, cond}
-use Rattle.std.specs.Prelude.{IsTrue}
-use Rattle.std.proofs.lemmas.List.{drop_more}
-use Rattle.path_grammar.specs.Tree as tree
-use Rattle.path_grammar.specs.Tree.{Segments, no_segments, segment, Selectors, no_selectors, selector, name, wild, index, filter, slice, OneSegment}
-use Rattle.path_grammar.specs.View.{segments_view, selectors_view, selector_view, segment_view}
-use Rattle.path_grammar.specs.declared.ast.Segment.{Segment}
-use Rattle.path_grammar.specs.declared.ast.Selector.{Selector}
-use Rattle.path_types.specs.Validity.{is_singular, is_one}
-use Rattle.json_tape.specs.Nodes.{Node, children, elements, is_named, first_where}
-use Rattle.json_tape.specs.Document.{Doc, single}
-use Rattle.json_tape.specs.declared.tape.NodeId.{NodeId}
-use Rattle.tape_select.specs.Running.{next, add, for_each, from_run, selected_run, evaluated_run}
-use Rattle.tape_select.specs.Evaluation.{is_over}
-use Rattle.tape_select.specs.Selection.{at_index}
-use Rattle.tape_select.proofs.Adding.{not_over}
-use Rattle.tape_select.proofs.Walks.{each_more, next_some}
+-- Singular queries, link by link.
+use Rattle.std.proofs.Common.{◌≡◌, ℕ, ◌+◌, ◌<◌, ◌≤◌, false, List, [], ◌∷◌, ◌++◌, length, get_or, drop, refl, sym, ap, ◌∙◌, arith}
+use Rattle.std.proofs.lemmas.List.{drop_more, drop_all}
+use Rattle.path_grammar.specs.Tree.{Segments, no_segments, segment, selector, no_selectors}
+use Rattle.json_tape.specs.Nodes.{Node}
+use Rattle.tape_select.specs.Evaluation.{evaluated, selected_by}
+use Rattle.tape_select.specs.Charge.{charge_from, charge_by}
+use Rattle.tape_select.specs.Planned.{link_selector, links_view}
+use Rattle.tape_select.specs.declared.plan.Link.{Link}
+use Rattle.tape_select.specs.declared.plan.Link.TheVariants.{Key, Place}
+use Rattle.tape_select.specs.Paying.{Refuses}
+use Rattle.tape_select.specs.declared.fault.SelectFault.{SelectFault}
+use Rattle.tape_select.specs.declared.fault.SelectFault.TheVariants.{Costly, Memory}
+use Rattle.tape_select.proofs.Adding.{append_nil}
 
-pub single_added : (d : Doc) (found : Option NodeId) → add [] (single d found) ≡ Some (single d found)
-single_added d None = refl
-single_added d (Some n) = refl
-
-pub more_selectors : (ss : List Selector) → 2 ≤ length ss → is_one (selectors_view ss) ≡ false
-more_selectors [] h = absurd (omega arith)
-more_selectors (s ∷ []) h = absurd (omega arith)
-more_selectors (s ∷ u ∷ ss) h = two (selector_view s)
-  where
-    two : (x : tree.Selector) → is_one (selector x (selector (selector_view u) (selectors_view ss))) ≡ false
-    two (tree.name scalars) = refl
-    two tree.wild = refl
-    two (tree.index i) = refl
-    two (tree.filter e) = refl
-    two (tree.slice start stop step) = refl
-
-pub more_step : (root n : Node) (ss : List Selector) → 2 ≤ length ss → IsTrue (is_one (selectors_view ss)) → selected_run root (selectors_view ss) [] n ≡ Some []
-more_step root n ss h one = absurd (let e = more_selectors ss h in cc)
-
--- no nodes give no nodes
-pub nothing_from_nothing : (root : Node) (q : Segments) → evaluated_run root q [] ≡ Some []
+-- no nodes give no nodes, for nothing
+pub nothing_from_nothing : (root : Node) (q : Segments) → evaluated root q [] ≡ []
 nothing_from_nothing root no_segments = refl
 nothing_from_nothing root (segment descend ss others) = nothing_from_nothing root others
 
-pub segment_from_one : (root n : Node) (s : OneSegment) (found : List Node) → s.descend ≡ false → selected_run root s.selectors [] n ≡ Some found → for_each (from_run root s) [] (n ∷ []) ≡ Some found
-segment_from_one root n s found e f = rw (e, f) refl
-
--- what a singular query says of its first segment, and of the others
-pub record FirstIs (s : OneSegment) (others : Segments) : Type 0 where
-  pub child : s.descend ≡ false
-  pub one : IsTrue (is_one s.selectors)
-  pub rest : IsTrue (is_singular others)
-
-both : (a b : Bool) → IsTrue (a && b) → IsTrue a × IsTrue b
-both true true h = (refl, refl)
-both true false h = absurd cc
-both false b h = absurd cc
-
-pub first_is : (s : OneSegment) (others : Segments) → IsTrue (is_singular (segment s.descend s.selectors others)) → FirstIs s others
-first_is s others h = go s.descend refl
-  where
-    go : (b : Bool) → s.descend ≡ b → FirstIs s others
-    go true e = absurd cc
-    go false e = let p = both (is_one s.selectors) (is_singular others) (rw e at h) in record { child = e; one = p.0; rest = p.1 }
-
-pub first_of : (ss : List Segment) (i : ℕ) (item : Segment) → i < length ss → item ≡ get_or ss i item → IsTrue (is_singular (segments_view (drop i ss)))
-    → FirstIs (segment_view item) (segments_view (drop (i + 1) ss))
-first_of ss i item lt e h =
-    first_is (segment_view item) (segments_view (drop (i + 1) ss)) (rw (← e) at (rw (drop_more ss i item lt) at h))
-
-pub followed_on : (root n : Node) (found : List Node) (ss : List Segment) (i : ℕ) (item : Segment) → i < length ss → item ≡ get_or ss i item
-    → (segment_view item).descend ≡ false → selected_run root (segment_view item).selectors [] n ≡ Some found
-    → evaluated_run root (segments_view (drop i ss)) (n ∷ []) ≡ evaluated_run root (segments_view (drop (i + 1) ss)) found
-followed_on root n found ss i item lt e child f =
-    ap (λ (xs : List Segment). evaluated_run root (segments_view xs) (n ∷ [])) (drop_more ss i item lt)
-    ∙ rw (← e, segment_from_one root n (segment_view item) found child f) refl
-
--- ---- Several nodes, one after the other
-
-adds_found : (xs found out : List Node) → next (add [] xs) (λ o. Some o) ≡ Some found → next (add out xs) (λ o. Some o) ≡ add out found
-adds_found xs found out e = go (is_over xs) refl (sym (next_some (add [] xs)) ∙ e)
-  where
-    go : (b : Bool) → is_over xs ≡ b → cond (is_over xs) None (Some xs) ≡ Some found → next (add out xs) (λ o. Some o) ≡ add out found
-    go true b e = absurd cc
-    go false b e = let f : xs ≡ found = cc in rw (← f) (next_some (add out xs))
+pub nothing_for_nothing : (root : Node) (q : Segments) → charge_from root q [] ≡ 0
+nothing_for_nothing root no_segments = refl
+nothing_for_nothing root (segment descend ss others) = let h = nothing_for_nothing root others in omega (arith, h)
 
 module _ (root n : Node) where
-  one_adds : (ss : Selectors) (found out : List Node) → IsTrue (is_one ss) → selected_run root ss [] n ≡ Some found → selected_run root ss out n ≡ add out found
-  one_adds no_selectors found out h e = absurd cc
-  one_adds (selector (name scalars) no_selectors) found out h e = adds_found (first_where (is_named scalars) (children n)) found out e
-  one_adds (selector (index i) no_selectors) found out h e = adds_found (at_index i (elements n)) found out e
-  one_adds (selector (name scalars) (selector s others)) found out h e = absurd cc
-  one_adds (selector (index i) (selector s others)) found out h e = absurd cc
-  one_adds (selector wild others) found out h e = absurd cc
-  one_adds (selector (filter x) others) found out h e = absurd cc
-  one_adds (selector (slice from to step) others) found out h e = absurd cc
+  one_more : (l : Link) (others : Segments) (found : List Node) → found ≡ selected_by root (link_selector l) n
+      → evaluated root (segment false (selector (link_selector l) no_selectors) others) (n ∷ []) ≡ evaluated root others found
+  one_more l others found e =
+      ap (λ ns. evaluated root others ns) (append_nil ((selected_by root (link_selector l) n ++ []) ++ []) ∙ append_nil (selected_by root (link_selector l) n ++ []) ∙ append_nil (selected_by root (link_selector l) n) ∙ sym e)
 
-  pub step_adds : (s : OneSegment) (found out : List Node) → s.descend ≡ false → IsTrue (is_one s.selectors) → selected_run root s.selectors [] n ≡ Some found → from_run root s out n ≡ add out found
-  step_adds s found out c h e = rw c (next_some (selected_run root s.selectors out n) ∙ one_adds s.selectors found out h e)
+  one_unit : (l : Link) → charge_by root (link_selector l) n ≡ 1
+  one_unit (Key name) = refl
+  one_unit (Place i) = refl
 
-pub ruleset stepping = (each_more, step_adds, not_over)
+  one_charged : (l : Link) (others : Segments) (found : List Node) → found ≡ selected_by root (link_selector l) n
+      → charge_from root (segment false (selector (link_selector l) no_selectors) others) (n ∷ []) ≡ 1 + charge_from root others found
+  one_charged l others found e =
+      let rest : charge_from root others (((selected_by root (link_selector l) n ++ []) ++ []) ++ []) ≡ charge_from root others found =
+      ap (λ ns. charge_from root others ns) (append_nil ((selected_by root (link_selector l) n ++ []) ++ []) ∙ append_nil (selected_by root (link_selector l) n ++ []) ∙ append_nil (selected_by root (link_selector l) n) ∙ sym e) in
+      let unit = one_unit l in
+      omega (arith, rest, unit)
+
+  pub link_more : (found : List Node) (ls : List Link) (i : ℕ) (item : Link) → i < length ls → item ≡ get_or ls i item → found ≡ selected_by root (link_selector item) n
+      → evaluated root (links_view (drop i ls)) (n ∷ []) ≡ evaluated root (links_view (drop (i + 1) ls)) found
+  link_more found ls i item lt e f =
+      ap (λ (xs : List Link). evaluated root (links_view xs) (n ∷ [])) (drop_more ls i item lt) ∙ rw (← e) (one_more item (links_view (drop (i + 1) ls)) found f)
+
+  pub link_charged : (found : List Node) (ls : List Link) (i : ℕ) (item : Link) → i < length ls → item ≡ get_or ls i item → found ≡ selected_by root (link_selector item) n
+      → charge_from root (links_view (drop i ls)) (n ∷ []) ≡ 1 + charge_from root (links_view (drop (i + 1) ls)) found
+  link_charged found ls i item lt e f =
+      ap (λ (xs : List Link). charge_from root (links_view xs) (n ∷ [])) (drop_more ls i item lt) ∙ rw (← e) (one_charged item (links_view (drop (i + 1) ls)) found f)
+
+  pub link_end : (ls : List Link) (i : ℕ) → length ls ≤ i → evaluated root (links_view (drop i ls)) (n ∷ []) ≡ n ∷ []
+  link_end ls i h = ap (λ (xs : List Link). evaluated root (links_view xs) (n ∷ [])) (drop_all i ls h)
+
+  pub link_free : (ls : List Link) (i : ℕ) → length ls ≤ i → charge_from root (links_view (drop i ls)) (n ∷ []) ≡ 0
+  link_free ls i h = ap (λ (xs : List Link). charge_from root (links_view xs) (n ∷ [])) (drop_all i ls h)
+
+pub refuses_from : (c1 left1 c2 left2 : ℕ) (e : SelectFault) → (left1 < c1 → left2 < c2) → Refuses c1 left1 e → Refuses c2 left2 e
+refuses_from c1 left1 c2 left2 Costly f h = f h
+refuses_from c1 left1 c2 left2 Memory f h = tt

@@ -1,13 +1,12 @@
--- What a query selects (RFC 9535, sections 2.1.2, 2.3.5, 2.4 and 2.5), and which of its nodelists are over the limit.
-use Rattle.std.specs.Prelude.{ℕ, List, [], ◌∷◌, ◌++◌, Bool, true, false, ◌&&◌, ◌||◌, length, nat_lt, flat_map, Option, Some, None}
+-- What a query selects (RFC 9535, sections 2.1.2, 2.3.5, 2.4 and 2.5).
+use Rattle.std.specs.Prelude.{List, [], ◌∷◌, ◌++◌, Bool, true, false, ◌&&◌, ◌||◌, flat_map, Option, Some, None}
 use Rattle.std.specs.Prelude.{filter as keep, not as opposite}
-use Rattle.std.specs.List.{list_any}
 use Rattle.path_grammar.specs.Tree.{Segments, no_segments, segment, Selectors, no_selectors, selector, Selector, name, wild, index, filter, slice, Expr, any, each, not, compare, test, test_call, Exprs, no_exprs, expr, Nested, nested, Comparable, lit, single, func, Call, call, no_arguments, argument, Argument, lit_argument, nodes_argument, func_argument, logical_argument}
 use Rattle.json_tape.specs.Tree.{Tree}
 use Rattle.json_tape.specs.Nodes.{Node, children, elements, visit, is_named, first_where}
-use Rattle.tape_select.specs.Selection.{at_index, sliced}
-use Rattle.tape_select.specs.Comparison.{Value, literal_value, compared}
-use Rattle.tape_select.specs.Functions.{Argued, a_value, a_nodelist, only_value, applied}
+use Rattle.tape_values.specs.Selection.{at_index, sliced}
+use Rattle.tape_values.specs.Comparison.{Value, literal_value, compared}
+use Rattle.tape_values.specs.Functions.{Argued, a_value, a_nodelist, only_value, applied}
 
 -- ---- Segments (section 2.5)
 
@@ -93,72 +92,6 @@ module _ (root : Node) where
     argued (func_argument c) n = a_value (called c n)
     argued (logical_argument e) n = a_value None
 
--- ---- The limit
-
--- the greatest length of a nodelist
-abbrev pub node_limit : ℕ
-node_limit = 65536
-
-abbrev pub is_over : List Node → Bool
-is_over ns = nat_lt node_limit (length ns)
-
--- a test holds of some node from which a segment selects
-abbrev pub some_start : (descend : Bool) → (Node → Bool) → List Node → Bool
-some_start descend passes ns = list_any (λ n. list_any passes (starts descend n)) ns
-
--- The nodelist after some segment is longer: after a segment of the query, or of a query in a filter, for a child that the
--- filter is tried on. All operands and arguments count, whatever the others say.
-module _ (root : Node) where
-  abbrev mutual
-    pub exceeds : Segments → List Node → Bool
-    exceeds no_segments ns = false
-    exceeds (segment descend ss others) ns =
-        some_start descend (λ m. exceeds_in ss m) ns
-        || (is_over (from_starts descend (λ m. selected root ss m) ns)
-        || exceeds others (from_starts descend (λ m. selected root ss m) ns))
-
-    pub exceeds_in : Selectors → Node → Bool
-    exceeds_in no_selectors n = false
-    exceeds_in (selector s others) n = exceeds_by s n || exceeds_in others n
-
-    pub exceeds_by : Selector → Node → Bool
-    exceeds_by (name scalars) n = false
-    exceeds_by wild n = false
-    exceeds_by (index i) n = false
-    exceeds_by (filter e) n = list_any (λ child. exceeds_expr e child) (children n)
-    exceeds_by (slice start stop step) n = false
-
-    pub exceeds_expr : Expr → Node → Bool
-    exceeds_expr (any es) n = exceeds_exprs es n
-    exceeds_expr (each es) n = exceeds_exprs es n
-    exceeds_expr (not e) n = exceeds_expr e n
-    exceeds_expr (compare a op b) n = exceeds_side a n || exceeds_side b n
-    exceeds_expr (test q) n = exceeds_nested q n
-    exceeds_expr (test_call c) n = false
-
-    pub exceeds_exprs : Exprs → Node → Bool
-    exceeds_exprs no_exprs n = false
-    exceeds_exprs (expr e others) n = exceeds_expr e n || exceeds_exprs others n
-
-    pub exceeds_nested : Nested → Node → Bool
-    exceeds_nested (nested from_root ss) n = exceeds ss (start root from_root n ∷ [])
-
-    pub exceeds_side : Comparable → Node → Bool
-    exceeds_side (lit l) n = false
-    exceeds_side (single q) n = exceeds_nested q n
-    exceeds_side (func c) n = exceeds_call c n
-
-    pub exceeds_call : Call → Node → Bool
-    exceeds_call (call f no_arguments) n = false
-    exceeds_call (call f (argument a no_arguments)) n = exceeds_argument a n
-    exceeds_call (call f (argument a (argument b others))) n = false
-
-    pub exceeds_argument : Argument → Node → Bool
-    exceeds_argument (lit_argument l) n = false
-    exceeds_argument (nodes_argument q) n = exceeds_nested q n
-    exceeds_argument (func_argument c) n = exceeds_call c n
-    exceeds_argument (logical_argument e) n = false
-
 -- ---- A whole query
 
 -- the node of a whole text
@@ -168,6 +101,3 @@ root_node t = record { number = 0; way_up = []; tree = t }
 -- the nodes that a query selects from a text with this tree, in order
 abbrev pub nodes_selected : Tree → Segments → List Node
 nodes_selected t q = evaluated (root_node t) q (root_node t ∷ [])
-
-abbrev pub exceeds_limit : Tree → Segments → Bool
-exceeds_limit t q = exceeds (root_node t) q (root_node t ∷ [])

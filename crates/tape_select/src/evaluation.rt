@@ -1,53 +1,81 @@
-//! Segments, filters, and whole queries.
+//! Evaluation by a plan.
 
-ghost use Rattle.std.specs.Prelude.{◌≡◌, ◌<◌, ◌≤◌, ◌∷◌, [], length, map, IfOk, IsOk, IsErrOf, true, false, IsTrue, not};
-ghost use Rattle.std.specs.List.{All};
-ghost use Rattle.json_tape.specs.Document.{tree_of, count, node_at};
+ghost use Rattle.std.specs.Prelude.{◌≡◌, ◌<◌, ◌+◌, ◌*◌, ◌∷◌, [], ◌++◌, length, map, flat_map, filter, Some};
+ghost use Rattle.json_tape.specs.Document.{count, node_at};
 ghost use Rattle.json_tape.specs.Nodes.{children, visit};
-ghost use Rattle.path_grammar.specs.Tree.{call, exprs_of, arguments_of};
-ghost use Rattle.path_grammar.specs.View.{selector_view, segment_view, segments_view, selectors_view, expr_view, nested_view, comparable_view, call_view, argument_view, query_view};
-ghost use Rattle.path_types.specs.Validity.{is_valid, are_valid, is_valid_selector, is_valid_expr, are_valid_exprs, is_valid_nested, is_valid_comparable, is_valid_call, are_valid_arguments, is_valid_argument};
-ghost use Rattle.tape_select.specs.Evaluation.{nodes_selected, exceeds_limit, is_empty, node_limit};
-ghost use Rattle.tape_select.specs.Functions.{applied, a_nodelist};
-ghost use Rattle.tape_select.specs.Running.{for_each, keep_run, evaluated_run, selected_run, selected_from_run, selected_by_run, from_run, holds_run, some_run, all_run, nodes_run, result_run, called_run, argued_run, then_some};
-ghost use Rattle.tape_select.specs.Nodelists.{nodes_of, Sound, Gives, GivesList, GivesValue};
-ghost use Rattle.tape_select.specs.Sides.{GivesSide};
+ghost use Rattle.path_grammar.specs.Tree.{exprs_of, selectors_of};
+ghost use Rattle.tape_select.specs.Evaluation.{evaluated, selected, selected_by, holds, some_hold, all_hold, result as side_result};
+ghost use Rattle.tape_select.specs.Nodelists.{nodes_of};
+ghost use Rattle.tape_select.specs.Charge.{total_of, charge_from, charge_expr, charge_exprs, charge_side};
+ghost use Rattle.tape_select.specs.Extra.{extra_in, extra_by, nodes_from, charge_at, nodes_after, charge_after};
+ghost use Rattle.tape_select.specs.Paying.{Inside, Adds, Finds, FindsList};
+ghost use Rattle.tape_select.specs.Planned.{trees, query_of, claims_of, all_claims, look, condition_view, operand_view, selection_view, nested_view, stage_view};
+ghost use Rattle.tape_select.specs.Slots.{AreClaimed};
+ghost use Rattle.tape_select.specs.Memo.{FindsNodes, FindsFor, FindsSide, Keeps};
 
-use crate::compare::compare;
 use crate::fault::SelectFault;
-use crate::functions::{of_nodes, of_value};
-use crate::names::{lone_name, named};
-use crate::nodelist::{lone, none, push};
-use crate::plain::{filtered_plain, is_plain};
-use crate::selectors::{element, push_some, wild};
-use crate::sides::{Side, only_node};
-use crate::singular::{followed, start, stepped, value_at};
+use crate::nodes::{child_total, lone, push, push_some, wild};
+use crate::plain::{filtered_plainly, units_of};
+use crate::plan::{Condition, Nested, Operand, Parts, Selection, Stage};
+use crate::sides::{compare_once, length_of, side_found};
 use crate::slices::sliced;
+use crate::state::{Found, State, chain_found, found_in, keep, recall};
 use json_tape::{Document, NodeId};
-use path_grammar::{Argument, Call, Comparable, Expr, Segment, Selector, SubQuery, is_singular};
-use path_types::ValidQuery;
 use std::alloc::Global;
-use std::slice::from_ref;
+use tape_values::{Side, element};
 
-// The children for which an expression holds.
+// The children for which a condition holds.
 #[cycle(evaluation)]
-#[inline(never)]
-#[tactic(auto, using(crate::proofs::Adding::filtering))]
+#[tactic(auto, using(crate::proofs::Plainness::all_charged))]
 fn filtered(
     alloc: Global,
     doc: &Document,
-    condition: &Expr,
+    plan: &Parts,
+    condition: &Condition,
     n: NodeId,
+    state: &mut State,
     out: &mut Vec<NodeId>,
 ) -> Result<(), SelectFault>
     requires inside { n.0 < count doc.now }
-    requires valid { IsTrue (is_valid_expr (expr_view condition.now)) }
-    requires sound { Sound doc.now out.old.items }
-    ensures { Gives doc.now result out.new.items (keep_run (holds_run (node_at doc.now 0) (expr_view condition.now)) (nodes_of doc.now out.old.items) (children (node_at doc.now n.0))) }
+    requires claimed { AreClaimed (claims_of plan.now.stages.items) (condition_view condition.now).claims }
+    requires kept { Keeps doc.now (claims_of plan.now.stages.items) state.old }
+    requires sound { Inside doc.now out.old.items }
+    ensures added { Adds doc.now result out.new.items (nodes_of doc.now out.old.items ++ filter (holds (node_at doc.now 0) (condition_view condition.now).tree) (children (node_at doc.now n.0))) (2 * length (children (node_at doc.now n.0)) + total_of (charge_expr (node_at doc.now 0) (condition_view condition.now).tree) (children (node_at doc.now n.0))) state.old.meter.left state.new.meter.left }
+    ensures kept { Keeps doc.now (claims_of plan.now.stages.items) state.new }
 {
+    match units_of(condition) {
+        Some(units) => {
+            let State { meter, answers, .. } = state;
+            filtered_plainly(doc, condition, units, n, meter, answers, out)
+        }
+        None => filtered_each(alloc, doc, plan, condition, n, state, out),
+    }
+}
+
+// The same, paid child by child.
+#[cycle(evaluation)]
+#[tactic(auto, using(crate::proofs::Filtering::filtering))]
+fn filtered_each(
+    alloc: Global,
+    doc: &Document,
+    plan: &Parts,
+    condition: &Condition,
+    n: NodeId,
+    state: &mut State,
+    out: &mut Vec<NodeId>,
+) -> Result<(), SelectFault>
+    requires inside { n.0 < count doc.now }
+    requires claimed { AreClaimed (claims_of plan.now.stages.items) (condition_view condition.now).claims }
+    requires kept { Keeps doc.now (claims_of plan.now.stages.items) state.old }
+    requires sound { Inside doc.now out.old.items }
+    ensures added { Adds doc.now result out.new.items (nodes_of doc.now out.old.items ++ filter (holds (node_at doc.now 0) (condition_view condition.now).tree) (children (node_at doc.now n.0))) (2 * length (children (node_at doc.now n.0)) + total_of (charge_expr (node_at doc.now 0) (condition_view condition.now).tree) (children (node_at doc.now n.0))) state.old.meter.left state.new.meter.left }
+    ensures kept { Keeps doc.now (claims_of plan.now.stages.items) state.new }
+{
+    let total = child_total(doc, n);
+    state.meter.spend_each(2, u64::from(total))?;
     let mut child = doc.first_child(n);
     while let Some(c) = child {
-        if holds(alloc, doc, condition, c)? {
+        if does_hold(alloc, doc, plan, condition, c, state)? {
             push(doc, out, c)?;
         }
         child = doc.next_sibling(c);
@@ -56,381 +84,390 @@ fn filtered(
 }
 
 #[cycle(evaluation)]
-fn selected_by(
+#[tactic(auto, using(crate::proofs::Filtering::holding))]
+fn does_hold(
     alloc: Global,
     doc: &Document,
-    selector: &Selector,
-    n: NodeId,
-    out: &mut Vec<NodeId>,
-) -> Result<(), SelectFault>
-    requires inside { n.0 < count doc.now }
-    requires valid { IsTrue (is_valid_selector (selector_view selector.now)) }
-    requires sound { Sound doc.now out.old.items }
-    ensures { Gives doc.now result out.new.items (selected_by_run (node_at doc.now 0) (selector_view selector.now) (nodes_of doc.now out.old.items) (node_at doc.now n.0)) }
-{
-    match selector {
-        Selector::Name(name) => push_some(doc, out, doc.member(n, name)),
-        Selector::Wild => wild(doc, n, out),
-        Selector::Index(i) => push_some(doc, out, element(doc, n, *i)),
-        Selector::Filter(condition) => {
-            if is_plain(condition) {
-                filtered_plain(doc, condition, n, out)
-            } else {
-                filtered(alloc, doc, condition, n, out)
-            }
-        }
-        Selector::Slice { start, stop, step } => sliced(doc, n, *start, *stop, *step, out),
-    }
-}
-
-#[cycle(evaluation)]
-#[tactic(auto, using(crate::proofs::Walks::selectors_more, crate::proofs::Walks::valid_selectors_more))]
-fn selected(
-    alloc: Global,
-    doc: &Document,
-    selectors: &[Selector],
-    n: NodeId,
-    out: &mut Vec<NodeId>,
-) -> Result<(), SelectFault>
-    requires inside { n.0 < count doc.now }
-    requires valid { IsTrue (are_valid (selectors_view selectors.now)) }
-    requires sound { Sound doc.now out.old.items }
-    ensures { Gives doc.now result out.new.items (selected_run (node_at doc.now 0) (selectors_view selectors.now) (nodes_of doc.now out.old.items) (node_at doc.now n.0)) }
-{
-    for selector in selectors {
-        selected_by(alloc, doc, selector, n, out)?;
-    }
-    Ok(())
-}
-
-// What the selectors select from a node and all its descendants. From those without children they select nothing.
-#[cycle(evaluation)]
-#[tactic(auto, using(crate::proofs::Leaves::visiting))]
-fn visited(
-    alloc: Global,
-    doc: &Document,
-    selectors: &[Selector],
-    n: NodeId,
-    out: &mut Vec<NodeId>,
-) -> Result<(), SelectFault>
-    requires inside { n.0 < count doc.now }
-    requires valid { IsTrue (are_valid (selectors_view selectors.now)) }
-    requires sound { Sound doc.now out.old.items }
-    ensures { Gives doc.now result out.new.items (selected_from_run (node_at doc.now 0) (selectors_view selectors.now) (nodes_of doc.now out.old.items) (visit (node_at doc.now n.0))) }
-{
-    let end = doc.after(n);
-    for k in n.0..end {
-        if doc.first_child(NodeId(k)).is_some() {
-            selected(alloc, doc, selectors, NodeId(k), out)?;
-        }
-    }
-    Ok(())
-}
-
-// The same, where a lone name takes a loop of its own.
-#[cycle(evaluation)]
-fn descended(
-    alloc: Global,
-    doc: &Document,
-    selectors: &[Selector],
-    n: NodeId,
-    out: &mut Vec<NodeId>,
-) -> Result<(), SelectFault>
-    requires inside { n.0 < count doc.now }
-    requires valid { IsTrue (are_valid (selectors_view selectors.now)) }
-    requires sound { Sound doc.now out.old.items }
-    ensures { Gives doc.now result out.new.items (selected_from_run (node_at doc.now 0) (selectors_view selectors.now) (nodes_of doc.now out.old.items) (visit (node_at doc.now n.0))) }
-{
-    match lone_name(selectors) {
-        Some(name) => named(doc, name, n, out),
-        None => visited(alloc, doc, selectors, n, out),
-    }
-}
-
-#[cycle(evaluation)]
-#[tactic(auto, using(crate::proofs::Walks::next_some))]
-fn from_node(
-    alloc: Global,
-    doc: &Document,
-    segment: &Segment,
-    n: NodeId,
-    out: &mut Vec<NodeId>,
-) -> Result<(), SelectFault>
-    requires inside { n.0 < count doc.now }
-    requires valid { IsTrue (are_valid (segment_view segment.now).selectors) }
-    requires sound { Sound doc.now out.old.items }
-    ensures { Gives doc.now result out.new.items (from_run (node_at doc.now 0) (segment_view segment.now) (nodes_of doc.now out.old.items) (node_at doc.now n.0)) }
-{
-    if segment.descend {
-        descended(alloc, doc, &segment.selectors, n, out)
-    } else {
-        selected(alloc, doc, &segment.selectors, n, out)
-    }
-}
-
-#[cycle(evaluation)]
-#[tactic(auto, using(crate::proofs::Walks::each_more))]
-fn from_each(
-    alloc: Global,
-    doc: &Document,
-    segment: &Segment,
-    input: &[NodeId],
-    out: &mut Vec<NodeId>,
-) -> Result<(), SelectFault>
-    requires valid { IsTrue (are_valid (segment_view segment.now).selectors) }
-    requires from { Sound doc.now input.now }
-    requires sound { Sound doc.now out.old.items }
-    ensures { Gives doc.now result out.new.items (for_each (from_run (node_at doc.now 0) (segment_view segment.now)) (nodes_of doc.now out.old.items) (nodes_of doc.now input.now)) }
-{
-    for n in input {
-        from_node(alloc, doc, segment, *n, out)?;
-    }
-    Ok(())
-}
-
-#[cycle(evaluation)]
-fn after_segment(
-    alloc: Global,
-    doc: &Document,
-    segment: &Segment,
-    input: &[NodeId],
-) -> Result<Vec<NodeId>, SelectFault>
-    requires valid { IsTrue (are_valid (segment_view segment.now).selectors) }
-    requires from { Sound doc.now input.now }
-    ensures { GivesList doc.now result (for_each (from_run (node_at doc.now 0) (segment_view segment.now)) [] (nodes_of doc.now input.now)) }
-{
-    let mut out = none(alloc, doc);
-    if is_singular(from_ref(segment)) {
-        stepped(doc, segment, input, &mut out)?;
-    } else {
-        from_each(alloc, doc, segment, input, &mut out)?;
-    }
-    Ok(out)
-}
-
-#[cycle(evaluation)]
-#[tactic(auto, using(crate::proofs::Walks::segments_more, crate::proofs::Walks::valid_segments_more))]
-fn evaluated(
-    alloc: Global,
-    doc: &Document,
-    segments: &[Segment],
-    n: NodeId,
-) -> Result<Vec<NodeId>, SelectFault>
-    requires inside { n.0 < count doc.now }
-    requires valid { IsTrue (is_valid (segments_view segments.now)) }
-    ensures { GivesList doc.now result (evaluated_run (node_at doc.now 0) (segments_view segments.now) (node_at doc.now n.0 ∷ [])) }
-{
-    let mut nodes = lone(alloc, doc, n)?;
-    for segment in segments {
-        nodes = after_segment(alloc, doc, segment, &nodes)?;
-    }
-    Ok(nodes)
-}
-
-// Whether a query in a filter selects any node.
-#[cycle(evaluation)]
-fn is_any(
-    alloc: Global,
-    doc: &Document,
-    query: &SubQuery,
+    plan: &Parts,
+    condition: &Condition,
     child: NodeId,
+    state: &mut State,
 ) -> Result<bool, SelectFault>
     requires inside { child.0 < count doc.now }
-    requires valid { IsTrue (is_valid_nested (nested_view query.now)) }
-    ensures { GivesValue result (then_some (λ ns. not (is_empty ns)) (nodes_run (node_at doc.now 0) (nested_view query.now) (node_at doc.now child.0))) }
-{
-    let first = start(doc, query.from_root, child);
-    if is_singular(&query.segments) {
-        Ok(followed(doc, &query.segments, first).is_some())
-    } else {
-        let nodes = evaluated(alloc, doc, &query.segments, first)?;
-        Ok(!nodes.is_empty())
-    }
-}
-
-// A side of a comparison.
-#[cycle(evaluation)]
-#[inline(always)]
-fn side_of<'a>(
-    alloc: Global,
-    doc: &Document,
-    comparable: &'a Comparable,
-    child: NodeId,
-) -> Result<Side<'a>, SelectFault>
-    requires inside { child.0 < count doc.now }
-    requires valid { IsTrue (is_valid_comparable (comparable_view comparable.now)) }
-    ensures { GivesSide doc.now result (result_run (node_at doc.now 0) (comparable_view comparable.now) (node_at doc.now child.0)) }
-{
-    match comparable {
-        Comparable::Lit(literal) => Ok(Side::Literal(literal)),
-        Comparable::Single(query) => Ok(value_at(doc, query, child)),
-        Comparable::Func(call) => called(alloc, doc, call, child),
-    }
-}
-
-#[cycle(evaluation)]
-fn called<'a>(
-    alloc: Global,
-    doc: &Document,
-    call: &'a Call,
-    child: NodeId,
-) -> Result<Side<'a>, SelectFault>
-    requires inside { child.0 < count doc.now }
-    requires valid { IsTrue (is_valid_call (call_view call.now)) }
-    ensures { GivesSide doc.now result (called_run (node_at doc.now 0) (call_view call.now) (node_at doc.now child.0)) }
-{
-    of_arguments(alloc, doc, &call.name, &call.arguments, child)
-}
-
-// What a function gives for its arguments, of which there is one.
-#[cycle(evaluation)]
-fn of_arguments<'a>(
-    alloc: Global,
-    doc: &Document,
-    function: &[u8],
-    arguments: &'a [Argument],
-    child: NodeId,
-) -> Result<Side<'a>, SelectFault>
-    requires inside { child.0 < count doc.now }
-    requires valid { IsTrue (are_valid_arguments function.now (arguments_of (map argument_view arguments.now))) }
-    ensures { GivesSide doc.now result (called_run (node_at doc.now 0) (call function.now (arguments_of (map argument_view arguments.now))) (node_at doc.now child.0)) }
-{
-    match arguments {
-        [argument] => applied(alloc, doc, function, argument, child),
-        _ => Ok(Side::Nothing),
-    }
-}
-
-// What a function gives for one argument.
-#[cycle(evaluation)]
-fn applied<'a>(
-    alloc: Global,
-    doc: &Document,
-    function: &[u8],
-    argument: &'a Argument,
-    child: NodeId,
-) -> Result<Side<'a>, SelectFault>
-    requires inside { child.0 < count doc.now }
-    requires valid { IsTrue (is_valid_argument function.now (argument_view argument.now)) }
-    ensures { GivesSide doc.now result (then_some (applied function.now) (argued_run (node_at doc.now 0) (argument_view argument.now) (node_at doc.now child.0))) }
-{
-    match argument {
-        Argument::Lit(literal) => Ok(of_value(doc, function, Side::Literal(literal))),
-        Argument::Nodes(query) => of_query(alloc, doc, function, query, child),
-        Argument::Func(call) => {
-            let side = called(alloc, doc, call, child)?;
-            Ok(of_value(doc, function, side))
-        }
-        Argument::Logical(_) => Ok(of_value(doc, function, Side::Nothing)),
-    }
-}
-
-// What a function gives for the nodelist of a query.
-#[cycle(evaluation)]
-fn of_query<'a>(
-    alloc: Global,
-    doc: &Document,
-    function: &[u8],
-    query: &SubQuery,
-    child: NodeId,
-) -> Result<Side<'a>, SelectFault>
-    requires inside { child.0 < count doc.now }
-    requires valid { IsTrue (is_valid_nested (nested_view query.now)) }
-    ensures { GivesSide doc.now result (then_some (applied function.now) (then_some a_nodelist (nodes_run (node_at doc.now 0) (nested_view query.now) (node_at doc.now child.0)))) }
-{
-    let first = start(doc, query.from_root, child);
-    if is_singular(&query.segments) {
-        match followed(doc, &query.segments, first) {
-            None => Ok(of_nodes(doc, function, &[])),
-            Some(n) => Ok(of_nodes(doc, function, &[n])),
-        }
-    } else {
-        let nodes = evaluated(alloc, doc, &query.segments, first)?;
-        Ok(of_nodes(doc, function, &nodes))
-    }
-}
-
-// Whether an expression holds for a child. All operands are evaluated, since each nodelist counts for the limit.
-#[cycle(evaluation)]
-fn holds(
-    alloc: Global,
-    doc: &Document,
-    condition: &Expr,
-    child: NodeId,
-) -> Result<bool, SelectFault>
-    requires inside { child.0 < count doc.now }
-    requires valid { IsTrue (is_valid_expr (expr_view condition.now)) }
-    ensures { GivesValue result (holds_run (node_at doc.now 0) (expr_view condition.now) (node_at doc.now child.0)) }
+    requires claimed { AreClaimed (claims_of plan.now.stages.items) (condition_view condition.now).claims }
+    requires kept { Keeps doc.now (claims_of plan.now.stages.items) state.old }
+    ensures found { Finds result (holds (node_at doc.now 0) (condition_view condition.now).tree (node_at doc.now child.0)) (charge_expr (node_at doc.now 0) (condition_view condition.now).tree (node_at doc.now child.0)) state.old.meter.left state.new.meter.left }
+    ensures kept { Keeps doc.now (claims_of plan.now.stages.items) state.new }
 {
     match condition {
-        Expr::Any(operands) => some_hold(alloc, doc, operands, child),
-        Expr::Each(operands) => all_hold(alloc, doc, operands, child),
-        Expr::Not(operand) => {
-            let held = holds(alloc, doc, operand, child)?;
+        Condition::Any(operands) => some_hold(alloc, doc, plan, operands, child, state),
+        Condition::Each(operands) => all_hold(alloc, doc, plan, operands, child, state),
+        Condition::Not(operand) => {
+            let held = does_hold(alloc, doc, plan, operand, child, state)?;
             Ok(!held)
         }
-        Expr::Compare(left, op, right) => {
-            let left = side_of(alloc, doc, left, child)?;
-            let right = side_of(alloc, doc, right, child)?;
-            Ok(compare(doc, *op, &left, &right))
+        Condition::Compare(left, op, right) => {
+            let left = side_of(alloc, doc, plan, left, child, state)?;
+            let right = side_of(alloc, doc, plan, right, child, state)?;
+            Ok(compare_once(doc, *op, &left, &right, &mut state.answers))
         }
-        Expr::Test(query) => is_any(alloc, doc, query, child),
-        Expr::TestCall(_) => Ok(false),
+        Condition::Leads(chain) => {
+            let found = chain_found(doc, plan, chain, child, state)?;
+            Ok(found.total != 0)
+        }
+        Condition::Exists(query) => {
+            let found = found(alloc, doc, plan, query, child, state)?;
+            Ok(found.total != 0)
+        }
     }
 }
 
+// All operands are tried, since each is charged.
 #[cycle(evaluation)]
-#[tactic(auto, using(crate::proofs::Walks::somes))]
+#[tactic(auto, using(crate::proofs::Filtering::somes))]
 fn some_hold(
     alloc: Global,
     doc: &Document,
-    operands: &[Expr],
+    plan: &Parts,
+    operands: &[Condition],
     child: NodeId,
+    state: &mut State,
 ) -> Result<bool, SelectFault>
     requires inside { child.0 < count doc.now }
-    requires valid { IsTrue (are_valid_exprs (exprs_of (map expr_view operands.now))) }
-    ensures { GivesValue result (some_run (node_at doc.now 0) (exprs_of (map expr_view operands.now)) (node_at doc.now child.0)) }
+    requires claimed { AreClaimed (claims_of plan.now.stages.items) (all_claims (map condition_view operands.now)) }
+    requires kept { Keeps doc.now (claims_of plan.now.stages.items) state.old }
+    ensures found { Finds result (some_hold (node_at doc.now 0) (exprs_of (trees (map condition_view operands.now))) (node_at doc.now child.0)) (charge_exprs (node_at doc.now 0) (exprs_of (trees (map condition_view operands.now))) (node_at doc.now child.0)) state.old.meter.left state.new.meter.left }
+    ensures kept { Keeps doc.now (claims_of plan.now.stages.items) state.new }
 {
     let mut some = false;
     for operand in operands {
-        let held = holds(alloc, doc, operand, child)?;
+        let held = does_hold(alloc, doc, plan, operand, child, state)?;
         some |= held;
     }
     Ok(some)
 }
 
 #[cycle(evaluation)]
-#[tactic(auto, using(crate::proofs::Walks::alls))]
+#[tactic(auto, using(crate::proofs::Filtering::alls))]
 fn all_hold(
     alloc: Global,
     doc: &Document,
-    operands: &[Expr],
+    plan: &Parts,
+    operands: &[Condition],
     child: NodeId,
+    state: &mut State,
 ) -> Result<bool, SelectFault>
     requires inside { child.0 < count doc.now }
-    requires valid { IsTrue (are_valid_exprs (exprs_of (map expr_view operands.now))) }
-    ensures { GivesValue result (all_run (node_at doc.now 0) (exprs_of (map expr_view operands.now)) (node_at doc.now child.0)) }
+    requires claimed { AreClaimed (claims_of plan.now.stages.items) (all_claims (map condition_view operands.now)) }
+    requires kept { Keeps doc.now (claims_of plan.now.stages.items) state.old }
+    ensures found { Finds result (all_hold (node_at doc.now 0) (exprs_of (trees (map condition_view operands.now))) (node_at doc.now child.0)) (charge_exprs (node_at doc.now 0) (exprs_of (trees (map condition_view operands.now))) (node_at doc.now child.0)) state.old.meter.left state.new.meter.left }
+    ensures kept { Keeps doc.now (claims_of plan.now.stages.items) state.new }
 {
     let mut all = true;
     for operand in operands {
-        let held = holds(alloc, doc, operand, child)?;
+        let held = does_hold(alloc, doc, plan, operand, child, state)?;
         all &= held;
     }
     Ok(all)
 }
 
-/// The numbers of the nodes that a query selects from a document, in the query's order, with duplicates: at most
-/// [`crate::NODE_LIMIT`].
-///
-/// Refused is a query some of whose nodelists has more than [`crate::NODE_LIMIT`] nodes (TooManyNodes): one after a segment of the
-/// query, or of a query in a filter. Memory comes where a growth was refused.
-pub fn select(alloc: Global, query: &ValidQuery, doc: &Document) -> Result<Vec<NodeId>, SelectFault>
-    ensures nodes { IfOk result (λ ids. nodes_of doc.now ids.items ≡ nodes_selected (tree_of doc.now) (query_view query.now)) }
-    ensures inside { IfOk result (λ ids. All (λ id. id.0 < count doc.now) ids.items) }
-    ensures few { IfOk result (λ ids. length ids.items ≤ node_limit) }
-    ensures within { IsOk result → exceeds_limit (tree_of doc.now) (query_view query.now) ≡ false }
-    ensures too_many_nodes { IsErrOf result SelectFault.TooManyNodes → exceeds_limit (tree_of doc.now) (query_view query.now) ≡ true }
+// A side of a comparison.
+#[cycle(evaluation)]
+#[tactic(auto, using(crate::proofs::Filtering::siding))]
+fn side_of<'a>(
+    alloc: Global,
+    doc: &Document,
+    plan: &Parts,
+    operand: &'a Operand,
+    child: NodeId,
+    state: &mut State,
+) -> Result<Side<'a>, SelectFault>
+    requires inside { child.0 < count doc.now }
+    requires claimed { AreClaimed (claims_of plan.now.stages.items) (operand_view operand.now).claims }
+    requires kept { Keeps doc.now (claims_of plan.now.stages.items) state.old }
+    ensures found { FindsSide doc.now result (side_result (node_at doc.now 0) (operand_view operand.now).tree (node_at doc.now child.0)) (charge_side (node_at doc.now 0) (operand_view operand.now).tree (node_at doc.now child.0)) state.old.meter.left state.new.meter.left }
+    ensures kept { Keeps doc.now (claims_of plan.now.stages.items) state.new }
 {
-    let root = doc.root();
-    evaluated(alloc, doc, query.segments(), root)
+    match operand {
+        Operand::Constant(constant) => Ok(Side::Literal(&constant.literal)),
+        Operand::Single(chain) => {
+            let found = chain_found(doc, plan, chain, child, state)?;
+            Ok(side_found(doc, found.only))
+        }
+        Operand::Length(operand) => {
+            let side = side_of(alloc, doc, plan, operand, child, state)?;
+            Ok(length_of(doc, side))
+        }
+        Operand::Count(query) => {
+            let found = found(alloc, doc, plan, query, child, state)?;
+            Ok(Side::Whole(found.total))
+        }
+        Operand::Value(query) => {
+            let found = found(alloc, doc, plan, query, child, state)?;
+            Ok(side_found(doc, found.only))
+        }
+    }
+}
+
+// What is asked of a query in a filter. From the root it is found once.
+#[cycle(evaluation)]
+fn found(
+    alloc: Global,
+    doc: &Document,
+    plan: &Parts,
+    query: &Nested,
+    child: NodeId,
+    state: &mut State,
+) -> Result<Found, SelectFault>
+    requires inside { child.0 < count doc.now }
+    requires claimed { AreClaimed (claims_of plan.now.stages.items) (nested_view query.now).claims }
+    requires kept { Keeps doc.now (claims_of plan.now.stages.items) state.old }
+    ensures found { FindsFor doc.now result (nested_view query.now).tree (node_at doc.now child.0) state.old.meter.left state.new.meter.left }
+    ensures kept { Keeps doc.now (claims_of plan.now.stages.items) state.new }
+{
+    match query.slot {
+        None => found_from(alloc, doc, plan, &query.stages, child, state),
+        Some(slot) => found_once(alloc, doc, plan, &query.stages, slot, state),
+    }
+}
+
+#[cycle(evaluation)]
+fn found_once(
+    alloc: Global,
+    doc: &Document,
+    plan: &Parts,
+    stages: &[Stage],
+    slot: u32,
+    state: &mut State,
+) -> Result<Found, SelectFault>
+    requires mine { look (claims_of plan.now.stages.items) slot ≡ Some (query_of stages.now) }
+    requires claimed { AreClaimed (claims_of plan.now.stages.items) (claims_of stages.now) }
+    requires kept { Keeps doc.now (claims_of plan.now.stages.items) state.old }
+    ensures found { FindsNodes doc.now result (query_of stages.now) (node_at doc.now 0) state.old.meter.left state.new.meter.left }
+    ensures kept { Keeps doc.now (claims_of plan.now.stages.items) state.new }
+{
+    match recall(doc, plan, &state.slots, slot) {
+        Some(found) => {
+            state.meter.spend(found.charge)?;
+            Ok(found)
+        }
+        None => {
+            let found = found_from(alloc, doc, plan, stages, doc.root(), state)?;
+            keep(doc, plan, &mut state.slots, slot, found);
+            Ok(found)
+        }
+    }
+}
+
+#[cycle(evaluation)]
+fn found_from(
+    alloc: Global,
+    doc: &Document,
+    plan: &Parts,
+    stages: &[Stage],
+    n: NodeId,
+    state: &mut State,
+) -> Result<Found, SelectFault>
+    requires inside { n.0 < count doc.now }
+    requires claimed { AreClaimed (claims_of plan.now.stages.items) (claims_of stages.now) }
+    requires kept { Keeps doc.now (claims_of plan.now.stages.items) state.old }
+    ensures found { FindsNodes doc.now result (query_of stages.now) (node_at doc.now n.0) state.old.meter.left state.new.meter.left }
+    ensures kept { Keeps doc.now (claims_of plan.now.stages.items) state.new }
+{
+    let units = state.meter.left;
+    let nodes = all_selected(alloc, doc, plan, stages, n, state)?;
+    Ok(found_in(doc, &nodes, units - state.meter.left))
+}
+
+/// The nodes that the stages select from a node.
+#[cycle(evaluation)]
+pub fn all_selected(
+    alloc: Global,
+    doc: &Document,
+    plan: &Parts,
+    stages: &[Stage],
+    n: NodeId,
+    state: &mut State,
+) -> Result<Vec<NodeId>, SelectFault>
+    requires inside { n.0 < count doc.now }
+    requires claimed { AreClaimed (claims_of plan.now.stages.items) (claims_of stages.now) }
+    requires kept { Keeps doc.now (claims_of plan.now.stages.items) state.old }
+    ensures found { FindsList doc.now result (evaluated (node_at doc.now 0) (query_of stages.now) (node_at doc.now n.0 ∷ [])) (charge_from (node_at doc.now 0) (query_of stages.now) (node_at doc.now n.0 ∷ [])) state.old.meter.left state.new.meter.left }
+    ensures kept { Keeps doc.now (claims_of plan.now.stages.items) state.new }
+{
+    let mut nodes = lone(alloc, doc, n)?;
+    for stage in stages {
+        nodes = after_stage(alloc, doc, plan, stage, &nodes, state)?;
+    }
+    Ok(nodes)
+}
+
+#[cycle(evaluation)]
+#[tactic(auto, using(crate::proofs::Filtering::each_input))]
+fn after_stage(
+    alloc: Global,
+    doc: &Document,
+    plan: &Parts,
+    stage: &Stage,
+    input: &[NodeId],
+    state: &mut State,
+) -> Result<Vec<NodeId>, SelectFault>
+    requires from { Inside doc.now input.now }
+    requires claimed { AreClaimed (claims_of plan.now.stages.items) (stage_view stage.now).claims }
+    requires kept { Keeps doc.now (claims_of plan.now.stages.items) state.old }
+    ensures found { FindsList doc.now result (nodes_after (node_at doc.now 0) (stage_view stage.now).tree (nodes_of doc.now input.now)) (charge_after (node_at doc.now 0) (stage_view stage.now).tree (nodes_of doc.now input.now)) state.old.meter.left state.new.meter.left }
+    ensures kept { Keeps doc.now (claims_of plan.now.stages.items) state.new }
+{
+    let mut out = Vec::new(alloc);
+    for n in input {
+        from_node(alloc, doc, plan, stage, *n, state, &mut out)?;
+    }
+    Ok(out)
+}
+
+fn selector_total(stage: &Stage) -> u64
+    ensures { result ≡ length stage.now.selections.items }
+{
+    stage.selections.len() as u64
+}
+
+// How many nodes there are in a node, itself included.
+#[tactic(auto, using(crate::proofs::Filtering::visit_length))]
+fn visit_total(doc: &Document, n: NodeId) -> u64
+    requires { n.0 < count doc.now }
+    ensures { result ≡ length (visit (node_at doc.now n.0)) }
+{
+    u64::from(doc.after(n) - n.0)
+}
+
+// What a segment selects from one node. Each selector's unit is paid here, for all nodes at once.
+#[cycle(evaluation)]
+fn from_node(
+    alloc: Global,
+    doc: &Document,
+    plan: &Parts,
+    stage: &Stage,
+    n: NodeId,
+    state: &mut State,
+    out: &mut Vec<NodeId>,
+) -> Result<(), SelectFault>
+    requires inside { n.0 < count doc.now }
+    requires claimed { AreClaimed (claims_of plan.now.stages.items) (stage_view stage.now).claims }
+    requires kept { Keeps doc.now (claims_of plan.now.stages.items) state.old }
+    requires sound { Inside doc.now out.old.items }
+    ensures added { Adds doc.now result out.new.items (nodes_of doc.now out.old.items ++ nodes_from (node_at doc.now 0) (stage_view stage.now).tree (node_at doc.now n.0)) (charge_at (node_at doc.now 0) (stage_view stage.now).tree (node_at doc.now n.0)) state.old.meter.left state.new.meter.left }
+    ensures kept { Keeps doc.now (claims_of plan.now.stages.items) state.new }
+{
+    let selectors = selector_total(stage);
+    if stage.descend {
+        state.meter.spend_each(visit_total(doc, n), selectors)?;
+        visited(alloc, doc, plan, &stage.selections, n, state, out)
+    } else {
+        state.meter.spend(selectors)?;
+        selected_from(alloc, doc, plan, &stage.selections, n, state, out)
+    }
+}
+
+// What the selectors select from a node and all its descendants.
+#[cycle(evaluation)]
+#[tactic(auto, using(crate::proofs::Filtering::visiting))]
+fn visited(
+    alloc: Global,
+    doc: &Document,
+    plan: &Parts,
+    selections: &[Selection],
+    n: NodeId,
+    state: &mut State,
+    out: &mut Vec<NodeId>,
+) -> Result<(), SelectFault>
+    requires inside { n.0 < count doc.now }
+    requires claimed { AreClaimed (claims_of plan.now.stages.items) (all_claims (map selection_view selections.now)) }
+    requires kept { Keeps doc.now (claims_of plan.now.stages.items) state.old }
+    requires sound { Inside doc.now out.old.items }
+    ensures added { Adds doc.now result out.new.items (nodes_of doc.now out.old.items ++ flat_map (selected (node_at doc.now 0) (selectors_of (trees (map selection_view selections.now)))) (visit (node_at doc.now n.0))) (total_of (extra_in (node_at doc.now 0) (selectors_of (trees (map selection_view selections.now)))) (visit (node_at doc.now n.0))) state.old.meter.left state.new.meter.left }
+    ensures kept { Keeps doc.now (claims_of plan.now.stages.items) state.new }
+{
+    let end = doc.after(n);
+    for k in n.0..end {
+        selected_within(alloc, doc, plan, selections, NodeId(k), state, out)?;
+    }
+    Ok(())
+}
+
+// What the selectors select from one node. From one without children they select nothing.
+#[cycle(evaluation)]
+fn selected_within(
+    alloc: Global,
+    doc: &Document,
+    plan: &Parts,
+    selections: &[Selection],
+    n: NodeId,
+    state: &mut State,
+    out: &mut Vec<NodeId>,
+) -> Result<(), SelectFault>
+    requires inside { n.0 < count doc.now }
+    requires claimed { AreClaimed (claims_of plan.now.stages.items) (all_claims (map selection_view selections.now)) }
+    requires kept { Keeps doc.now (claims_of plan.now.stages.items) state.old }
+    requires sound { Inside doc.now out.old.items }
+    ensures added { Adds doc.now result out.new.items (nodes_of doc.now out.old.items ++ selected (node_at doc.now 0) (selectors_of (trees (map selection_view selections.now))) (node_at doc.now n.0)) (extra_in (node_at doc.now 0) (selectors_of (trees (map selection_view selections.now))) (node_at doc.now n.0)) state.old.meter.left state.new.meter.left }
+    ensures kept { Keeps doc.now (claims_of plan.now.stages.items) state.new }
+{
+    match doc.first_child(n) {
+        None => Ok(()),
+        Some(_) => selected_from(alloc, doc, plan, selections, n, state, out),
+    }
+}
+
+// What the selectors select from one node.
+#[cycle(evaluation)]
+#[tactic(auto, using(crate::proofs::Filtering::selections))]
+fn selected_from(
+    alloc: Global,
+    doc: &Document,
+    plan: &Parts,
+    selections: &[Selection],
+    n: NodeId,
+    state: &mut State,
+    out: &mut Vec<NodeId>,
+) -> Result<(), SelectFault>
+    requires inside { n.0 < count doc.now }
+    requires claimed { AreClaimed (claims_of plan.now.stages.items) (all_claims (map selection_view selections.now)) }
+    requires kept { Keeps doc.now (claims_of plan.now.stages.items) state.old }
+    requires sound { Inside doc.now out.old.items }
+    ensures added { Adds doc.now result out.new.items (nodes_of doc.now out.old.items ++ selected (node_at doc.now 0) (selectors_of (trees (map selection_view selections.now))) (node_at doc.now n.0)) (extra_in (node_at doc.now 0) (selectors_of (trees (map selection_view selections.now))) (node_at doc.now n.0)) state.old.meter.left state.new.meter.left }
+    ensures kept { Keeps doc.now (claims_of plan.now.stages.items) state.new }
+{
+    for selection in selections {
+        selected_by(alloc, doc, plan, selection, n, state, out)?;
+    }
+    Ok(())
+}
+
+#[cycle(evaluation)]
+#[tactic(auto, using(crate::proofs::Filtering::filter_charge))]
+fn selected_by(
+    alloc: Global,
+    doc: &Document,
+    plan: &Parts,
+    selection: &Selection,
+    n: NodeId,
+    state: &mut State,
+    out: &mut Vec<NodeId>,
+) -> Result<(), SelectFault>
+    requires inside { n.0 < count doc.now }
+    requires claimed { AreClaimed (claims_of plan.now.stages.items) (selection_view selection.now).claims }
+    requires kept { Keeps doc.now (claims_of plan.now.stages.items) state.old }
+    requires sound { Inside doc.now out.old.items }
+    ensures added { Adds doc.now result out.new.items (nodes_of doc.now out.old.items ++ selected_by (node_at doc.now 0) (selection_view selection.now).tree (node_at doc.now n.0)) (extra_by (node_at doc.now 0) (selection_view selection.now).tree (node_at doc.now n.0)) state.old.meter.left state.new.meter.left }
+    ensures kept { Keeps doc.now (claims_of plan.now.stages.items) state.new }
+{
+    match selection {
+        Selection::Named(name) => push_some(doc, out, doc.member(n, &name.scalars)),
+        Selection::Wild => wild(doc, n, &mut state.meter, out),
+        Selection::At(i) => push_some(doc, out, element(doc, n, *i)),
+        Selection::Sliced { start, stop, step } => {
+            sliced(doc, n, *start, *stop, *step, &mut state.meter, out)
+        }
+        Selection::Where(condition) => filtered(alloc, doc, plan, condition, n, state, out),
+    }
 }

@@ -1,34 +1,25 @@
-//! Evaluation of a query over the tape of a text (RFC 9535, sections 2.3 to 2.5).
+//! Evaluation of a query over the tape of a text (RFC 9535, sections 2.3 to 2.5), with an exact charge.
 //!
-//! [`select`] follows the links of numbered entries and writes the numbers of the selected nodes into one list per segment. A
-//! singular query of a filter is followed from node to node without a list. Memory is taken for lists alone, never for a node,
-//! and the evaluation stops at the first nodelist that is over the limit.
-//!
-//! [`equal_values`] and [`less_values`] compare the values of a text as a filter does: numbers as exact decimals, strings by
-//! scalar values, objects whatever the order of their members. They take no memory.
+//! [`Plan`] is a valid query made ready: the kind of each part is decided, singular queries are told apart, names and literals stand
+//! ready to be compared, and each query in a filter that begins at `$` has a slot of its own, so that what was found for it can be
+//! kept. [`Plan::select`] gives the nodes and the charge, or refuses a charge above the units; [`select`] makes the plan too.
 #![tactic(auto)]
 
-mod compare;
-mod digits;
+mod answers;
+mod chains;
 mod evaluation;
 mod fault;
-mod functions;
-mod guesses;
-mod letters;
-mod names;
-mod nodelist;
+mod making;
+mod meter;
+mod nodes;
 mod plain;
-mod selectors;
+mod plan;
+mod planning;
+mod selecting;
 mod sides;
-mod singular;
 mod slices;
-mod values;
+mod state;
 
-pub use compare::compare as compare_sides;
-pub use evaluation::select;
 pub use fault::SelectFault;
-pub use nodelist::NODE_LIMIT;
-pub use selectors::element;
-pub use sides::Side;
-pub use slices::{Places, slice_places};
-pub use values::{equal_values, less_values};
+pub use planning::{BUDGET, Plan, select};
+pub use selecting::Selected;

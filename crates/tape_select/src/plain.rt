@@ -1,197 +1,226 @@
-//! Filters that need no nodelist: they compare literals and singular queries or test singular queries, and call no function.
-//!
-//! No nodelist of theirs is over the limit, so that operands which cannot change the answer are passed by.
+//! Filters of literals and of singular queries from `@`, each of one segment at most: what they are charged is the same for each
+//! child, so that it is paid in front, and operands that cannot change the answer are passed by.
 
-ghost use Rattle.std.specs.Prelude.{◌≡◌, ◌<◌, Some, IsTrue, IfSome, map};
-ghost use Rattle.json_tape.specs.Document.{count, node_at};
-ghost use Rattle.json_tape.specs.Nodes.{children};
-ghost use Rattle.path_grammar.specs.Tree.{compare, test, single, lit, exprs_of};
-ghost use Rattle.path_grammar.specs.View.{expr_view, comparable_view, nested_view, literal_view};
-ghost use Rattle.path_types.specs.Validity.{is_valid_expr, are_valid_exprs, is_valid_comparable, is_singular_query, is_literal};
-ghost use Rattle.tape_select.specs.Plain.{is_plain, are_plain, is_plain_side, IsTestOf};
-ghost use Rattle.tape_select.specs.Running.{keep_run, holds_run, some_run, all_run, result_run};
-ghost use Rattle.tape_select.specs.Nodelists.{nodes_of, Sound, Gives};
-ghost use Rattle.tape_select.specs.Sides.{IsSideOf, IsNumberSide};
+ghost use Rattle.std.specs.Prelude.{◌≡◌, ◌<◌, ◌+◌, ◌*◌, ◌++◌, length, map, filter, Some, IsTrue, IfSome, MatchResult};
+ghost use Rattle.json_tape.specs.Document.{count, node_at, single, IsIn};
+ghost use Rattle.json_tape.specs.Nodes.{Node, children};
+ghost use Rattle.path_grammar.specs.Tree.{exprs_of};
+ghost use Rattle.path_grammar.specs.View.{literal_view};
+ghost use Rattle.tape_values.specs.Comparison.{compared, literal_value};
+ghost use Rattle.tape_values.specs.Functions.{only_value};
+ghost use Rattle.tape_values.specs.Sides.{side_value, IsSide};
+ghost use Rattle.tape_select.specs.Answered.{AreRight};
+ghost use Rattle.tape_select.specs.Evaluation.{nodes, holds, some_hold, all_hold, result as side_result};
+ghost use Rattle.tape_select.specs.Nodelists.{nodes_of};
+ghost use Rattle.tape_select.specs.Paying.{Inside, Adds, Holds};
+ghost use Rattle.tape_select.specs.Plain.{is_relative, is_plain, is_plain_side, all_true, units_of, units_of_all, units_of_side, units_of_query};
+ghost use Rattle.tape_select.specs.Planned.{trees, chain_view, condition_view, operand_view};
 
-use crate::compare::{compare_contents, compare_found, compare_numbers, side_digits};
-use crate::digits::Digits;
+use crate::answers::Answer;
+use crate::chains::reached;
 use crate::fault::SelectFault;
-use crate::nodelist::push;
-use crate::sides::Side;
-use crate::singular::{followed, start};
+use crate::meter::Meter;
+use crate::nodes::{child_total, push};
+use crate::plan::{Chain, Condition, Constant, Operand};
+use crate::sides::{compare_once, length_of, side_found};
 use json_tape::{Document, NodeId};
-use path_grammar::{Comparable, Expr, Literal, Op, SubQuery, is_singular};
+use path_grammar::Op;
 use std::slice::from_ref;
+use tape_values::{Side, compare_found};
 
-fn is_plain_side(comparable: &Comparable) -> bool
-    ensures { result ≡ is_plain_side (comparable_view comparable.now) }
+// What a singular query is charged, where it is from `@` and of one segment at most.
+fn units_of_chain(chain: &Chain) -> Option<u32>
+    ensures relative { IfSome result (λ _. IsTrue (is_relative chain.now)) }
+    ensures units { IfSome result (λ units. units_of_query (chain_view chain.now).tree ≡ Some units) }
 {
-    match comparable {
-        Comparable::Lit(_) => true,
-        Comparable::Single(query) => is_singular(&query.segments),
-        Comparable::Func(_) => false,
+    match chain.slot {
+        Some(_) => None,
+        None => match chain.links.as_slice() {
+            [] => Some(0),
+            [_] => Some(1),
+            _ => None,
+        },
     }
 }
 
-/// Whether an expression needs no nodelist.
-#[cycle(plainness)]
-pub fn is_plain(condition: &Expr) -> bool
-    ensures { result ≡ is_plain (expr_view condition.now) }
+#[cycle(side_units)]
+fn units_of_side(operand: &Operand) -> Option<u32>
+    ensures plain { IfSome result (λ _. IsTrue (is_plain_side operand.now)) }
+    ensures units { IfSome result (λ units. units_of_side (operand_view operand.now).tree ≡ Some units) }
+{
+    match operand {
+        Operand::Constant(_) => Some(0),
+        Operand::Single(chain) => units_of_chain(chain),
+        Operand::Length(operand) => units_of_side(operand),
+        Operand::Count(_) | Operand::Value(_) => None,
+    }
+}
+
+/// What a condition is charged for each child, where that is the same for all and it needs no list.
+#[cycle(units)]
+pub fn units_of(condition: &Condition) -> Option<u32>
+    ensures plain { IfSome result (λ _. IsTrue (is_plain condition.now)) }
+    ensures units { IfSome result (λ units. units_of (condition_view condition.now).tree ≡ Some units) }
 {
     match condition {
-        Expr::Any(operands) | Expr::Each(operands) => are_plain(operands),
-        Expr::Not(operand) => is_plain(operand),
-        Expr::Compare(left, _, right) => is_plain_side(left) && is_plain_side(right),
-        Expr::Test(query) => is_singular(&query.segments),
-        Expr::TestCall(_) => false,
+        Condition::Any(operands) => units_of_all(operands),
+        Condition::Each(operands) => units_of_all(operands),
+        Condition::Not(operand) => units_of(operand),
+        Condition::Compare(left, _, right) => {
+            let left = units_of_side(left)?;
+            let right = units_of_side(right)?;
+            left.checked_add(right)
+        }
+        Condition::Leads(chain) => units_of_chain(chain),
+        Condition::Exists(_) => None,
     }
 }
 
-#[cycle(plainness)]
-#[tactic(auto, using(crate::proofs::Operands::plain_more))]
-fn are_plain(operands: &[Expr]) -> bool
-    ensures { result ≡ are_plain (exprs_of (map expr_view operands.now)) }
+#[cycle(units)]
+#[tactic(auto, using(crate::proofs::Plainness::units))]
+fn units_of_all(operands: &[Condition]) -> Option<u32>
+    ensures plain { IfSome result (λ _. IsTrue (all_true (map is_plain operands.now))) }
+    ensures units { IfSome result (λ units. units_of_all (exprs_of (trees (map condition_view operands.now))) ≡ Some units) }
 {
+    let mut sum: u32 = 0;
     for operand in operands {
-        if !is_plain(operand) {
-            return false;
-        }
+        let units = units_of(operand)?;
+        sum = sum.checked_add(units)?;
     }
-    true
+    Some(sum)
 }
 
-// A literal, or the value of a singular query; and its digits where it is a number, as most are.
-#[inline(always)]
-fn plain_side<'a>(
-    doc: &'a Document,
-    comparable: &'a Comparable,
-    child: NodeId,
-) -> (Side<'a>, Option<Digits<'a>>)
+// What a singular query finds for a child.
+#[tactic(auto, using(crate::proofs::Plainness::starting))]
+fn found_plainly(doc: &Document, chain: &Chain, child: NodeId) -> Option<NodeId>
     requires inside { child.0 < count doc.now }
-    requires valid { IsTrue (is_valid_comparable (comparable_view comparable.now)) }
-    requires plain { IsTrue (is_plain_side (comparable_view comparable.now)) }
-    ensures side { IsSideOf doc.now (result_run (node_at doc.now 0) (comparable_view comparable.now) (node_at doc.now child.0)) result.0 }
-    ensures number { IfSome result.1 (λ digits. IsNumberSide doc.now result.0 digits) }
+    requires relative { IsTrue (is_relative chain.now) }
+    ensures node { single doc.now result ≡ nodes (node_at doc.now 0) (chain_view chain.now).tree (node_at doc.now child.0) }
+    ensures inside { IsIn doc.now result }
 {
-    match comparable {
-        Comparable::Lit(literal) => {
-            let side = Side::Literal(literal);
-            (side, side_digits(doc, &side))
-        }
-        Comparable::Single(query) => {
-            let first = start(doc, query.from_root, child);
-            match followed(doc, &query.segments, first) {
-                None => (Side::Nothing, None),
-                Some(n) => {
-                    let side = Side::Node(n);
-                    (side, side_digits(doc, &side))
-                }
-            }
-        }
-        Comparable::Func(_) => (Side::Nothing, None),
+    reached(doc, &chain.links, child)
+}
+
+// A side of a comparison.
+#[cycle(plain_side)]
+fn side_plainly<'a>(doc: &Document, operand: &'a Operand, child: NodeId) -> Side<'a>
+    requires inside { child.0 < count doc.now }
+    requires plain { IsTrue (is_plain_side operand.now) }
+    ensures value { side_value doc.now result ≡ side_result (node_at doc.now 0) (operand_view operand.now).tree (node_at doc.now child.0) }
+    ensures side { IsSide doc.now result }
+{
+    match operand {
+        Operand::Constant(constant) => Side::Literal(&constant.literal),
+        Operand::Single(chain) => side_found(doc, found_plainly(doc, chain, child)),
+        Operand::Length(operand) => length_of(doc, side_plainly(doc, operand, child)),
+        Operand::Count(_) | Operand::Value(_) => unreachable!(),
     }
 }
 
 // Whether a comparison holds, whatever its sides are.
 #[inline(never)]
-fn compare_sides(
+fn compare_plainly(
     doc: &Document,
-    left: &Comparable,
-    op: &Op,
-    right: &Comparable,
+    left: &Operand,
+    op: Op,
+    right: &Operand,
     child: NodeId,
+    answers: &mut Vec<Option<Answer>>,
 ) -> bool
     requires inside { child.0 < count doc.now }
-    requires valid_left { IsTrue (is_valid_comparable (comparable_view left.now)) }
-    requires valid_right { IsTrue (is_valid_comparable (comparable_view right.now)) }
-    requires plain_left { IsTrue (is_plain_side (comparable_view left.now)) }
-    requires plain_right { IsTrue (is_plain_side (comparable_view right.now)) }
-    ensures { holds_run (node_at doc.now 0) (compare (comparable_view left.now) op.now (comparable_view right.now)) (node_at doc.now child.0) ≡ Some result }
+    requires left { IsTrue (is_plain_side left.now) }
+    requires right { IsTrue (is_plain_side right.now) }
+    requires before { AreRight doc.now answers.old.items }
+    ensures held { result ≡ compared op (side_result (node_at doc.now 0) (operand_view left.now).tree (node_at doc.now child.0)) (side_result (node_at doc.now 0) (operand_view right.now).tree (node_at doc.now child.0)) }
+    ensures after { AreRight doc.now answers.new.items }
 {
-    let (left, left_number) = plain_side(doc, left, child);
-    let (right, right_number) = plain_side(doc, right, child);
-    match (left_number, right_number) {
-        (Some(a), Some(b)) => compare_numbers(*op, a, b),
-        _ => compare_contents(doc, *op, left, right),
-    }
+    let left = side_plainly(doc, left, child);
+    let right = side_plainly(doc, right, child);
+    compare_once(doc, op, &left, &right, answers)
 }
 
 // Whether a comparison of a query's value with a literal holds, as most are.
 #[inline(always)]
-fn compare_value(
+fn compare_constant(
     doc: &Document,
-    query: &SubQuery,
+    chain: &Chain,
     op: &Op,
-    literal: &Literal,
+    constant: &Constant,
     child: NodeId,
 ) -> bool
     requires inside { child.0 < count doc.now }
-    requires singular { IsTrue (is_singular_query (nested_view query.now)) }
-    requires literal { IsTrue (is_literal (literal_view literal.now)) }
-    ensures { holds_run (node_at doc.now 0) (compare (single (nested_view query.now)) op.now (lit (literal_view literal.now))) (node_at doc.now child.0) ≡ Some result }
+    requires relative { IsTrue (is_relative chain.now) }
+    ensures { result ≡ compared op.now (only_value (nodes (node_at doc.now 0) (chain_view chain.now).tree (node_at doc.now child.0))) (Some (literal_value (literal_view constant.now.literal))) }
 {
-    let first = start(doc, query.from_root, child);
-    let found = followed(doc, &query.segments, first);
-    compare_found(doc, found, op, literal)
+    compare_found(doc, found_plainly(doc, chain, child), op, &constant.literal)
 }
 
-// Whether a singular query selects a node.
-#[inline(never)]
-fn is_found(doc: &Document, query: &SubQuery, child: NodeId) -> bool
-    requires inside { child.0 < count doc.now }
-    requires singular { IsTrue (is_singular_query (nested_view query.now)) }
-    ensures { holds_run (node_at doc.now 0) (test (nested_view query.now)) (node_at doc.now child.0) ≡ Some result }
-{
-    let first = start(doc, query.from_root, child);
-    followed(doc, &query.segments, first).is_some()
-}
-
-// Whether an expression holds for a child. A comparison with a literal, as most are, takes no call.
+// Whether a condition holds for a child. A comparison with a literal, as most are, takes no call.
 #[cycle(plain)]
 #[inline(always)]
-fn holds_plain(doc: &Document, condition: &Expr, child: NodeId) -> bool
+fn holds_plainly(
+    doc: &Document,
+    condition: &Condition,
+    child: NodeId,
+    answers: &mut Vec<Option<Answer>>,
+) -> bool
     requires inside { child.0 < count doc.now }
-    requires valid { IsTrue (is_valid_expr (expr_view condition.now)) }
-    requires plain { IsTrue (is_plain (expr_view condition.now)) }
-    ensures { holds_run (node_at doc.now 0) (expr_view condition.now) (node_at doc.now child.0) ≡ Some result }
+    requires plain { IsTrue (is_plain condition.now) }
+    requires before { AreRight doc.now answers.old.items }
+    ensures held { result ≡ holds (node_at doc.now 0) (condition_view condition.now).tree (node_at doc.now child.0) }
+    ensures after { AreRight doc.now answers.new.items }
 {
     match condition {
-        Expr::Compare(Comparable::Single(query), op, Comparable::Lit(literal)) => {
-            compare_value(doc, query, op, literal, child)
+        Condition::Compare(Operand::Single(chain), op, Operand::Constant(constant)) => {
+            compare_constant(doc, chain, op, constant, child)
         }
-        _ => holds_by_kind(doc, condition, child),
+        _ => holds_by_kind(doc, condition, child, answers),
     }
 }
 
-// The same, whatever the expression is.
+// The same, whatever the condition is.
 #[cycle(plain)]
 #[inline(never)]
-fn holds_by_kind(doc: &Document, condition: &Expr, child: NodeId) -> bool
+fn holds_by_kind(
+    doc: &Document,
+    condition: &Condition,
+    child: NodeId,
+    answers: &mut Vec<Option<Answer>>,
+) -> bool
     requires inside { child.0 < count doc.now }
-    requires valid { IsTrue (is_valid_expr (expr_view condition.now)) }
-    requires plain { IsTrue (is_plain (expr_view condition.now)) }
-    ensures { holds_run (node_at doc.now 0) (expr_view condition.now) (node_at doc.now child.0) ≡ Some result }
+    requires plain { IsTrue (is_plain condition.now) }
+    requires before { AreRight doc.now answers.old.items }
+    ensures held { result ≡ holds (node_at doc.now 0) (condition_view condition.now).tree (node_at doc.now child.0) }
+    ensures after { AreRight doc.now answers.new.items }
 {
     match condition {
-        Expr::Any(operands) => some_plain(doc, operands, child),
-        Expr::Each(operands) => all_plain(doc, operands, child),
-        Expr::Not(operand) => !holds_plain(doc, operand, child),
-        Expr::Compare(left, op, right) => compare_sides(doc, left, op, right, child),
-        Expr::Test(query) => is_found(doc, query, child),
-        Expr::TestCall(_) => false,
+        Condition::Any(operands) => some_plainly(doc, operands, child, answers),
+        Condition::Each(operands) => all_plainly(doc, operands, child, answers),
+        Condition::Not(operand) => !holds_plainly(doc, operand, child, answers),
+        Condition::Compare(left, op, right) => {
+            compare_plainly(doc, left, *op, right, child, answers)
+        }
+        Condition::Leads(chain) => found_plainly(doc, chain, child).is_some(),
+        Condition::Exists(_) => unreachable!(),
     }
 }
 
 #[cycle(plain)]
-#[tactic(auto, using(crate::proofs::Operands::operands))]
-fn some_plain(doc: &Document, operands: &[Expr], child: NodeId) -> bool
+#[tactic(auto, using(crate::proofs::Plainness::somes))]
+fn some_plainly(
+    doc: &Document,
+    operands: &[Condition],
+    child: NodeId,
+    answers: &mut Vec<Option<Answer>>,
+) -> bool
     requires inside { child.0 < count doc.now }
-    requires valid { IsTrue (are_valid_exprs (exprs_of (map expr_view operands.now))) }
-    requires plain { IsTrue (are_plain (exprs_of (map expr_view operands.now))) }
-    ensures { some_run (node_at doc.now 0) (exprs_of (map expr_view operands.now)) (node_at doc.now child.0) ≡ Some result }
+    requires plain { IsTrue (all_true (map is_plain operands.now)) }
+    requires before { AreRight doc.now answers.old.items }
+    ensures held { result ≡ some_hold (node_at doc.now 0) (exprs_of (trees (map condition_view operands.now))) (node_at doc.now child.0) }
+    ensures after { AreRight doc.now answers.new.items }
 {
     for operand in operands {
-        if holds_plain(doc, operand, child) {
+        if holds_plainly(doc, operand, child, answers) {
             return true;
         }
     }
@@ -200,55 +229,82 @@ fn some_plain(doc: &Document, operands: &[Expr], child: NodeId) -> bool
 
 #[cycle(plain)]
 #[inline(always)]
-#[tactic(auto, using(crate::proofs::Operands::operands))]
-fn all_plain(doc: &Document, operands: &[Expr], child: NodeId) -> bool
+#[tactic(auto, using(crate::proofs::Plainness::alls))]
+fn all_plainly(
+    doc: &Document,
+    operands: &[Condition],
+    child: NodeId,
+    answers: &mut Vec<Option<Answer>>,
+) -> bool
     requires inside { child.0 < count doc.now }
-    requires valid { IsTrue (are_valid_exprs (exprs_of (map expr_view operands.now))) }
-    requires plain { IsTrue (are_plain (exprs_of (map expr_view operands.now))) }
-    ensures { all_run (node_at doc.now 0) (exprs_of (map expr_view operands.now)) (node_at doc.now child.0) ≡ Some result }
+    requires plain { IsTrue (all_true (map is_plain operands.now)) }
+    requires before { AreRight doc.now answers.old.items }
+    ensures held { result ≡ all_hold (node_at doc.now 0) (exprs_of (trees (map condition_view operands.now))) (node_at doc.now child.0) }
+    ensures after { AreRight doc.now answers.new.items }
 {
     for operand in operands {
-        if !holds_plain(doc, operand, child) {
+        if !holds_plainly(doc, operand, child, answers) {
             return false;
         }
     }
     true
 }
 
-// The operands that all hold where the expression does: those of `&&`, or itself alone.
-fn operands_of(condition: &Expr) -> &[Expr]
-    ensures same { IsTestOf (exprs_of (map expr_view result.now)) (expr_view condition.now) }
-    ensures valid { are_valid_exprs (exprs_of (map expr_view result.now)) ≡ is_valid_expr (expr_view condition.now) }
-    ensures plain { are_plain (exprs_of (map expr_view result.now)) ≡ is_plain (expr_view condition.now) }
+// The operands that all hold where the condition does: those of `&&`, or itself alone.
+fn operands_of(condition: &Condition) -> &[Condition]
+    ensures same { (root n : Node) → all_hold root (exprs_of (trees (map condition_view result.now))) n ≡ holds root (condition_view condition.now).tree n }
+    ensures plain { all_true (map is_plain result.now) ≡ is_plain condition.now }
 {
     match condition {
-        Expr::Each(operands) => operands,
+        Condition::Each(operands) => operands,
         _ => from_ref(condition),
     }
 }
 
-/// The children for which an expression holds.
+// The children for which a condition holds.
 #[inline(never)]
-#[tactic(auto, using(crate::proofs::Adding::filtering))]
-pub fn filtered_plain(
+#[tactic(auto, using(crate::proofs::Filtering::filtering))]
+fn kept_plainly(
     doc: &Document,
-    condition: &Expr,
+    operands: &[Condition],
     n: NodeId,
+    answers: &mut Vec<Option<Answer>>,
     out: &mut Vec<NodeId>,
 ) -> Result<(), SelectFault>
     requires inside { n.0 < count doc.now }
-    requires valid { IsTrue (is_valid_expr (expr_view condition.now)) }
-    requires plain { IsTrue (is_plain (expr_view condition.now)) }
-    requires sound { Sound doc.now out.old.items }
-    ensures { Gives doc.now result out.new.items (keep_run (holds_run (node_at doc.now 0) (expr_view condition.now)) (nodes_of doc.now out.old.items) (children (node_at doc.now n.0))) }
+    requires plain { IsTrue (all_true (map is_plain operands.now)) }
+    requires before { AreRight doc.now answers.old.items }
+    requires sound { Inside doc.now out.old.items }
+    ensures added { MatchResult result (λ _. Holds doc.now out.new.items (nodes_of doc.now out.old.items ++ filter (all_hold (node_at doc.now 0) (exprs_of (trees (map condition_view operands.now)))) (children (node_at doc.now n.0)))) (λ e. e ≡ SelectFault.Memory) }
+    ensures after { AreRight doc.now answers.new.items }
 {
-    let operands = operands_of(condition);
     let mut child = doc.first_child(n);
     while let Some(c) = child {
-        if all_plain(doc, operands, c) {
+        if all_plainly(doc, operands, c, answers) {
             push(doc, out, c)?;
         }
         child = doc.next_sibling(c);
     }
     Ok(())
+}
+
+/// The children for which a condition holds that is charged so much for each.
+pub fn filtered_plainly(
+    doc: &Document,
+    condition: &Condition,
+    units: u32,
+    n: NodeId,
+    meter: &mut Meter,
+    answers: &mut Vec<Option<Answer>>,
+    out: &mut Vec<NodeId>,
+) -> Result<(), SelectFault>
+    requires inside { n.0 < count doc.now }
+    requires plain { IsTrue (is_plain condition.now) }
+    requires before { AreRight doc.now answers.old.items }
+    requires sound { Inside doc.now out.old.items }
+    ensures added { Adds doc.now result out.new.items (nodes_of doc.now out.old.items ++ filter (holds (node_at doc.now 0) (condition_view condition.now).tree) (children (node_at doc.now n.0))) ((2 + units) * length (children (node_at doc.now n.0))) meter.old.left meter.new.left }
+    ensures after { AreRight doc.now answers.new.items }
+{
+    meter.spend_each(2 + u64::from(units), u64::from(child_total(doc, n)))?;
+    kept_plainly(doc, operands_of(condition), n, answers, out)
 }

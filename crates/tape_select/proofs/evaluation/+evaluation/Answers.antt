@@ -1,61 +1,123 @@
-use Rattle.std.proofs.Common.{rules, sym, ◌∙◌, [], ◌∷◌}
+use Rattle.std.proofs.Common.{sym, ◌∙◌, ◌++◌, ◌*◌, ◌≡◌, [], ◌∷◌, arith, ap, refl, length, map}
+use Rattle.std.specs.Prelude.{flat_map}
 use Rattle.std.proofs.lemmas.Result.{err_from_is_err_and}
-use Rattle.path_grammar.specs.Tree.{no_segments}
-use Rattle.path_grammar.specs.View.{segment_view, segments_view}
 use Rattle.json_tape.specs.Document.{node_at}
-use Rattle.tape_select.specs.Running.{for_each, from_run, evaluated_run}
+use Rattle.json_tape.specs.Nodes.{children, visit}
+use Rattle.path_grammar.specs.Tree as tree
+use Rattle.path_grammar.specs.Tree.{OneSegment, selectors_of, filter}
+use Rattle.tape_select.specs.Evaluation.{selected}
 use Rattle.tape_select.specs.Nodelists.{nodes_of}
-use Rattle.tape_select.proofs.Following.{first_is}
-use Rattle.tape_select.proofs.Walks.{evaluated_step, evaluated_stop, rest_valid, rest_valid_exprs, some_step, all_step, not_one_argument, from_parts, stops_from}
+use Rattle.tape_select.specs.Charge.{total_of, charge_from, charge_expr}
+use Rattle.tape_select.specs.Extra.{extra_in, nodes_from, charge_at}
+use Rattle.tape_select.specs.Planned.{claims_of, query_of, trees, condition_view, selection_view, stage_view, With, condition_step, operand_step, selection_step, nested_step, stage_step}
+use Rattle.tape_select.specs.declared.plan.Condition.TheFolds.{fold_out-Selection}
+use Rattle.tape_select.proofs.Filtering.{stage_claimed, evaluated_step, charge_step, adds_paid, more_of, staying, staying_charge, descending, descending_charge, filter_charge, leaf_holds, leaf_costs}
+use Rattle.tape_select.proofs.Following.{refuses_from}
 use Rattle.tape_select.proofs.evaluation.+evaluation.Goals as goal
-use Rattle.tape_select.proofs.evaluation.+evaluation.Goals.{of_arguments-in_default-via-then-arguments-lt1, of_arguments-in_default-via-else-arguments-lt1+else-arguments-lt2}
 
-pub evaluated-loop-segment-preserved : goal.evaluated-loop-segment-preserved
-evaluated-loop-segment-preserved t c =
-    let ran = rw c.deref.ensures.value at c.in_ok-nodes-2.ensures.nodes in
+pub all_selected-loop-stage-preserved : goal.all_selected-loop-stage-preserved
+all_selected-loop-stage-preserved t c =
+    let d = c.args.doc.now in
+    let r = node_at d 0 in
+    let ns = nodes_of d c.loop-stage.nodes.items in
+    let k = stage_claimed (claims_of c.args.plan.now.stages.items) c.args.stages.now c.loop-stage.stage-index c.stage-item.result c.loop-stage-test.true c.stage-item.is c.loop-stage.invariant.claimed in
+    let ev = evaluated_step r ns c.args.stages.now c.loop-stage.stage-index c.stage-item.result c.loop-stage-test.true c.stage-item.is in
+    let ch = charge_step r ns c.args.stages.now c.loop-stage.stage-index c.stage-item.result c.loop-stage-test.true c.stage-item.is in
+    let got = rw c.deref.ensures.value at (c.in_ok-nodes-2.ensures).found in
+    let before = c.loop-stage.invariant.paid in
+    let now_paid = got.1 in
     record {
-      same = evaluated_step (node_at c.args.doc.now 0) (nodes_of c.args.doc.now c.loop-segment.nodes.items) (nodes_of c.args.doc.now c.in_ok-nodes-2.nodes.items) c.args.segments.now c.loop-segment.segment-index c.segment-item.result c.loop-segment-test.true c.segment-item.is ran ∙ c.loop-segment.invariant.same;
-      valid = rest_valid c.args.segments.now c.loop-segment.segment-index c.segment-item.result c.loop-segment-test.true c.loop-segment.invariant.valid;
-      sound = c.in_ok-nodes-2.ensures.sound;
+      same = rw got.0.same (sym ev ∙ c.loop-stage.invariant.same);
+      paid = rw got.0.same (omega (arith, ch, before, now_paid));
+      claimed = k.1;
+      kept = (c.in_ok-nodes-2.ensures).kept;
+      sound = got.0.inside;
     }
 
-pub evaluated-returns-in_err-nodes-2 : goal.evaluated-returns-in_err-nodes-2
-evaluated-returns-in_err-nodes-2 t c =
-    let ran = rw c.deref.ensures.value at c.in_err-nodes-2.ensures in
-    let p = err_from_is_err_and c.from_residual-in_err-nodes-2.result c.from_residual-in_err-nodes-2.ensures.1 in
+pub all_selected-returns-in_err-nodes-2-clause-found : goal.all_selected-returns-in_err-nodes-2-clause-found
+all_selected-returns-in_err-nodes-2-clause-found t c =
     let d = c.args.doc.now in
-    let ns = nodes_of d c.loop-segment.nodes.items in
     let r = node_at d 0 in
+    let ns = nodes_of d c.loop-stage.nodes.items in
+    let ch = charge_step r ns c.args.stages.now c.loop-stage.stage-index c.stage-item.result c.loop-stage-test.true c.stage-item.is in
+    let got = rw c.deref.ensures.value at (c.in_err-nodes-2.ensures).found in
+    let before = c.loop-stage.invariant.paid in
+    let p = err_from_is_err_and c.from_residual-in_err-nodes-2.result c.from_residual-in_err-nodes-2.ensures.1 in
     rw (p.1, p.2)
-    (stops_from (for_each (from_run r (segment_view c.segment-item.result)) [] ns) (evaluated_run r (segments_view c.args.segments.now) (node_at d c.args.n.0 ∷ [])) c.in_err-nodes-2.field-0.0
-    (λ h. sym c.loop-segment.invariant.same ∙ evaluated_stop r ns c.args.segments.now c.loop-segment.segment-index c.segment-item.result c.loop-segment-test.true c.segment-item.is h)
-    ran)
+    (refuses_from _ _ (charge_from r (query_of c.args.stages.now) (node_at d c.args.n.0 ∷ [])) c.args.state.now.meter.left c.in_err-nodes-2.field-0.0
+    (λ h. omega (arith, ch, before, h)) got)
 
-pub some_hold-loop-operand-preserved : goal.some_hold-loop-operand-preserved
-some_hold-loop-operand-preserved t c = record {
-  same = some_step (node_at c.args.doc.now 0) (node_at c.args.doc.now c.args.child.0) c.loop-operand.some c.in_ok-held.held c.args.operands.now c.loop-operand.operand-index c.operand-item.result c.loop-operand-test.true c.operand-item.is c.in_ok-held.ensures ∙ c.loop-operand.invariant.same;
-  valid = rest_valid_exprs c.args.operands.now c.loop-operand.operand-index c.operand-item.result c.loop-operand-test.true c.loop-operand.invariant.valid;
-}
+pub selected_by-returns-in-Where-clause-added : goal.selected_by-returns-in-Where-clause-added
+unfolding Rattle.tape_select.specs.declared.plan.Condition.TheViews.out-Selection denote.Hole.Carrier.out
+selected_by-returns-in-Where-clause-added t c =
+    let f = charge_expr (node_at c.args.doc.now 0) (condition_view c.in-Where.condition.value).tree in
+    let same = filter_charge f (children (node_at c.args.doc.now c.args.n.0)) in
+    let ran = rw (← same) at (rw c.deref-in-Where.ensures at c.filtered.ensures.added) in
+    let o = fold_out-Selection (With tree.Expr) (With tree.Comparable) (With tree.Selector) (With tree.Nested) (With OneSegment) condition_step operand_step selection_step nested_step stage_step c.args.selection.now in
+    let e : (selection_view c.args.selection.now).tree ≡ filter (condition_view c.in-Where.condition.value).tree = ap (λ x. x.tree) o ∙ rw c.in-Where.is refl in
+    rw e ran
 
-pub all_hold-loop-operand-preserved : goal.all_hold-loop-operand-preserved
-all_hold-loop-operand-preserved t c = record {
-  same = all_step (node_at c.args.doc.now 0) (node_at c.args.doc.now c.args.child.0) c.loop-operand.all c.in_ok-held.held c.args.operands.now c.loop-operand.operand-index c.operand-item.result c.loop-operand-test.true c.operand-item.is c.in_ok-held.ensures ∙ c.loop-operand.invariant.same;
-  valid = rest_valid_exprs c.args.operands.now c.loop-operand.operand-index c.operand-item.result c.loop-operand-test.true c.loop-operand.invariant.valid;
-}
+pub from_node-returns-in_ok-spend-clause-added : goal.from_node-returns-in_ok-spend-clause-added
+from_node-returns-in_ok-spend-clause-added t c =
+    let d = c.args.doc.now in
+    let r = node_at d 0 in
+    let n = node_at d c.args.n.0 in
+    let s = c.args.stage.now in
+    let old = nodes_of d c.args.out.now.items in
+    let ss = selectors_of (trees (map selection_view s.selections.items)) in
+    let units = c.selector_total-selectors.ensures in
+    let got = rw c.deref-else-stage.ensures.value at c.selected_from.ensures.added in
+    adds_paid d c.selected_from.result c.selected_from.new.out.items (old ++ selected r ss n) (old ++ nodes_from r (stage_view s).tree n) (extra_in r ss n) (charge_at r (stage_view s).tree n)
+    c.spend.new.self.left c.args.state.now.meter.left c.selected_from.new.state.meter.left (length s.selections.items) (rw (← units) c.in_ok-spend.ensures)
+    (staying_charge r n s c.if-stage.false) (more_of old (selected r ss n) (nodes_from r (stage_view s).tree n) (staying r n s c.if-stage.false)) got
 
-pub of_arguments-returns-in_default : goal.of_arguments-returns-in_default
-of_arguments-returns-in_default t c = elim c.in_default.branch [
-  | of_arguments-in_default-via-then-arguments-lt1 w ↦ absurd (not_one_argument c.args.function.now c.args.arguments.now (search rules) c.requires.valid)
-  | of_arguments-in_default-via-else-arguments-lt1+else-arguments-lt2 w ↦ absurd (not_one_argument c.args.function.now c.args.arguments.now (search rules) c.requires.valid)
-]
+pub from_node-returns-in_ok-spend_each-clause-added : goal.from_node-returns-in_ok-spend_each-clause-added
+from_node-returns-in_ok-spend_each-clause-added t c =
+    let d = c.args.doc.now in
+    let r = node_at d 0 in
+    let n = node_at d c.args.n.0 in
+    let s = c.args.stage.now in
+    let old = nodes_of d c.args.out.now.items in
+    let ss = selectors_of (trees (map selection_view s.selections.items)) in
+    let units = c.selector_total-selectors.ensures in
+    let all = c.visit_total.ensures in
+    let got = rw c.deref.ensures.value at c.visited.ensures.added in
+    adds_paid d c.visited.result c.visited.new.out.items (old ++ flat_map (selected r ss) (visit n)) (old ++ nodes_from r (stage_view s).tree n) (total_of (extra_in r ss) (visit n)) (charge_at r (stage_view s).tree n)
+    c.spend_each.new.self.left c.args.state.now.meter.left c.visited.new.state.meter.left (length (visit n) * length s.selections.items) (rw (← units, ← all) c.in_ok-spend_each.ensures)
+    (descending_charge r n s c.if-stage.true) (more_of old (flat_map (selected r ss) (visit n)) (nodes_from r (stage_view s).tree n) (descending r n s c.if-stage.true)) got
 
-pub from_node-returns-then-segment : goal.from_node-returns-then-segment
-from_node-returns-then-segment t c =
-    let ran = rw c.deref.ensures.value at c.descended.ensures in
-    rw (from_parts (node_at c.args.doc.now 0) c.args.segment.now (nodes_of c.args.doc.now c.args.out.now.items) (node_at c.args.doc.now c.args.n.0) c.if-segment.true) ran
+pub from_node-returns-in_err-spend-clause-added : goal.from_node-returns-in_err-spend-clause-added
+from_node-returns-in_err-spend-clause-added t c =
+    let d = c.args.doc.now in
+    let r = node_at d 0 in
+    let n = node_at d c.args.n.0 in
+    let s = c.args.stage.now in
+    let units = c.selector_total-selectors.ensures in
+    let charged = staying_charge r n s c.if-stage.false in
+    let p = err_from_is_err_and c.from_residual-in_err-spend.result c.from_residual-in_err-spend.ensures.1 in
+    rw (p.1, p.2)
+    (refuses_from c.selector_total-selectors.result c.args.state.now.meter.left (charge_at r (stage_view s).tree n) c.args.state.now.meter.left c.in_err-spend.field-0.0
+    (λ h. omega (arith, charged, units, h)) c.in_err-spend.ensures)
 
-pub after_segment-stepped-requires : goal.after_segment-stepped-requires
-after_segment-stepped-requires t c =
-    let known = rw c.from_ref.ensures.value at c.is_singular.ensures in
-    let first = first_is (segment_view c.args.segment.now) no_segments (sym known ∙ c.if-is_singular.true) in
-    record { child = first.child; one = first.one; from = c.requires.from; sound = c.none-out.ensures.sound }
+pub from_node-returns-in_err-spend_each-clause-added : goal.from_node-returns-in_err-spend_each-clause-added
+from_node-returns-in_err-spend_each-clause-added t c =
+    let d = c.args.doc.now in
+    let r = node_at d 0 in
+    let n = node_at d c.args.n.0 in
+    let s = c.args.stage.now in
+    let units = c.selector_total-selectors.ensures in
+    let all = c.visit_total.ensures in
+    let charged = rw (← units, ← all) at (descending_charge r n s c.if-stage.true) in
+    let p = err_from_is_err_and c.from_residual.result c.from_residual.ensures.1 in
+    rw (p.1, p.2)
+    (refuses_from (c.visit_total.result * c.selector_total-selectors.result) c.args.state.now.meter.left (charge_at r (stage_view s).tree n) c.args.state.now.meter.left c.in_err-spend_each.field-0.0
+    (λ h. omega (arith, charged, h)) c.in_err-spend_each.ensures)
+
+pub selected_within-returns-in-None-clause-added : goal.selected_within-returns-in-None-clause-added
+selected_within-returns-in-None-clause-added t c =
+    let d = c.args.doc.now in
+    let r = node_at d 0 in
+    let n = node_at d c.args.n.0 in
+    let ss = selectors_of (trees (map selection_view c.args.selections.now)) in
+    let costs = leaf_costs r ss n c.in-None.ensures.nodes in
+    (leaf_holds r ss d c.args.out.now.items n c.requires.sound c.in-None.ensures.nodes, omega (arith, costs))

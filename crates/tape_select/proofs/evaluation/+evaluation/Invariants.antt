@@ -1,64 +1,90 @@
-use Rattle.std.proofs.Common.{◌≡◌, ◌-◌, length, drop, map, ◌∷◌, [], Some}
-use Rattle.std.specs.Prelude.{IsTrue}
-use Rattle.path_grammar.specs.Tree.{exprs_of}
-use Rattle.path_grammar.specs.View.{segments_view, selectors_view, segment_view, expr_view}
-use Rattle.path_types.specs.Validity.{is_valid, are_valid, are_valid_exprs}
-use Rattle.json_tape.specs.Document.{seen, node_at, following, IsIn, counting}
-use Rattle.tape_select.specs.Running.{for_each, keep_run, or_run, and_run, evaluated_run, selected_run, selected_from_run, holds_run, some_run, all_run, from_run}
-use Rattle.tape_select.specs.Nodelists.{nodes_of, Sound}
+use Rattle.std.proofs.Common.{◌≡◌, ◌+◌, ◌-◌, ◌++◌, ◌∷◌, [], ◌||◌, ◌&&◌, length, drop, map}
+use Rattle.std.specs.Prelude.{flat_map}
+use Rattle.std.specs.Prelude.{filter as keep}
+use Rattle.path_grammar.specs.Tree.{exprs_of, selectors_of}
+use Rattle.json_tape.specs.Document.{following, IsIn, node_at, seen, counting}
+use Rattle.tape_select.specs.Evaluation.{evaluated, selected, holds, some_hold, all_hold}
+use Rattle.tape_select.specs.Nodelists.{nodes_of}
+use Rattle.tape_select.specs.Charge.{total_of, charge_from, charge_expr, charge_exprs}
+use Rattle.tape_select.specs.Extra.{extra_in, nodes_after, charge_after}
+use Rattle.tape_select.specs.Memo.{Keeps}
+use Rattle.tape_select.specs.Paying.{Inside}
+use Rattle.tape_select.specs.Planned.{claims_of, query_of, trees, all_claims, condition_view, selection_view, stage_view}
+use Rattle.tape_select.specs.Slots.{AreClaimed}
 use Rattle.tape_select.proofs.evaluation.+evaluation.Given as goal
 
-abbrev pub invariant-filtered-loop-child : goal.invariant-filtered-loop-child
-invariant-filtered-loop-child l = record {
-  same : keep_run (holds_run (node_at l.doc 0) (expr_view l.condition)) (nodes_of l.doc l.out.items) (following l.doc l.child)
-      ≡ keep_run (holds_run (node_at l.doc 0) (expr_view l.condition)) (nodes_of l.doc l.initial.out.items) (following l.doc l.initial.child);
+abbrev pub invariant-filtered_each-loop-child : goal.invariant-filtered_each-loop-child
+invariant-filtered_each-loop-child l = record {
+  same : nodes_of l.doc l.out.items ++ keep (holds (node_at l.doc 0) (condition_view l.condition).tree) (following l.doc l.child)
+      ≡ nodes_of l.doc l.initial.out.items ++ keep (holds (node_at l.doc 0) (condition_view l.condition).tree) (following l.doc l.initial.child);
+  paid : l.state.meter.left + total_of (charge_expr (node_at l.doc 0) (condition_view l.condition).tree) (following l.doc l.initial.child)
+      ≡ l.initial.state.meter.left + total_of (charge_expr (node_at l.doc 0) (condition_view l.condition).tree) (following l.doc l.child);
+  kept : Keeps l.doc (claims_of l.plan.stages.items) l.state;
   inside : IsIn l.doc l.child;
-  sound : Sound l.doc l.out.items;
+  sound : Inside l.doc l.out.items;
 }
 
-abbrev pub decreases-filtered-loop-child : goal.decreases-filtered-loop-child
-decreases-filtered-loop-child l = length (following l.doc l.child)
-
-abbrev pub invariant-selected-loop-selector : goal.invariant-selected-loop-selector
-invariant-selected-loop-selector l = record {
-  same : selected_run (node_at l.doc 0) (selectors_view (drop l.selector-index l.selectors)) (nodes_of l.doc l.out.items) (node_at l.doc l.n.0)
-      ≡ selected_run (node_at l.doc 0) (selectors_view l.selectors) (nodes_of l.doc l.initial.out.items) (node_at l.doc l.n.0);
-  valid : IsTrue (are_valid (selectors_view (drop l.selector-index l.selectors)));
-  sound : Sound l.doc l.out.items;
-}
-
-abbrev pub invariant-visited-loop-k : goal.invariant-visited-loop-k
-invariant-visited-loop-k l = record {
-  same : selected_from_run (node_at l.doc 0) (selectors_view l.selectors) (nodes_of l.doc l.out.items) (seen l.doc (counting l.k (l.end - l.k)))
-      ≡ selected_from_run (node_at l.doc 0) (selectors_view l.selectors) (nodes_of l.doc l.initial.out.items) (seen l.doc (counting l.fn.n.0 (l.end - l.fn.n.0)));
-  sound : Sound l.doc l.out.items;
-}
-
-abbrev pub invariant-from_each-loop-n : goal.invariant-from_each-loop-n
-invariant-from_each-loop-n l = record {
-  same : for_each (from_run (node_at l.doc 0) (segment_view l.segment)) (nodes_of l.doc l.out.items) (nodes_of l.doc (drop l.n-index l.input))
-      ≡ for_each (from_run (node_at l.doc 0) (segment_view l.segment)) (nodes_of l.doc l.initial.out.items) (nodes_of l.doc l.input);
-  sound : Sound l.doc l.out.items;
-}
-
-abbrev pub invariant-evaluated-loop-segment : goal.invariant-evaluated-loop-segment
-invariant-evaluated-loop-segment l = record {
-  same : evaluated_run (node_at l.doc 0) (segments_view (drop l.segment-index l.segments)) (nodes_of l.doc l.nodes.items)
-      ≡ evaluated_run (node_at l.doc 0) (segments_view l.segments) (node_at l.doc l.fn.n.0 ∷ []);
-  valid : IsTrue (is_valid (segments_view (drop l.segment-index l.segments)));
-  sound : Sound l.doc l.nodes.items;
-}
+abbrev pub decreases-filtered_each-loop-child : goal.decreases-filtered_each-loop-child
+decreases-filtered_each-loop-child l = length (following l.doc l.child)
 
 abbrev pub invariant-some_hold-loop-operand : goal.invariant-some_hold-loop-operand
 invariant-some_hold-loop-operand l = record {
-  same : or_run (Some l.some) (some_run (node_at l.doc 0) (exprs_of (map expr_view (drop l.operand-index l.operands))) (node_at l.doc l.child.0))
-      ≡ some_run (node_at l.doc 0) (exprs_of (map expr_view l.operands)) (node_at l.doc l.child.0);
-  valid : IsTrue (are_valid_exprs (exprs_of (map expr_view (drop l.operand-index l.operands))));
+  same : (l.some || some_hold (node_at l.doc 0) (exprs_of (trees (map condition_view (drop l.operand-index l.operands)))) (node_at l.doc l.child.0))
+      ≡ some_hold (node_at l.doc 0) (exprs_of (trees (map condition_view l.operands))) (node_at l.doc l.child.0);
+  paid : l.state.meter.left + charge_exprs (node_at l.doc 0) (exprs_of (trees (map condition_view l.operands))) (node_at l.doc l.child.0)
+      ≡ l.initial.state.meter.left + charge_exprs (node_at l.doc 0) (exprs_of (trees (map condition_view (drop l.operand-index l.operands)))) (node_at l.doc l.child.0);
+  claimed : AreClaimed (claims_of l.plan.stages.items) (all_claims (map condition_view (drop l.operand-index l.operands)));
+  kept : Keeps l.doc (claims_of l.plan.stages.items) l.state;
 }
 
 abbrev pub invariant-all_hold-loop-operand : goal.invariant-all_hold-loop-operand
 invariant-all_hold-loop-operand l = record {
-  same : and_run (Some l.all) (all_run (node_at l.doc 0) (exprs_of (map expr_view (drop l.operand-index l.operands))) (node_at l.doc l.child.0))
-      ≡ all_run (node_at l.doc 0) (exprs_of (map expr_view l.operands)) (node_at l.doc l.child.0);
-  valid : IsTrue (are_valid_exprs (exprs_of (map expr_view (drop l.operand-index l.operands))));
+  same : (l.all && all_hold (node_at l.doc 0) (exprs_of (trees (map condition_view (drop l.operand-index l.operands)))) (node_at l.doc l.child.0))
+      ≡ all_hold (node_at l.doc 0) (exprs_of (trees (map condition_view l.operands))) (node_at l.doc l.child.0);
+  paid : l.state.meter.left + charge_exprs (node_at l.doc 0) (exprs_of (trees (map condition_view l.operands))) (node_at l.doc l.child.0)
+      ≡ l.initial.state.meter.left + charge_exprs (node_at l.doc 0) (exprs_of (trees (map condition_view (drop l.operand-index l.operands)))) (node_at l.doc l.child.0);
+  claimed : AreClaimed (claims_of l.plan.stages.items) (all_claims (map condition_view (drop l.operand-index l.operands)));
+  kept : Keeps l.doc (claims_of l.plan.stages.items) l.state;
+}
+
+abbrev pub invariant-selected_from-loop-selection : goal.invariant-selected_from-loop-selection
+invariant-selected_from-loop-selection l = record {
+  same : nodes_of l.doc l.out.items ++ selected (node_at l.doc 0) (selectors_of (trees (map selection_view (drop l.selection-index l.selections)))) (node_at l.doc l.n.0)
+      ≡ nodes_of l.doc l.initial.out.items ++ selected (node_at l.doc 0) (selectors_of (trees (map selection_view l.selections))) (node_at l.doc l.n.0);
+  paid : l.state.meter.left + extra_in (node_at l.doc 0) (selectors_of (trees (map selection_view l.selections))) (node_at l.doc l.n.0)
+      ≡ l.initial.state.meter.left + extra_in (node_at l.doc 0) (selectors_of (trees (map selection_view (drop l.selection-index l.selections)))) (node_at l.doc l.n.0);
+  claimed : AreClaimed (claims_of l.plan.stages.items) (all_claims (map selection_view (drop l.selection-index l.selections)));
+  kept : Keeps l.doc (claims_of l.plan.stages.items) l.state;
+  sound : Inside l.doc l.out.items;
+}
+
+abbrev pub invariant-visited-loop-k : goal.invariant-visited-loop-k
+invariant-visited-loop-k l = record {
+  same : nodes_of l.doc l.out.items ++ flat_map (selected (node_at l.doc 0) (selectors_of (trees (map selection_view l.selections)))) (seen l.doc (counting l.k (l.end - l.k)))
+      ≡ nodes_of l.doc l.initial.out.items ++ flat_map (selected (node_at l.doc 0) (selectors_of (trees (map selection_view l.selections)))) (seen l.doc (counting l.fn.n.0 (l.end - l.fn.n.0)));
+  paid : l.state.meter.left + total_of (extra_in (node_at l.doc 0) (selectors_of (trees (map selection_view l.selections)))) (seen l.doc (counting l.fn.n.0 (l.end - l.fn.n.0)))
+      ≡ l.initial.state.meter.left + total_of (extra_in (node_at l.doc 0) (selectors_of (trees (map selection_view l.selections)))) (seen l.doc (counting l.k (l.end - l.k)));
+  kept : Keeps l.doc (claims_of l.plan.stages.items) l.state;
+  sound : Inside l.doc l.out.items;
+}
+
+abbrev pub invariant-after_stage-loop-n : goal.invariant-after_stage-loop-n
+invariant-after_stage-loop-n l = record {
+  same : nodes_of l.doc l.out.items ++ nodes_after (node_at l.doc 0) (stage_view l.stage).tree (nodes_of l.doc (drop l.n-index l.input))
+      ≡ nodes_after (node_at l.doc 0) (stage_view l.stage).tree (nodes_of l.doc l.input);
+  paid : l.state.meter.left + charge_after (node_at l.doc 0) (stage_view l.stage).tree (nodes_of l.doc l.input)
+      ≡ l.initial.state.meter.left + charge_after (node_at l.doc 0) (stage_view l.stage).tree (nodes_of l.doc (drop l.n-index l.input));
+  kept : Keeps l.doc (claims_of l.plan.stages.items) l.state;
+  sound : Inside l.doc l.out.items;
+}
+
+abbrev pub invariant-all_selected-loop-stage : goal.invariant-all_selected-loop-stage
+invariant-all_selected-loop-stage l = record {
+  same : evaluated (node_at l.doc 0) (query_of (drop l.stage-index l.stages)) (nodes_of l.doc l.nodes.items)
+      ≡ evaluated (node_at l.doc 0) (query_of l.stages) (node_at l.doc l.fn.n.0 ∷ []);
+  paid : l.state.meter.left + charge_from (node_at l.doc 0) (query_of l.stages) (node_at l.doc l.fn.n.0 ∷ [])
+      ≡ l.initial.state.meter.left + charge_from (node_at l.doc 0) (query_of (drop l.stage-index l.stages)) (nodes_of l.doc l.nodes.items);
+  claimed : AreClaimed (claims_of l.plan.stages.items) (claims_of (drop l.stage-index l.stages));
+  kept : Keeps l.doc (claims_of l.plan.stages.items) l.state;
+  sound : Inside l.doc l.nodes.items;
 }

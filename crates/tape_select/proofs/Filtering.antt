@@ -1,0 +1,283 @@
+-- Walks of the evaluation: the part at the index first, and then the rest.
+use Rattle.std.proofs.Common.{◌≡◌, ℕ, zero, suc, ◌+◌, ◌-◌, ◌*◌, ◌<◌, ◌≤◌, Bool, true, false, ◌&&◌, ◌||◌, List, [], ◌∷◌, ◌++◌, map, length, drop, get_or, reverse, Option, Some, None, Result, Ok, Err, ℤ, pos, nat_eq, refl, sym, ap, ◌∙◌, arith, append_assoc, cond}
+use Rattle.std.specs.Prelude.{flat_map, int_lt, codes}
+use Rattle.std.specs.Prelude.{filter as keep, not as opposite}
+use Rattle.std.proofs.lemmas.Bool.Decides.{nat_tests}
+use Rattle.std.proofs.lemmas.List.{drop_more}
+use Rattle.std.proofs.Math.Nat.{suc-mul}
+use Rattle.path_grammar.specs.Tree as tree
+use Rattle.path_grammar.specs.Tree.{OneSegment, Segments, Selectors, Selector, exprs_of, selectors_of}
+use Rattle.path_grammar.specs.declared.ast.IntLit.{IntLit}
+use Rattle.path_grammar.specs.declared.ast.IntLit.TheVariants.{Within, Beyond}
+use Rattle.json_tape.specs.Tree.{Tree, Leaf, Arr, Obj}
+use Rattle.json_tape.specs.Nodes.{Node, Step, children, children_of, elements, elements_of, visit}
+use Rattle.json_tape.specs.Document.{Doc, node_at, seen, counting}
+use Rattle.json_tape.specs.declared.tape.NodeId.{NodeId}
+use Rattle.tape_values.specs.Selection.{at_index, nth_if, position_in, step_of, in_order, sliced}
+use Rattle.tape_values.specs.Functions.{value_argued, length_value}
+use Rattle.tape_select.specs.Evaluation.{evaluated, selected, selected_by, holds, some_hold, all_hold, is_empty, result, argued}
+use Rattle.tape_select.specs.Nodelists.{nodes_of}
+use Rattle.tape_select.specs.Charge.{total_of, charge_from, charge_in, charge_by, charge_expr, charge_exprs, charge_side, charge_nested}
+use Rattle.tape_select.specs.Extra.{count_of, extra_by, extra_in, nodes_from, charge_at, nodes_after, charge_after}
+use Rattle.tape_select.specs.Planned.{Claims, both, With, trees, all_claims, query_of, claims_of, as_argument, calling, condition_view, selection_view, stage_view, condition_step, operand_step, selection_step, nested_step, stage_step}
+use Rattle.tape_select.specs.Slots.{AreClaimed}
+use Rattle.tape_select.specs.declared.plan.Condition.TheFolds.{fold_out-Stage}
+use Rattle.tape_select.specs.declared.plan.Condition.{Condition}
+use Rattle.tape_select.specs.declared.plan.Selection.{Selection}
+use Rattle.tape_select.specs.declared.plan.Stage.{Stage}
+use Rattle.tape_select.proofs.Adding.{append_nil, add_more, has_none, flat_more, sum_more}
+use Rattle.tape_select.specs.Paying.{Adds, Holds, Inside}
+use Rattle.tape_select.specs.declared.fault.SelectFault.{SelectFault}
+use Rattle.tape_select.proofs.Following.{refuses_from}
+
+-- ---- Filters
+
+pub keep_more : (p : Node → Bool) (out : List Node) (n : Node) (ns : List Node) → p n ≡ true → (out ++ n ∷ []) ++ keep p ns ≡ out ++ keep p (n ∷ ns)
+keep_more p out n ns e = rw e (append_assoc out (n ∷ []) (keep p ns))
+
+pub keep_not : (p : Node → Bool) (n : Node) (ns : List Node) → p n ≡ false → keep p (n ∷ ns) ≡ keep p ns
+keep_not p n ns e = rw e refl
+
+pub ruleset filtering = (add_more, has_none, keep_more, keep_not)
+
+pub filter_charge : (f : Node → ℕ) (ns : List Node) → length ns + total_of (λ n. 1 + f n) ns ≡ 2 * length ns + total_of f ns
+filter_charge f [] = refl
+filter_charge f (n ∷ ns) = let h = filter_charge f ns in omega (arith, h)
+
+pub any_are : (ns : List Node) → opposite (is_empty ns) ≡ opposite (nat_eq (length ns) 0)
+any_are [] = refl
+any_are (n ∷ ns) = let t : nat_eq (suc (length ns)) 0 ≡ false = grind (arith, nat_tests) in rw t refl
+
+pub ruleset holding = (any_are)
+
+pub operand_claims : (es : List Condition) (i : ℕ) (d : Condition) → i < length es
+    → all_claims (map condition_view (drop i es)) ≡ both (condition_view (get_or es i d)).claims (all_claims (map condition_view (drop (i + 1) es)))
+operand_claims es i d lt = ap (λ (xs : List Condition). all_claims (map condition_view xs)) (drop_more es i d lt)
+
+pub operand_charges : (root n : Node) (es : List Condition) (i : ℕ) (d : Condition) → i < length es
+    → charge_exprs root (exprs_of (trees (map condition_view (drop i es)))) n ≡ charge_expr root (condition_view (get_or es i d)).tree n + charge_exprs root (exprs_of (trees (map condition_view (drop (i + 1) es)))) n
+operand_charges root n es i d lt = ap (λ (xs : List Condition). charge_exprs root (exprs_of (trees (map condition_view xs))) n) (drop_more es i d lt)
+
+pub or_assoc : (a b c : Bool) → ((a || b) || c) ≡ (a || (b || c))
+or_assoc true b c = refl
+or_assoc false b c = refl
+
+pub and_assoc : (a b c : Bool) → ((a && b) && c) ≡ (a && (b && c))
+and_assoc true b c = refl
+and_assoc false b c = refl
+
+pub or_false : (a : Bool) → (a || false) ≡ a
+or_false true = refl
+or_false false = refl
+
+pub and_true : (a : Bool) → (a && true) ≡ a
+and_true true = refl
+and_true false = refl
+
+pub some_more : (root n : Node) (es : List Condition) (i : ℕ) (d : Condition) → i < length es
+    → some_hold root (exprs_of (trees (map condition_view (drop i es)))) n ≡ (holds root (condition_view (get_or es i d)).tree n || some_hold root (exprs_of (trees (map condition_view (drop (i + 1) es)))) n)
+some_more root n es i d lt = ap (λ (xs : List Condition). some_hold root (exprs_of (trees (map condition_view xs))) n) (drop_more es i d lt)
+
+pub all_more : (root n : Node) (es : List Condition) (i : ℕ) (d : Condition) → i < length es
+    → all_hold root (exprs_of (trees (map condition_view (drop i es)))) n ≡ (holds root (condition_view (get_or es i d)).tree n && all_hold root (exprs_of (trees (map condition_view (drop (i + 1) es)))) n)
+all_more root n es i d lt = ap (λ (xs : List Condition). all_hold root (exprs_of (trees (map condition_view xs))) n) (drop_more es i d lt)
+
+pub ruleset somes = (some_more, operand_claims, operand_charges, or_assoc, or_false)
+
+pub ruleset alls = (all_more, operand_claims, operand_charges, and_assoc, and_true)
+
+-- ---- Functions
+
+module _ (root n : Node) where
+  argued_value : (t : tree.Comparable) → value_argued (argued root (as_argument t) n) ≡ result root t n
+  argued_value (tree.lit l) = refl
+  argued_value (tree.single q) = refl
+  argued_value (tree.func c) = refl
+
+  pub argued_charge : (t : tree.Comparable) → charge_side root (calling (codes "length") (as_argument t)) n ≡ charge_side root t n
+  argued_charge (tree.lit l) = refl
+  argued_charge (tree.single q) = let e : charge_nested root q n + 0 ≡ charge_nested root q n = omega arith in e
+  argued_charge (tree.func c) = omega arith
+
+  pub length_called : (t : tree.Comparable) → result root (calling (codes "length") (as_argument t)) n ≡ length_value (result root t n)
+  length_called t = ap length_value (argued_value t)
+
+pub ruleset siding = (argued_charge, length_called)
+
+-- ---- Selectors
+
+pub selection_claims : (ss : List Selection) (i : ℕ) (d : Selection) → i < length ss
+    → all_claims (map selection_view (drop i ss)) ≡ both (selection_view (get_or ss i d)).claims (all_claims (map selection_view (drop (i + 1) ss)))
+selection_claims ss i d lt = ap (λ (xs : List Selection). all_claims (map selection_view xs)) (drop_more ss i d lt)
+
+pub selections_more : (root n : Node) (ss : List Selection) (i : ℕ) (d : Selection) → i < length ss
+    → selected root (selectors_of (trees (map selection_view (drop i ss)))) n ≡ selected_by root (selection_view (get_or ss i d)).tree n ++ selected root (selectors_of (trees (map selection_view (drop (i + 1) ss)))) n
+selections_more root n ss i d lt = ap (λ (xs : List Selection). selected root (selectors_of (trees (map selection_view xs))) n) (drop_more ss i d lt)
+
+pub extras_more : (root n : Node) (ss : List Selection) (i : ℕ) (d : Selection) → i < length ss
+    → extra_in root (selectors_of (trees (map selection_view (drop i ss)))) n ≡ extra_by root (selection_view (get_or ss i d)).tree n + extra_in root (selectors_of (trees (map selection_view (drop (i + 1) ss)))) n
+extras_more root n ss i d lt = ap (λ (xs : List Selection). extra_in root (selectors_of (trees (map selection_view xs))) n) (drop_more ss i d lt)
+
+pub ruleset selections = (selections_more, extras_more, selection_claims, append_assoc, has_none)
+
+-- ---- The units of selectors, and what they are charged beyond them
+
+module _ (root : Node) where
+  one_each : (s : Selector) (n : Node) → charge_by root s n ≡ 1 + extra_by root s n
+  one_each (tree.name scalars) n = refl
+  one_each tree.wild n = refl
+  one_each (tree.index i) n = refl
+  one_each (tree.slice start stop step) n = refl
+  one_each (tree.filter e) n = omega arith
+
+  in_parts : (ss : Selectors) (n : Node) → charge_in root ss n ≡ count_of ss + extra_in root ss n
+  in_parts tree.no_selectors n = refl
+  in_parts (tree.selector s others) n = let a = one_each s n in let b = in_parts others n in omega (arith, a, b)
+
+  all_in_parts : (ss : Selectors) (ns : List Node) → total_of (charge_in root ss) ns ≡ length ns * count_of ss + total_of (extra_in root ss) ns
+  all_in_parts ss [] = omega arith
+  all_in_parts ss (n ∷ ns) =
+      let a = in_parts ss n in
+      let b = all_in_parts ss ns in
+      let m : suc (length ns) * count_of ss ≡ length ns * count_of ss + count_of ss = suc-mul (length ns) (count_of ss) in
+      omega (arith, a, b, m)
+
+count_is : (ss : List Selection) → count_of (selectors_of (trees (map selection_view ss))) ≡ length ss
+count_is [] = refl
+count_is (s ∷ ss) = ap suc (count_is ss)
+
+counting_length : (k n : ℕ) → length (counting k n) ≡ n
+counting_length k zero = refl
+counting_length k (suc n) = ap suc (counting_length (suc k) n)
+
+seen_length : (d : Doc) (ks : List ℕ) → length (seen d ks) ≡ length ks
+seen_length d [] = refl
+seen_length d (k ∷ ks) = ap suc (seen_length d ks)
+
+pub visit_length : (d : Doc) (k m : ℕ) (ns : List Node) → seen d (counting k m) ≡ ns → length ns ≡ m
+visit_length d k m ns e = rw (← e) (seen_length d (counting k m) ∙ counting_length k m)
+
+stage_is : (s : Stage) → stage_view s ≡ record { tree = record { descend = s.descend; selectors = selectors_of (trees (map selection_view s.selections.items)) }; claims = all_claims (map selection_view s.selections.items) }
+stage_is s = fold_out-Stage (With tree.Expr) (With tree.Comparable) (With tree.Selector) (With tree.Nested) (With OneSegment) condition_step operand_step selection_step nested_step stage_step s
+
+pub stage_claims : (t : Claims) (s : Stage) → AreClaimed t (stage_view s).claims → AreClaimed t (all_claims (map selection_view s.selections.items))
+stage_claims t s h = rw (stage_is s) at h
+
+-- from a node and all its descendants
+pub descending : (root n : Node) (s : Stage) → s.descend ≡ true → nodes_from root (stage_view s).tree n ≡ flat_map (selected root (selectors_of (trees (map selection_view s.selections.items)))) (visit n)
+descending root n s e = rw (stage_is s, e) refl
+
+pub descending_charge : (root n : Node) (s : Stage) → s.descend ≡ true
+    → charge_at root (stage_view s).tree n ≡ length (visit n) * length s.selections.items + total_of (extra_in root (selectors_of (trees (map selection_view s.selections.items)))) (visit n)
+descending_charge root n s e = rw (stage_is s, e) (all_in_parts root (selectors_of (trees (map selection_view s.selections.items))) (visit n) ∙ rw (count_is s.selections.items) refl)
+
+-- from the node alone
+pub staying : (root n : Node) (s : Stage) → s.descend ≡ false → nodes_from root (stage_view s).tree n ≡ selected root (selectors_of (trees (map selection_view s.selections.items))) n
+staying root n s e = rw (stage_is s, e) (append_nil (selected root (selectors_of (trees (map selection_view s.selections.items))) n))
+
+pub staying_charge : (root n : Node) (s : Stage) → s.descend ≡ false
+    → charge_at root (stage_view s).tree n ≡ length s.selections.items + extra_in root (selectors_of (trees (map selection_view s.selections.items))) n
+staying_charge root n s e =
+    let p = in_parts root (selectors_of (trees (map selection_view s.selections.items))) n in
+    let q = count_is s.selections.items in
+    rw (stage_is s, e) (omega (arith, p, q))
+
+-- what is paid in front, and then the rest
+pub adds_paid : {A : Type 0} (d : Doc) (r : Result A SelectFault) (ids : List NodeId) (xs ys : List Node) (rest charge between old new units : ℕ)
+    → between + units ≡ old → charge ≡ units + rest → ys ≡ xs → Adds d r ids xs rest between new → Adds d r ids ys charge old new
+adds_paid d (Ok a) ids xs ys rest charge between old new units p q e h = let paid = h.1 in (rw e h.0, omega (arith, p, q, paid))
+adds_paid d (Err f) ids xs ys rest charge between old new units p q e h = refuses_from rest between charge old f (λ l. omega (arith, p, q, l)) h
+
+pub more_of : (out xs ys : List Node) → ys ≡ xs → out ++ ys ≡ out ++ xs
+more_of out xs ys e = ap (λ zs. out ++ zs) e
+
+pub ruleset each_input = (append_nil, flat_more, sum_more, append_assoc, has_none)
+
+-- ---- Segments
+
+stages_claims : (ss : List Stage) (i : ℕ) (d : Stage) → i < length ss
+    → claims_of (drop i ss) ≡ both (stage_view (get_or ss i d)).claims (claims_of (drop (i + 1) ss))
+stages_claims ss i d lt = ap (λ (xs : List Stage). claims_of xs) (drop_more ss i d lt)
+
+pub stage_claimed : (t : Claims) (ss : List Stage) (i : ℕ) (item : Stage) → i < length ss → item ≡ get_or ss i item → AreClaimed t (claims_of (drop i ss))
+    → AreClaimed t (stage_view item).claims × AreClaimed t (claims_of (drop (i + 1) ss))
+stage_claimed t ss i item lt e h = rw (← e) at (rw (stages_claims ss i item lt) at h)
+
+pub evaluated_step : (root : Node) (ns : List Node) (ss : List Stage) (i : ℕ) (item : Stage) → i < length ss → item ≡ get_or ss i item
+    → evaluated root (query_of (drop i ss)) ns ≡ evaluated root (query_of (drop (i + 1) ss)) (nodes_after root (stage_view item).tree ns)
+evaluated_step root ns ss i item lt e =
+    ap (λ (xs : List Stage). evaluated root (query_of xs) ns) (drop_more ss i item lt)
+    ∙ ap (λ (x : Stage). evaluated root (query_of (drop (i + 1) ss)) (nodes_after root (stage_view x).tree ns)) (sym e)
+
+pub charge_step : (root : Node) (ns : List Node) (ss : List Stage) (i : ℕ) (item : Stage) → i < length ss → item ≡ get_or ss i item
+    → charge_from root (query_of (drop i ss)) ns ≡ charge_after root (stage_view item).tree ns + charge_from root (query_of (drop (i + 1) ss)) (nodes_after root (stage_view item).tree ns)
+charge_step root ns ss i item lt e =
+    ap (λ (xs : List Stage). charge_from root (query_of xs) ns) (drop_more ss i item lt)
+    ∙ ap (λ (x : Stage). charge_after root (stage_view x).tree ns + charge_from root (query_of (drop (i + 1) ss)) (nodes_after root (stage_view x).tree ns)) (sym e)
+
+-- ---- Descendants
+
+counting_more : (k e : ℕ) → k < e → counting k (e - k) ≡ k ∷ counting (k + 1) (e - (k + 1))
+counting_more k e h = let p : e - k ≡ suc (e - (k + 1)) = omega arith in let q : suc k ≡ k + 1 = omega arith in rw (p, q) refl
+
+pub visit_more : (f : Node → List Node) (d : Doc) (k e : ℕ) → k < e → flat_map f (seen d (counting k (e - k))) ≡ f (node_at d k) ++ flat_map f (seen d (counting (k + 1) (e - (k + 1))))
+visit_more f d k e lt = ap (λ (xs : List ℕ). flat_map f (seen d xs)) (counting_more k e lt)
+
+pub visit_charged : (f : Node → ℕ) (d : Doc) (k e : ℕ) → k < e → total_of f (seen d (counting k (e - k))) ≡ f (node_at d k) + total_of f (seen d (counting (k + 1) (e - (k + 1))))
+visit_charged f d k e lt = ap (λ (xs : List ℕ). total_of f (seen d xs)) (counting_more k e lt)
+
+no_elements : (up : List Step) (k : ℕ) (t : Tree) → children_of up k t ≡ [] → elements_of up k t ≡ []
+no_elements up k (Leaf s c) e = refl
+no_elements up k (Arr s es) e = e
+no_elements up k (Obj s ms) e = refl
+
+none_at : (i : IntLit) → at_index i [] ≡ []
+none_at Beyond = refl
+none_at (Within i) = go (position_in i 0)
+  where
+    go : (p : Option ℕ) → nth_if p [] ≡ []
+    go None = refl
+    go (Some n) = refl
+
+none_ordered : (step : ℤ) → in_order step [] ≡ []
+none_ordered step = go (int_lt (pos 0) step) (int_lt step (pos 0))
+  where
+    go : (above below : Bool) → ◌≡◌ {A = List Node} (cond above [] (cond below (reverse []) [])) []
+    go true below = refl
+    go false true = refl
+    go false false = refl
+
+module _ (root n : Node) where
+  selects_none : (s : Selector) → children n ≡ [] → elements n ≡ [] → selected_by root s n ≡ []
+  unfolding sliced
+  selects_none (tree.name scalars) c e = rw c refl
+  selects_none tree.wild c e = c
+  selects_none (tree.index i) c e = rw (e, none_at i) refl
+  selects_none (tree.filter x) c e = rw c refl
+  selects_none (tree.slice start stop step) c e = rw (e, none_ordered (step_of step)) refl
+
+  costs_none : (s : Selector) → children n ≡ [] → elements n ≡ [] → extra_by root s n ≡ 0
+  unfolding sliced
+  costs_none (tree.name scalars) c e = refl
+  costs_none tree.wild c e = rw c refl
+  costs_none (tree.index i) c e = refl
+  costs_none (tree.filter x) c e = rw c refl
+  costs_none (tree.slice start stop step) c e = rw (e, none_ordered (step_of step)) refl
+
+  select_none : (ss : Selectors) → children n ≡ [] → elements n ≡ [] → selected root ss n ≡ []
+  select_none tree.no_selectors c e = refl
+  select_none (tree.selector s others) c e = rw (selects_none s c e, select_none others c e) refl
+
+  cost_none : (ss : Selectors) → children n ≡ [] → elements n ≡ [] → extra_in root ss n ≡ 0
+  cost_none tree.no_selectors c e = refl
+  cost_none (tree.selector s others) c e = rw (costs_none s c e, cost_none others c e) refl
+
+pub leaf_holds : (root : Node) (ss : Selectors) (d : Doc) (ids : List NodeId) (n : Node) → Inside d ids → [] ≡ children n → Holds d ids (nodes_of d ids ++ selected root ss n)
+leaf_holds root ss d ids n a c =
+    let e = select_none root n ss (sym c) (no_elements n.way_up n.number n.tree (sym c)) in
+    rw e (has_none d ids a)
+
+pub leaf_costs : (root : Node) (ss : Selectors) (n : Node) → [] ≡ children n → extra_in root ss n ≡ 0
+leaf_costs root ss n c = cost_none root n ss (sym c) (no_elements n.way_up n.number n.tree (sym c))
+
+pub ruleset visiting = (visit_more, visit_charged, append_assoc, has_none)

@@ -1,0 +1,85 @@
+-- How many children a value has.
+use Rattle.std.proofs.Common.{◌≡◌, ◌≢◌, ℕ, suc, ◌+◌, ◌≤◌, List, [], ◌∷◌, length, Some, None, refl, sym, ap, arith}
+use Rattle.json_tape.specs.Tree.{Null, True, False, Num, Str, Tree, Leaf, Arr, Obj, Elements, NoElement, Element, Members, NoMember, Member}
+use Rattle.json_tape.specs.Nodes.{Node, Step, size, elements_from, members_from, elements_of, children_of, children, elements}
+use Rattle.json_tape.specs.Document.{Doc, kind_of, length_of}
+use Rattle.json_tape.specs.Tape.{element_count, member_count}
+use Rattle.json_tape.specs.declared.tape.NodeId.{NodeId}
+use Rattle.tape_values.specs.Functions.{only_value}
+use Rattle.tape_select.specs.Nodelists.{nodes_of}
+use Rattle.json_tape.specs.declared.tape.Kind.TheVariants as kinds
+
+length_elements : (up : List Step) (i k : ℕ) (es : Elements) → length (elements_from up i k es) ≡ element_count es
+length_elements up i k NoElement = refl
+length_elements up i k (Element t es) = ap suc (length_elements up (suc i) (k + size t) es)
+
+length_members : (up : List Step) (k : ℕ) (ms : Members) → length (members_from up k ms) ≡ member_count ms
+length_members up k NoMember = refl
+length_members up k (Member n t ms) = ap suc (length_members up (k + size t) ms)
+
+array_length : (up : List Step) (k : ℕ) (t : Tree) → kind_of t ≡ kinds.Array → length_of t ≡ Some (length (children_of up k t))
+array_length up k (Leaf s Null) e = cc
+array_length up k (Leaf s True) e = cc
+array_length up k (Leaf s False) e = cc
+array_length up k (Leaf s Num) e = cc
+array_length up k (Leaf s (Str cs)) e = cc
+array_length up k (Arr s es) e = ap Some (sym (length_elements up 0 (suc k) es))
+array_length up k (Obj s ms) e = cc
+
+object_length : (up : List Step) (k : ℕ) (t : Tree) → kind_of t ≡ kinds.Object → length_of t ≡ Some (length (children_of up k t))
+object_length up k (Leaf s Null) e = cc
+object_length up k (Leaf s True) e = cc
+object_length up k (Leaf s False) e = cc
+object_length up k (Leaf s Num) e = cc
+object_length up k (Leaf s (Str cs)) e = cc
+object_length up k (Arr s es) e = cc
+object_length up k (Obj s ms) e = ap Some (sym (length_members up (suc k) ms))
+
+no_children : (up : List Step) (k : ℕ) (t : Tree) → kind_of t ≢ kinds.Array → kind_of t ≢ kinds.Object → children_of up k t ≡ []
+no_children up k (Leaf s c) a o = refl
+no_children up k (Arr s es) a o = absurd (a refl)
+no_children up k (Obj s ms) a o = absurd (o refl)
+
+pub array_total : (n : Node) → kind_of n.tree ≡ kinds.Array → length_of n.tree ≡ Some (length (children n))
+array_total n e = array_length n.way_up n.number n.tree e
+
+pub object_total : (n : Node) → kind_of n.tree ≡ kinds.Object → length_of n.tree ≡ Some (length (children n))
+object_total n e = object_length n.way_up n.number n.tree e
+
+pub none_are : (n : Node) → kind_of n.tree ≢ kinds.Array → kind_of n.tree ≢ kinds.Object → children n ≡ []
+none_are n a o = no_children n.way_up n.number n.tree a o
+
+array_elements : (up : List Step) (k : ℕ) (t : Tree) → kind_of t ≡ kinds.Array → children_of up k t ≡ elements_of up k t
+array_elements up k (Leaf s Null) e = cc
+array_elements up k (Leaf s True) e = cc
+array_elements up k (Leaf s False) e = cc
+array_elements up k (Leaf s Num) e = cc
+array_elements up k (Leaf s (Str cs)) e = cc
+array_elements up k (Arr s es) e = refl
+array_elements up k (Obj s ms) e = cc
+
+no_elements_of : (up : List Step) (k : ℕ) (t : Tree) → kind_of t ≢ kinds.Array → elements_of up k t ≡ []
+no_elements_of up k (Leaf s c) a = refl
+no_elements_of up k (Arr s es) a = absurd (a refl)
+no_elements_of up k (Obj s ms) a = refl
+
+pub elements_are : (n : Node) → kind_of n.tree ≡ kinds.Array → children n ≡ elements n
+elements_are n e = array_elements n.way_up n.number n.tree e
+
+pub no_elements : (n : Node) → kind_of n.tree ≢ kinds.Array → elements n ≡ []
+no_elements n a = no_elements_of n.way_up n.number n.tree a
+
+pub ruleset totals = (array_total, object_total, none_are)
+
+pub ruleset element_facts = (elements_are, no_elements)
+
+pub length_nodes : (d : Doc) (ids : List NodeId) → length (nodes_of d ids) ≡ length ids
+length_nodes d [] = refl
+length_nodes d (x ∷ xs) = ap suc (length_nodes d xs)
+
+pub more_nodes : (d : Doc) (ids : List NodeId) → 2 ≤ length ids → only_value (nodes_of d ids) ≡ None
+more_nodes d [] h = absurd (omega arith)
+more_nodes d (x ∷ []) h = absurd (omega arith)
+more_nodes d (x ∷ y ∷ xs) h = refl
+
+pub ruleset lists = (length_nodes, more_nodes)

@@ -1,0 +1,48 @@
+use Rattle.std.proofs.Common.{rules, ◌∙◌, map, refl}
+use Rattle.path_grammar.specs.Tree.{exprs_of}
+use Rattle.path_grammar.specs.View.{segments_view, selectors_view, segment_view, selector_view, expr_view}
+use Rattle.path_types.specs.Validity.{is_valid, are_valid, are_valid_exprs, is_valid_selector, is_valid_expr}
+use Rattle.tape_select.specs.Planned.{selection_view, stage_view, condition_view}
+use Rattle.tape_select.proofs.Makings.{made_more, valid_more}
+use Rattle.tape_select.proofs.Claims.{numbered_push}
+use Rattle.tape_select.proofs.Calls.{not_one_call, one_call}
+use Rattle.tape_select.proofs.making.+making.Goals as goal
+use Rattle.tape_select.proofs.making.+making.Goals.{function-in_default-via-then-as_slice-lt1, function-in_default-via-else-as_slice-lt1+else-this-lt2}
+
+pub function-unreachable-requires : goal.function-unreachable-requires
+function-unreachable-requires t c = elim c.in_default.branch [
+  | function-in_default-via-then-as_slice-lt1 w ↦ not_one_call c.args.call.now c.as_slice.result.now c.as_slice.ensures.value (search rules) c.requires.valid
+  | function-in_default-via-else-as_slice-lt1+else-this-lt2 w ↦ not_one_call c.args.call.now c.as_slice.result.now c.as_slice.ensures.value (search rules) c.requires.valid
+]
+
+pub function-returns-clause-same : goal.function-returns-clause-same
+function-returns-clause-same t c =
+    let e = one_call c.args.call.now c.as_slice.result.now c.argument-item.result c.as_slice.ensures.value (search rules) (search rules) c.argument-item.is in
+    rw e (rw c.deref.ensures.value at c.applied.ensures.same)
+
+pub selections-loop-selector-preserved : goal.selections-loop-selector-preserved
+selections-loop-selector-preserved t c =
+    let v = valid_more (λ xs. are_valid (selectors_view xs)) (λ x. is_valid_selector (selector_view x)) c.args.selectors.now c.loop-selector.selector-index c.selector-item.result (λ x xs. refl) c.loop-selector-test.true c.selector-item.is c.loop-selector.invariant.valid in
+    record {
+      same = rw c.in_ok-push.ensures.items (made_more selection_view selector_view c.loop-selector.made.items c.in_ok-one.one c.args.selectors.now c.loop-selector.selector-index c.selector-item.result c.loop-selector-test.true c.selector-item.is c.in_ok-one.ensures.same ∙ c.loop-selector.invariant.same);
+      numbered = rw c.in_ok-push.ensures.items (numbered_push selection_view c.loop-selector.made.items c.in_ok-one.one c.args.next.now c.loop-selector.next c.selection.new.next c.loop-selector.invariant.numbered c.in_ok-one.ensures.numbered);
+      valid = v.1;
+    }
+
+pub stages-loop-segment-preserved : goal.stages-loop-segment-preserved
+stages-loop-segment-preserved t c =
+    let v = valid_more (λ xs. is_valid (segments_view xs)) (λ x. are_valid (segment_view x).selectors) c.args.segments.now c.loop-segment.segment-index c.segment-item.result (λ x xs. refl) c.loop-segment-test.true c.segment-item.is c.loop-segment.invariant.valid in
+    record {
+      same = rw c.in_ok-push.ensures.items (made_more stage_view segment_view c.loop-segment.made.items c.in_ok-one.one c.args.segments.now c.loop-segment.segment-index c.segment-item.result c.loop-segment-test.true c.segment-item.is c.in_ok-one.ensures.same ∙ c.loop-segment.invariant.same);
+      numbered = rw c.in_ok-push.ensures.items (numbered_push stage_view c.loop-segment.made.items c.in_ok-one.one c.args.next.now c.loop-segment.next c.stage.new.next c.loop-segment.invariant.numbered c.in_ok-one.ensures.numbered);
+      valid = v.1;
+    }
+
+pub conditions-loop-operand-preserved : goal.conditions-loop-operand-preserved
+conditions-loop-operand-preserved t c =
+    let v = valid_more (λ xs. are_valid_exprs (exprs_of (map expr_view xs))) (λ x. is_valid_expr (expr_view x)) c.args.operands.now c.loop-operand.operand-index c.operand-item.result (λ x xs. refl) c.loop-operand-test.true c.operand-item.is c.loop-operand.invariant.valid in
+    record {
+      same = rw c.in_ok-push.ensures.items (made_more condition_view expr_view c.loop-operand.made.items c.in_ok-one.one c.args.operands.now c.loop-operand.operand-index c.operand-item.result c.loop-operand-test.true c.operand-item.is c.in_ok-one.ensures.same ∙ c.loop-operand.invariant.same);
+      numbered = rw c.in_ok-push.ensures.items (numbered_push condition_view c.loop-operand.made.items c.in_ok-one.one c.args.next.now c.loop-operand.next c.condition.new.next c.loop-operand.invariant.numbered c.in_ok-one.ensures.numbered);
+      valid = v.1;
+    }

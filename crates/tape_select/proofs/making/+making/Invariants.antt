@@ -1,0 +1,28 @@
+use Rattle.std.proofs.Common.{◌≡◌, ◌++◌, drop, map, Some}
+use Rattle.std.specs.Prelude.{IsTrue}
+use Rattle.path_grammar.specs.Tree.{exprs_of}
+use Rattle.path_grammar.specs.View.{segments_view, selectors_view, segment_view, selector_view, expr_view}
+use Rattle.path_types.specs.Validity.{is_valid, are_valid, are_valid_exprs}
+use Rattle.tape_select.specs.Planned.{trees, claims_of, all_claims, numbered, selection_view, stage_view, condition_view}
+use Rattle.tape_select.proofs.making.+making.Given as goal
+
+abbrev pub invariant-selections-loop-selector : goal.invariant-selections-loop-selector
+invariant-selections-loop-selector l = record {
+  same : trees (map selection_view l.made.items) ++ map selector_view (drop l.selector-index l.selectors) ≡ map selector_view l.selectors;
+  numbered : numbered (all_claims (map selection_view l.made.items)) l.initial.next ≡ Some l.next;
+  valid : IsTrue (are_valid (selectors_view (drop l.selector-index l.selectors)));
+}
+
+abbrev pub invariant-stages-loop-segment : goal.invariant-stages-loop-segment
+invariant-stages-loop-segment l = record {
+  same : trees (map stage_view l.made.items) ++ map segment_view (drop l.segment-index l.segments) ≡ map segment_view l.segments;
+  numbered : numbered (claims_of l.made.items) l.initial.next ≡ Some l.next;
+  valid : IsTrue (is_valid (segments_view (drop l.segment-index l.segments)));
+}
+
+abbrev pub invariant-conditions-loop-operand : goal.invariant-conditions-loop-operand
+invariant-conditions-loop-operand l = record {
+  same : trees (map condition_view l.made.items) ++ map expr_view (drop l.operand-index l.operands) ≡ map expr_view l.operands;
+  numbered : numbered (all_claims (map condition_view l.made.items)) l.initial.next ≡ Some l.next;
+  valid : IsTrue (are_valid_exprs (exprs_of (map expr_view (drop l.operand-index l.operands))));
+}

@@ -1,0 +1,62 @@
+-- What was found for the queries from the root is right.
+use Rattle.std.specs.Prelude.{◌≡◌, ℕ, suc, ◌+◌, List, [], ◌∷◌, length, Option, Some, None, Result, MatchResult}
+use Rattle.path_grammar.specs.Tree.{Segments, Nested, nested}
+use Rattle.json_tape.specs.Nodes.{Node}
+use Rattle.json_tape.specs.Document.{Doc, node_at, IsIn}
+use Rattle.json_tape.specs.declared.tape.NodeId.{NodeId}
+use Rattle.tape_values.specs.Comparison.{Value, value_of}
+use Rattle.tape_values.specs.Functions.{only_value}
+use Rattle.tape_select.specs.Evaluation.{evaluated, start}
+use Rattle.tape_select.specs.Charge.{charge_from}
+use Rattle.tape_select.specs.Planned.{Claims, look}
+use Rattle.tape_select.specs.declared.state.Found.{Found}
+use Rattle.tape_select.specs.declared.state.State.{State}
+use Rattle.tape_select.specs.Answered.{AreRight}
+use Rattle.tape_values.specs.Sides.{side_value, IsSide}
+use Rattle.tape_values.specs.declared.sides.Side.{Side}
+use Rattle.tape_select.specs.declared.fault.SelectFault.{SelectFault}
+use Rattle.tape_select.specs.Paying.{Refuses}
+
+abbrev pub value_found : Doc → Option NodeId → Option Value
+value_found d None = None
+value_found d (Some n) = Some (value_of (node_at d n.0).tree)
+
+-- what is asked of the nodelist of the query from this node, and its charge
+pub record IsFound (d : Doc) (from : Node) (q : Segments) (f : Found) : Type 0 where
+  pub value : only_value (evaluated (node_at d 0) q (from ∷ [])) ≡ value_found d f.only
+  pub inside : IsIn d f.only
+  pub total : f.total ≡ length (evaluated (node_at d 0) q (from ∷ []))
+  pub charge : f.charge ≡ charge_from (node_at d 0) q (from ∷ [])
+
+-- where some query has the slot, this was found for it from the root
+abbrev pub IsFoundAt : Doc → Option Segments → Found → Type 0
+IsFoundAt d None f = Unit {0}
+IsFoundAt d (Some q) f = IsFound d (node_at d 0) q f
+
+abbrev pub IsKept : Doc → Option Segments → Option Found → Type 0
+IsKept d q None = Unit {0}
+IsKept d q (Some f) = IsFoundAt d q f
+
+-- each slot that is filled is right
+abbrev pub RightFrom : Doc → Claims → ℕ → List (Option Found) → Type 0
+RightFrom d table k [] = Unit {0}
+RightFrom d table k (s ∷ ss) = IsKept d (look table k) s × RightFrom d table (suc k) ss
+
+abbrev pub Right : Doc → Claims → List (Option Found) → Type 0
+Right d table slots = RightFrom d table 0 slots
+
+-- this is found, and its charge is paid
+abbrev pub FindsNodes : Doc → Result Found SelectFault → Segments → Node → (old new : ℕ) → Type 0
+FindsNodes d r q from old new = MatchResult r (λ f. IsFound d from q f × (new + charge_from (node_at d 0) q (from ∷ []) ≡ old)) (λ e. Refuses (charge_from (node_at d 0) q (from ∷ [])) old e)
+
+-- the same of a query in a filter, at a child
+abbrev pub FindsFor : Doc → Result Found SelectFault → Nested → Node → (old new : ℕ) → Type 0
+FindsFor d r (nested from_root q) n old new = FindsNodes d r q (start (node_at d 0) from_root n) old new
+
+-- the side is found, and its charge is paid
+abbrev pub FindsSide : Doc → Result Side SelectFault → Option Value → (charge old new : ℕ) → Type 0
+FindsSide d r value charge old new = MatchResult r (λ side. (side_value d side ≡ value) × IsSide d side × (new + charge ≡ old)) (λ e. Refuses charge old e)
+
+-- what is kept is right
+abbrev pub Keeps : Doc → Claims → State → Type 0
+Keeps d table s = Right d table s.slots.items × AreRight d s.answers.items

@@ -1,0 +1,158 @@
+-- The query that a plan stands for, and which of its queries have which slots: each level once, with what is inside already seen.
+use Rattle.std.specs.Prelude.{ℕ, ◌+◌, List, [], ◌∷◌, map, Bool, true, false, Option, Some, None, nat_eq, if◌then◌else◌, codes}
+use Rattle.path_grammar.specs.Tree as tree
+use Rattle.path_grammar.specs.Tree.{OneSegment, Segments, segments_of, selectors_of, exprs_of}
+use Rattle.path_grammar.specs.View.{literal_view}
+use Rattle.tape_select.specs.declared.plan.Condition.TheOpen.{Condition-F, Operand-F, Selection-F, Nested-F, Stage-F}
+use Rattle.tape_select.specs.declared.plan.Condition.{Condition, fold-Condition}
+use Rattle.tape_select.specs.declared.plan.Operand.{Operand, fold-Operand}
+use Rattle.tape_select.specs.declared.plan.Selection.{Selection, fold-Selection}
+use Rattle.tape_select.specs.declared.plan.Nested.{Nested, fold-Nested}
+use Rattle.tape_select.specs.declared.plan.Stage.{Stage, fold-Stage}
+use Rattle.tape_select.specs.declared.plan.Constant.{Constant}
+use Rattle.tape_select.specs.declared.plan.Link.{Link}
+use Rattle.tape_select.specs.declared.plan.Link.TheVariants.{Key, Place}
+use Rattle.tape_select.specs.declared.plan.Chain.{Chain}
+
+-- ---- Slots
+
+-- which queries from the root have which slots; a tree, so that the facts of two parts are a pair
+pub data Claims : Type 0 where
+  no_claims : Claims
+  claim : (slot : ℕ) (query : Segments) → Claims
+  both : (first others : Claims) → Claims
+
+-- a part of the syntax tree, and the slots in it
+pub record With (A : Type 0) : Type 0 where
+  pub tree : A
+  pub claims : Claims
+
+abbrev pub tree_in : {A : Type 0} → With A → A
+tree_in part = part.tree
+
+abbrev pub all_claims : {A : Type 0} → List (With A) → Claims
+all_claims [] = no_claims
+all_claims (x ∷ xs) = both x.claims (all_claims xs)
+
+-- a query with a slot begins at the root
+abbrev pub is_rooted : Option ℕ → Bool
+is_rooted None = false
+is_rooted (Some k) = true
+
+abbrev pub own_claim : Option ℕ → Segments → Claims
+own_claim None q = no_claims
+own_claim (Some k) q = claim k q
+
+-- ---- Literals and singular queries
+
+abbrev pub constant_view : Constant → tree.Literal
+constant_view c = literal_view c.literal
+
+abbrev pub link_selector : Link → tree.Selector
+link_selector (Key n) = tree.name n.scalars.items
+link_selector (Place i) = tree.index i
+
+abbrev pub link_view : Link → OneSegment
+link_view l = record { descend = false; selectors = tree.selector (link_selector l) tree.no_selectors }
+
+abbrev pub links_view : List Link → Segments
+links_view ls = segments_of (map link_view ls)
+
+abbrev pub chain_view : Chain → With tree.Nested
+chain_view c = record { tree = tree.nested (is_rooted c.slot) (links_view c.links.items); claims = own_claim c.slot (links_view c.links.items) }
+
+-- ---- The levels
+
+-- a side of a comparison as an argument
+abbrev pub as_argument : tree.Comparable → tree.Argument
+as_argument (tree.lit l) = tree.lit_argument l
+as_argument (tree.single q) = tree.nodes_argument q
+as_argument (tree.func c) = tree.func_argument c
+
+-- a call with one argument
+abbrev pub calling : (function : List ℕ) → tree.Argument → tree.Comparable
+calling f a = tree.func (tree.call f (tree.argument a tree.no_arguments))
+
+module _ where
+  abbrev pub Layer : ((A B C D E : Type 0) → Type 0) → Type 0
+  Layer X = X (With tree.Expr) (With tree.Comparable) (With tree.Selector) (With tree.Nested) (With OneSegment)
+
+  abbrev pub condition_step : Layer Condition-F → With tree.Expr
+  condition_step (Condition-F.Any v) = record { tree = tree.any (exprs_of (map tree_in v.items)); claims = all_claims v.items }
+  condition_step (Condition-F.Each v) = record { tree = tree.each (exprs_of (map tree_in v.items)); claims = all_claims v.items }
+  condition_step (Condition-F.Not b) = record { tree = tree.not b.value.tree; claims = b.value.claims }
+  condition_step (Condition-F.Compare a op b) = record { tree = tree.compare a.tree op b.tree; claims = both a.claims b.claims }
+  condition_step (Condition-F.Leads c) = record { tree = tree.test (chain_view c).tree; claims = (chain_view c).claims }
+  condition_step (Condition-F.Exists q) = record { tree = tree.test q.tree; claims = q.claims }
+
+  abbrev pub operand_step : Layer Operand-F → With tree.Comparable
+  operand_step (Operand-F.Constant l) = record { tree = tree.lit (constant_view l); claims = no_claims }
+  operand_step (Operand-F.Single c) = record { tree = tree.single (chain_view c).tree; claims = (chain_view c).claims }
+  operand_step (Operand-F.Length b) = record { tree = calling (codes "length") (as_argument b.value.tree); claims = b.value.claims }
+  operand_step (Operand-F.Count q) = record { tree = calling (codes "count") (tree.nodes_argument q.tree); claims = q.claims }
+  operand_step (Operand-F.Value q) = record { tree = calling (codes "value") (tree.nodes_argument q.tree); claims = q.claims }
+
+  abbrev pub selection_step : Layer Selection-F → With tree.Selector
+  selection_step (Selection-F.Named n) = record { tree = tree.name n.scalars.items; claims = no_claims }
+  selection_step Selection-F.Wild = record { tree = tree.wild; claims = no_claims }
+  selection_step (Selection-F.At i) = record { tree = tree.index i; claims = no_claims }
+  selection_step (Selection-F.Sliced start stop step) = record { tree = tree.slice start stop step; claims = no_claims }
+  selection_step (Selection-F.Where b) = record { tree = tree.filter b.value.tree; claims = b.value.claims }
+
+  abbrev pub nested_step : Layer Nested-F → With tree.Nested
+  nested_step q = record {
+    tree = tree.nested (is_rooted q.slot) (segments_of (map tree_in q.stages.items));
+    claims = both (own_claim q.slot (segments_of (map tree_in q.stages.items))) (all_claims q.stages.items);
+  }
+
+  abbrev pub stage_step : Layer Stage-F → With OneSegment
+  stage_step s = record { tree = record { descend = s.descend; selectors = selectors_of (map tree_in s.selections.items) }; claims = all_claims s.selections.items }
+
+abbrev pub condition_view : Condition → With tree.Expr
+condition_view = fold-Condition (With tree.Expr) (With tree.Comparable) (With tree.Selector) (With tree.Nested) (With OneSegment) condition_step operand_step selection_step nested_step stage_step
+
+abbrev pub operand_view : Operand → With tree.Comparable
+operand_view = fold-Operand (With tree.Expr) (With tree.Comparable) (With tree.Selector) (With tree.Nested) (With OneSegment) condition_step operand_step selection_step nested_step stage_step
+
+abbrev pub selection_view : Selection → With tree.Selector
+selection_view = fold-Selection (With tree.Expr) (With tree.Comparable) (With tree.Selector) (With tree.Nested) (With OneSegment) condition_step operand_step selection_step nested_step stage_step
+
+abbrev pub nested_view : Nested → With tree.Nested
+nested_view = fold-Nested (With tree.Expr) (With tree.Comparable) (With tree.Selector) (With tree.Nested) (With OneSegment) condition_step operand_step selection_step nested_step stage_step
+
+abbrev pub stage_view : Stage → With OneSegment
+stage_view = fold-Stage (With tree.Expr) (With tree.Comparable) (With tree.Selector) (With tree.Nested) (With OneSegment) condition_step operand_step selection_step nested_step stage_step
+
+-- ---- Lists of parts
+
+abbrev pub trees : {A : Type 0} → List (With A) → List A
+trees parts = map tree_in parts
+
+-- the query of these stages
+abbrev pub query_of : List Stage → Segments
+query_of ss = segments_of (trees (map stage_view ss))
+
+abbrev pub claims_of : List Stage → Claims
+claims_of ss = all_claims (map stage_view ss)
+
+-- ---- The query of a slot
+
+abbrev pub or_else : Option Segments → Option Segments → Option Segments
+or_else None b = b
+or_else (Some a) b = Some a
+
+-- the query that claims a slot first
+abbrev pub look : Claims → ℕ → Option Segments
+look no_claims k = None
+look (claim slot q) k = if nat_eq slot k then Some q else None
+look (both a b) k = or_else (look a k) (look b k)
+
+abbrev pub then_numbered : Option ℕ → (ℕ → Option ℕ) → Option ℕ
+then_numbered None f = None
+then_numbered (Some k) f = f k
+
+-- the number after the last slot, where the slots have the numbers from this one on, in the order of the query
+abbrev pub numbered : Claims → ℕ → Option ℕ
+numbered no_claims k = Some k
+numbered (claim slot q) k = if nat_eq slot k then Some (k + 1) else None
+numbered (both a b) k = then_numbered (numbered a k) (λ j. numbered b j)

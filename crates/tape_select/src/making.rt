@@ -1,0 +1,325 @@
+//! A plan made of a query.
+
+ghost use Rattle.std.specs.Prelude.{◌≡◌, map, Some, IfOk, IsTrue, false, codes};
+ghost use Rattle.path_grammar.specs.Tree as tree;
+ghost use Rattle.path_grammar.specs.Tree.{Segments, exprs_of, selector, no_selectors};
+ghost use Rattle.path_grammar.specs.View.{segments_view, selectors_view, segment_view, selector_view, expr_view, nested_view as query_tree, comparable_view, call_view, argument_view, literal_view, query_view};
+ghost use Rattle.path_grammar.specs.Singular.{is_singular, is_singular_query, is_one};
+ghost use Rattle.path_types.specs.Validity.{is_literal, is_valid, are_valid, is_valid_selector, is_valid_expr, are_valid_exprs, is_valid_nested, is_valid_comparable, is_valid_call, is_valid_argument};
+ghost use Rattle.tape_select.specs.Planned.{trees, all_claims, query_of, claims_of, is_rooted, own_claim, as_argument, calling, constant_view, link_selector, link_view, chain_view, condition_view, operand_view, selection_view, nested_view, stage_view, numbered};
+ghost use Rattle.tape_select.specs.Making.{is_valid_nodes};
+
+use crate::plan::{
+    Chain, Condition, Constant, Link, Name, Nested, Operand, Parts, Selection, Stage,
+};
+use path_grammar::{
+    Argument, Call, Comparable, Expr, Literal, Segment, Selector, SubQuery, is_singular,
+};
+use path_types::ValidQuery;
+use std::alloc::{AllocError, Global};
+
+fn name(alloc: Global, name: &[char]) -> Result<Name, AllocError>
+    ensures { IfOk result (λ made. made.scalars.items ≡ name.now) }
+{
+    let scalars = name.to_vec(alloc)?;
+    Ok(Name { scalars })
+}
+
+fn literal(alloc: Global, literal: &Literal) -> Result<Literal, AllocError>
+    ensures { IfOk result (λ made. literal_view made ≡ literal_view literal.now) }
+{
+    match literal {
+        Literal::Number(digits) => Ok(Literal::Number(digits.to_vec(alloc)?)),
+        Literal::Text(scalars) => Ok(Literal::Text(scalars.to_vec(alloc)?)),
+        Literal::Bool(is_true) => Ok(Literal::Bool(*is_true)),
+        Literal::Null => Ok(Literal::Null),
+    }
+}
+
+fn constant(alloc: Global, written: &Literal) -> Result<Constant, AllocError>
+    requires valid { IsTrue (is_literal (literal_view written.now)) }
+    ensures { IfOk result (λ made. constant_view made ≡ literal_view written.now) }
+{
+    let literal = literal(alloc, written)?;
+    Ok(Constant { literal })
+}
+
+// The slot of a query from the root: the next number.
+fn slot(from_root: bool, next: &mut u32) -> Result<Option<u32>, AllocError>
+    ensures rooted { IfOk result (λ slot. is_rooted slot ≡ from_root) }
+    ensures numbered { IfOk result (λ slot. (q : Segments) → numbered (own_claim slot q) next.old ≡ Some next.new) }
+{
+    if !from_root {
+        return Ok(None);
+    }
+    let slot = *next;
+    match slot.checked_add(1) {
+        None => Err(AllocError),
+        Some(more) => {
+            *next = more;
+            Ok(Some(slot))
+        }
+    }
+}
+
+// The segment of a singular query with this selector.
+fn link(alloc: Global, only: &Selector) -> Result<Link, AllocError>
+    requires one { IsTrue (is_one (selector (selector_view only.now) no_selectors)) }
+    ensures { IfOk result (λ made. link_selector made ≡ selector_view only.now) }
+{
+    match only {
+        Selector::Name(scalars) => Ok(Link::Key(name(alloc, scalars)?)),
+        Selector::Index(i) => Ok(Link::Place(*i)),
+        Selector::Wild | Selector::Filter(_) | Selector::Slice { .. } => unreachable!(),
+    }
+}
+
+fn link_of(alloc: Global, segment: &Segment) -> Result<Link, AllocError>
+    requires child { (segment_view segment.now).descend ≡ false }
+    requires one { IsTrue (is_one (segment_view segment.now).selectors) }
+    ensures { IfOk result (λ made. link_view made ≡ segment_view segment.now) }
+{
+    match segment.selectors.as_slice() {
+        [only] => link(alloc, only),
+        _ => unreachable!(),
+    }
+}
+
+fn links(alloc: Global, segments: &[Segment]) -> Result<Vec<Link>, AllocError>
+    requires singular { IsTrue (is_singular (segments_view segments.now)) }
+    ensures { IfOk result (λ made. map link_view made.items ≡ map segment_view segments.now) }
+{
+    let mut made = Vec::new(alloc);
+    for segment in segments {
+        let one = link_of(alloc, segment)?;
+        made.push(one)?;
+    }
+    Ok(made)
+}
+
+fn chain(alloc: Global, query: &SubQuery, next: &mut u32) -> Result<Chain, AllocError>
+    requires singular { IsTrue (is_singular_query (query_tree query.now)) }
+    ensures same { IfOk result (λ made. (chain_view made).tree ≡ query_tree query.now) }
+    ensures numbered { IfOk result (λ made. numbered (chain_view made).claims next.old ≡ Some next.new) }
+{
+    let slot = slot(query.from_root, next)?;
+    let links = links(alloc, &query.segments)?;
+    Ok(Chain { slot, links })
+}
+
+#[cycle(making)]
+fn selection(alloc: Global, selector: &Selector, next: &mut u32) -> Result<Selection, AllocError>
+    requires valid { IsTrue (is_valid_selector (selector_view selector.now)) }
+    ensures same { IfOk result (λ made. (selection_view made).tree ≡ selector_view selector.now) }
+    ensures numbered { IfOk result (λ made. numbered (selection_view made).claims next.old ≡ Some next.new) }
+{
+    match selector {
+        Selector::Name(scalars) => Ok(Selection::Named(name(alloc, scalars)?)),
+        Selector::Wild => Ok(Selection::Wild),
+        Selector::Index(i) => Ok(Selection::At(*i)),
+        Selector::Slice { start, stop, step } => Ok(Selection::Sliced {
+            start: *start,
+            stop: *stop,
+            step: *step,
+        }),
+        Selector::Filter(test) => {
+            let made = condition(alloc, test, next)?;
+            Ok(Selection::Where(Box::new(alloc, made)?))
+        }
+    }
+}
+
+#[cycle(making)]
+fn selections(
+    alloc: Global,
+    selectors: &[Selector],
+    next: &mut u32,
+) -> Result<Vec<Selection>, AllocError>
+    requires valid { IsTrue (are_valid (selectors_view selectors.now)) }
+    ensures same { IfOk result (λ made. trees (map selection_view made.items) ≡ map selector_view selectors.now) }
+    ensures numbered { IfOk result (λ made. numbered (all_claims (map selection_view made.items)) next.old ≡ Some next.new) }
+{
+    let mut made = Vec::new(alloc);
+    for selector in selectors {
+        let one = selection(alloc, selector, next)?;
+        made.push(one)?;
+    }
+    Ok(made)
+}
+
+#[cycle(making)]
+fn stage(alloc: Global, segment: &Segment, next: &mut u32) -> Result<Stage, AllocError>
+    requires valid { IsTrue (are_valid (segment_view segment.now).selectors) }
+    ensures same { IfOk result (λ made. (stage_view made).tree ≡ segment_view segment.now) }
+    ensures numbered { IfOk result (λ made. numbered (stage_view made).claims next.old ≡ Some next.new) }
+{
+    let selections = selections(alloc, &segment.selectors, next)?;
+    Ok(Stage {
+        descend: segment.descend,
+        selections,
+    })
+}
+
+#[cycle(making)]
+fn stages(alloc: Global, segments: &[Segment], next: &mut u32) -> Result<Vec<Stage>, AllocError>
+    requires valid { IsTrue (is_valid (segments_view segments.now)) }
+    ensures same { IfOk result (λ made. trees (map stage_view made.items) ≡ map segment_view segments.now) }
+    ensures numbered { IfOk result (λ made. numbered (claims_of made.items) next.old ≡ Some next.new) }
+{
+    let mut made = Vec::new(alloc);
+    for segment in segments {
+        let one = stage(alloc, segment, next)?;
+        made.push(one)?;
+    }
+    Ok(made)
+}
+
+#[cycle(making)]
+fn nested(alloc: Global, query: &SubQuery, next: &mut u32) -> Result<Nested, AllocError>
+    requires valid { IsTrue (is_valid_nested (query_tree query.now)) }
+    ensures same { IfOk result (λ made. (nested_view made).tree ≡ query_tree query.now) }
+    ensures numbered { IfOk result (λ made. numbered (nested_view made).claims next.old ≡ Some next.new) }
+{
+    let slot = slot(query.from_root, next)?;
+    let stages = stages(alloc, &query.segments, next)?;
+    Ok(Nested { slot, stages })
+}
+
+#[cycle(making)]
+fn condition(alloc: Global, expr: &Expr, next: &mut u32) -> Result<Condition, AllocError>
+    requires valid { IsTrue (is_valid_expr (expr_view expr.now)) }
+    ensures same { IfOk result (λ made. (condition_view made).tree ≡ expr_view expr.now) }
+    ensures numbered { IfOk result (λ made. numbered (condition_view made).claims next.old ≡ Some next.new) }
+{
+    match expr {
+        Expr::Any(operands) => Ok(Condition::Any(conditions(alloc, operands, next)?)),
+        Expr::Each(operands) => Ok(Condition::Each(conditions(alloc, operands, next)?)),
+        Expr::Not(operand) => {
+            let made = condition(alloc, operand, next)?;
+            Ok(Condition::Not(Box::new(alloc, made)?))
+        }
+        Expr::Compare(left, op, right) => {
+            let left = operand(alloc, left, next)?;
+            let right = operand(alloc, right, next)?;
+            Ok(Condition::Compare(left, *op, right))
+        }
+        Expr::Test(query) => test(alloc, query, next),
+        Expr::TestCall(_) => unreachable!(),
+    }
+}
+
+#[cycle(making)]
+fn conditions(
+    alloc: Global,
+    operands: &[Expr],
+    next: &mut u32,
+) -> Result<Vec<Condition>, AllocError>
+    requires valid { IsTrue (are_valid_exprs (exprs_of (map expr_view operands.now))) }
+    ensures same { IfOk result (λ made. trees (map condition_view made.items) ≡ map expr_view operands.now) }
+    ensures numbered { IfOk result (λ made. numbered (all_claims (map condition_view made.items)) next.old ≡ Some next.new) }
+{
+    let mut made = Vec::new(alloc);
+    for operand in operands {
+        let one = condition(alloc, operand, next)?;
+        made.push(one)?;
+    }
+    Ok(made)
+}
+
+#[cycle(making)]
+fn test(alloc: Global, query: &SubQuery, next: &mut u32) -> Result<Condition, AllocError>
+    requires valid { IsTrue (is_valid_nested (query_tree query.now)) }
+    ensures same { IfOk result (λ made. (condition_view made).tree ≡ tree.test (query_tree query.now)) }
+    ensures numbered { IfOk result (λ made. numbered (condition_view made).claims next.old ≡ Some next.new) }
+{
+    if is_singular(&query.segments) {
+        Ok(Condition::Leads(chain(alloc, query, next)?))
+    } else {
+        Ok(Condition::Exists(nested(alloc, query, next)?))
+    }
+}
+
+#[cycle(making)]
+fn operand(alloc: Global, side: &Comparable, next: &mut u32) -> Result<Operand, AllocError>
+    requires valid { IsTrue (is_valid_comparable (comparable_view side.now)) }
+    ensures same { IfOk result (λ made. (operand_view made).tree ≡ comparable_view side.now) }
+    ensures numbered { IfOk result (λ made. numbered (operand_view made).claims next.old ≡ Some next.new) }
+{
+    match side {
+        Comparable::Lit(literal) => Ok(Operand::Constant(constant(alloc, literal)?)),
+        Comparable::Single(query) => Ok(Operand::Single(chain(alloc, query, next)?)),
+        Comparable::Func(call) => function(alloc, call, next),
+    }
+}
+
+#[cycle(making)]
+fn function(alloc: Global, call: &Call, next: &mut u32) -> Result<Operand, AllocError>
+    requires valid { IsTrue (is_valid_call (call_view call.now)) }
+    ensures same { IfOk result (λ made. (operand_view made).tree ≡ tree.func (call_view call.now)) }
+    ensures numbered { IfOk result (λ made. numbered (operand_view made).claims next.old ≡ Some next.new) }
+{
+    match call.arguments.as_slice() {
+        [argument] => applied(alloc, &call.name, argument, next),
+        _ => unreachable!(),
+    }
+}
+
+// A function of this name with this argument.
+#[cycle(making)]
+fn applied(
+    alloc: Global,
+    function: &[u8],
+    argument: &Argument,
+    next: &mut u32,
+) -> Result<Operand, AllocError>
+    requires valid { IsTrue (is_valid_argument function.now (argument_view argument.now)) }
+    ensures same { IfOk result (λ made. (operand_view made).tree ≡ calling function.now (argument_view argument.now)) }
+    ensures numbered { IfOk result (λ made. numbered (operand_view made).claims next.old ≡ Some next.new) }
+{
+    if function == b"length".as_slice() {
+        let made = value(alloc, argument, next)?;
+        Ok(Operand::Length(Box::new(alloc, made)?))
+    } else if function == b"count".as_slice() {
+        Ok(Operand::Count(nodes(alloc, argument, next)?))
+    } else {
+        Ok(Operand::Value(nodes(alloc, argument, next)?))
+    }
+}
+
+// The argument of `length`.
+#[cycle(making)]
+fn value(alloc: Global, argument: &Argument, next: &mut u32) -> Result<Operand, AllocError>
+    requires valid { IsTrue (is_valid_argument (codes "length") (argument_view argument.now)) }
+    ensures same { IfOk result (λ made. as_argument (operand_view made).tree ≡ argument_view argument.now) }
+    ensures numbered { IfOk result (λ made. numbered (operand_view made).claims next.old ≡ Some next.new) }
+{
+    match argument {
+        Argument::Lit(literal) => Ok(Operand::Constant(constant(alloc, literal)?)),
+        Argument::Nodes(query) => Ok(Operand::Single(chain(alloc, query, next)?)),
+        Argument::Func(call) => function(alloc, call, next),
+        Argument::Logical(_) => unreachable!(),
+    }
+}
+
+// The argument of `count` or of `value`.
+#[cycle(making)]
+fn nodes(alloc: Global, argument: &Argument, next: &mut u32) -> Result<Nested, AllocError>
+    requires valid { IsTrue (is_valid_nodes (argument_view argument.now)) }
+    ensures same { IfOk result (λ made. tree.nodes_argument (nested_view made).tree ≡ argument_view argument.now) }
+    ensures numbered { IfOk result (λ made. numbered (nested_view made).claims next.old ≡ Some next.new) }
+{
+    match argument {
+        Argument::Nodes(query) => nested(alloc, query, next),
+        Argument::Lit(_) | Argument::Func(_) | Argument::Logical(_) => unreachable!(),
+    }
+}
+
+/// The parts of a query's plan.
+pub fn parts_of(alloc: Global, query: &ValidQuery) -> Result<Parts, AllocError>
+    ensures same { IfOk result (λ made. query_of made.stages.items ≡ query_view query.now) }
+    ensures numbered { IfOk result (λ made. numbered (claims_of made.stages.items) 0 ≡ Some made.slots) }
+{
+    let mut slots = 0;
+    let stages = stages(alloc, query.segments(), &mut slots)?;
+    Ok(Parts { stages, slots })
+}

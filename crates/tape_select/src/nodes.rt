@@ -1,0 +1,90 @@
+//! Steps that add nodes. They pay what they are charged beyond the unit that each selector costs, which is paid in front of them.
+
+ghost use Rattle.std.specs.Prelude.{◌≡◌, ◌<◌, ◌∷◌, [], ◌++◌, length, MatchResult};
+ghost use Rattle.json_tape.specs.Document.{count, node_at, following, single, IsIn};
+ghost use Rattle.json_tape.specs.Nodes.{children};
+ghost use Rattle.tape_select.specs.Nodelists.{nodes_of};
+ghost use Rattle.tape_select.specs.Paying.{Inside, Holds, Adds};
+
+use crate::fault::SelectFault;
+use crate::meter::Meter;
+use json_tape::{Document, Kind, NodeId};
+use std::alloc::Global;
+
+/// One node more.
+#[tactic(auto, using(crate::proofs::Adding::adding))]
+pub fn push(doc: &Document, out: &mut Vec<NodeId>, n: NodeId) -> Result<(), SelectFault>
+    requires inside { n.0 < count doc.now }
+    requires sound { Inside doc.now out.old.items }
+    ensures { MatchResult result (λ _. Holds doc.now out.new.items (nodes_of doc.now out.old.items ++ node_at doc.now n.0 ∷ [])) (λ e. e ≡ SelectFault.Memory) }
+{
+    let _ = doc;
+    if out.push(n).is_err() {
+        return Err(SelectFault::Memory);
+    }
+    Ok(())
+}
+
+/// The node, where there is one.
+#[tactic(auto, using(crate::proofs::Adding::adding))]
+pub fn push_some(
+    doc: &Document,
+    out: &mut Vec<NodeId>,
+    node: Option<NodeId>,
+) -> Result<(), SelectFault>
+    requires inside { IsIn doc.now node }
+    requires sound { Inside doc.now out.old.items }
+    ensures { MatchResult result (λ _. Holds doc.now out.new.items (nodes_of doc.now out.old.items ++ single doc.now node)) (λ e. e ≡ SelectFault.Memory) }
+{
+    match node {
+        None => Ok(()),
+        Some(found) => push(doc, out, found),
+    }
+}
+
+/// A list of one node.
+#[tactic(auto, using(crate::proofs::Adding::adding))]
+pub fn lone(alloc: Global, doc: &Document, n: NodeId) -> Result<Vec<NodeId>, SelectFault>
+    requires { n.0 < count doc.now }
+    ensures { MatchResult result (λ v. Holds doc.now v.items (node_at doc.now n.0 ∷ [])) (λ e. e ≡ SelectFault.Memory) }
+{
+    let mut nodes = Vec::new(alloc);
+    push(doc, &mut nodes, n)?;
+    Ok(nodes)
+}
+
+/// How many children there are.
+#[tactic(auto, using(crate::proofs::Totals::totals))]
+pub fn child_total(doc: &Document, n: NodeId) -> u32
+    requires { n.0 < count doc.now }
+    ensures { result ≡ length (children (node_at doc.now n.0)) }
+{
+    match doc.kind(n) {
+        Kind::Array | Kind::Object => match doc.length(n) {
+            Some(total) => total,
+            None => 0,
+        },
+        Kind::Null | Kind::Bool(_) | Kind::Number | Kind::Text => 0,
+    }
+}
+
+/// All children.
+#[tactic(auto, using(crate::proofs::Adding::adding))]
+pub fn wild(
+    doc: &Document,
+    n: NodeId,
+    meter: &mut Meter,
+    out: &mut Vec<NodeId>,
+) -> Result<(), SelectFault>
+    requires inside { n.0 < count doc.now }
+    requires sound { Inside doc.now out.old.items }
+    ensures { Adds doc.now result out.new.items (nodes_of doc.now out.old.items ++ children (node_at doc.now n.0)) (length (children (node_at doc.now n.0))) meter.old.left meter.new.left }
+{
+    meter.spend(u64::from(child_total(doc, n)))?;
+    let mut child = doc.first_child(n);
+    while let Some(c) = child {
+        push(doc, out, c)?;
+        child = doc.next_sibling(c);
+    }
+    Ok(())
+}

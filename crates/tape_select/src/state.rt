@@ -1,0 +1,153 @@
+//! What an evaluation keeps: what was found for the queries from the root.
+
+ghost use Rattle.std.specs.Prelude.{◌≡◌, ◌<◌, length, Some, IfSome};
+ghost use Rattle.json_tape.specs.Document.{count, node_at, IsIn};
+ghost use Rattle.tape_values.specs.Functions.{only_value};
+ghost use Rattle.tape_select.specs.Nodelists.{nodes_of};
+ghost use Rattle.tape_select.specs.Paying.{Inside};
+ghost use Rattle.tape_select.specs.Memo.{Right, IsFoundAt, value_found, FindsNodes, FindsFor};
+ghost use Rattle.tape_select.specs.Planned.{claims_of, look, chain_view, links_view};
+ghost use Rattle.tape_select.specs.Slots.{AreClaimed};
+
+use crate::answers::Answer;
+use crate::chains::followed;
+use crate::fault::SelectFault;
+use crate::meter::Meter;
+use crate::plan::{Chain, Link, Parts};
+use json_tape::{Document, NodeId};
+
+/// What is asked of a query's nodelist, and what finding it is charged.
+#[derive(Clone, Copy)]
+pub struct Found {
+    /// The node, where there is exactly one.
+    pub only: Option<NodeId>,
+    /// How many nodes there are.
+    pub total: usize,
+    pub charge: u64,
+}
+
+/// The units that are left, a slot for each query from the root, and comparisons that were made.
+#[derive(Drop)]
+pub struct State {
+    pub meter: Meter,
+    pub slots: Vec<Option<Found>>,
+    pub answers: Vec<Option<Answer>>,
+}
+
+/// What the slot holds, where it is filled.
+#[tactic(auto, using(crate::proofs::Slots::slots))]
+pub fn recall(doc: &Document, plan: &Parts, slots: &[Option<Found>], slot: u32) -> Option<Found>
+    requires right { Right doc.now (claims_of plan.now.stages.items) slots.now }
+    ensures { IfSome result (λ found. IsFoundAt doc.now (look (claims_of plan.now.stages.items) slot) found) }
+{
+    let _ = doc;
+    let _ = plan;
+    if (slot as usize) < slots.len() {
+        slots[slot as usize]
+    } else {
+        None
+    }
+}
+
+/// Keeps what was found.
+#[tactic(auto, using(crate::proofs::Slots::slots))]
+pub fn keep(doc: &Document, plan: &Parts, slots: &mut [Option<Found>], slot: u32, found: Found)
+    requires right { Right doc.now (claims_of plan.now.stages.items) slots.old }
+    requires found { IsFoundAt doc.now (look (claims_of plan.now.stages.items) slot) found }
+    ensures { Right doc.now (claims_of plan.now.stages.items) slots.new }
+{
+    let _ = doc;
+    let _ = plan;
+    if (slot as usize) < slots.len() {
+        slots[slot as usize] = Some(found);
+    }
+}
+
+/// What is asked of a nodelist that was charged so much.
+#[tactic(auto, using(crate::proofs::Totals::lists))]
+pub fn found_in(doc: &Document, nodes: &[NodeId], charge: u64) -> Found
+    requires { Inside doc.now nodes.now }
+    ensures value { only_value (nodes_of doc.now nodes.now) ≡ value_found doc.now result.only }
+    ensures inside { IsIn doc.now result.only }
+    ensures total { result.total ≡ length (nodes_of doc.now nodes.now) }
+    ensures charge { result.charge ≡ charge }
+{
+    let _ = doc;
+    let only = match nodes {
+        [n] => Some(*n),
+        _ => None,
+    };
+    Found {
+        only,
+        total: nodes.len(),
+        charge,
+    }
+}
+
+// What a singular query finds from a node.
+fn chain_from(
+    doc: &Document,
+    links: &[Link],
+    n: NodeId,
+    meter: &mut Meter,
+) -> Result<Found, SelectFault>
+    requires inside { n.0 < count doc.now }
+    ensures { FindsNodes doc.now result (links_view links.now) (node_at doc.now n.0) meter.old.left meter.new.left }
+{
+    let units = meter.left;
+    let only = followed(doc, links, n, meter)?;
+    let total = if only.is_some() { 1 } else { 0 };
+    Ok(Found {
+        only,
+        total,
+        charge: units - meter.left,
+    })
+}
+
+// The same from the root, found once.
+fn chain_once(
+    doc: &Document,
+    plan: &Parts,
+    links: &[Link],
+    slot: u32,
+    state: &mut State,
+) -> Result<Found, SelectFault>
+    requires mine { look (claims_of plan.now.stages.items) slot ≡ Some (links_view links.now) }
+    requires right { Right doc.now (claims_of plan.now.stages.items) state.old.slots.items }
+    ensures found { FindsNodes doc.now result (links_view links.now) (node_at doc.now 0) state.old.meter.left state.new.meter.left }
+    ensures right { Right doc.now (claims_of plan.now.stages.items) state.new.slots.items }
+    ensures answers { state.new.answers ≡ state.old.answers }
+{
+    match recall(doc, plan, &state.slots, slot) {
+        Some(found) => {
+            state.meter.spend(found.charge)?;
+            Ok(found)
+        }
+        None => {
+            let found = chain_from(doc, links, doc.root(), &mut state.meter)?;
+            keep(doc, plan, &mut state.slots, slot, found);
+            Ok(found)
+        }
+    }
+}
+
+/// What a singular query finds for a child.
+pub fn chain_found(
+    doc: &Document,
+    plan: &Parts,
+    chain: &Chain,
+    child: NodeId,
+    state: &mut State,
+) -> Result<Found, SelectFault>
+    requires inside { child.0 < count doc.now }
+    requires claimed { AreClaimed (claims_of plan.now.stages.items) (chain_view chain.now).claims }
+    requires right { Right doc.now (claims_of plan.now.stages.items) state.old.slots.items }
+    ensures found { FindsFor doc.now result (chain_view chain.now).tree (node_at doc.now child.0) state.old.meter.left state.new.meter.left }
+    ensures right { Right doc.now (claims_of plan.now.stages.items) state.new.slots.items }
+    ensures answers { state.new.answers ≡ state.old.answers }
+{
+    match chain.slot {
+        None => chain_from(doc, &chain.links, child, &mut state.meter),
+        Some(slot) => chain_once(doc, plan, &chain.links, slot, state),
+    }
+}

@@ -1,0 +1,6 @@
+pub mod Elements
+pub mod Progressions
+pub mod Sizes
+pub mod Twins
+pub mod Members
+pub mod Guessing

@@ -1,0 +1,175 @@
+//! Comparisons of a filter (RFC 9535, section 2.3.5.2.2).
+
+ghost use Rattle.std.specs.Prelude.{◌≡◌, Some, None, IsTrue, MatchOption, IfSome};
+ghost use Rattle.path_grammar.specs.View.{literal_view};
+ghost use Rattle.path_types.specs.Validity.{is_literal};
+ghost use Rattle.json_tape.specs.Document.{single, IsIn};
+ghost use Rattle.tape_values.specs.Comparison.{a_number, literal_value, equal_results, less_results, compared};
+ghost use Rattle.tape_values.specs.Contents.{content_value, digits_text, AreDigits, IsContent};
+ghost use Rattle.tape_values.specs.Functions.{only_value};
+ghost use Rattle.tape_values.specs.Sides.{side_value, side_number, IsSide, IsNumberSide, IsNumberFound};
+
+use crate::digits::{Digits, compare_digits};
+use crate::letters::Letters;
+use crate::sides::Side;
+use crate::values::{Content, equal_contents, less_contents, number_text, value_content};
+use decimal_order::orders_values;
+use json_tape::{Document, Kind, NodeId};
+use path_grammar::{Literal, Op};
+use path_types::judges_numbers;
+
+// What a literal is.
+fn literal_content<'a>(doc: &Document, literal: &'a Literal) -> Content<'a>
+    requires { IsTrue (is_literal (literal_view literal.now)) }
+    ensures value { content_value doc.now result ≡ Some (literal_value (literal_view literal.now)) }
+    ensures content { IsContent doc.now result }
+{
+    let _ = doc;
+    judges_numbers();
+    match literal {
+        Literal::Number(digits) => Content::Number(Digits::Written(digits.as_slice())),
+        Literal::Text(scalars) => Content::Text(Letters::Plain(scalars.as_slice())),
+        Literal::Bool(is_true) => Content::Bool(*is_true),
+        Literal::Null => Content::Null,
+    }
+}
+
+// What a side is.
+fn side_content<'a>(doc: &'a Document, side: &Side<'a>) -> Content<'a>
+    requires { IsSide doc.now side.now }
+    ensures value { content_value doc.now result ≡ side_value doc.now side.now }
+    ensures content { IsContent doc.now result }
+{
+    match side {
+        Side::Nothing => Content::Nothing,
+        Side::Node(n) => value_content(doc, *n),
+        Side::Literal(literal) => literal_content(doc, literal),
+        Side::Whole(n) => Content::Number(Digits::Whole(*n)),
+    }
+}
+
+fn equal(doc: &Document, left: &Side<'_>, right: &Side<'_>) -> bool
+    requires left { IsSide doc.now left.now }
+    requires right { IsSide doc.now right.now }
+    ensures { result ≡ equal_results (side_value doc.now left.now) (side_value doc.now right.now) }
+{
+    equal_contents(doc, side_content(doc, left), side_content(doc, right))
+}
+
+fn less(doc: &Document, left: &Side<'_>, right: &Side<'_>) -> bool
+    requires left { IsSide doc.now left.now }
+    requires right { IsSide doc.now right.now }
+    ensures { result ≡ less_results (side_value doc.now left.now) (side_value doc.now right.now) }
+{
+    less_contents(doc, side_content(doc, left), side_content(doc, right))
+}
+
+/// Whether a comparison holds, whatever the sides are.
+#[inline(never)]
+pub fn compare_contents(doc: &Document, op: Op, left: Side<'_>, right: Side<'_>) -> bool
+    requires left { IsSide doc.now left }
+    requires right { IsSide doc.now right }
+    ensures { result ≡ compared op (side_value doc.now left.entry) (side_value doc.now right.entry) }
+{
+    match op {
+        Op::Eq => equal(doc, &left, &right),
+        Op::Ne => !equal(doc, &left, &right),
+        Op::Lt => less(doc, &left, &right),
+        Op::Gt => less(doc, &right, &left),
+        Op::Le => less(doc, &left, &right) || equal(doc, &left, &right),
+        Op::Ge => less(doc, &right, &left) || equal(doc, &right, &left),
+    }
+}
+
+/// The digits of a side that is a number.
+#[inline(always)]
+pub fn side_digits<'a>(doc: &'a Document, side: &Side<'a>) -> Option<Digits<'a>>
+    requires { IsSide doc.now side.now }
+    ensures { MatchOption result (side_number doc.now side.now ≡ None) (λ digits. IsNumberSide doc.now side.now digits) }
+{
+    judges_numbers();
+    match side {
+        Side::Node(n) => match doc.kind(*n) {
+            Kind::Number => Some(Digits::Written(number_text(doc, *n))),
+            _ => None,
+        },
+        Side::Literal(Literal::Number(digits)) => Some(Digits::Written(digits.as_slice())),
+        Side::Whole(n) => Some(Digits::Whole(*n)),
+        Side::Nothing | Side::Literal(_) => None,
+    }
+}
+
+/// Whether a comparison of numbers holds. They are compared once.
+#[inline(always)]
+pub fn compare_numbers(op: Op, a: Digits<'_>, b: Digits<'_>) -> bool
+    requires left { AreDigits a }
+    requires right { AreDigits b }
+    ensures { result ≡ compared op (Some (a_number (digits_text a.entry))) (Some (a_number (digits_text b.entry))) }
+{
+    orders_values();
+    let order = compare_digits(a, b);
+    match op {
+        Op::Eq => order.is_eq(),
+        Op::Ne => order.is_ne(),
+        Op::Lt => order.is_lt(),
+        Op::Gt => order.is_gt(),
+        Op::Le => order.is_le(),
+        Op::Ge => order.is_ge(),
+    }
+}
+
+// Whether a comparison of a node's value, or of Nothing, with a literal holds, whatever they are.
+#[inline(never)]
+fn compare_any(doc: &Document, found: Option<NodeId>, op: Op, literal: &Literal) -> bool
+    requires inside { IsIn doc.now found }
+    requires literal { IsTrue (is_literal (literal_view literal.now)) }
+    ensures { result ≡ compared op (only_value (single doc.now found)) (Some (literal_value (literal_view literal.now))) }
+{
+    match found {
+        None => compare_contents(doc, op, Side::Nothing, Side::Literal(literal)),
+        Some(n) => compare_contents(doc, op, Side::Node(n), Side::Literal(literal)),
+    }
+}
+
+// The text of a node's value that is a number.
+#[inline(always)]
+fn number_found(doc: &Document, found: Option<NodeId>) -> Option<&[u8]>
+    requires inside { IsIn doc.now found }
+    ensures { IfSome result (λ text. IsNumberFound doc.now found text.now) }
+{
+    match found {
+        None => None,
+        Some(n) => match doc.kind(n) {
+            Kind::Number => Some(number_text(doc, n)),
+            _ => None,
+        },
+    }
+}
+
+/// Whether a comparison of a node's value, or of Nothing, with a literal holds. Most are of numbers.
+#[inline(always)]
+pub fn compare_found(doc: &Document, found: Option<NodeId>, op: &Op, literal: &Literal) -> bool
+    requires inside { IsIn doc.now found }
+    requires literal { IsTrue (is_literal (literal_view literal.now)) }
+    ensures { result ≡ compared op.now (only_value (single doc.now found)) (Some (literal_value (literal_view literal.now))) }
+{
+    judges_numbers();
+    match (number_found(doc, found), literal) {
+        (Some(a), Literal::Number(b)) => {
+            compare_numbers(*op, Digits::Written(a), Digits::Written(b.as_slice()))
+        }
+        _ => compare_any(doc, found, *op, literal),
+    }
+}
+
+/// Whether a comparison holds. It takes no memory.
+pub fn compare<'a>(doc: &'a Document, op: Op, left: &Side<'a>, right: &Side<'a>) -> bool
+    requires left { IsSide doc.now left.now }
+    requires right { IsSide doc.now right.now }
+    ensures { result ≡ compared op (side_value doc.now left.now) (side_value doc.now right.now) }
+{
+    match (side_digits(doc, left), side_digits(doc, right)) {
+        (Some(a), Some(b)) => compare_numbers(op, a, b),
+        _ => compare_contents(doc, op, *left, *right),
+    }
+}
