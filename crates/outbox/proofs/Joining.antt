@@ -1,0 +1,148 @@
+-- Turns one after another.
+use Rattle.std.proofs.Common.{◌≡◌, ℕ, List, [], ◌∷◌, ◌++◌, true, false, Bool, refl, sym, ap, ◌∙◌, inl, inr, subst, append_assoc}
+use Rattle.std.specs.Prelude.{Option, Some, None, ◌||◌, ◌&&◌, not, ◌⊎◌}
+use Rattle.std.proofs.lemmas.Bool.{cases_Bool}
+use Rattle.outbox.specs.Lines.{Line, Event, after, run, gathered, read_at, sent_at, read, sent, reads}
+use Rattle.outbox.specs.Told.{Told, moved}
+use Rattle.outbox.specs.Turns.{Turned, Moment, DoesAll, moves, moves_at, HasFallen, HasNotRisen, can_write, can_read, can_answer, can_go_on}
+use Rattle.outbox.specs.declared.readiness.Readiness.{Readiness}
+
+run-append : (line : Line) (es fs : List Event) → run line (es ++ fs) ≡ run (run line es) fs
+run-append line [] fs = refl
+run-append line (e ∷ es) fs = run-append (after line e) es fs
+
+gathered-append : (at : Line → Event → List ℕ) (line : Line) (es fs : List Event) → gathered at line (es ++ fs) ≡ gathered at line es ++ gathered at (run line es) fs
+gathered-append at line [] fs = refl
+gathered-append at line (e ∷ es) fs = ap (λ (xs : List ℕ). at line e ++ xs) (gathered-append at (after line e) es fs) ∙ sym (append_assoc (at line e) (gathered at (after line e) es) (gathered at (run (after line e) es) fs))
+
+or_assoc : (b c d : Bool) → (b || (c || d)) ≡ ((b || c) || d)
+or_assoc true c d = refl
+or_assoc false c d = refl
+
+moves-append : (line : Line) (es fs : List Event) → moves line (es ++ fs) ≡ (moves line es || moves (run line es) fs)
+moves-append line [] fs = refl
+moves-append line (e ∷ es) fs = ap (λ (b : Bool). moves_at line e || b) (moves-append (after line e) es fs) ∙ or_assoc (moves_at line e) (moves (after line e) es) (moves (run (after line e) es) fs)
+
+does_both : {C : Type 0} (T R : C → List ℕ → C → Type 0) (line : Line) (es fs : List Event) (a b c : C) → DoesAll T R line es a b → DoesAll T R (run line es) fs b c → DoesAll T R line (es ++ fs) a c
+does_both {C} T R line [] fs a b c h k = subst (λ (x : C). DoesAll T R line fs x c) h k
+does_both {C} T R line (e ∷ es) fs a b c h k = (h.0, h.1, does_both T R (after line e) es fs h.0 b c h.2 k)
+
+moved_twice : (o : Option Told) (p q s t : List ℕ) → moved q t (moved p s o) ≡ moved (p ++ q) (s ++ t) o
+moved_twice None p q s t = refl
+moved_twice (Some o) p q s t = ap (λ (xs : List ℕ). Some (record { read = xs; written = (o.written ++ s) ++ t })) (append_assoc o.read p q) ∙ ap (λ (xs : List ℕ). Some (record { read = o.read ++ (p ++ q); written = xs })) (append_assoc o.written s t)
+
+pub or_true : (b c : Bool) → c ≡ true → (b || c) ≡ true
+or_true true c h = refl
+or_true false c h = h
+
+pub true_or : (b c : Bool) → b ≡ true → (b || c) ≡ true
+true_or true c h = refl
+true_or false c h = absurd cc
+
+or_false : (b c : Bool) → (b || c) ≡ false → (b ≡ false) × (c ≡ false)
+or_false true c h = absurd cc
+or_false false c h = (refl, h)
+
+or_right : (b c : Bool) → b ≡ false → (b || c) ≡ true → c ≡ true
+or_right true c h k = absurd cc
+or_right false c h k = k
+
+-- what has fallen stays down
+stays_down : (a b c : Readiness) → HasFallen a b → HasNotRisen b c → HasFallen a c
+stays_down a b c (inl x) h = inl (x.0, h.readable x.1)
+stays_down a b c (inr (inl x)) h = inr (inl (x.0, h.writable x.1))
+stays_down a b c (inr (inr x)) h = inr (inr (x.0, h.waiting x.1))
+
+down_twice : (a b c : Readiness) → HasNotRisen a b → HasNotRisen b c → HasNotRisen a c
+down_twice a b c h k = record { readable = λ e. k.readable (h.readable e); writable = λ e. k.writable (h.writable e); waiting = λ e. k.waiting (h.waiting e) }
+
+goes_on_first : (a b c : Readiness) (m n : Bool) → (m ≡ true) ⊎ HasFallen a b → (n ≡ false → HasNotRisen b c) → ((m || n) ≡ true) ⊎ HasFallen a c
+goes_on_first a b c m n (inl e) k = inl (true_or m n e)
+goes_on_first a b c m n (inr f) k = elim (cases_Bool n) [ inl e ↦ inl (or_true m n e) | inr e ↦ inr (stays_down a b c f (k e)) ]
+
+goes_on_next : (a b c : Readiness) (m n : Bool) → b ≡ a → (n ≡ true) ⊎ HasFallen b c → ((m || n) ≡ true) ⊎ HasFallen a c
+goes_on_next a b c m n e (inl h) = inl (or_true m n h)
+goes_on_next a b c m n e (inr f) = inr (subst (λ (x : Readiness). HasFallen x c) e f)
+
+or_twice : (b : Bool) → (b || b) ≡ b
+or_twice true = refl
+or_twice false = refl
+
+any_of_four : (w r s l : Bool) → (((w || ((r && not s) && l)) || (s && l)) || w) ≡ ((r || s) && l || w)
+any_of_four true true true true = refl
+any_of_four true true true false = refl
+any_of_four true true false true = refl
+any_of_four true true false false = refl
+any_of_four true false true true = refl
+any_of_four true false true false = refl
+any_of_four true false false true = refl
+any_of_four true false false false = refl
+any_of_four false true true true = refl
+any_of_four false true true false = refl
+any_of_four false true false true = refl
+any_of_four false true false false = refl
+any_of_four false false true true = refl
+any_of_four false false true false = refl
+any_of_four false false false true = refl
+any_of_four false false false false = refl
+
+-- one or the other may be done
+abbrev pub either : (Readiness → Line → Bool) → (Readiness → Line → Bool) → Readiness → Line → Bool
+either p q ready line = p ready line || q ready line
+
+moves_both : {C : Type 0} (T R : C → List ℕ → C → Type 0) (I : C → Type 0) (p q : Readiness → Line → Bool) (a b c : Moment C) (x : Turned T R I p a b) (y : Turned T R I q b c)
+    → moves a.line (x.events ++ y.events) ≡ (moves a.line x.events || moves b.line y.events)
+moves_both T R I p q a b c x y = moves-append a.line x.events y.events ∙ ap (λ (l : Line). moves a.line x.events || moves l y.events) (sym x.line_is)
+
+-- a turn after a turn is a turn
+pub both : {C : Type 0} (T R : C → List ℕ → C → Type 0) (I : C → Type 0) (p q : Readiness → Line → Bool) (a b c : Moment C) → Turned T R I p a b → Turned T R I q b c → Turned T R I (either p q) a c
+both {C} T R I p q a b c x y = record {
+  events = x.events ++ y.events;
+  line_is = y.line_is ∙ ap (λ (l : Line). run l y.events) x.line_is ∙ sym (run-append a.line x.events y.events);
+  wire_is = y.wire_is
+      ∙ ap (λ (l : Line). moved (read l y.events) (sent l y.events) b.wire) x.line_is
+      ∙ ap (λ (w : Option Told). moved (read (run a.line x.events) y.events) (sent (run a.line x.events) y.events) w) x.wire_is
+      ∙ moved_twice a.wire (read a.line x.events) (read (run a.line x.events) y.events) (sent a.line x.events) (sent (run a.line x.events) y.events)
+      ∙ ap (λ (xs : List ℕ). moved xs (sent a.line x.events ++ sent (run a.line x.events) y.events) a.wire) (sym (gathered-append read_at a.line x.events y.events))
+      ∙ ap (λ (xs : List ℕ). moved (read a.line (x.events ++ y.events)) xs a.wire) (sym (gathered-append sent_at a.line x.events y.events));
+  core_is = does_both T R a.line x.events y.events a.core b.core c.core x.core_is (subst (λ (l : Line). DoesAll T R l y.events b.core c.core) x.line_is y.core_is);
+  goes_on = λ h. subst (λ (m : Bool). (m ≡ true) ⊎ HasFallen a.ready c.ready) (sym (moves_both T R I p q a b c x y))
+      (elim (cases_Bool (p a.ready a.line)) [
+        | inl e ↦ goes_on_first a.ready b.ready c.ready (moves a.line x.events) (moves b.line y.events) (x.goes_on e) y.rises
+        | inr e ↦ goes_on_next a.ready b.ready c.ready (moves a.line x.events) (moves b.line y.events) (ap (λ (m : Moment C). m.ready) (x.stays e))
+            (y.goes_on (ap (λ (m : Moment C). q m.ready m.line) (x.stays e) ∙ or_right (p a.ready a.line) (q a.ready a.line) e h))
+      ]);
+  rises = λ h.
+      let f : (moves a.line x.events ≡ false) × (moves b.line y.events ≡ false) = or_false (moves a.line x.events) (moves b.line y.events) (sym (moves_both T R I p q a b c x y) ∙ h) in
+      down_twice a.ready b.ready c.ready (x.rises f.0) (y.rises f.1);
+  stays = λ h.
+      let f : (p a.ready a.line ≡ false) × (q a.ready a.line ≡ false) = or_false (p a.ready a.line) (q a.ready a.line) h in
+      y.stays (ap (λ (m : Moment C). q m.ready m.line) (x.stays f.0) ∙ f.1) ∙ x.stays f.0;
+  told = λ h. y.told (x.told h);
+}
+
+-- the same where it could go on under another name
+pub renamed : {C : Type 0} (T R : C → List ℕ → C → Type 0) (I : C → Type 0) (p q : Readiness → Line → Bool) (a b : Moment C) → p a.ready a.line ≡ q a.ready a.line → Turned T R I p a b → Turned T R I q a b
+renamed T R I p q a b e x = record {
+  events = x.events;
+  line_is = x.line_is;
+  wire_is = x.wire_is;
+  core_is = x.core_is;
+  goes_on = λ h. x.goes_on (e ∙ h);
+  rises = x.rises;
+  stays = λ h. x.stays (e ∙ h);
+  told = x.told;
+}
+
+-- twice what may be done twice
+pub again : {C : Type 0} (T R : C → List ℕ → C → Type 0) (I : C → Type 0) (p : Readiness → Line → Bool) (a b c : Moment C) → Turned T R I p a b → Turned T R I p b c → Turned T R I p a c
+again T R I p a b c x y = renamed T R I (either p p) p a c (or_twice (p a.ready a.line)) (both T R I p p a b c x y)
+
+-- a write, a read, an answer, and a write again
+pub four : {C : Type 0} (T R : C → List ℕ → C → Type 0) (I : C → Type 0) (a b c d e : Moment C) → Turned T R I can_write a b → Turned T R I can_read b c → Turned T R I can_answer c d → Turned T R I can_write d e → Turned T R I can_go_on a e
+four T R I a b c d e v x y z =
+    renamed T R I (either (either (either can_write can_read) can_answer) can_write) can_go_on a e
+    (any_of_four (can_write a.ready a.line) a.ready.readable a.ready.waiting (reads a.line))
+    (both T R I (either (either can_write can_read) can_answer) can_write a d e
+    (both T R I (either can_write can_read) can_answer a c d
+    (both T R I can_write can_read a b c v x) y) z)

@@ -1,0 +1,19 @@
+-- The bytes that a wire moved, where it tells them: this project's own.
+use Rattle.std.specs.Prelude.{ℕ, List, ◌++◌, Option}
+use Rattle.std.specs.Option.{option_map}
+
+pub record Told : Type 0 where
+  pub read : List ℕ
+  pub written : List ℕ
+
+-- after this piece was read
+abbrev pub with_read : List ℕ → Option Told → Option Told
+with_read piece o = option_map (λ t. record { read = t.read ++ piece; written = t.written }) o
+
+-- after these bytes were written
+abbrev pub with_written : List ℕ → Option Told → Option Told
+with_written bytes o = option_map (λ t. record { read = t.read; written = t.written ++ bytes }) o
+
+-- after both
+abbrev pub moved : List ℕ → List ℕ → Option Told → Option Told
+moved piece bytes o = option_map (λ t. record { read = t.read ++ piece; written = t.written ++ bytes }) o

@@ -1,0 +1,92 @@
+-- What a turn at a connection does: to its line, to the wire, to the core that answers, and to what is known of all three. This project's own.
+use Rattle.std.specs.Prelude.{◌≡◌, ◌⊎◌, ℕ, ◌<◌, List, [], ◌∷◌, length, take, nat_lt, Option, Bool, true, false, not, ◌&&◌, ◌||◌}
+use Rattle.std.specs.Bool.{MatchBool}
+use Rattle.outbox.specs.declared.readiness.Readiness.{Readiness}
+use Rattle.outbox.specs.Lines.{Line, Event, Readable, Declined, Answered, Writable, Ends, Fails, after, run, read, sent, reads, owes, is_open}
+use Rattle.outbox.specs.Told.{Told, moved, with_written}
+
+-- the core took this piece, which was read, or answered so
+abbrev pub DoesAt : {C : Type 0} → (C → List ℕ → C → Type 0) → (C → List ℕ → C → Type 0) → Line → Event → C → C → Type 0
+DoesAt takes answers line (Readable piece) old new = (reads line ≡ true) × takes old piece new
+DoesAt takes answers line (Declined piece) old new = (reads line ≡ true) × (new ≡ old)
+DoesAt takes answers line (Answered reply) old new = (reads line ≡ true) × answers old reply new
+DoesAt takes answers line (Writable room) old new = new ≡ old
+DoesAt takes answers line Ends old new = new ≡ old
+DoesAt takes answers line Fails old new = new ≡ old
+
+abbrev pub DoesAll : {C : Type 0} → (C → List ℕ → C → Type 0) → (C → List ℕ → C → Type 0) → Line → List Event → C → C → Type 0
+DoesAll takes answers line [] old new = new ≡ old
+DoesAll {C} takes answers line (e ∷ es) old new = (mid : C) × DoesAt takes answers line e old mid × DoesAll takes answers (after line e) es mid new
+
+-- bytes are read or written, a request is answered, or the line comes nearer to its end
+abbrev pub moves_at : Line → Event → Bool
+moves_at line (Readable piece) = nat_lt 0 (length piece)
+moves_at line (Declined piece) = is_open line.stage
+moves_at line (Answered reply) = true
+moves_at line (Writable room) = nat_lt 0 room && owes line
+moves_at line Ends = is_open line.stage
+moves_at line Fails = is_open line.stage || owes line
+
+abbrev pub moves : Line → List Event → Bool
+moves line [] = false
+moves line (e ∷ es) = moves_at line e || moves (after line e) es
+
+-- what may be done without a wait: a write, a read, which is not done where a request waits, an answer, any of them
+abbrev pub can_write : Readiness → Line → Bool
+can_write ready line = ready.writable && owes line
+
+abbrev pub can_read : Readiness → Line → Bool
+can_read ready line = (ready.readable && not ready.waiting) && reads line
+
+abbrev pub can_answer : Readiness → Line → Bool
+can_answer ready line = ready.waiting && reads line
+
+abbrev pub can_go_on : Readiness → Line → Bool
+can_go_on ready line = (ready.readable || ready.waiting) && reads line || can_write ready line
+
+-- something that might have been done turned out to want a wait
+abbrev pub HasFallen : Readiness → Readiness → Type 0
+HasFallen old new = ((old.readable ≡ true) × (new.readable ≡ false)) ⊎ (((old.writable ≡ true) × (new.writable ≡ false)) ⊎ ((old.waiting ≡ true) × (new.waiting ≡ false)))
+
+-- nothing may be done now that might not be before
+pub record HasNotRisen (old new : Readiness) : Type 0 where
+  pub readable : old.readable ≡ false → new.readable ≡ false
+  pub writable : old.writable ≡ false → new.writable ≡ false
+  pub waiting : old.waiting ≡ false → new.waiting ≡ false
+
+-- all of it at one moment
+pub record Moment (C : Type 0) : Type 0 where
+  pub line : Line
+  pub wire : Option Told
+  pub core : C
+  pub ready : Readiness
+
+abbrev pub here : {C : Type 0} → Line → Option Told → C → Readiness → Moment C
+here line wire core ready = record { line = line; wire = wire; core = core; ready = ready }
+
+-- where no request is said to wait, none does
+abbrev pub IsTold : {C : Type 0} → (C → Type 0) → Moment C → Type 0
+IsTold idle now = now.ready.waiting ≡ false → idle now.core
+
+-- These events happened: to the line, on the wire, and to the core. Where it could go on, something moved or turned out to want a wait; where it could not, nothing changed.
+pub record Turned {C : Type 0} (takes answers : C → List ℕ → C → Type 0) (idle : C → Type 0) (can : Readiness → Line → Bool) (old new : Moment C) : Type 0 where
+  pub events : List Event
+  pub line_is : new.line ≡ run old.line events
+  pub wire_is : new.wire ≡ moved (read old.line events) (sent old.line events) old.wire
+  pub core_is : DoesAll takes answers old.line events old.core new.core
+  pub goes_on : can old.ready old.line ≡ true → (moves old.line events ≡ true) ⊎ HasFallen old.ready new.ready
+  pub rises : moves old.line events ≡ false → HasNotRisen old.ready new.ready
+  pub stays : can old.ready old.line ≡ false → new ≡ old
+  pub told : IsTold idle old → IsTold idle new
+
+-- One write, in the contract of a private function: some bytes went out, or there is no room, or a fault came.
+abbrev pub WritesOnce : Line → Option Told → Readiness → Line → Option Told → Readiness → Type 0
+WritesOnce line wire ready line' wire' ready' =
+    ((n : ℕ) × (0 < n) × (line' ≡ after line (Writable n)) × (wire' ≡ with_written (take n line.owed) wire) × (ready' ≡ ready))
+    ⊎ (((line' ≡ line) × (wire' ≡ wire) × (ready' ≡ record ready { writable = false }))
+    ⊎ ((line' ≡ after line Fails) × (wire' ≡ wire) × (ready' ≡ ready)))
+
+abbrev pub Flushes : Line → Option Told → Readiness → Line → Option Told → Readiness → Type 0
+Flushes line wire ready line' wire' ready' = MatchBool (can_write ready line)
+    (WritesOnce line wire ready line' wire' ready')
+    ((line' ≡ line) × (wire' ≡ wire) × (ready' ≡ ready))

@@ -1,0 +1,127 @@
+//! The bytes that a connection's peer is owed.
+ghost use Rattle.std.specs.Prelude.{◌≡◌, ◌≤◌, length};
+ghost use Rattle.outbox.specs.Lines as lines;
+ghost use Rattle.outbox.specs.Lines.{fresh, after, Fails, Ends, Writable};
+ghost use Rattle.outbox.specs.Appends as appends;
+
+use crate::answers::{Core, Step};
+use crate::stage::Stage;
+use std::alloc::Global;
+use std::marker::Model;
+
+/// The bytes owed beyond which a connection isn't read.
+pub const CAP: usize = 262_144;
+
+/// What a connection's peer is owed, and whether more is read of it.
+#[derive(Drop)]
+pub struct Outbox {
+    bytes: Vec<u8>,
+    // The bytes before here were written.
+    start: usize,
+    stage: Stage,
+}
+
+impl Model for Outbox {
+    ghost use Rattle.std.specs.Prelude.{◌≤◌, drop, length};
+    ghost use Rattle.outbox.specs.Lines.{Line};
+
+    ghost Value = { Line };
+
+    ghost view = { λ o. record { owed = drop o.start o.bytes.items; stage = o.stage } };
+
+    ghost invariant = { λ o. o.start ≤ length o.bytes.items };
+}
+
+impl Outbox {
+    /// One that owes nothing, of an open connection.
+    pub fn new(alloc: Global) -> Outbox
+        ensures { result ≡ fresh }
+    {
+        Outbox {
+            bytes: Vec::new(alloc),
+            start: 0,
+            stage: Stage::Open,
+        }
+    }
+
+    /// What is owed.
+    pub fn owed(&self) -> &[u8]
+        ensures { result.now ≡ self.now.owed }
+    {
+        &self.bytes[self.start..]
+    }
+
+    /// Whether something is owed.
+    pub fn owes(&self) -> bool
+        ensures { result ≡ lines.owes self.now }
+    {
+        self.start < self.bytes.len()
+    }
+
+    /// Whether more is read: it is open, and owes less than [`CAP`].
+    pub fn reads(&self) -> bool
+        ensures { result ≡ lines.reads self.now }
+    {
+        matches!(self.stage, Stage::Open) && self.bytes.len() - self.start < CAP
+    }
+
+    /// Whether it is done with: nothing is read of it any more, and nothing is owed.
+    pub fn is_over(&self) -> bool
+        ensures { result ≡ lines.is_over self.now }
+    {
+        !matches!(self.stage, Stage::Open) && !self.owes()
+    }
+
+    /// So many of the bytes owed were written.
+    pub fn wrote(&mut self, count: usize)
+        requires { count ≤ length self.old.owed }
+        ensures { self.new ≡ after self.old (Writable count) }
+    {
+        self.start += count;
+        if self.start == self.bytes.len() {
+            self.bytes.clear();
+            self.bytes.shrink_to_fit();
+            self.start = 0;
+        }
+    }
+
+    /// No piece comes any more.
+    pub fn end(&mut self)
+        ensures { self.new ≡ after self.old Ends }
+    {
+        if matches!(self.stage, Stage::Open) {
+            self.stage = Stage::Ending;
+        }
+    }
+
+    /// A fault came: what is owed is thrown away.
+    pub fn fail(&mut self)
+        ensures { self.new ≡ after self.old Fails }
+    {
+        self.stage = Stage::Broken;
+        self.bytes.clear();
+        self.bytes.shrink_to_fit();
+        self.start = 0;
+    }
+
+    /// Has the next request answered, and owes the reply too.
+    pub fn answer_next<C: Core>(&mut self, core: &mut C, conn: u32) -> Step
+        ensures { appends.Owes (C.answers conn) (C.idle conn) result core.old self.old self.new core.new }
+    {
+        self.shift();
+        core.answer_next(conn, &mut self.bytes)
+    }
+
+    // Moves what is owed to the front, where at least half of the bytes were written. Each byte is moved at most once for
+    // each byte that was written before it. Where memory runs out, all stays.
+    fn shift(&mut self)
+        ensures { self.new ≡ self.old }
+    {
+        if self.start > 0 && self.start >= self.bytes.len() - self.start {
+            let left = self.bytes.len() - self.start;
+            self.bytes.copy_within(self.start.., 0);
+            self.bytes.truncate(left);
+            self.start = 0;
+        }
+    }
+}

@@ -1,0 +1,109 @@
+//! One turn at one connection.
+ghost use Rattle.std.specs.Prelude.{◌<◌, length, Option};
+ghost use Rattle.outbox.specs.Told.{Told};
+ghost use Rattle.outbox.specs.Turns.{Turned, Flushes, here, can_read, can_answer, can_go_on};
+
+use crate::answers::{Core, Step};
+use crate::owing::Outbox;
+use crate::readiness::Readiness;
+use crate::wire::{Given, Taken, Wire};
+
+/// The most requests that one turn answers.
+pub const REQUESTS: u32 = 64;
+
+/// Writes what is owed, reads a piece where no request waits, answers at most [`REQUESTS`] of them, and writes again. It
+/// makes at most three calls of the wire. Nothing is read or answered while the outbox holds its cap.
+///
+/// A fault of the wire throws away what is owed, and ends the connection. The end of its input, a piece that the core declines, its
+/// last answer and one that it refuses leave what is owed to be written.
+pub fn turn<W: Wire, C: Core>(
+    outbox: &mut Outbox,
+    wire: &mut W,
+    core: &mut C,
+    conn: u32,
+    buffer: &mut [u8],
+    ready: &mut Readiness,
+)
+    requires { 0 < length buffer.old }
+    ensures { Turned (C.takes conn) (C.answers conn) (C.idle conn) can_go_on
+        (here outbox.old (W.told wire.old) core.old ready.old) (here outbox.new (W.told wire.new) core.new ready.new) }
+{
+    flush(outbox, wire, ready);
+    feed(outbox, wire, core, conn, buffer, ready);
+    answer(outbox, core, conn, ready);
+    flush(outbox, wire, ready);
+}
+
+// Writes once.
+fn flush<W: Wire>(outbox: &mut Outbox, wire: &mut W, ready: &mut Readiness)
+    ensures { Flushes outbox.old (W.told wire.old) ready.old outbox.new (W.told wire.new) ready.new }
+{
+    if !ready.can_write(outbox) {
+        return;
+    }
+    match wire.write(outbox.owed()) {
+        Taken::Bytes(count) => outbox.wrote(count),
+        Taken::Blocked => ready.writable = false,
+        Taken::Failed => outbox.fail(),
+    }
+}
+
+// Reads one piece, where no request waits.
+fn feed<W: Wire, C: Core>(
+    outbox: &mut Outbox,
+    wire: &mut W,
+    core: &mut C,
+    conn: u32,
+    buffer: &mut [u8],
+    ready: &mut Readiness,
+)
+    requires { 0 < length buffer.old }
+    ensures { Turned (C.takes conn) (C.answers conn) (C.idle conn) can_read
+        (here outbox.old (W.told wire.old) core.old ready.old) (here outbox.new (W.told wire.new) core.new ready.new) }
+{
+    if !ready.can_read(outbox) {
+        return;
+    }
+    match wire.read(buffer) {
+        Given::Bytes(count) => {
+            if core.take(conn, &buffer[..count]) {
+                ready.waiting = true;
+            } else {
+                outbox.end();
+            }
+        }
+        Given::Ended => outbox.end(),
+        Given::Blocked => ready.readable = false,
+        Given::Failed => outbox.fail(),
+    }
+}
+
+// Answers some of the requests that wait.
+fn answer<C: Core>(outbox: &mut Outbox, core: &mut C, conn: u32, ready: &mut Readiness)
+    ensures { (wire : Option Told) → Turned (C.takes conn) (C.answers conn) (C.idle conn) can_answer
+        (here outbox.old wire core.old ready.old) (here outbox.new wire core.new ready.new) }
+{
+    answer_one(outbox, core, conn, ready);
+    'requests: for _ in 1..REQUESTS {
+        if !ready.can_answer(outbox) {
+            return;
+        }
+        answer_one(outbox, core, conn, ready);
+    }
+}
+
+// Answers one of them.
+fn answer_one<C: Core>(outbox: &mut Outbox, core: &mut C, conn: u32, ready: &mut Readiness)
+    ensures { (wire : Option Told) → Turned (C.takes conn) (C.answers conn) (C.idle conn) can_answer
+        (here outbox.old wire core.old ready.old) (here outbox.new wire core.new ready.new) }
+{
+    if !ready.can_answer(outbox) {
+        return;
+    }
+    match outbox.answer_next(core, conn) {
+        Step::Replied => {}
+        Step::Idle => ready.waiting = false,
+        Step::Last => outbox.end(),
+        Step::Refused => outbox.end(),
+    }
+}
