@@ -12,7 +12,7 @@ use crate::fault::QueryTextFault;
 use json_tape::{Document, NodeId};
 use path_types::compile;
 use std::alloc::Global;
-use tape_select::select;
+use tape_select::{BUDGET, select};
 
 /// A text that was read, and the nodes that a query selects from it, in the query's order.
 #[derive(Drop)]
@@ -30,6 +30,9 @@ pub fn find(alloc: Global, query: &[u8], document: &[u8]) -> Result<Found, Query
 {
     let document = Document::read(alloc, document)?;
     let query = compile(alloc, query)?;
-    let nodes = select(alloc, &query, &document)?;
-    Ok(Found { document, nodes })
+    let selected = select(alloc, &query, &document, BUDGET)?;
+    Ok(Found {
+        document,
+        nodes: selected.nodes,
+    })
 }

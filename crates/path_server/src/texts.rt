@@ -12,8 +12,8 @@ use std::alloc::Global;
 /// section 2.7), a tab, the source bytes of the value and a line feed.
 ///
 /// Refused is, in this order, what the text's verdict refuses (TooLong to DuplicateName), then what the query's does
-/// (QueryTooLong, NotWellFormed, NotValid), then TooManyNodes. Memory comes where a growth was refused. A refusal leaves the
-/// vector unchanged.
+/// (QueryTooLong, NotWellFormed, NotValid), then Costly, where the charge is above
+/// [`tape_select::BUDGET`]. Memory comes where a growth was refused. A refusal leaves the vector unchanged.
 pub fn query_text(
     alloc: Global,
     query: &[u8],
