@@ -3,8 +3,8 @@
 
 The evaluator is plain_queries.py. The nodes are compared with what `path_server query` prints, of the program that
 bin/path_server builds or the one that the environment's PATH_SERVER names. Where the environment's CASE_TABLES names the
-program case_tables, the charges are handed to it as lines `charge NUMBER QUERY TEXT`, those above 10,000,000 as `refused
-Costly QUERY TEXT` (docs/TABLES.md), on random texts and on wider ones, and it says which differ.
+program case_tables, the charges are handed to it as lines `charge NUMBER QUERY TEXT`, where NUMBER is `Costly` above
+10,000,000 (docs/TABLES.md), on random texts and on wider ones, and it says which differ.
 """
 import json
 import os
@@ -67,11 +67,10 @@ def compare_charges(report, lines):
         table.write(b"".join(lines))
         table.flush()
         ran = subprocess.run([CASES, table.name], capture_output=True, timeout=600)
-    said = ran.stdout.decode("utf-8", "replace").splitlines()
-    failed = [line for line in said if line.startswith(table.name)]
-    for line in failed:
-        place = int(re.match(r":(\d+)", line[len(table.name):])[1])
-        report.case("a charge", lines[place - 1], "", line)
+    said = ran.stdout.decode("utf-8", "replace")
+    failed = re.findall(rf"^{re.escape(table.name)}:(\d+): (.*)$", said, re.MULTILINE)
+    for place, line in failed:
+        report.case("a charge", lines[int(place) - 1].decode(), "", line)
     report.cases += len(lines) - len(failed)
     report.case("the end of case_tables", "", (int(bool(failed)), b""), (ran.returncode, ran.stderr))
 
@@ -87,8 +86,8 @@ def main():
         units = charge(source, text)
         if units <= BUDGET:
             compare_nodes(report, source, text)
-        kind = b"charge\t%d" % units if units <= BUDGET else b"refused\tCostly"
-        lines.append(b"%s\t%s\t%s\n" % (kind, field(text.encode()), field(source)))
+        told = b"%d" % units if units <= BUDGET else b"Costly"
+        lines.append(b"charge\t%s\t%s\t%s\n" % (told, field(text.encode()), field(source)))
         most = max(most, units)
     if CASES:
         compare_charges(report, lines)

@@ -12,7 +12,7 @@ import re
 import subprocess
 import sys
 
-from running_server import PROGRAM, TOP, Report
+from running_server import PATIENCE, PROGRAM, TOP, Report
 
 KEYS = {"A": "00112233445566778899aabbccddeeff", "B": "ffeeddccbbaa99887766554433221100"}
 SHORT = 3_000
@@ -94,7 +94,10 @@ def table():
 
 
 def replay(keys, script):
-    ran = subprocess.run([PROGRAM, "replay", keys], input=script.encode(), capture_output=True, timeout=60)
+    try:
+        ran = subprocess.run([PROGRAM, "replay", keys], input=script.encode(), capture_output=True, timeout=PATIENCE)
+    except subprocess.TimeoutExpired:
+        return f"no end after {PATIENCE} s", "", ""
     return ran.returncode, ran.stdout.decode(), ran.stderr.decode()
 
 

@@ -6,8 +6,8 @@ fail, alone or with all behind it, for each N up to the last call that there is;
 `query` and `replay` ends with the output of one with ample memory, or with the fault's status, its name, and no output but a
 part of it where writing failed or where more than one write has room. Each reply of `replay` and `serve` is the plain model's
 (plain_model.py), or NoMemory where docs/PROTOCOL.md lets it be, and then the model's map stays as it was, and later replies
-have to fit. A connection ends as that page says of its end; the next one is served and finds what the replies before said. No
-run takes more than 20 seconds.
+have to fit. `call` prints the replies that came before the fault. A connection ends as that page says of its end; the next one
+is served and finds what the replies before said. No run takes more than 20 seconds.
 """
 import os
 import random
@@ -19,9 +19,9 @@ import tempfile
 from pathlib import Path
 
 from against_model import KEYS
-from path_client import parse_address
+from path_client import Request, connect, parse_address
 from plain_model import STATUS, Server, named, number
-from running_server import END_LINE, PROGRAM, TOP, Report
+from running_server import END_LINE, PROGRAM, TOP, Report, Running
 
 PATIENCE = 20
 KINDS = ("memory", "read", "write")
@@ -175,6 +175,30 @@ def replay_runs(refusals):
     refusals.each("replay", run)
 
 
+def call_runs(refusals):
+    """`call` on a server to which nothing happens: a prefix of the replies is printed, all of them where it ends well."""
+    frames, judge = session(), Judge()
+    lines = b"".join(frame.hex().encode() + b"\n" for frame in frames)
+    wanted = b"".join(reply.hex().encode() + b"\n" for frame in frames for reply in judge.model.bytes(0, frame))
+    names = {**FAULTS, "net": b"path_server: NetFault\n"}
+    with Running(KEYS, 1_000_000) as server:
+        def run(name, kind, environment):
+            drop_all(server.address)
+            status, output, errors = ended(["call", server.address], lines, environment)
+            said = {"memory": [names["memory"], names["net"]], "read": [names["read"]], "write": [names["write"], b""]}[kind]
+            good = (status, output, errors) == (0, wanted, b"") or status == 4 and wanted.startswith(output) and errors in said
+            refusals.report.case(name, "", True, good or (status, output, errors))
+            return (status, output, errors) != (0, wanted, b"")
+
+        refusals.each("call", run)
+
+
+def drop_all(address):
+    for key in KEYS:
+        with connect(address, key) as client:
+            client.pipelined([Request.drop(name) for name in ("c", "x")])
+
+
 class Served:
     """A server in which a call fails: its start, three connections, and its end."""
 
@@ -293,6 +317,7 @@ def main():
         refusals = Refusals(report, Calls(Path(folder)), share, random.Random(seed))
         query_runs(refusals)
         replay_runs(refusals)
+        call_runs(refusals)
         refusals.each("serve", lambda *more: Served(refusals, *more).has_failed)
     print(f"{refusals.runs} runs, {refusals.faults} of them with a fault, and {refusals.replies} replies NoMemory")
     report.case("faults and replies NoMemory at all", "", True, refusals.faults > 0 and refusals.replies > 0)
