@@ -11,6 +11,7 @@ mod evaluation;
 mod fault;
 mod making;
 mod meter;
+mod names;
 mod nodes;
 mod plain;
 mod plan;
