@@ -13,3 +13,4 @@ pub mod Slots
 pub mod Containers
 pub mod Filtering
 pub mod Plainness
+pub mod Naming

@@ -14,6 +14,7 @@ ghost use Rattle.tape_select.specs.Slots.{AreClaimed};
 ghost use Rattle.tape_select.specs.Memo.{FindsNodes, FindsFor, FindsSide, Keeps};
 
 use crate::fault::SelectFault;
+use crate::names::{lone_name, named};
 use crate::nodes::{child_total, lone, push, push_some, wild};
 use crate::plain::{filtered_plainly, units_of};
 use crate::plan::{Condition, Nested, Operand, Parts, Selection, Stage};
@@ -368,10 +369,34 @@ fn from_node(
     }
 }
 
-// What the selectors select from a node and all its descendants.
+// What the selectors select from a node and all its descendants. A lone name takes a loop of its own.
+#[cycle(evaluation)]
+fn visited(
+    alloc: Global,
+    doc: &Document,
+    plan: &Parts,
+    selections: &[Selection],
+    n: NodeId,
+    state: &mut State,
+    out: &mut Vec<NodeId>,
+) -> Result<(), SelectFault>
+    requires inside { n.0 < count doc.now }
+    requires claimed { AreClaimed (claims_of plan.now.stages.items) (all_claims (map selection_view selections.now)) }
+    requires kept { Keeps doc.now (claims_of plan.now.stages.items) state.old }
+    requires sound { Inside doc.now out.old.items }
+    ensures added { Adds doc.now result out.new.items (nodes_of doc.now out.old.items ++ flat_map (selected (node_at doc.now 0) (selectors_of (trees (map selection_view selections.now)))) (visit (node_at doc.now n.0))) (total_of (extra_in (node_at doc.now 0) (selectors_of (trees (map selection_view selections.now)))) (visit (node_at doc.now n.0))) state.old.meter.left state.new.meter.left }
+    ensures kept { Keeps doc.now (claims_of plan.now.stages.items) state.new }
+{
+    match lone_name(selections) {
+        Some(name) => named(doc, name, n, out),
+        None => visited_each(alloc, doc, plan, selections, n, state, out),
+    }
+}
+
+// The same, whatever the selectors are.
 #[cycle(evaluation)]
 #[tactic(auto, using(crate::proofs::Filtering::visiting))]
-fn visited(
+fn visited_each(
     alloc: Global,
     doc: &Document,
     plan: &Parts,

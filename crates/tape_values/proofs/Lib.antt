@@ -4,3 +4,4 @@ pub mod Sizes
 pub mod Twins
 pub mod Members
 pub mod Guessing
+pub mod Lines

@@ -1,9 +1,9 @@
 -- The places of a slice, which follow one another in steps.
-use Rattle.std.proofs.Common.{◌≡◌, ◌≢◌, ℕ, suc, ◌+◌, ◌-◌, ◌*◌, ◌/◌, ◌%◌, ◌<◌, ◌≤◌, Bool, true, false, ◌&&◌, List, [], ◌∷◌, inl, inr, refl, sym, ap, ◌∙◌, arith, nat_le, nat_lt, nat_eq, ℤ, pos, ◌+ℤ◌, ◌<ℤ◌, length, Option}
+use Rattle.std.proofs.Common.{◌≡◌, ℕ, suc, ◌+◌, ◌-◌, ◌*◌, ◌/◌, ◌%◌, ◌≤◌, Bool, ◌&&◌, List, [], ◌∷◌, inl, inr, refl, sym, ap, ◌∙◌, arith, nat_le, nat_lt, nat_eq, ℤ, pos, ◌+ℤ◌, ◌<ℤ◌, length, Option}
 use Rattle.path_grammar.specs.declared.ast.IntLit.{IntLit}
 use Rattle.std.specs.Prelude.{unsigned_abs}
 use Rattle.std.proofs.lemmas.Int.{ints}
-use Rattle.std.proofs.Math.Nat.{mod-eq_of_lt, add-mod_right, mod-le, mul-mod_right, add-mul-mod_self_left, div-add-mod}
+use Rattle.std.proofs.Math.Nat.{mod-le, mul-mod_right, add-mul-mod_self_left, div-add-mod}
 use Rattle.std.proofs.lemmas.Bool.{cases_lt}
 use Rattle.std.proofs.lemmas.Bool.Decides.{nat_tests}
 use Rattle.json_tape.specs.Nodes.{Node}

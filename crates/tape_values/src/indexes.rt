@@ -1,6 +1,6 @@
 //! The selector of an index (RFC 9535, section 2.3.3).
 
-ghost use Rattle.std.specs.Prelude.{◌≡◌, ◌<◌, length};
+ghost use Rattle.std.specs.Prelude.{◌≡◌, ◌<◌, length, Some, IfSome};
 ghost use Rattle.json_tape.specs.Document.{count, node_at, following, single, IsIn};
 ghost use Rattle.json_tape.specs.Nodes.{elements};
 ghost use Rattle.tape_values.specs.Selection.{nth, at_index, position_in};
@@ -38,7 +38,8 @@ pub fn element_total(doc: &Document, n: NodeId) -> u32
 
 // The place of an index among so many elements.
 fn position(i: i64, total: u32) -> Option<u32>
-    ensures { result ≡ position_in i total }
+    ensures value { result ≡ position_in i total }
+    ensures below { IfSome result (λ place. place < total) }
 {
     let distance = i.unsigned_abs();
     let whole = u64::from(total);
@@ -74,6 +75,21 @@ fn nth_from(doc: &Document, first: Option<NodeId>, place: u32) -> Option<NodeId>
     None
 }
 
+// The element at a place where no element has anything in it: then they stand in line behind the array.
+fn element_in_line(doc: &Document, n: NodeId, place: u32, total: u32) -> Option<NodeId>
+    requires inside { n.0 < count doc.now }
+    requires all { total ≡ length (elements (node_at doc.now n.0)) }
+    requires place { place < total }
+    ensures node { IfSome result (λ found. single doc.now (Some found) ≡ nth place (elements (node_at doc.now n.0))) }
+    ensures inside { IsIn doc.now result }
+{
+    if doc.after(n) - n.0 - 1 == total {
+        Some(NodeId(n.0 + 1 + place))
+    } else {
+        None
+    }
+}
+
 /// The element with this index (RFC 9535, section 2.3.3).
 pub fn element(doc: &Document, n: NodeId, i: IntLit) -> Option<NodeId>
     requires { n.0 < count doc.now }
@@ -83,6 +99,10 @@ pub fn element(doc: &Document, n: NodeId, i: IntLit) -> Option<NodeId>
     let IntLit::Within(i) = i else {
         return None;
     };
-    let place = position(i, element_total(doc, n))?;
-    nth_from(doc, first_element(doc, n), place)
+    let total = element_total(doc, n);
+    let place = position(i, total)?;
+    match element_in_line(doc, n, place, total) {
+        Some(found) => Some(found),
+        None => nth_from(doc, first_element(doc, n), place),
+    }
 }

@@ -13,6 +13,7 @@ use Rattle.tape_select.specs.Planned.{claims_of, query_of, trees, condition_view
 use Rattle.tape_select.specs.declared.plan.Condition.TheFolds.{fold_out-Selection}
 use Rattle.tape_select.proofs.Filtering.{stage_claimed, evaluated_step, charge_step, adds_paid, more_of, staying, staying_charge, descending, descending_charge, filter_charge, leaf_holds, leaf_costs}
 use Rattle.tape_select.proofs.Following.{refuses_from}
+use Rattle.tape_select.proofs.Naming.{adds_named}
 use Rattle.tape_select.proofs.evaluation.+evaluation.Goals as goal
 
 pub all_selected-loop-stage-preserved : goal.all_selected-loop-stage-preserved
@@ -121,3 +122,9 @@ selected_within-returns-in-None-clause-added t c =
     let ss = selectors_of (trees (map selection_view c.args.selections.now)) in
     let costs = leaf_costs r ss n c.in-None.ensures.nodes in
     (leaf_holds r ss d c.args.out.now.items n c.requires.sound c.in-None.ensures.nodes, omega (arith, costs))
+
+pub visited-returns-in-Some-clause-added : goal.visited-returns-in-Some-clause-added
+visited-returns-in-Some-clause-added t c =
+    let d = c.args.doc.now in
+    adds_named d c.named.result c.named.new.out.items (node_at d 0) (node_at d c.args.n.0) (nodes_of d c.args.out.now.items) (trees (map selection_view c.args.selections.now)) c.in-Some.name.now.scalars.items
+    c.args.state.now.meter.left c.in-Some.ensures c.named.ensures

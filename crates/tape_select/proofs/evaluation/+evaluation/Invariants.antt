@@ -58,8 +58,8 @@ invariant-selected_from-loop-selection l = record {
   sound : Inside l.doc l.out.items;
 }
 
-abbrev pub invariant-visited-loop-k : goal.invariant-visited-loop-k
-invariant-visited-loop-k l = record {
+abbrev pub invariant-visited_each-loop-k : goal.invariant-visited_each-loop-k
+invariant-visited_each-loop-k l = record {
   same : nodes_of l.doc l.out.items ++ flat_map (selected (node_at l.doc 0) (selectors_of (trees (map selection_view l.selections)))) (seen l.doc (counting l.k (l.end - l.k)))
       ≡ nodes_of l.doc l.initial.out.items ++ flat_map (selected (node_at l.doc 0) (selectors_of (trees (map selection_view l.selections)))) (seen l.doc (counting l.fn.n.0 (l.end - l.fn.n.0)));
   paid : l.state.meter.left + total_of (extra_in (node_at l.doc 0) (selectors_of (trees (map selection_view l.selections)))) (seen l.doc (counting l.fn.n.0 (l.end - l.fn.n.0)))
