@@ -21,6 +21,8 @@ mod places;
 #[cfg(test)]
 mod queries;
 #[cfg(test)]
+mod reading;
+#[cfg(test)]
 mod scripts;
 #[cfg(test)]
 mod store;

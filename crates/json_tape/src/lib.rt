@@ -5,8 +5,8 @@
 //! array or an object. The readers of `Document` tell each value's kind, bytes, length, children and name, each in constant time but
 //! for those that go over the characters of a string or a name, and for `member`, which goes over the members of an object.
 //!
-//! A text is walked once, token by token, and its entries are then judged. Open containers stand in a list, so that depth
-//! costs no stack. Nothing is parsed into numbers or strings: those are cut from the text where they are asked for. The
+//! The places where a text's structure shows are found first (`structural_index`), then walked once, a token at each, and the entries
+//! are then judged. Open containers stand in a list, so that depth costs no stack. Nothing is parsed into numbers or strings: those are cut from the text where they are asked for. The
 //! names of an object are told apart by hashes of what they mean, and compared by what they mean where a hash comes again.
 #![tactic(auto)]
 
