@@ -152,27 +152,22 @@ fn writes_hits_behind_what_stands_there(rt: HostRuntime) -> Result<(), Fail> {
     Ok(())
 }
 
-/// The query of these selectors and 128 filters `?@==1`: a filter is charged 1, and 2 for each child.
-fn with_filters(alloc: Global, selectors: &str) -> Result<String, Fail> {
-    let mut query = format!(in alloc; "$[{selectors}?@==1")?;
-    for _ in 1..128u32 {
-        query.push_str(",?@==1")?;
-    }
-    query.push(']')?;
-    Ok(query)
-}
+/// On an array of 4,649 zeros this filter is charged 1 + 4,649 (2 + 1 + 2,148) = 10,000,000, and selects none.
+const WHOLE_BUDGET: &str = "?!$[:2148]";
 
 #[test]
 fn charges_the_documents_of_a_collection_in_turn(rt: HostRuntime) -> Result<(), Fail> {
     let alloc = rt.alloc();
     let mut tenant = Tenant::new(alloc);
-    let query = with_filters(alloc, "")?;
-    // 128 * (1 + 2 * 39,062) = 10,000,000
-    let wide = zeros(alloc, 39_062)?;
+    let query = format!(in alloc; "$[{WHOLE_BUDGET}]")?;
+    let wide = zeros(alloc, 4_649)?;
     assert_eq!(rt; put(&mut tenant, alloc, "c", "d", wide.as_slice())?, Ok(()));
     let mut payload = Vec::new(alloc);
     payload.push(7)?;
-    assert_eq!(rt; ask(&tenant, alloc, query.as_str(), "c", &mut payload)?, Ok(()));
+    assert_eq!(rt;
+        ask(&tenant, alloc, query.as_str(), "c", &mut payload)?,
+        Ok(())
+    );
     assert_eq!(rt; payload.as_slice(), b"\x07\0\0\0\0".as_slice());
     assert_eq!(rt; put(&mut tenant, alloc, "c", "e", b"null")?, Ok(()));
     assert_eq!(rt;
@@ -210,13 +205,13 @@ fn refuses_a_payload_past_the_limit(rt: HostRuntime) -> Result<(), Fail> {
     Ok(())
 }
 
-/// What `$[0,0,0,0,0,0,0,0,..]` with 128 filters answers on these documents.
+/// Why the first element eight times, and then a filter that is charged the budget, is refused on these documents.
 fn refused_for(alloc: Global, documents: &[(&str, &[u8])]) -> Result<Option<StoreFault>, Fail> {
     let mut tenant = Tenant::new(alloc);
     for (name, text) in documents {
         put(&mut tenant, alloc, "c", name, text)??;
     }
-    let query = with_filters(alloc, "0,0,0,0,0,0,0,0,")?;
+    let query = format!(in alloc; "$[0,0,0,0,0,0,0,0,{WHOLE_BUDGET}]")?;
     let mut payload = Vec::new(alloc);
     let answer = ask(&tenant, alloc, query.as_str(), "c", &mut payload)?;
     Ok(answer.err())
@@ -227,19 +222,28 @@ fn tells_the_first_document_that_shows_a_fault(rt: HostRuntime) -> Result<(), Fa
     let alloc = rt.alloc();
     let string = string_of(alloc, 600_000)?;
     let long = array_of(alloc, string.as_slice())?;
-    let wide = zeros(alloc, 39_062)?;
+    let wide = zeros(alloc, 4_649)?;
     let mut both = array_of(alloc, string.as_slice())?;
     both.pop();
-    for _ in 0..39_062u32 {
+    for _ in 0..4_649u32 {
         both.extend_from_slice(b",0")?;
     }
     both.push(b']')?;
     let long_first = [("b", wide.as_slice()), ("a", long.as_slice())];
-    assert_eq!(rt; refused_for(alloc, long_first.as_slice())?, Some(StoreFault::ReplyTooLarge));
+    assert_eq!(rt;
+        refused_for(alloc, long_first.as_slice())?,
+        Some(StoreFault::ReplyTooLarge)
+    );
     let wide_first = [("b", long.as_slice()), ("a", wide.as_slice())];
-    assert_eq!(rt; refused_for(alloc, wide_first.as_slice())?, Some(StoreFault::Costly));
+    assert_eq!(rt;
+        refused_for(alloc, wide_first.as_slice())?,
+        Some(StoreFault::Costly)
+    );
     let at_once = [("a", both.as_slice())];
-    assert_eq!(rt; refused_for(alloc, at_once.as_slice())?, Some(StoreFault::Costly));
+    assert_eq!(rt;
+        refused_for(alloc, at_once.as_slice())?,
+        Some(StoreFault::Costly)
+    );
     Ok(())
 }
 
