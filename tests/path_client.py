@@ -65,9 +65,9 @@ class Status(enum.IntEnum):
     QueryTooLong = 16
     NotWellFormed = 17
     NotValid = 18
-    TooManyNodes = 19
     ReplyTooLarge = 20
     NoMemory = 21
+    Costly = 22
     FrameFault = 255
 
 

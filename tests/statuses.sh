@@ -79,8 +79,8 @@ compare 1 '' 'path_server: TooLong' replay "$key"
 compare 1 '' 'path_server: TooLong' query '$'
 { times 1048575 ' '; printf 1; } >"$room/input"
 compare 0 "\$	1$newline" '' query '$'
-{ printf '[1'; times 65536 ',1'; printf ']'; } >"$room/input"
-compare 2 '' 'path_server: TooManyNodes' query '$[*]'
+{ times 128 '['; times 128 ']'; } >"$room/input"
+compare 2 '' 'path_server: Costly' query '$..*..*..*..*'
 
 compare_fault() {
     tried=$((tried + 1))

@@ -50,8 +50,9 @@ fn has_the_protocols_statuses(rt: HostRuntime) {
         (StoreFault::DuplicateName, 0x0b),
         (StoreFault::TooManyBytes, 0x0e),
         (StoreFault::NotFound, 0x0f),
-        (StoreFault::TooManyNodes, 0x13),
+        (StoreFault::ReplyTooLarge, 0x14),
         (StoreFault::NoMemory, 0x15),
+        (StoreFault::Costly, 0x16),
     ];
     for (fault, status) in statuses {
         assert_eq!(rt; fault.status(), status);

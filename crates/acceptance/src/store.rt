@@ -255,24 +255,34 @@ fn refuses_bytes_past_the_quota_and_keeps_the_old_text(rt: HostRuntime) -> Resul
     Ok(())
 }
 
+/// The query of these selectors and 128 filters `?@==1`: a filter is charged 1, and 2 for each child.
+fn with_filters(alloc: Global, selectors: &str) -> Result<String, Fail> {
+    let mut query = format!(in alloc; "$[{selectors}?@==1")?;
+    for _ in 1..128u32 {
+        query.push_str(",?@==1")?;
+    }
+    query.push(']')?;
+    Ok(query)
+}
+
 #[test]
-fn refuses_more_nodes_than_the_limit(rt: HostRuntime) -> Result<(), Fail> {
+fn charges_the_documents_of_a_collection_in_turn(rt: HostRuntime) -> Result<(), Fail> {
     let alloc = rt.alloc();
     let mut tenant = Tenant::new(alloc);
-    let full = zeros(alloc, 65_536)?;
-    assert_eq!(rt; put(&mut tenant, alloc, "c", "d", full.as_slice())?, Ok(()));
+    let query = with_filters(alloc, "")?;
+    // 128 * (1 + 2 * 39,062) = 10,000,000
+    let wide = zeros(alloc, 39_062)?;
+    assert_eq!(rt; put(&mut tenant, alloc, "c", "d", wide.as_slice())?, Ok(()));
     let mut payload = Vec::new(alloc);
-    assert_eq!(rt; ask(&tenant, alloc, "$[*]", "c", &mut payload)?, Ok(()));
-    assert_eq!(rt; payload.get(0..4), Some(b"\0\x01\0\0".as_slice()));
-    let over = zeros(alloc, 65_537)?;
-    assert_eq!(rt; put(&mut tenant, alloc, "c", "d", over.as_slice())?, Ok(()));
-    payload.clear();
     payload.push(7)?;
+    assert_eq!(rt; ask(&tenant, alloc, query.as_str(), "c", &mut payload)?, Ok(()));
+    assert_eq!(rt; payload.as_slice(), b"\x07\0\0\0\0".as_slice());
+    assert_eq!(rt; put(&mut tenant, alloc, "c", "e", b"null")?, Ok(()));
     assert_eq!(rt;
-        ask(&tenant, alloc, "$[*]", "c", &mut payload)?,
-        Err(StoreFault::TooManyNodes)
+        ask(&tenant, alloc, query.as_str(), "c", &mut payload)?,
+        Err(StoreFault::Costly)
     );
-    assert_eq!(rt; payload.as_slice(), b"\x07".as_slice());
+    assert_eq!(rt; payload.as_slice(), b"\x07\0\0\0\0".as_slice());
     Ok(())
 }
 
@@ -303,36 +313,54 @@ fn refuses_a_payload_past_the_limit(rt: HostRuntime) -> Result<(), Fail> {
     Ok(())
 }
 
+/// What `$[0,0,0,0,0,0,0,0,..]` with 128 filters answers on these documents.
+fn refused_for(alloc: Global, documents: &[(&str, &[u8])]) -> Result<Option<StoreFault>, Fail> {
+    let mut tenant = Tenant::new(alloc);
+    for (name, text) in documents {
+        put(&mut tenant, alloc, "c", name, text)??;
+    }
+    let query = with_filters(alloc, "0,0,0,0,0,0,0,0,")?;
+    let mut payload = Vec::new(alloc);
+    let answer = ask(&tenant, alloc, query.as_str(), "c", &mut payload)?;
+    Ok(answer.err())
+}
+
 #[test]
 fn tells_the_first_document_that_shows_a_fault(rt: HostRuntime) -> Result<(), Fail> {
+    let alloc = rt.alloc();
+    let string = string_of(alloc, 600_000)?;
+    let long = array_of(alloc, string.as_slice())?;
+    let wide = zeros(alloc, 39_062)?;
+    let mut both = array_of(alloc, string.as_slice())?;
+    both.pop();
+    for _ in 0..39_062u32 {
+        both.extend_from_slice(b",0")?;
+    }
+    both.push(b']')?;
+    let long_first = [("b", wide.as_slice()), ("a", long.as_slice())];
+    assert_eq!(rt; refused_for(alloc, long_first.as_slice())?, Some(StoreFault::ReplyTooLarge));
+    let wide_first = [("b", long.as_slice()), ("a", wide.as_slice())];
+    assert_eq!(rt; refused_for(alloc, wide_first.as_slice())?, Some(StoreFault::Costly));
+    let at_once = [("a", both.as_slice())];
+    assert_eq!(rt; refused_for(alloc, at_once.as_slice())?, Some(StoreFault::Costly));
+    Ok(())
+}
+
+#[test]
+fn refuses_a_payload_past_the_limit_in_either_order(rt: HostRuntime) -> Result<(), Fail> {
     let alloc = rt.alloc();
     let string = string_of(alloc, 1_048_558)?;
     let long = array_of(alloc, string.as_slice())?;
     let wide = zeros(alloc, 65_537)?;
-    let mut payload = Vec::new(alloc);
-    let mut first_long = Tenant::new(alloc);
-    assert_eq!(rt;
-        put(&mut first_long, alloc, "c", "b", wide.as_slice())?,
-        Ok(())
-    );
-    assert_eq!(rt;
-        put(&mut first_long, alloc, "c", "a", long.as_slice())?,
-        Ok(())
-    );
-    let refused = ask(&first_long, alloc, "$[*,*,*,*]", "c", &mut payload)?;
-    assert_eq!(rt; refused, Err(StoreFault::ReplyTooLarge));
-    let mut first_wide = Tenant::new(alloc);
-    assert_eq!(rt;
-        put(&mut first_wide, alloc, "c", "b", long.as_slice())?,
-        Ok(())
-    );
-    assert_eq!(rt;
-        put(&mut first_wide, alloc, "c", "a", wide.as_slice())?,
-        Ok(())
-    );
-    let refused = ask(&first_wide, alloc, "$[*,*,*,*]", "c", &mut payload)?;
-    assert_eq!(rt; refused, Err(StoreFault::TooManyNodes));
-    assert!(rt; payload.is_empty());
+    for (first, second) in [(&long, &wide), (&wide, &long)] {
+        let mut tenant = Tenant::new(alloc);
+        put(&mut tenant, alloc, "c", "a", first.as_slice())??;
+        put(&mut tenant, alloc, "c", "b", second.as_slice())??;
+        let mut payload = Vec::new(alloc);
+        let refused = ask(&tenant, alloc, "$[*,*,*,*]", "c", &mut payload)?;
+        assert_eq!(rt; refused, Err(StoreFault::ReplyTooLarge));
+        assert!(rt; payload.is_empty());
+    }
     Ok(())
 }
 

@@ -8,7 +8,8 @@ use Rattle.tenant_store.specs.Maps.{Map, documents_of}
 use Rattle.tenant_store.specs.Answers.{RefusesPut, missing}
 use Rattle.tenant_store.specs.Payloads.{Text, query_fault, payload_limit, found_in, RefusesQuery, IsFault}
 use Rattle.tenant_store.specs.Tenancy.{Tenancy, place_in, with_map}
-use Rattle.tape_select.specs.Evaluation.{exceeds_limit}
+use Rattle.tape_select.specs.Budget.{budget}
+use Rattle.tape_select.specs.Charge.{charge}
 use Rattle.json_tape.specs.Answer.{NoneApplies}
 use Rattle.json_tape.specs.declared.tape.TextFault.TheVariants as verdict
 use Rattle.path_grammar.specs.Tree.{Segments}
@@ -60,9 +61,9 @@ only_memory f.TooManyCollections h = absurd cc
 only_memory f.TooManyDocuments h = absurd cc
 only_memory f.TooManyBytes h = absurd cc
 only_memory f.NotFound h = absurd cc
-only_memory f.TooManyNodes h = absurd cc
 only_memory f.ReplyTooLarge h = absurd cc
 only_memory f.NoMemory h = refl
+only_memory f.Costly h = absurd cc
 
 -- a fault of the store: the definition's, or that memory ran out
 pub gives_fault : (old new : Map) (asked : Asked) (n : ℕ) (before after : List ℕ) (e : StoreFault) → after ≡ before ++ reply (status_of e) n [] → new ≡ old
@@ -116,9 +117,9 @@ put_not_free c d t m f.TooManyCollections none r = refl
 put_not_free c d t m f.TooManyDocuments none r = refl
 put_not_free c d t m f.TooManyBytes none r = refl
 put_not_free c d t m f.NotFound none r = absurd r
-put_not_free c d t m f.TooManyNodes none r = absurd r
 put_not_free c d t m f.ReplyTooLarge none r = absurd r
 put_not_free c d t m f.NoMemory none r = refl
+put_not_free c d t m f.Costly none r = absurd r
 
 pub put_may_want : (c d t : List ℕ) (n : ℕ) (m : Map) (e : StoreFault) → RefusesPut c d t m e → e ≡ f.NoMemory → MayWant (Put c d t) n m
 put_may_want c d t n m e r x = may_want_by (Put c d t) n m refl (λ s h. ap is_free h.3 ∙ put_not_free c d t m h.0 (subst (λ y. RefusesPut c d t m y) x r) h.1)
@@ -226,15 +227,16 @@ abbrev pub IsOfQuery : Option StoreFault → Type 0
 IsOfQuery None = Unit {0}
 IsOfQuery (Some e) = is_free (status_of e) ≡ false
 
-of_query : (tree : Segments) (size : ℕ) (ts : List Text) → IsOfQuery (query_fault tree size ts)
+of_query : (tree : Segments) (spent size : ℕ) (ts : List Text) → IsOfQuery (query_fault tree spent size ts)
 unfolding query_fault
-of_query tree size [] = tt
-of_query tree size (t ∷ ts) = by (exceeds_limit t.tree tree) (nat_lt payload_limit (size + length (found_in tree t))) (of_query tree (size + length (found_in tree t)) ts)
+of_query tree spent size [] = tt
+of_query tree spent size (t ∷ ts) =
+    by (nat_lt budget (spent + charge t.tree tree)) (nat_lt payload_limit (size + length (found_in tree t))) _ (of_query tree (spent + charge t.tree tree) (size + length (found_in tree t)) ts)
   where
-    by : (x y : Bool) → IsOfQuery (query_fault tree (size + length (found_in tree t)) ts) → IsOfQuery (cond x (Some f.TooManyNodes) (cond y (Some f.ReplyTooLarge) (query_fault tree (size + length (found_in tree t)) ts)))
-    by true y o = refl
-    by false true o = refl
-    by false false o = o
+    by : (x y : Bool) (others : Option StoreFault) → IsOfQuery others → IsOfQuery (cond x (Some f.Costly) (cond y (Some f.ReplyTooLarge) others))
+    by true y others o = refl
+    by false true others o = refl
+    by false false others o = o
 
 -- the fault that is not want of memory
 pub fault_is : (o : Option StoreFault) (e : StoreFault) → IsFault o e → e ≢ f.NoMemory → o ≡ Some e
@@ -249,14 +251,14 @@ fault_is o f.TooManyCollections h n = h
 fault_is o f.TooManyDocuments h n = h
 fault_is o f.TooManyBytes h n = h
 fault_is o f.NotFound h n = h
-fault_is o f.TooManyNodes h n = h
 fault_is o f.ReplyTooLarge h n = h
 fault_is o f.NoMemory h n = absurd (n refl)
+fault_is o f.Costly h n = h
 
 hits_not_free : (c t : List ℕ) (m : Map) (s : ℕ) → RefusesHits c t m s → is_free s ≡ false
 hits_not_free c t m s h =
     let r : RefusesQuery h.0 (documents_of c m) h.2.0 = h.2.1 in
-    ap is_free h.2.3 ∙ subst IsOfQuery (fault_is (query_fault h.0 4 r.texts) h.2.0 r.first h.2.2) (of_query h.0 4 r.texts)
+    ap is_free h.2.3 ∙ subst IsOfQuery (fault_is (query_fault h.0 0 4 r.texts) h.2.0 r.first h.2.2) (of_query h.0 0 4 r.texts)
 
 -- a query that is not refused for its length
 pub query_may_want : (c t : List ℕ) (n : ℕ) (m : Map) → RefusesQueryText t q.Memory → MayWant (Query c t) n m

@@ -39,7 +39,7 @@ status_of_refusal refusal.DuplicateName = 1
 status_of_refusal refusal.QueryTooLong = 2
 status_of_refusal refusal.NotWellFormed = 2
 status_of_refusal refusal.NotValid = 2
-status_of_refusal refusal.TooManyNodes = 2
+status_of_refusal refusal.Costly = 2
 status_of_refusal refusal.Memory = 4
 
 abbrev pub status_of_query : QueryStreamFault → ℕ

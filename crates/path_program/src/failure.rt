@@ -157,7 +157,7 @@ fn refusal_status(fault: QueryTextFault) -> u8
         QueryTextFault::QueryTooLong
         | QueryTextFault::NotWellFormed
         | QueryTextFault::NotValid
-        | QueryTextFault::TooManyNodes => 2,
+        | QueryTextFault::Costly => 2,
         QueryTextFault::Memory => 4,
     }
 }
@@ -241,7 +241,7 @@ mod tests {
         (QueryTextFault::QueryTooLong, "QueryTooLong", 2),
         (QueryTextFault::NotWellFormed, "NotWellFormed", 2),
         (QueryTextFault::NotValid, "NotValid", 2),
-        (QueryTextFault::TooManyNodes, "TooManyNodes", 2),
+        (QueryTextFault::Costly, "Costly", 2),
         (QueryTextFault::Memory, "NoMemory", 4),
     ];
 

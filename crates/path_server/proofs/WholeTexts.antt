@@ -8,7 +8,7 @@ use Rattle.json_tape.specs.declared.tape.TextFault.TheVariants as text
 use Rattle.path_server.specs.QueryText.{Refuses, Answers}
 use Rattle.path_server.specs.QueryStream.{AnswersStream}
 use Rattle.path_server.specs.declared.fault.QueryTextFault.{QueryTextFault}
-use Rattle.path_server.specs.declared.fault.QueryTextFault.TheVariants.{TooLong, NotUtf8, NotJson, TooDeep, NumberLimit, LoneSurrogate, DuplicateName, QueryTooLong, NotWellFormed, NotValid, TooManyNodes, Memory}
+use Rattle.path_server.specs.declared.fault.QueryTextFault.TheVariants.{TooLong, NotUtf8, NotJson, TooDeep, NumberLimit, LoneSurrogate, DuplicateName, QueryTooLong, NotWellFormed, NotValid, Costly, Memory}
 
 whole : (document : List ℕ) → (1048576 < length (take 1048577 document) → ⊥) → take 1048577 document ≡ document
 whole document f =
@@ -33,7 +33,7 @@ refuses_whole query document DuplicateName r = rw (whole document (r.1 text.TooL
 refuses_whole query document QueryTooLong r = rw (whole document (r.0.1.1 text.TooLong)) at r
 refuses_whole query document NotWellFormed r = rw (whole document (r.0.1.1 text.TooLong)) at r
 refuses_whole query document NotValid r = rw (whole document (r.0.1.1 text.TooLong)) at r
-refuses_whole query document TooManyNodes (t, q, a, v, r) = (t, q, (rw (whole document (a.1 text.TooLong)) at a), v, r)
+refuses_whole query document Costly (t, q, a, v, r) = (t, q, (rw (whole document (a.1 text.TooLong)) at a), v, r)
 refuses_whole query document Memory r = tt
 
 pub answers_whole : (query document old new : List ℕ) → Answers query (take 1048577 document) old new → Answers query document old new

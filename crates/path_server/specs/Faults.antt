@@ -6,7 +6,7 @@ use Rattle.path_types.specs.declared.query_text.QueryFault.TheVariants as query
 use Rattle.tape_select.specs.declared.fault.SelectFault.{SelectFault}
 use Rattle.tape_select.specs.declared.fault.SelectFault.TheVariants as select
 use Rattle.path_server.specs.declared.fault.QueryTextFault.{QueryTextFault}
-use Rattle.path_server.specs.declared.fault.QueryTextFault.TheVariants.{TooLong, NotUtf8, NotJson, TooDeep, NumberLimit, LoneSurrogate, DuplicateName, QueryTooLong, NotWellFormed, NotValid, TooManyNodes, Memory}
+use Rattle.path_server.specs.declared.fault.QueryTextFault.TheVariants.{TooLong, NotUtf8, NotJson, TooDeep, NumberLimit, LoneSurrogate, DuplicateName, QueryTooLong, NotWellFormed, NotValid, Costly, Memory}
 
 abbrev pub of_text : TextFault → QueryTextFault
 of_text text.TooLong = TooLong
@@ -25,5 +25,5 @@ of_query query.NotValid = NotValid
 of_query query.Memory = Memory
 
 abbrev pub of_select : SelectFault → QueryTextFault
-of_select select.TooManyNodes = TooManyNodes
+of_select select.Costly = Costly
 of_select select.Memory = Memory

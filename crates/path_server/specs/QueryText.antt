@@ -1,16 +1,17 @@
 -- What a query on a text answers: the first refusal that applies, or a line for each hit.
-use Rattle.std.specs.Prelude.{◌≡◌, ℕ, ◌++◌, List, true, false}
+use Rattle.std.specs.Prelude.{◌≡◌, ◌<◌, ◌≤◌, ℕ, ◌++◌, List}
 use Rattle.json_tape.specs.Tree.{Tree}
 use Rattle.json_tape.specs.Verdict.{IsRefused, IsAccepted}
 use Rattle.json_tape.specs.declared.tape.TextFault.TheVariants as text
 use Rattle.path_grammar.specs.Tree.{Segments}
 use Rattle.path_types.specs.Verdict.{IsValidQuery, RefusesQueryText}
 use Rattle.path_types.specs.declared.query_text.QueryFault.TheVariants as verdict
-use Rattle.tape_select.specs.Evaluation.{exceeds_limit}
+use Rattle.tape_select.specs.Budget.{budget}
+use Rattle.tape_select.specs.Charge.{charge}
 use Rattle.tenant_store.specs.Hits.{hits}
 use Rattle.path_server.specs.Lines.{lines_of}
 use Rattle.path_server.specs.declared.fault.QueryTextFault.{QueryTextFault}
-use Rattle.path_server.specs.declared.fault.QueryTextFault.TheVariants.{TooLong, NotUtf8, NotJson, TooDeep, NumberLimit, LoneSurrogate, DuplicateName, QueryTooLong, NotWellFormed, NotValid, TooManyNodes, Memory}
+use Rattle.path_server.specs.declared.fault.QueryTextFault.TheVariants.{TooLong, NotUtf8, NotJson, TooDeep, NumberLimit, LoneSurrogate, DuplicateName, QueryTooLong, NotWellFormed, NotValid, Costly, Memory}
 
 -- no refusal of a text applies to the document
 abbrev pub IsDocument : List ℕ → Type 0
@@ -28,7 +29,7 @@ Refuses query document DuplicateName = IsRefused document text.DuplicateName
 Refuses query document QueryTooLong = IsDocument document × RefusesQueryText query verdict.QueryTooLong
 Refuses query document NotWellFormed = IsDocument document × RefusesQueryText query verdict.NotWellFormed
 Refuses query document NotValid = IsDocument document × RefusesQueryText query verdict.NotValid
-Refuses query document TooManyNodes = (t : Tree) × (q : Segments) × IsAccepted document t × IsValidQuery query q × (exceeds_limit t q ≡ true)
+Refuses query document Costly = (t : Tree) × (q : Segments) × IsAccepted document t × IsValidQuery query q × (budget < charge t q)
 Refuses query document Memory = Unit {0}
 
 -- the query is answered: the lines of its hits stand behind what stood there before
@@ -37,5 +38,5 @@ pub record Answers (query document old new : List ℕ) : Type 0 where
   pub segments : Segments
   pub accepted : IsAccepted document tree
   pub valid : IsValidQuery query segments
-  pub within : exceeds_limit tree segments ≡ false
+  pub within : charge tree segments ≤ budget
   pub appended : new ≡ old ++ lines_of (hits tree segments)

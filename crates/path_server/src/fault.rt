@@ -43,9 +43,9 @@ pub enum QueryTextFault {
     /// The query is not valid (RFC 9535, section 2.1).
     #[error("NotValid")]
     NotValid,
-    /// A nodelist has more nodes than [`tape_select::NODE_LIMIT`].
-    #[error("TooManyNodes")]
-    TooManyNodes,
+    /// The charge of the query is above [`tape_select::BUDGET`].
+    #[error("Costly")]
+    Costly,
     /// A growth was refused.
     #[error("NoMemory")]
     Memory,
@@ -86,7 +86,7 @@ impl From<SelectFault> for QueryTextFault {
 
     fn from(fault: SelectFault) -> QueryTextFault {
         match fault {
-            SelectFault::TooManyNodes => QueryTextFault::TooManyNodes,
+            SelectFault::Costly => QueryTextFault::Costly,
             SelectFault::Memory => QueryTextFault::Memory,
         }
     }

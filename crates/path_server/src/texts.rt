@@ -8,13 +8,14 @@ use crate::lines::write_lines;
 use json_tape::Document;
 use path_types::compile;
 use std::alloc::Global;
-use tape_select::select;
+use tape_select::{BUDGET, select};
 
 /// Appends a line for each node that a query selects from a text, in the query's order: the normalized path (RFC 9535,
 /// section 2.7), a tab, the source bytes of the value and a line feed.
 ///
 /// Refused is, in this order, what the text's verdict refuses (TooLong to DuplicateName), then what the query's does
-/// (QueryTooLong, NotWellFormed, NotValid), then TooManyNodes. Memory comes where a growth was refused. A refusal leaves the
+/// (QueryTooLong, NotWellFormed, NotValid), then Costly, where the charge is
+/// above [`tape_select::BUDGET`]. Memory comes where a growth was refused. A refusal leaves the
 /// vector unchanged.
 pub fn query_text(
     alloc: Global,
@@ -28,7 +29,7 @@ pub fn query_text(
 {
     let document = Document::read(alloc, document)?;
     let query = compile(alloc, query)?;
-    let nodes = select(alloc, &query, &document)?;
-    write_lines(alloc, &document, nodes.as_slice(), out)?;
+    let selected = select(alloc, &query, &document, BUDGET)?;
+    write_lines(alloc, &document, selected.nodes.as_slice(), out)?;
     Ok(())
 }

@@ -6,7 +6,7 @@ use Rattle.json_tape.specs.Verdict.{rank, IsRefused}
 use Rattle.json_tape.specs.declared.tape.TextFault.{TextFault}
 use Rattle.json_tape.specs.declared.tape.TextFault.TheVariants as verdict
 use Rattle.tenant_store.specs.declared.faults.StoreFault.{StoreFault}
-use Rattle.tenant_store.specs.declared.faults.StoreFault.TheVariants.{TooLong, NotUtf8, NotJson, TooDeep, NumberLimit, LoneSurrogate, DuplicateName, TooManyCollections, TooManyDocuments, TooManyBytes, NotFound, TooManyNodes, ReplyTooLarge, NoMemory}
+use Rattle.tenant_store.specs.declared.faults.StoreFault.TheVariants.{TooLong, NotUtf8, NotJson, TooDeep, NumberLimit, LoneSurrogate, DuplicateName, TooManyCollections, TooManyDocuments, TooManyBytes, NotFound, ReplyTooLarge, NoMemory, Costly}
 use Rattle.tenant_store.specs.Maps.{Documents, Map, put_text}
 use Rattle.tenant_store.specs.Quotas.{quota_fault}
 use Rattle.tenant_store.specs.Answers.{IsDocument, AcceptsPut, RefusesPut, of_text}
@@ -54,9 +54,9 @@ cause c d t m TooManyCollections n h = inr h
 cause c d t m TooManyDocuments n h = inr h
 cause c d t m TooManyBytes n h = inr h
 cause c d t m NotFound n h = absurd h
-cause c d t m TooManyNodes n h = absurd h
 cause c d t m ReplyTooLarge n h = absurd h
 cause c d t m NoMemory n h = absurd (n refl)
+cause c d t m Costly n h = absurd h
 
 no_document : (t : List ℕ) (v : TextFault) → IsDocument t → IsRefused t v → ⊥
 no_document t v (tree, a) r = a.1 v r.0
@@ -85,7 +85,7 @@ puts_answer_once =
 abbrev pub OneTree : Type 0
 OneTree = (text : List ℕ) (s t : Tree) → IsText text s → IsText text t → s ≡ t
 
-texts_once : OneTree → (ds : Documents) (ts us : List Text) → AreTextsOf ds ts → AreTextsOf ds us → ts ≡ us
+pub texts_once : OneTree → (ds : Documents) (ts us : List Text) → AreTextsOf ds ts → AreTextsOf ds us → ts ≡ us
 texts_once one [] [] [] a b = refl
 texts_once one [] [] (u ∷ us) a b = absurd b
 texts_once one [] (t ∷ ts) us a b = absurd a
@@ -109,18 +109,18 @@ fault_is o TooManyCollections n h = h
 fault_is o TooManyDocuments n h = h
 fault_is o TooManyBytes n h = h
 fault_is o NotFound n h = h
-fault_is o TooManyNodes n h = h
 fault_is o ReplyTooLarge n h = h
 fault_is o NoMemory n h = absurd (n refl)
+fault_is o Costly n h = h
 
 pub queries_answer_once : OneTree → QueriesAnswerOnce
 queries_answer_once one =
     record {
       appended = λ q ds old new other x y. x.appended ∙ ap (λ ts. old ++ payload q ts) (texts_once one ds x.texts y.texts x.read y.read) ∙ sym y.appended;
       fault = λ q ds f g n k x y.
-          let e : Some f ≡ Some g = sym (fault_is _ f n x.first) ∙ ap (λ ts. query_fault q 4 ts) (texts_once one ds x.texts y.texts x.read y.read) ∙ fault_is _ g k y.first in
+          let e : Some f ≡ Some g = sym (fault_is _ f n x.first) ∙ ap (λ ts. query_fault q 0 4 ts) (texts_once one ds x.texts y.texts x.read y.read) ∙ fault_is _ g k y.first in
           cc;
       either = λ q ds old new f n x y.
-          let e : None ≡ Some f = sym x.no_fault ∙ ap (λ ts. query_fault q 4 ts) (texts_once one ds x.texts y.texts x.read y.read) ∙ fault_is _ f n y.first in
+          let e : None ≡ Some f = sym x.no_fault ∙ ap (λ ts. query_fault q 0 4 ts) (texts_once one ds x.texts y.texts x.read y.read) ∙ fault_is _ f n y.first in
           absurd cc;
     }

@@ -21,6 +21,6 @@ returns-clause-answered c =
       segments = query_view c.in_ok-query.query;
       accepted = c.in_ok-document.ensures.1;
       valid = c.in_ok-query.ensures.valid;
-      within = c.in_ok-nodes.ensures.within refl;
-      appended = written ∙ ap (λ (ns : List Node). c.args.out.now.items ++ lines_of (map hit_of ns)) c.in_ok-nodes.ensures.nodes;
+      within = c.in_ok-selected.ensures.within refl;
+      appended = written ∙ ap (λ (ns : List Node). c.args.out.now.items ++ lines_of (map hit_of ns)) c.in_ok-selected.ensures.nodes;
     }
