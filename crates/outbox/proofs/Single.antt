@@ -1,11 +1,11 @@
 -- One step of a turn.
-use Rattle.std.proofs.Common.{◌≡◌, ℕ, ◌<◌, ◌≤◌, List, [], ◌∷◌, ◌++◌, true, false, Bool, length, take, refl, sym, ap, ◌∙◌, inl, inr, subst}
+use Rattle.std.proofs.Common.{arith, ◌≡◌, ℕ, ◌<◌, ◌≤◌, List, [], ◌∷◌, ◌++◌, true, false, Bool, length, take, refl, sym, ap, ◌∙◌, inl, inr, subst}
 use Rattle.std.specs.Prelude.{Option, Some, None, ◌||◌, ◌&&◌, not, nat_lt, if◌then◌else◌}
 use Rattle.std.proofs.lemmas.List.{append-nil, length-take-le}
 use Rattle.std.proofs.lemmas.Bool.{cases_Bool, lt-ltb, MatchBool-at_true, MatchBool-at_false}
 use Rattle.outbox.specs.Lines.{Line, Event, Readable, Declined, Answered, Writable, Ends, Fails, after, is_open, owes, reads, cap, read_at, sent_at}
 use Rattle.outbox.specs.Told.{Told, moved, with_read, with_written}
-use Rattle.outbox.specs.Turns.{Turned, Moment, here, DoesAt, moves_at, HasFallen, HasNotRisen, IsTold, WritesOnce, Flushes, can_write, can_read, can_answer}
+use Rattle.outbox.specs.Turns.{Turned, Moment, here, DoesAt, moves_at, pieces_at, answers_at, HasFallen, HasNotRisen, IsTold, WritesOnce, Flushes, can_write, can_read, can_answer}
 use Rattle.outbox.specs.Appends.{with_reply}
 use Rattle.outbox.proofs.Joining.{both, either, renamed, true_or, or_true}
 use Rattle.outbox.specs.declared.readiness.Readiness.{Readiness}
@@ -47,14 +47,16 @@ picked true x y h = refl
 picked false x y h = absurd cc
 
 -- one event that moves something
-pub one : {C : Type 0} (T R : C → List ℕ → C → Type 0) (I : C → Type 0) (can : Readiness → Line → Bool) (a b : Moment C) (e : Event)
+pub one : {C : Type 0} (m n : ℕ) (T R : C → List ℕ → C → Type 0) (I : C → Type 0) (can : Readiness → Line → Bool) (a b : Moment C) (e : Event)
     → b.line ≡ after a.line e → b.wire ≡ moved (read_at a.line e ++ []) (sent_at a.line e ++ []) a.wire → DoesAt T R a.line e a.core b.core
-    → moves_at a.line e ≡ true → can a.ready a.line ≡ true → (IsTold I a → IsTold I b) → Turned T R I can a b
-one T R I can a b e line wire does moves could told = record {
+    → moves_at a.line e ≡ true → can a.ready a.line ≡ true → (IsTold I a → IsTold I b) → pieces_at e ≤ m → answers_at e ≤ n → Turned m n T R I can a b
+one m n T R I can a b e line wire does moves could told few some = record {
   events = e ∷ [];
   line_is = line;
   wire_is = wire;
   core_is = (b.core, does, refl);
+  few_pieces = omega (arith, few);
+  few_answers = omega (arith, some);
   goes_on = λ h. inl (true_or (moves_at a.line e) false moves);
   rises = λ h. clash (moves_at a.line e || false) (true_or (moves_at a.line e) false moves) h;
   stays = λ h. clash (can a.ready a.line) could h;
@@ -62,26 +64,30 @@ one T R I can a b e line wire does moves could told = record {
 }
 
 -- something turned out to want a wait
-pub fallen : {C : Type 0} (T R : C → List ℕ → C → Type 0) (I : C → Type 0) (can : Readiness → Line → Bool) (l : Line) (w : Option Told) (c : C) (r r' : Readiness)
-    → HasFallen r r' → HasNotRisen r r' → can r l ≡ true → (IsTold I (here l w c r) → IsTold I (here l w c r')) → Turned T R I can (here l w c r) (here l w c r')
-fallen T R I can l w c r r' f n could told = record {
+pub fallen : {C : Type 0} (m n : ℕ) (T R : C → List ℕ → C → Type 0) (I : C → Type 0) (can : Readiness → Line → Bool) (l : Line) (w : Option Told) (c : C) (r r' : Readiness)
+    → HasFallen r r' → HasNotRisen r r' → can r l ≡ true → (IsTold I (here l w c r) → IsTold I (here l w c r')) → Turned m n T R I can (here l w c r) (here l w c r')
+fallen m n T R I can l w c r r' f down could told = record {
   events = [];
   line_is = refl;
   wire_is = moved_none w;
   core_is = refl;
+  few_pieces = omega arith;
+  few_answers = omega arith;
   goes_on = λ h. inr f;
-  rises = λ h. n;
+  rises = λ h. down;
   stays = λ h. clash (can r l) could h;
   told = told;
 }
 
 -- nothing could be done
-pub nothing : {C : Type 0} (T R : C → List ℕ → C → Type 0) (I : C → Type 0) (can : Readiness → Line → Bool) (a : Moment C) → can a.ready a.line ≡ false → Turned T R I can a a
-nothing T R I can a not' = record {
+pub nothing : {C : Type 0} (m n : ℕ) (T R : C → List ℕ → C → Type 0) (I : C → Type 0) (can : Readiness → Line → Bool) (a : Moment C) → can a.ready a.line ≡ false → Turned m n T R I can a a
+nothing m n T R I can a not' = record {
   events = [];
   line_is = refl;
   wire_is = moved_none a.wire;
   core_is = refl;
+  few_pieces = omega arith;
+  few_answers = omega arith;
   goes_on = λ h. clash (can a.ready a.line) h not';
   rises = λ h. record { readable = λ e. e; writable = λ e. e; waiting = λ e. e };
   stays = λ h. refl;
@@ -91,23 +97,23 @@ nothing T R I can a not' = record {
 -- ---- A write
 
 pub written : {C : Type 0} (T R : C → List ℕ → C → Type 0) (I : C → Type 0) (l l' : Line) (w w' : Option Told) (r r' : Readiness) (c : C)
-    → can_write r l ≡ true → WritesOnce l w r l' w' r' → Turned T R I can_write (here l w c r) (here l' w' c r')
-written T R I l l' w w' r r' c can (inl x) = one T R I can_write (here l w c r) (here l' w' c r') (Writable x.0) x.2
+    → can_write r l ≡ true → WritesOnce l w r l' w' r' → Turned 0 0 T R I can_write (here l w c r) (here l' w' c r')
+written T R I l l' w w' r r' c can (inl x) = one 0 0 T R I can_write (here l w c r) (here l' w' c r') (Writable x.0) x.2
     (x.3 ∙ moved_written w (take x.0 l.owed)) refl (both_true (nat_lt 0 x.0) (owes l) (lt-ltb 0 x.0 x.1) (right_true r.writable (owes l) can)) can
-    (λ h e. h (ap (λ (s : Readiness). s.waiting) (sym x.4) ∙ e))
-written T R I l l' w w' r r' c can (inr (inl x)) = rw (x.0, x.1, x.2) (fallen T R I can_write l w c r (record r { writable = false })
+    (λ h e. h (ap (λ (s : Readiness). s.waiting) (sym x.4) ∙ e)) (omega arith) (omega arith)
+written T R I l l' w w' r r' c can (inr (inl x)) = rw (x.0, x.1, x.2) (fallen 0 0 T R I can_write l w c r (record r { writable = false })
     (inr (inl (left_true r.writable (owes l) can, refl))) (record { readable = λ e. e; writable = λ e. refl; waiting = λ e. e }) can (λ h. h))
-written T R I l l' w w' r r' c can (inr (inr x)) = one T R I can_write (here l w c r) (here l' w' c r') Fails x.0
+written T R I l l' w w' r r' c can (inr (inr x)) = one 0 0 T R I can_write (here l w c r) (here l' w' c r') Fails x.0
     (x.1 ∙ moved_none w) refl (or_true (is_open l.stage) (owes l) (right_true r.writable (owes l) can)) can
-    (λ h e. h (ap (λ (s : Readiness). s.waiting) (sym x.2) ∙ e))
+    (λ h e. h (ap (λ (s : Readiness). s.waiting) (sym x.2) ∙ e)) (omega arith) (omega arith)
 
 pub flushed : {C : Type 0} (T R : C → List ℕ → C → Type 0) (I : C → Type 0) (l l' : Line) (w w' : Option Told) (r r' : Readiness) (c : C)
-    → Flushes l w r l' w' r' → Turned T R I can_write (here l w c r) (here l' w' c r')
+    → Flushes l w r l' w' r' → Turned 0 0 T R I can_write (here l w c r) (here l' w' c r')
 flushed T R I l l' w w' r r' c h = elim (cases_Bool (can_write r l)) [
   | inl e ↦ written T R I l l' w w' r r' c e (MatchBool-at_true (WritesOnce l w r l' w' r') ((l' ≡ l) × (w' ≡ w) × (r' ≡ r)) e h)
   | inr e ↦
       let same : (l' ≡ l) × (w' ≡ w) × (r' ≡ r) = MatchBool-at_false (WritesOnce l w r l' w' r') ((l' ≡ l) × (w' ≡ w) × (r' ≡ r)) e h in
-      rw (same.0, same.1, same.2) (nothing T R I can_write (here l w c r) e)
+      rw (same.0, same.1, same.2) (nothing 0 0 T R I can_write (here l w c r) e)
 ]
 
 -- ---- A read
@@ -116,37 +122,37 @@ pub some_taken : (n : ℕ) (bytes : List ℕ) → n ≤ length bytes → 0 < n �
 some_taken n bytes within some = rw (length-take-le n bytes within) some
 
 pub took : {C : Type 0} (T R : C → List ℕ → C → Type 0) (I : C → Type 0) (l : Line) (w w' : Option Told) (r : Readiness) (c c' : C) (piece : List ℕ)
-    → can_read r l ≡ true → 0 < length piece → w' ≡ with_read piece w → T c piece c' → Turned T R I can_read (here l w c r) (here l w' c' (record r { waiting = true }))
+    → can_read r l ≡ true → 0 < length piece → w' ≡ with_read piece w → T c piece c' → Turned 1 0 T R I can_read (here l w c r) (here l w' c' (record r { waiting = true }))
 took T R I l w w' r c c' piece can some k t =
     let open' : reads l ≡ true = right_true (r.readable && not r.waiting) (reads l) can in
-    one T R I can_read (here l w c r) (here l w' c' (record r { waiting = true })) (Readable piece) refl
+    one 1 0 T R I can_read (here l w c r) (here l w' c' (record r { waiting = true })) (Readable piece) refl
     (k ∙ moved_read w piece ∙ ap (λ (xs : List ℕ). moved (xs ++ []) [] w) (sym (picked (reads l) piece [] open')))
-    (open', t) (lt-ltb 0 (length piece) some) can (λ h e. absurd cc)
+    (open', t) (lt-ltb 0 (length piece) some) can (λ h e. absurd cc) (omega arith) (omega arith)
 
 pub declined : {C : Type 0} (T R : C → List ℕ → C → Type 0) (I : C → Type 0) (l l' : Line) (w w' : Option Told) (r : Readiness) (c c' : C) (piece : List ℕ)
-    → can_read r l ≡ true → l' ≡ after l Ends → w' ≡ with_read piece w → c' ≡ c → Turned T R I can_read (here l w c r) (here l' w' c' r)
+    → can_read r l ≡ true → l' ≡ after l Ends → w' ≡ with_read piece w → c' ≡ c → Turned 1 0 T R I can_read (here l w c r) (here l' w' c' r)
 declined T R I l l' w w' r c c' piece can line k same =
     let open' : reads l ≡ true = right_true (r.readable && not r.waiting) (reads l) can in
-    one T R I can_read (here l w c r) (here l' w' c' r) (Declined piece) line
+    one 1 0 T R I can_read (here l w c r) (here l' w' c' r) (Declined piece) line
     (k ∙ moved_read w piece ∙ ap (λ (xs : List ℕ). moved (xs ++ []) [] w) (sym (picked (reads l) piece [] open')))
-    (open', same) (left_true (is_open l.stage) (nat_lt (length l.owed) cap) open') can (λ h e. subst I (sym same) (h e))
+    (open', same) (left_true (is_open l.stage) (nat_lt (length l.owed) cap) open') can (λ h e. subst I (sym same) (h e)) (omega arith) (omega arith)
 
 pub ended_now : {C : Type 0} (T R : C → List ℕ → C → Type 0) (I : C → Type 0) (l l' : Line) (w w' : Option Told) (r : Readiness) (c : C)
-    → can_read r l ≡ true → l' ≡ after l Ends → w' ≡ w → Turned T R I can_read (here l w c r) (here l' w' c r)
+    → can_read r l ≡ true → l' ≡ after l Ends → w' ≡ w → Turned 1 0 T R I can_read (here l w c r) (here l' w' c r)
 ended_now T R I l l' w w' r c can line k =
     let open' : reads l ≡ true = right_true (r.readable && not r.waiting) (reads l) can in
-    one T R I can_read (here l w c r) (here l' w' c r) Ends line (k ∙ moved_none w) refl (left_true (is_open l.stage) (nat_lt (length l.owed) cap) open') can (λ h. h)
+    one 1 0 T R I can_read (here l w c r) (here l' w' c r) Ends line (k ∙ moved_none w) refl (left_true (is_open l.stage) (nat_lt (length l.owed) cap) open') can (λ h. h) (omega arith) (omega arith)
 
 pub failed_now : {C : Type 0} (T R : C → List ℕ → C → Type 0) (I : C → Type 0) (l l' : Line) (w w' : Option Told) (r : Readiness) (c : C)
-    → can_read r l ≡ true → l' ≡ after l Fails → w' ≡ w → Turned T R I can_read (here l w c r) (here l' w' c r)
+    → can_read r l ≡ true → l' ≡ after l Fails → w' ≡ w → Turned 1 0 T R I can_read (here l w c r) (here l' w' c r)
 failed_now T R I l l' w w' r c can line k =
     let open' : reads l ≡ true = right_true (r.readable && not r.waiting) (reads l) can in
-    one T R I can_read (here l w c r) (here l' w' c r) Fails line (k ∙ moved_none w) refl
-    (true_or (is_open l.stage) (owes l) (left_true (is_open l.stage) (nat_lt (length l.owed) cap) open')) can (λ h. h)
+    one 1 0 T R I can_read (here l w c r) (here l' w' c r) Fails line (k ∙ moved_none w) refl
+    (true_or (is_open l.stage) (owes l) (left_true (is_open l.stage) (nat_lt (length l.owed) cap) open')) can (λ h. h) (omega arith) (omega arith)
 
 pub blocked_now : {C : Type 0} (T R : C → List ℕ → C → Type 0) (I : C → Type 0) (l : Line) (w w' : Option Told) (r : Readiness) (c : C)
-    → can_read r l ≡ true → w' ≡ w → Turned T R I can_read (here l w c r) (here l w' c (record r { readable = false }))
-blocked_now T R I l w w' r c can k = rw k (fallen T R I can_read l w c r (record r { readable = false })
+    → can_read r l ≡ true → w' ≡ w → Turned 1 0 T R I can_read (here l w c r) (here l w' c (record r { readable = false }))
+blocked_now T R I l w w' r c can k = rw k (fallen 1 0 T R I can_read l w c r (record r { readable = false })
     (inl (left_true r.readable (not r.waiting) (left_true (r.readable && not r.waiting) (reads l) can), refl))
     (record { readable = λ e. refl; writable = λ e. e; waiting = λ e. e }) can (λ h. h))
 
@@ -156,24 +162,24 @@ waits : {X : Type 0} (r : Readiness) (l : Line) → can_answer r l ≡ true → 
 waits r l can e = clash r.waiting (left_true r.waiting (reads l) can) e
 
 pub replied_one : {C : Type 0} (T R : C → List ℕ → C → Type 0) (I : C → Type 0) (l l' : Line) (w : Option Told) (r : Readiness) (c c' : C) (reply : List ℕ)
-    → can_answer r l ≡ true → l' ≡ with_reply l reply → R c reply c' → Turned T R I can_answer (here l w c r) (here l' w c' r)
+    → can_answer r l ≡ true → l' ≡ with_reply l reply → R c reply c' → Turned 0 1 T R I can_answer (here l w c r) (here l' w c' r)
 replied_one T R I l l' w r c c' reply can line t =
     let open' : reads l ≡ true = right_true r.waiting (reads l) can in
-    one T R I can_answer (here l w c r) (here l' w c' r) (Answered reply)
+    one 0 1 T R I can_answer (here l w c r) (here l' w c' r) (Answered reply)
     (line ∙ sym (picked (reads l) (with_reply l reply) l open')) (moved_none w) (open', t) refl can
-    (λ h e. waits r l can e)
+    (λ h e. waits r l can e) (omega arith) (omega arith)
 
 pub idle_one : {C : Type 0} (T R : C → List ℕ → C → Type 0) (I : C → Type 0) (l l' : Line) (w : Option Told) (r : Readiness) (c c' : C)
-    → can_answer r l ≡ true → I c → l' ≡ l → c' ≡ c → Turned T R I can_answer (here l w c r) (here l' w c' (record r { waiting = false }))
-idle_one T R I l l' w r c c' can none line same = rw (line, same) (fallen T R I can_answer l w c r (record r { waiting = false })
+    → can_answer r l ≡ true → I c → l' ≡ l → c' ≡ c → Turned 0 1 T R I can_answer (here l w c r) (here l' w c' (record r { waiting = false }))
+idle_one T R I l l' w r c c' can none line same = rw (line, same) (fallen 0 1 T R I can_answer l w c r (record r { waiting = false })
     (inr (inr (left_true r.waiting (reads l) can, refl))) (record { readable = λ e. e; writable = λ e. e; waiting = λ e. refl }) can (λ h e. none))
 
 pub refused_one : {C : Type 0} (T R : C → List ℕ → C → Type 0) (I : C → Type 0) (l m l' : Line) (w : Option Told) (r : Readiness) (c c' : C)
-    → can_answer r l ≡ true → m ≡ l → l' ≡ after m Ends → c' ≡ c → Turned T R I can_answer (here l w c r) (here l' w c' r)
+    → can_answer r l ≡ true → m ≡ l → l' ≡ after m Ends → c' ≡ c → Turned 0 1 T R I can_answer (here l w c r) (here l' w c' r)
 refused_one T R I l m l' w r c c' can mid line same =
     let open' : reads l ≡ true = right_true r.waiting (reads l) can in
-    one T R I can_answer (here l w c r) (here l' w c' r) Ends (line ∙ ap (λ (x : Line). after x Ends) mid) (moved_none w) same
-    (left_true (is_open l.stage) (nat_lt (length l.owed) cap) open') can (λ h e. waits r l can e)
+    one 0 1 T R I can_answer (here l w c r) (here l' w c' r) Ends (line ∙ ap (λ (x : Line). after x Ends) mid) (moved_none w) same
+    (left_true (is_open l.stage) (nat_lt (length l.owed) cap) open') can (λ h e. waits r l can e) (omega arith) (omega arith)
 
 abbrev can_end : Readiness → Line → Bool
 can_end r l = is_open l.stage
@@ -183,10 +189,10 @@ or_same true c h = refl
 or_same false c h = absurd cc
 
 pub last_one : {C : Type 0} (T R : C → List ℕ → C → Type 0) (I : C → Type 0) (l m l' : Line) (w : Option Told) (r : Readiness) (c c' : C) (reply : List ℕ)
-    → can_answer r l ≡ true → m ≡ with_reply l reply → R c reply c' → l' ≡ after m Ends → Turned T R I can_answer (here l w c r) (here l' w c' r)
+    → can_answer r l ≡ true → m ≡ with_reply l reply → R c reply c' → l' ≡ after m Ends → Turned 0 1 T R I can_answer (here l w c r) (here l' w c' r)
 last_one T R I l m l' w r c c' reply can mid t line =
     let open' : is_open m.stage ≡ true = ap (λ (x : Line). is_open x.stage) mid ∙ left_true (is_open l.stage) (nat_lt (length l.owed) cap) (right_true r.waiting (reads l) can) in
-    renamed T R I (either can_answer can_end) can_answer (here l w c r) (here l' w c' r) (or_same (can_answer r l) (can_end r l) can)
-    (both T R I can_answer can_end (here l w c r) (here m w c' r) (here l' w c' r)
+    renamed 0 1 T R I (either can_answer can_end) can_answer (here l w c r) (here l' w c' r) (or_same (can_answer r l) (can_end r l) can)
+    (both 0 1 0 0 T R I can_answer can_end (here l w c r) (here m w c' r) (here l' w c' r)
     (replied_one T R I l m w r c c' reply can mid t)
-    (one T R I can_end (here m w c' r) (here l' w c' r) Ends line (moved_none w) refl open' open' (λ h. h)))
+    (one 0 0 T R I can_end (here m w c' r) (here l' w c' r) Ends line (moved_none w) refl open' open' (λ h. h) (omega arith) (omega arith)))

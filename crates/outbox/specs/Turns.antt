@@ -1,5 +1,5 @@
 -- What a turn at a connection does: to its line, to the wire, to the core that answers, and to what is known of all three. This project's own.
-use Rattle.std.specs.Prelude.{◌≡◌, ◌⊎◌, ℕ, ◌<◌, List, [], ◌∷◌, length, take, nat_lt, Option, Bool, true, false, not, ◌&&◌, ◌||◌}
+use Rattle.std.specs.Prelude.{◌≡◌, ◌⊎◌, ℕ, ◌+◌, ◌<◌, ◌≤◌, List, [], ◌∷◌, length, take, nat_lt, Option, Bool, true, false, not, ◌&&◌, ◌||◌}
 use Rattle.std.specs.Bool.{MatchBool}
 use Rattle.outbox.specs.declared.readiness.Readiness.{Readiness}
 use Rattle.outbox.specs.Lines.{Line, Event, Readable, Declined, Answered, Writable, Ends, Fails, after, run, read, sent, reads, owes, is_open}
@@ -68,12 +68,39 @@ here line wire core ready = record { line = line; wire = wire; core = core; read
 abbrev pub IsTold : {C : Type 0} → (C → Type 0) → Moment C → Type 0
 IsTold idle now = now.ready.waiting ≡ false → idle now.core
 
--- These events happened: to the line, on the wire, and to the core. Where it could go on, something moved or turned out to want a wait; where it could not, nothing changed.
-pub record Turned {C : Type 0} (takes answers : C → List ℕ → C → Type 0) (idle : C → Type 0) (can : Readiness → Line → Bool) (old new : Moment C) : Type 0 where
+-- the pieces that were read, and the requests that were answered
+abbrev pub pieces_at : Event → ℕ
+pieces_at (Readable piece) = 1
+pieces_at (Declined piece) = 1
+pieces_at (Answered reply) = 0
+pieces_at (Writable room) = 0
+pieces_at Ends = 0
+pieces_at Fails = 0
+
+abbrev pub answers_at : Event → ℕ
+answers_at (Readable piece) = 0
+answers_at (Declined piece) = 0
+answers_at (Answered reply) = 1
+answers_at (Writable room) = 0
+answers_at Ends = 0
+answers_at Fails = 0
+
+abbrev pub count_of : (Event → ℕ) → List Event → ℕ
+count_of at [] = 0
+count_of at (e ∷ es) = at e + count_of at es
+
+-- the most requests that a turn answers
+abbrev pub most_requests : ℕ
+most_requests = 64
+
+-- These events happened: to the line, on the wire, and to the core, with so many pieces and requests at most. Where it could go on, something moved or turned out to want a wait; where it could not, nothing changed.
+pub record Turned {C : Type 0} (most_pieces most_answers : ℕ) (takes answers : C → List ℕ → C → Type 0) (idle : C → Type 0) (can : Readiness → Line → Bool) (old new : Moment C) : Type 0 where
   pub events : List Event
   pub line_is : new.line ≡ run old.line events
   pub wire_is : new.wire ≡ moved (read old.line events) (sent old.line events) old.wire
   pub core_is : DoesAll takes answers old.line events old.core new.core
+  pub few_pieces : count_of pieces_at events ≤ most_pieces
+  pub few_answers : count_of answers_at events ≤ most_answers
   pub goes_on : can old.ready old.line ≡ true → (moves old.line events ≡ true) ⊎ HasFallen old.ready new.ready
   pub rises : moves old.line events ≡ false → HasNotRisen old.ready new.ready
   pub stays : can old.ready old.line ≡ false → new ≡ old

@@ -9,6 +9,8 @@ mod laws;
 mod owing;
 mod readiness;
 mod stage;
+#[cfg(test)]
+mod trials;
 mod turns;
 mod wire;
 

@@ -4,7 +4,7 @@ use Rattle.outbox.proofs.Single.{nothing, replied_one, idle_one, last_one, refus
 use Rattle.outbox.proofs.turns.answer_one.Goals as goal
 
 pub returns-then-not-can_answer : goal.returns-then-not-can_answer
-returns-then-not-can_answer g c wire = nothing _ _ _ can_answer (here c.args.outbox.now wire c.args.core.now c.args.ready.now) (sym c.if-not-can_answer.ensures)
+returns-then-not-can_answer g c wire = nothing 0 1 _ _ _ can_answer (here c.args.outbox.now wire c.args.core.now c.args.ready.now) (sym c.if-not-can_answer.ensures)
 
 pub returns-in-Replied : goal.returns-in-Replied
 returns-in-Replied g c wire =

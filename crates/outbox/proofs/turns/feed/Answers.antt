@@ -4,7 +4,7 @@ use Rattle.outbox.proofs.Single.{nothing, some_taken, took, declined, ended_now,
 use Rattle.outbox.proofs.turns.feed.Goals as goal
 
 pub returns-then-not-can_read : goal.returns-then-not-can_read
-returns-then-not-can_read g c = nothing _ _ _ can_read (here c.args.outbox.now (g.W.Wire.told c.args.wire.now) c.args.core.now c.args.ready.now) (sym c.if-not-can_read.ensures)
+returns-then-not-can_read g c = nothing 1 0 _ _ _ can_read (here c.args.outbox.now (g.W.Wire.told c.args.wire.now) c.args.core.now c.args.ready.now) (sym c.if-not-can_read.ensures)
 
 pub returns-then-take : goal.returns-then-take
 returns-then-take g c =
