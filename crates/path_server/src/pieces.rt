@@ -88,8 +88,8 @@ fn add_line<W: Write>(
 
 /// Writes the lines of nodes, in order and in pieces of some 65,536 bytes.
 ///
-/// No more is held of them than a piece and a path; a value of a piece's length or more is written as it stands in the text. Memory
-/// comes where a growth is refused, Write where the writer does not take a piece: a front of the lines is written then.
+/// No more is held of them than a piece and a path; a value of a piece's length or more is written as it stands in the text.
+/// Memory comes where a growth is refused, Write where the writer does not take a piece: a front of the lines is written then.
 pub fn write_pieces<W: Write>(
     alloc: Global,
     document: &Document,
