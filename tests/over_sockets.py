@@ -64,9 +64,12 @@ class Load:
 
 
 class Width:
-    """A tenant whose queries have too many nodes, too large a reply, or stay below by one."""
+    """A tenant whose queries cost too much, have too large a reply, or stay below by little: 152 wildcards on 65,788 zeros cost
+    152 * 65,789 = 9,999,928 units, and on one more 10,000,080."""
 
-    TEXTS = {b"nodes": (b"[0" + b",0" * 65_536 + b"]", b"[0" + b",0" * 65_535 + b"]"), b"reply": (b'"' + b"x" * 1_048_570 + b'"', b'"x"')}
+    TEXTS = {b"cost": (b"[0" + b",0" * 65_788 + b"]", b"[0" + b",0" * 65_787 + b"]", b"[0]"),
+             b"reply": (b'"' + b"x" * 1_048_570 + b'"', b'"x"')}
+    QUERIES = {b"cost": b"$[" + b",".join([b"*"] * 152) + b"]", b"reply": b"$"}
 
     def __init__(self, chance):
         self.chance = chance
@@ -74,14 +77,14 @@ class Width:
     def first(self):
         for place in range(4):
             yield body(1, WIDE, named(b"reply"), named(b"%d" % place), self.TEXTS[b"reply"][0])
-        yield body(1, WIDE, named(b"nodes"), named(b"a"), self.TEXTS[b"nodes"][0])
+        yield body(1, WIDE, named(b"cost"), named(b"a"), self.TEXTS[b"cost"][0])
 
     def next(self):
-        collection = self.chance.choice([b"nodes", b"reply"])
+        collection = self.chance.choice([b"cost", b"reply"])
         if self.chance.randrange(2):
-            document = b"a" if collection == b"nodes" else b"%d" % self.chance.randrange(4)
+            document = b"a" if collection == b"cost" else b"%d" % self.chance.randrange(4)
             return body(1, WIDE, named(collection), named(document), self.chance.choice(self.TEXTS[collection]))
-        return body(5, WIDE, named(collection), b"$[*]" if collection == b"nodes" else b"$")
+        return body(5, WIDE, named(collection), self.QUERIES[collection])
 
 
 class Requests:

@@ -1,111 +1,40 @@
 """A plain model of the server: a dictionary of dictionaries for each tenant, and a buffer for each connection.
 
-Queries are those of names, indexes and wildcards alone, and a few that are refused. Texts are judged by Python's json.
+Queries are answered by the plain evaluator, but for a few that are refused. Texts are judged by Python's json.
 """
-import functools
-import json
 import re
 import struct
 
 from json_verdict import verdict
+from plain_queries import asked
 
 REQUEST_LIMIT = 2_097_152
 PAYLOAD_LIMIT = 4_194_299
-NODE_LIMIT = 65_536
+BUDGET = 10_000_000
 QUOTAS = (("TooManyCollections", 16), ("TooManyDocuments", 1_000), ("TooManyBytes", 16_777_216))
 STATUS = {name: number for number, name in enumerate(
     "Ok Short NoTenant BadCommand BadFields TooLong NotUtf8 NotJson TooDeep NumberLimit LoneSurrogate DuplicateName TooManyCollections "
-    "TooManyDocuments TooManyBytes NotFound QueryTooLong NotWellFormed NotValid TooManyNodes ReplyTooLarge NoMemory".split())}
+    "TooManyDocuments TooManyBytes NotFound QueryTooLong NotWellFormed NotValid Status19 ReplyTooLarge NoMemory Costly".split())}
 STATUS["FrameFault"] = 255
 NOT_WELL_FORMED = [b"", b"$ ", b"a", b"$[", b"$[01]", b"$[-0]", b"$..", b"$.a.", b"$['a]", b"$\xff", b"$[?true]"]
 NOT_VALID = [b"$[9007199254740992]", b"$[?count(@.a)]", b"$[?match(@.a,'b')]", b"$[-9007199254740992]"]
-STEP = re.compile(r"\.([A-Za-z_][A-Za-z_0-9]*)|\['([A-Za-z_ 0-9]*)'\]|\[(-?[0-9]+)\]|\.\*|\[\*\]")
 
 
 class Refused(Exception):
     """Ends a request with the status of this name."""
 
 
-# ---- texts
-
-TOKEN = re.compile(r'"(?:[^"\\]|\\.)*"|[\[\]{}:,]|[^\s\[\]{}:,"]+')
-
-
-@functools.lru_cache(maxsize=64)
-def parsed(source):
-    """An accepted text as (kind, start, end, children); a child is its step and its value. Places are those of bytes."""
-    text = source.decode("utf-8")
-    starts = [0]
-    for character in text:
-        starts.append(starts[-1] + len(character.encode("utf-8")))
-    tokens = [(it[0], starts[it.start()], starts[it.end()]) for it in TOKEN.finditer(text)]
-
-    def value(at):
-        sign, start, end = tokens[at]
-        if sign not in "[{":
-            return ("leaf", start, end, []), at + 1
-        children, at = [], at + 1
-        while tokens[at][0] not in "]}":
-            if tokens[at][0] == ",":
-                at += 1
-            if sign == "[":
-                child, at = value(at)
-                children.append((len(children), child))
-            else:
-                name = json.loads(tokens[at][0])
-                child, at = value(at + 2)
-                children.append((name, child))
-        return ("array" if sign == "[" else "object", start, tokens[at][2], children), at + 1
-
-    return value(0)[0]
-
-
 # ---- queries
 
-def steps_of(query):
-    """The steps of a query: a name, an index, or None for all children."""
+def judged(query):
+    """A query's text, where it is none of those that are refused."""
     if len(query) > 4_096:
         raise Refused("QueryTooLong")
     if query in NOT_WELL_FORMED or not query.startswith(b"$"):
         raise Refused("NotWellFormed")
     if query in NOT_VALID:
         raise Refused("NotValid")
-    text = query.decode("ascii")
-    steps, at = [], 1
-    while at < len(text):
-        found = STEP.match(text, at)
-        assert text[0] == "$" and found, f"the model does not know the query {query!r}"
-        name = found[1] if found[1] is not None else found[2]
-        steps.append(name if name is not None else int(found[3]) if found[3] is not None else None)
-        at = found.end()
-    return steps
-
-
-def selected(nodes, step):
-    for path, (kind, start, end, children) in nodes:
-        for label, child in children:
-            from_end = step is not None and kind == "array" and not isinstance(step, str) and label - len(children) == step
-            if step is None or from_end or type(label) is type(step) and label == step:
-                yield path + (label,), child
-
-
-SHORT = {"'": "\\'", "\\": "\\\\", "\b": "\\b", "\t": "\\t", "\n": "\\n", "\f": "\\f", "\r": "\\r"}
-
-
-def written(path):
-    """The normalized path (RFC 9535, section 2.7)."""
-    def name(text):
-        return "".join(SHORT.get(c) or (f"\\u{ord(c):04x}" if c < " " else c) for c in text)
-    return "".join(["$", *(f"['{name(step)}']" if isinstance(step, str) else f"[{step}]" for step in path)]).encode("utf-8")
-
-
-def hits(source, steps):
-    nodes = [((), parsed(source))]
-    for step in steps:
-        nodes = list(selected(nodes, step))
-        if len(nodes) > NODE_LIMIT:
-            raise Refused("TooManyNodes")
-    return [(written(path), source[start:end]) for path, (_, start, end, _) in nodes]
+    return query.decode("utf-8")
 
 
 # ---- requests
@@ -174,15 +103,19 @@ def drop(tenant, collection):
 
 
 def query(tenant, collection, text):
-    steps = steps_of(text)
-    total, parts, size = 0, [], 4
+    text = judged(text)
+    total, parts, size, spent = 0, [], 4, 0
     for name in sorted(tenant.get(collection, {})):
-        found = hits(tenant[collection][name], steps)
-        part = b"".join(named(name) + number(len(path)) + path + number(len(source)) + source for path, source in found)
-        total, size = total + len(found), size + len(part)
-        if size > PAYLOAD_LIMIT:
-            raise Refused("ReplyTooLarge")
-        parts.append(part)
+        charge, found = asked(tenant[collection][name], text)
+        spent += charge
+        if spent > BUDGET:
+            raise Refused("Costly")
+        for path, source in found:
+            path = path.encode("utf-8")
+            parts.append(named(name) + number(len(path)) + path + number(len(source)) + source)
+            total, size = total + 1, size + len(parts[-1])
+            if size > PAYLOAD_LIMIT:
+                raise Refused("ReplyTooLarge")
     return number(total) + b"".join(parts)
 
 
