@@ -12,3 +12,4 @@ pub mod Serve
 pub mod Writing
 pub mod Sent
 pub mod Once
+pub mod Standing

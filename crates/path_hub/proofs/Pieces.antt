@@ -19,7 +19,7 @@ use Rattle.path_hub.proofs.Feeding.{same_test, empty_split, empty_broken}
 use Rattle.std.proofs.lemmas.Bool.Decides.{Decides-eqb}
 
 -- a stream's bodies are those of its first bytes and then the new ones
-bodies-append : (laws : Splitting) (s p : List ℕ) → is_broken s ≡ false → bodies_in (s ++ p) ≡ bodies_in s ++ new_bodies s p
+pub bodies-append : (laws : Splitting) (s p : List ℕ) → is_broken s ≡ false → bodies_in (s ++ p) ≡ bodies_in s ++ new_bodies s p
 bodies-append laws s p h =
     ap (λ (x : Split). map Some x.frames ++ cond (is_fault (front x.rest)) (None ∷ []) []) (laws.prefix s p)
     ∙ ap (λ xs. xs ++ cond (is_broken (rest s ++ p)) (None ∷ []) []) (map-append Some (frames s) (frames (rest s ++ p)))

@@ -36,7 +36,7 @@ new_open laws s p h =
     and_true true = refl
     and_true false = refl
 
-rest_fault : (laws : Splitting) (s p : List ℕ) → is_broken s ≡ true → front (rest s ++ p) ≡ Fault
+pub rest_fault : (laws : Splitting) (s p : List ℕ) → is_broken s ≡ true → front (rest s ++ p) ≡ Fault
 rest_fault laws s p h = laws.fault_stays (rest s) p (fault_is (front (rest s)) h)
 
 -- after a fault nothing comes

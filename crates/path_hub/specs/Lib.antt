@@ -11,5 +11,6 @@ pub mod Wires
 pub mod Serving
 pub mod Turns
 pub mod Sending
+pub mod Standing
 pub mod MemoryWires
 pub mod Laws

@@ -70,7 +70,7 @@ impl Hub {
     }
 
     /// Whether a framing fault closed the connection.
-    pub(crate) fn is_closed(&self, conn: u32) -> bool
+    pub fn is_closed(&self, conn: u32) -> bool
         ensures { result ≡ option_map_or (λ f. f.closed) (session conn self.now.sessions) false }
     {
         match self.sessions.get(&conn) {

@@ -2,10 +2,12 @@
 ghost use Rattle.std.specs.Prelude.{◌≡◌, ℕ, List};
 ghost use Rattle.tenant_store.specs.Maps.{Map};
 ghost use Rattle.path_hub.specs.Answers.{Alone};
-ghost use Rattle.path_hub.specs.Laws.{ServedBytes, ServedOnce};
+ghost use Rattle.path_hub.specs.Laws.{ServedBytes, ServedOnce, RunsApart};
+ghost use Rattle.path_hub.specs.Standing.{Standing};
 
 use path_grammar::queries_have_one_tree;
 use tenant_store::laws::{puts_answer_once, queries_answer_once};
+use wire_frames::splits_from_the_front;
 
 /// A tenant's requests have one list of replies: two runs with equal own requests give equal own replies.
 pub fn told_once()
@@ -14,6 +16,19 @@ pub fn told_once()
     puts_answer_once();
     queries_answer_once();
     queries_have_one_tree();
+}
+
+/// A tenant's replies, those that memory ran out for aside, are those that its own requests get from its map, from whatever tenants
+/// and in whatever order the items are answered.
+pub fn runs_apart()
+    ensures { RunsApart }
+{}
+
+/// However pieces are taken and frames answered in turns, those answered are the first of the connection's stream.
+pub fn sessions_stand_in_streams()
+    ensures { Standing }
+{
+    splits_from_the_front();
 }
 
 /// A connection that was served to the end of its input has written the replies that the items of its bytes get.

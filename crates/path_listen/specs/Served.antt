@@ -1,0 +1,31 @@
+-- What any order of turns comes to: this project's own.
+use Rattle.std.specs.Prelude.{◌≡◌, ℕ, List, ◌++◌, map, Option, Some}
+use Rattle.wire_frames.specs.Framing.{fresh as fresh_framing}
+use Rattle.outbox.specs.Lines.{Line, Event, fresh, run, read, sent, lost}
+use Rattle.tenant_store.specs.Maps.{Map}
+use Rattle.path_hub.specs.HubState.{HubState}
+use Rattle.path_hub.specs.Items.{Item}
+use Rattle.path_hub.specs.Runs.{Told, Run, own_requests, own_replies}
+use Rattle.path_hub.specs.Answers.{Alone}
+use Rattle.path_hub.specs.Tenants.{map_of}
+use Rattle.path_hub.specs.Pending.{item}
+use Rattle.path_hub.specs.Into.{joined}
+use Rattle.path_hub.specs.Serving.{items_in}
+use Rattle.path_hub.specs.Sessions.{session}
+use Rattle.path_listen.specs.Acts.{Act, AllHappen, told_in, events_of, bodies_of, frames_of, IsKept}
+
+-- Of one connection: its requests that were answered are the first in the bytes read, and what was written, lost at a fault and is owed is the replies.
+pub record IsServed (q : ℕ) (items : List Item) (replies : List Told) (events : List Event) : Type 0 where
+  pub waiting : List (Option (List ℕ))
+  pub first : items_in q (read fresh events) ≡ map (item q) (bodies_of q items ++ waiting)
+  pub bytes : sent fresh events ++ lost fresh events ++ (run fresh events).owed ≡ joined (frames_of q replies)
+
+-- Of all: the requests in the order in which their replies were complete, each connection that was opened before and stays so, and each tenant.
+pub record Serves (lines : ℕ → Line) (old : HubState) (acts : List Act) (new : HubState) : Type 0 where
+  pub items : List Item
+  pub runs : Run old.tenants items (told_in acts) new.tenants
+  pub each : (q : ℕ) → lines q ≡ fresh → session q old.sessions ≡ Some fresh_framing → IsKept q acts → IsServed q items (told_in acts) (events_of q acts)
+  pub apart : (key : List ℕ) (m : Map) → map_of key old.tenants ≡ Some m → Alone m (own_requests key items (told_in acts)) (own_replies key items (told_in acts))
+
+abbrev pub TurnsAreServed : Type 0
+TurnsAreServed = (lines : ℕ → Line) (acts : List Act) (old new : HubState) → AllHappen lines acts old new → Serves lines old acts new

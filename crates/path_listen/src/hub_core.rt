@@ -1,0 +1,88 @@
+//! The hub as what answers the requests of many connections.
+ghost use Rattle.std.specs.Prelude.{◌≡◌, ◌↔◌, OnOk, OnErr, IsErrOf, IsSome, is_some};
+ghost use Rattle.path_hub.specs.Sessions.{session};
+ghost use Rattle.path_listen.specs.Answering.{Opens, Closes};
+
+use outbox::{Core, Step};
+use path_hub::{ConnectFault, Hub};
+use std::alloc::Global;
+use std::marker::Model;
+
+/// A hub that answers one request at a time, in turns with other connections' requests. Its value is the hub's.
+#[derive(Drop)]
+pub struct HubCore {
+    hub: Hub,
+    alloc: Global,
+}
+
+impl Model for HubCore {
+    ghost use Rattle.path_hub.specs.HubState.{HubState};
+
+    ghost Value = { HubState };
+
+    ghost view = { λ core. core.hub };
+}
+
+impl HubCore {
+    /// Over this hub.
+    pub fn new(alloc: Global, hub: Hub) -> HubCore
+        ensures { result ≡ hub }
+    {
+        HubCore { hub, alloc }
+    }
+
+    /// Opens a connection's session.
+    ///
+    /// # Errors
+    ///
+    /// `Taken` where it has one, `Memory` where a growth was refused. Both change nothing.
+    pub fn connect(&mut self, conn: u32) -> Result<(), ConnectFault>
+        ensures ok { OnOk result (Opens conn self.old self.new) }
+        ensures taken { IsErrOf result ConnectFault.Taken ↔ IsSome (session conn self.old.sessions) }
+        ensures err { OnErr result (self.new ≡ self.old) }
+    {
+        self.hub.connect(self.alloc, conn)
+    }
+
+    /// Ends a connection's session, and tells whether it was there. What waited on it is gone.
+    pub fn disconnect(&mut self, conn: u32) -> bool
+        ensures was { result ≡ is_some (session conn self.old.sessions) }
+        ensures closes { Closes conn self.old self.new }
+    {
+        self.hub.disconnect(conn)
+    }
+}
+
+impl Core for HubCore {
+    ghost use Rattle.path_hub.specs.Into.{IsTaken};
+    ghost use Rattle.path_listen.specs.Answering.{takes, Answers, IsIdle};
+
+    ghost takes = { takes };
+
+    ghost answers = { Answers };
+
+    ghost idle = { IsIdle };
+
+    // A piece is declined where the connection has no session, where a framing fault closed it, and where a growth was refused.
+    fn take(&mut self, conn: u32, piece: &[u8]) -> bool {
+        match self.hub.take(conn, piece) {
+            Ok(()) => true,
+            Err(_) => false,
+        }
+    }
+
+    // The reply to a framing fault is the last.
+    fn answer_next(&mut self, conn: u32, out: &mut Vec<u8>) -> Step {
+        match self.hub.answer_next(self.alloc, conn, out) {
+            Ok(true) => {
+                if self.hub.is_closed(conn) {
+                    Step::Last
+                } else {
+                    Step::Replied
+                }
+            }
+            Ok(false) => Step::Idle,
+            Err(_) => Step::Refused,
+        }
+    }
+}
