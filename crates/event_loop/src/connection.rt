@@ -1,5 +1,6 @@
 //! One connection and what is known of it.
 ghost use Rattle.std.specs.Prelude.{◌<◌, length};
+ghost use Rattle.event_loop.specs.Turning.{TakesTurn};
 
 use crate::counted::Counted;
 use crate::journal::End;
@@ -84,6 +85,7 @@ impl Connection {
         is_held_back: bool,
     ) -> (u64, u64)
         requires { 0 < length buffer.old }
+        ensures { TakesTurn (C.takes conn) (C.answers conn) self.old.outbox core.old self.new.outbox core.new }
     {
         let before = (self.socket.read, self.socket.written);
         let ready = self.ready;

@@ -1,4 +1,5 @@
 //! A core whose answers are counted.
+ghost use Rattle.std.specs.Prelude.{◌≡◌};
 
 use crate::meter::Meter;
 use outbox::{Core, Step};
@@ -18,7 +19,7 @@ pub struct Counts {
 
 /// A core that counts what another one answers, and what waits on the connection whose turn it is. Its value is that core's.
 #[derive(Drop)]
-pub struct Counted<C: Core> {
+pub(crate) struct Counted<C: Core> {
     core: C,
     counts: Counts,
     meter: Meter,
@@ -34,7 +35,9 @@ impl<C: Core> Model for Counted<C> {
 
 impl<C: Core> Counted<C> {
     /// Over this core. Nothing is counted yet.
-    pub fn new(core: C) -> Counted<C> {
+    pub fn new(core: C) -> Counted<C>
+        ensures { result ≡ core }
+    {
         Counted {
             core,
             counts: Counts {
@@ -57,7 +60,9 @@ impl<C: Core> Counted<C> {
     }
 
     /// The turn of a connection on which so much waits begins.
-    pub fn begin(&mut self, meter: Meter) {
+    pub fn begin(&mut self, meter: Meter)
+        ensures { self.new ≡ self.old }
+    {
         self.meter = meter;
         self.has_faulted = false;
     }
@@ -73,7 +78,9 @@ impl<C: Core> Counted<C> {
     }
 
     // Counts a reply.
-    fn count(&mut self, reply: &[u8]) {
+    fn count(&mut self, reply: &[u8])
+        ensures { self.new ≡ self.old }
+    {
         self.counts.requests = self.counts.requests.saturating_add(1);
         if let Some(status) = reply.get(STATUS) {
             let place = usize::from(*status);

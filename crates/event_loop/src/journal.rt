@@ -25,7 +25,7 @@ pub struct Totals {
     /// Connections that were taken in.
     pub connections: u64,
     /// Connections that are open.
-    pub open: usize,
+    pub connected: usize,
     /// What was asked and answered.
     pub counts: Counts,
     /// Bytes read.

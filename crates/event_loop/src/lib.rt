@@ -13,9 +13,7 @@ mod meter;
 mod server;
 mod socket;
 
-pub use counted::{Counted, Counts};
+pub use counted::Counts;
 pub use journal::{End, Journal, Totals};
 pub use limits::Limits;
-pub use meter::Meter;
 pub use server::{LoopFault, Server};
-pub use socket::Socket;

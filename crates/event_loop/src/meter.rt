@@ -7,7 +7,7 @@ const HEAD: usize = 4;
 /// Counts the bytes of a stream that wait, by the lengths in front of its frames: all that came, until all whole frames are answered;
 /// then those of the frame in part.
 #[derive(Clone, Copy, Debug, Default, PartialEq, Eq)]
-pub struct Meter {
+pub(crate) struct Meter {
     // The bytes since the last whole frame.
     part: usize,
     // The length in front of it, as far as it came.

@@ -1,4 +1,6 @@
 //! The loop over what is ready.
+ghost use Rattle.std.specs.Prelude.{◌≡◌, OnOk, IfOk, IsSome, IsTrue};
+ghost use Rattle.event_loop.specs.Servers.{open_count, IsOver};
 
 use crate::connection::{Connection, Phase};
 use crate::counted::Counted;
@@ -88,14 +90,14 @@ pub struct Server {
     due: Vec<usize>,
     spare: Vec<usize>,
     core: Counted<HubCore>,
-    buffer: Vec<u8>,
+    buffer: Box<[u8; PIECE]>,
     limits: Limits,
     // Those that could go on, but are held back.
     paused: Vec<usize>,
     load: Load,
     // The seconds since the start.
     start: Instant,
-    now: u64,
+    second: u64,
     told: u64,
     taken: u64,
     read: u64,
@@ -113,7 +115,12 @@ impl Server {
         addr: SocketAddr,
         core: HubCore,
         limits: Limits,
-    ) -> Result<Server, LoopFault> {
+    ) -> Result<Server, LoopFault>
+        ensures listening { IfOk result (λ server. IsSome server.listener) }
+        ensures unconnected { IfOk result (λ server. open_count server ≡ 0) }
+        ensures none_taken { IfOk result (λ server. server.taken ≡ 0) }
+        ensures limits { IfOk result (λ server. server.limits ≡ limits) }
+    {
         let alloc = rt.alloc();
         let poll = Poll::new(rt)?;
         let mut listener = TcpListener::bind(rt, addr)?;
@@ -135,7 +142,7 @@ impl Server {
             due: Vec::new(alloc),
             spare: Vec::new(alloc),
             core: Counted::new(core),
-            buffer: Vec::from_elem(alloc, 0u8, PIECE)?,
+            buffer: Box::new(alloc, [0; PIECE])?,
             limits,
             paused: Vec::new(alloc),
             load: Load {
@@ -143,7 +150,7 @@ impl Server {
                 held: 0,
             },
             start: Instant::now(rt)?,
-            now: 0,
+            second: 0,
             told: 0,
             taken: 0,
             read: 0,
@@ -156,7 +163,9 @@ impl Server {
     /// # Errors
     ///
     /// `Net` where the system does not tell it, or the server has stopped listening.
-    pub fn local_addr(&self) -> Result<SocketAddr, LoopFault> {
+    pub fn local_addr(&self) -> Result<SocketAddr, LoopFault>
+        ensures listening { OnOk result (IsSome self.now.listener) }
+    {
         match &self.listener {
             Some(listener) => Ok(listener.local_addr()?),
             None => Err(LoopFault::Net),
@@ -164,10 +173,15 @@ impl Server {
     }
 
     /// What it did so far.
-    pub fn totals(&self) -> Totals {
+    pub fn totals(&self) -> Totals
+        ensures connections { result.connections ≡ self.now.taken }
+        ensures open_ones { result.connected ≡ open_count self.now }
+        ensures bytes_read { result.read ≡ self.now.read }
+        ensures bytes_written { result.written ≡ self.now.written }
+    {
         Totals {
             connections: self.taken,
-            open: self.connections.len(),
+            connected: self.connections.len(),
             counts: *self.core.counts(),
             read: self.read,
             written: self.written,
@@ -180,9 +194,15 @@ impl Server {
     /// # Errors
     ///
     /// `Net` where the system does not say what is ready, `Memory` where a growth was refused that no connection asked for.
-    pub fn serve<R: Clock, J: Journal>(&mut self, rt: &R, journal: &mut J) -> Result<(), LoopFault> {
+    pub fn serve<R: Clock, J: Journal>(
+        &mut self,
+        rt: &R,
+        journal: &mut J,
+    ) -> Result<(), LoopFault>
+        ensures over { OnOk result (IsOver self.new) }
+    {
         'waits: for _ in 0..u64::MAX {
-            if self.listener.is_none() && self.connections.is_empty() {
+            if self.is_over() {
                 return Ok(());
             }
             self.wait()?;
@@ -195,7 +215,14 @@ impl Server {
                 self.resume()?;
             }
         }
-        Ok(())
+        Err(LoopFault::Net)
+    }
+
+    // Whether it takes in no connection any more, and none is open.
+    fn is_over(&self) -> bool
+        ensures { IsTrue result → IsOver self.now }
+    {
+        self.listener.is_none() && self.connections.is_empty()
     }
 
     // Waits for what is ready and notes it.
@@ -232,9 +259,9 @@ impl Server {
         let Ok(elapsed) = self.start.elapsed(rt) else {
             return false;
         };
-        let before = self.now;
-        self.now = elapsed.as_secs();
-        self.now > before
+        let before = self.second;
+        self.second = elapsed.as_secs();
+        self.second > before
     }
 
     // Whether no further connection is taken in for now.
@@ -254,7 +281,7 @@ impl Server {
                 None => return,
             };
             match accepted {
-                Ok((stream, _)) => self.open(stream),
+                Ok((stream, _)) => self.take_in(stream),
                 Err(error) => match error.kind() {
                     ErrorKind::WouldBlock => self.is_asked = false,
                     ErrorKind::ConnectionAborted => {}
@@ -269,14 +296,14 @@ impl Server {
     }
 
     // Takes a connection in. Where memory is refused, or it can't be waited for, it is closed.
-    fn open(&mut self, stream: TcpStream) {
+    fn take_in(&mut self, stream: TcpStream) {
         // without it no reply is wrong, and some come later
         let _ = stream.set_nodelay(true);
         let room = self.connections.len().saturating_add(1);
         if self.due.reserve(room).is_err() || self.spare.reserve(room).is_err() {
             return;
         }
-        let connection = Connection::new(self.alloc, self.taken, stream, self.now);
+        let connection = Connection::new(self.alloc, self.taken, stream, self.second);
         let Ok(key) = self.connections.insert(connection) else {
             return;
         };
@@ -325,24 +352,24 @@ impl Server {
 
     // One turn for a connection.
     fn take_turn<J: Journal>(&mut self, key: usize, journal: &mut J) -> Result<(), LoopFault> {
-        let open = self.connections.len();
+        let count = self.connections.len();
         let (Some(connection), Ok(conn)) = (self.connections.get_mut(key), u32::try_from(key))
         else {
             return Ok(());
         };
         connection.is_due = false;
         if let Phase::Lingering(_) = connection.phase {
-            if !connection.drain(&mut self.buffer) {
+            if !connection.drain(&mut *self.buffer) {
                 self.close(key, conn);
                 return Ok(());
             }
             return self.schedule(key);
         }
-        let is_held_back = self.load.holds_back(connection.held, open);
+        let is_held_back = self.load.holds_back(connection.held, count);
         let (read, written) =
-            connection.turn(&mut self.core, conn, &mut self.buffer, is_held_back);
+            connection.turn(&mut self.core, conn, &mut *self.buffer, is_held_back);
         if read > 0 || written > 0 {
-            connection.moved = self.now;
+            connection.moved = self.second;
         }
         self.read = self.read.saturating_add(read);
         self.written = self.written.saturating_add(written);
@@ -357,14 +384,14 @@ impl Server {
 
     // A connection that can go on gets a further turn, at once or once it is not held back.
     fn schedule(&mut self, key: usize) -> Result<(), LoopFault> {
-        let open = self.connections.len();
+        let count = self.connections.len();
         let Some(connection) = self.connections.get_mut(key) else {
             return Ok(());
         };
         if !connection.can_go_on() || connection.is_due {
             return Ok(());
         }
-        if self.load.holds_back(connection.held, open) && !connection.can_write() {
+        if self.load.holds_back(connection.held, count) && !connection.can_write() {
             if !connection.is_paused {
                 connection.is_paused = true;
                 self.paused.push(key)?;
@@ -403,7 +430,7 @@ impl Server {
         journal.ended(connection.number, how);
         match how {
             End::FrameFault | End::Memory => {
-                connection.linger(self.now);
+                connection.linger(self.second);
                 self.core.core().disconnect(conn);
                 self.load.change(connection.held, 0);
                 connection.held = 0;
@@ -429,8 +456,8 @@ impl Server {
         'keys: for key in 0..self.bound {
             self.expire(key, journal)?;
         }
-        if self.now.saturating_sub(self.told) >= MINUTE {
-            self.told = self.now;
+        if self.second.saturating_sub(self.told) >= MINUTE {
+            self.told = self.second;
             journal.counted(&self.totals());
         }
         self.resume()
@@ -441,7 +468,7 @@ impl Server {
         let (Some(connection), Ok(conn)) = (self.connections.get(key), u32::try_from(key)) else {
             return Ok(());
         };
-        if !connection.expires(self.now, self.limits.idle) {
+        if !connection.expires(self.second, self.limits.idle) {
             return Ok(());
         }
         match connection.phase {

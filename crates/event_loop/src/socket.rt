@@ -18,7 +18,7 @@ pub(crate) enum Fate {
 
 /// A wire over a stream that never waits, as a socket that was told so.
 #[derive(Drop)]
-pub struct Socket<S> {
+pub(crate) struct Socket<S> {
     pub(crate) stream: S,
     pub(crate) fate: Fate,
     // The last read gave less than it had room for, and nothing was reported since: a further one would only say that it would wait.

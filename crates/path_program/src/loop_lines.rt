@@ -77,7 +77,7 @@ struct CountLine<'a>(&'a Totals);
 impl<'a> fmt::Display for CountLine<'a> {
     fn fmt<W: fmt::Write>(&self, f: &mut fmt::Formatter<W>) -> fmt::Result {
         let totals = self.0;
-        write!(f, "connections {}, open {}", totals.connections, totals.open)?;
+        write!(f, "connections {}, open {}", totals.connections, totals.connected)?;
         write!(f, ", requests {}", totals.counts.requests)?;
         write!(f, ", read {}, written {}", totals.read, totals.written)?;
         'statuses: for (status, count) in totals.counts.statuses.iter().enumerate() {
@@ -104,7 +104,7 @@ mod tests {
         statuses[255] = 1;
         let totals = Totals {
             connections: 4,
-            open: 3,
+            connected: 3,
             counts: Counts {
                 requests: 8,
                 statuses,

@@ -3,17 +3,17 @@
 use crate::command_line::Listen;
 use crate::failure::Failure;
 use crate::loop_lines::LoopLines;
-use event_loop::{Limits, LoopFault, Server};
+use event_loop::{Limits, Server};
 use path_hub::Hub;
 use path_listen::HubCore;
-use path_server::read_keys;
+use path_server::{KeysFault, read_keys};
 use standard_streams::{ReadFault, read_past};
 use std::fs;
 use std::net::{Net, ToSocketAddrs};
 use std::rt::{Clock, Files};
 
-/// The most bytes of a file of keys: 256 keys of 32 digits, and a byte behind each.
-const MOST_BYTES: u64 = 8_448;
+/// The most bytes of a file of keys.
+const MOST_BYTES: u64 = 65_536;
 
 /// Answers `path_server listen`.
 pub fn listen<R: Print + Eprint + Net + Files + Clock + AllocGlobal>(
@@ -29,13 +29,13 @@ pub fn listen<R: Print + Eprint + Net + Files + Clock + AllocGlobal>(
         idle: wanted.idle,
     };
     let mut server = bind(rt, wanted.address, HubCore::new(rt.alloc(), hub), limits)?;
-    let bound = server.local_addr().map_err(failure_of)?;
+    let bound = server.local_addr().map_err(Failure::of_loop)?;
     if println!(rt; "listening {bound}").is_err() {
         return Err(Failure::Write);
     }
     server
         .serve(rt, &mut LoopLines::new(rt, wanted.log))
-        .map_err(failure_of)?;
+        .map_err(Failure::of_loop)?;
     let totals = server.totals();
     let (connections, requests) = (totals.connections, totals.counts.requests);
     match println!(rt; "served {connections} connections, {requests} requests") {
@@ -55,15 +55,8 @@ fn bind<R: Net + Clock + AllocGlobal>(
         return Err(Failure::Net);
     };
     match addresses.next() {
-        Some(addr) => Server::bind(rt, addr, core, limits).map_err(failure_of),
+        Some(addr) => Server::bind(rt, addr, core, limits).map_err(Failure::of_loop),
         None => Err(Failure::Net),
-    }
-}
-
-fn failure_of(fault: LoopFault) -> Failure {
-    match fault {
-        LoopFault::Net => Failure::Net,
-        LoopFault::Memory => Failure::Memory,
     }
 }
 
@@ -89,12 +82,15 @@ fn keys_text<R: Files + AllocGlobal>(
     Ok(text)
 }
 
-// The keys of a file, joined by commas. A line feed joins them as well, and may stand behind the last one.
+// The keys of a file, joined by commas. A line feed joins them as well, and may stand behind the last one. A file above the limit has none.
 fn file_text<R: Files + AllocGlobal>(rt: &R, path: &str) -> Result<Vec<u8>, Failure> {
     let Ok(file) = fs::open(rt, path) else {
         return Err(Failure::Read(ReadFault::Failed));
     };
     let mut text = read_past(rt.alloc(), file, MOST_BYTES).map_err(Failure::Read)?;
+    if text.len() as u64 > MOST_BYTES {
+        return Err(Failure::Keys(KeysFault::BadKeys));
+    }
     if text.last() == Some(&b'\n') {
         text.truncate(text.len() - 1);
     }
