@@ -1,4 +1,4 @@
-"""A running `path_server serve`, connections to it byte by byte, and a report of what failed, for the scripts of tests/.
+"""A running `path_server serve` or `path_server listen`, connections to it byte by byte, and a report of what failed, for the scripts of tests/.
 
 The program is the one that bin/path_server builds, or the one that the environment's PATH_SERVER names. It picks a free port itself.
 Every process that was started has ended when a script ends, however that comes.
@@ -56,20 +56,22 @@ class Running:
             sys.exit(f"no program {PROGRAM}: bin/path_server builds it")
         signal.signal(signal.SIGTERM, lambda *_: sys.exit(143))
         self.errors = tempfile.TemporaryFile()
-        command = [PROGRAM, "serve", "127.0.0.1:0", ",".join(key.hex() for key in keys), str(count)]
-        self.process = subprocess.Popen(command, stdin=subprocess.DEVNULL, stdout=subprocess.PIPE, stderr=self.errors, **more)
+        self.start(["serve", "127.0.0.1:0", ",".join(key.hex() for key in keys), str(count)], stdin=subprocess.DEVNULL, **more)
+
+    def start(self, words, **more):
+        self.process = subprocess.Popen([PROGRAM, *words], stdout=subprocess.PIPE, stderr=self.errors, **more)
         try:
-            self.address = self.read_address()
+            self.address = self.read_address(words[0])
         except BaseException:
             self.stop()
             raise
 
-    def read_address(self):
+    def read_address(self, subcommand):
         readable, _, _ = select.select([self.process.stdout], [], [], PATIENCE)
         line = self.process.stdout.readline() if readable else b""
         found = re.fullmatch(rb"listening (\S+:\d+)\n", line)
         if not found:
-            sys.exit(f"{PROGRAM} serve: wanted the line `listening ADDRESS`, got {line!r} and {self.said()!r} on standard error")
+            sys.exit(f"{PROGRAM} {subcommand}: wanted the line `listening ADDRESS`, got {line!r} and {self.said()!r} on standard error")
         return found[1].decode()
 
     def __enter__(self):
@@ -105,6 +107,37 @@ class Running:
             report.case("the server after its last connection", "", (0, b""), (self.process.returncode, output))
         except subprocess.TimeoutExpired:
             report.case("the server after its last connection", "", "it ends", f"it runs on; standard error has {self.said()!r}")
+
+
+class Listening(Running):
+    """The server of many connections for some keys, with further words of its command line; it ends once its standard input is closed."""
+
+    def __init__(self, keys, *words, **more):
+        signal.signal(signal.SIGTERM, lambda *_: sys.exit(143))
+        self.errors = tempfile.TemporaryFile()
+        joined = ",".join(key.hex() for key in keys)
+        self.start(["listen", "127.0.0.1:0", joined, *words], stdin=subprocess.PIPE, **more)
+
+    def stop(self):
+        self.process.stdin.close()
+        super().stop()
+
+    def processor_seconds(self):
+        """The processor time that it used, as Linux tells it."""
+        fields = Path(f"/proc/{self.process.pid}/stat").read_text().rpartition(")")[2].split()
+        return (int(fields[11]) + int(fields[12])) / os.sysconf("SC_CLK_TCK")
+
+    def finish(self, report, served=None):
+        """Closes its standard input: it ends by itself once all connections are closed, and says how many it served, of so many requests."""
+        name = "the server after the end of its standard input"
+        self.process.stdin.close()
+        try:
+            output, status = self.process.stdout.read(), self.process.wait(timeout=PATIENCE)
+        except subprocess.TimeoutExpired:
+            return report.case(name, "", "it ends", f"it runs on; standard error has {self.said()!r}")
+        found = re.fullmatch(rb"served (\d+) connections, (\d+) requests\n", output)
+        counts = tuple(map(int, found.groups())) if found else output
+        return report.case(name, "", (0, served or counts), (status, counts))
 
 
 def open_connection(address):

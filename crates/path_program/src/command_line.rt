@@ -11,6 +11,15 @@ pub const VERSION: &str = "0.1.0";
 /// The most connections that one run of the program serves.
 const MOST_CONNECTIONS: u64 = 1_000_000;
 
+/// The most connections that may be open at once.
+const MOST_OPEN: u64 = 1_000_000;
+
+/// The most bytes that connections may hold together, a pebibyte.
+const MOST_BYTES: u64 = 1 << 50;
+
+/// The longest idle time in seconds, a year.
+const MOST_SECONDS: u64 = 31_536_000;
+
 const KEYS_HELP: &str = "The tenants' keys: 32 hexadecimal digits each, joined by commas";
 
 const ADDRESS_HELP: &str = "A host, a colon and a port, as 127.0.0.1:7000 or [::1]:7000";
@@ -28,8 +37,29 @@ pub enum Request<'a> {
         keys: &'a str,
         count: u32,
     },
+    /// A server of many connections at once.
+    Listen(Listen<'a>),
     /// The lines of the replies to the frames on standard input by the server at this address.
     Call(&'a str),
+}
+
+/// A server of many connections at once.
+#[derive(Drop)]
+pub struct Listen<'a> {
+    /// The address.
+    pub address: &'a str,
+    /// The tenants' keys.
+    pub keys: Option<&'a str>,
+    /// The file with further keys.
+    pub file: Option<&'a str>,
+    /// The most connections that are open at once.
+    pub connections: usize,
+    /// The bytes that connections may hold together.
+    pub memory: usize,
+    /// The seconds after which a connection is closed on which no byte moved.
+    pub idle: Option<u64>,
+    /// Whether a line with counts is printed each minute.
+    pub log: bool,
 }
 
 // A word behind a subcommand.
@@ -66,6 +96,50 @@ fn serve<'a>(alloc: Global) -> Result<Command<'a>, AllocError> {
         ))
 }
 
+fn listen<'a>(alloc: Global) -> Result<Command<'a>, AllocError> {
+    Command::new(alloc, "listen")
+        .about("Prints a line with the bound address and serves many connections at once, until standard input is closed")
+        .arg(word(alloc, "ADDR", ADDRESS_HELP))?
+        .arg(keys_word(alloc)?)?
+        .arg(option(alloc, "keys", "FILE", "A file with keys, joined by commas or line feeds"))?
+        .arg(
+            option(alloc, "connections", "NUMBER", "The most connections that are open at once, 1 to 1000000")
+                .default_value("10000")
+                .value_parser(ValueParser::Unsigned(1, MOST_OPEN)),
+        )?
+        .arg(
+            option(alloc, "memory", "BYTES", "What connections may hold before those that hold most are not read")
+                .default_value("1073741824")
+                .value_parser(ValueParser::Unsigned(0, MOST_BYTES)),
+        )?
+        .arg(
+            option(alloc, "idle", "SECONDS", "Closes a connection on which no byte moved for so long, 1 to 31536000")
+                .value_parser(ValueParser::Unsigned(1, MOST_SECONDS)),
+        )?
+        .arg(
+            Arg::new(alloc, "log")
+                .long("log")
+                .help("Prints a line with counts on standard error each minute")
+                .action(ArgAction::SetTrue),
+        )
+}
+
+// The keys, which may stand in a file instead.
+fn keys_word<'a>(alloc: Global) -> Result<Arg<'a>, AllocError> {
+    word(alloc, "KEYS", KEYS_HELP)
+        .required(false)
+        .required_unless_present("keys")
+}
+
+// An option with a value.
+fn option<'a>(alloc: Global, name: &'a str, value: &'a str, help: &'a str) -> Arg<'a> {
+    Arg::new(alloc, name)
+        .long(name)
+        .value_name(value)
+        .help(help)
+        .action(ArgAction::Set)
+}
+
 fn call<'a>(alloc: Global) -> Result<Command<'a>, AllocError> {
     Command::new(alloc, "call")
         .about(
@@ -83,6 +157,7 @@ fn command<'a>(alloc: Global) -> Result<Command<'a>, AllocError> {
         .subcommand(query(alloc)?)?
         .subcommand(replay(alloc)?)?
         .subcommand(serve(alloc)?)?
+        .subcommand(listen(alloc)?)?
         .subcommand(call(alloc)?)
 }
 
@@ -110,8 +185,21 @@ fn request_of<'a>(matches: &ArgMatches<'a>) -> Option<Request<'a>> {
             keys: words.get_str("KEYS")?,
             count: words.get_one("COUNT")?,
         }),
+        "listen" => Some(Request::Listen(listen_of(words)?)),
         _ => Some(Request::Call(words.get_str("ADDR")?)),
     }
+}
+
+fn listen_of<'a>(words: &ArgMatches<'a>) -> Option<Listen<'a>> {
+    Some(Listen {
+        address: words.get_str("ADDR")?,
+        keys: words.get_str("KEYS"),
+        file: words.get_str("keys"),
+        connections: words.get_one("connections")?,
+        memory: words.get_one("memory")?,
+        idle: words.get_one("idle"),
+        log: words.get_flag("log"),
+    })
 }
 
 #[cfg(test)]
@@ -152,6 +240,37 @@ mod tests {
             None
         );
         assert_eq!(rt; status_of(&rt, &["path_server", "call"])?, Some(3));
+        Ok(())
+    }
+
+    #[test]
+    fn listening(rt: HostRuntime) -> Result<(), Fail> {
+        let address = "127.0.0.1:0";
+        for (words, status) in [
+            (&["00"][..], None),
+            (&["--keys", "keys.txt"][..], None),
+            (&["00", "--keys", "keys.txt", "--log"][..], None),
+            (&[][..], Some(3)),
+            (&["--log"][..], Some(3)),
+            (&["00", "--connections", "1"][..], None),
+            (&["00", "--connections", "0"][..], Some(3)),
+            (&["00", "--connections", "1000001"][..], Some(3)),
+            (&["00", "--memory", "0"][..], None),
+            (&["00", "--memory", "1.5"][..], Some(3)),
+            (&["00", "--idle", "31536000"][..], None),
+            (&["00", "--idle", "0"][..], Some(3)),
+            (&["00", "--idle"][..], Some(3)),
+            (&["00", "00"][..], Some(3)),
+        ] {
+            let mut all = Vec::new(rt.alloc());
+            for word in ["path_server", "listen", address] {
+                all.push(word)?;
+            }
+            for word in words {
+                all.push(*word)?;
+            }
+            assert_eq!(rt; status_of(&rt, all.as_slice())?, status);
+        }
         Ok(())
     }
 

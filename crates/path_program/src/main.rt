@@ -4,6 +4,8 @@
 mod command_line;
 mod end_lines;
 mod failure;
+mod loop_lines;
+mod many;
 
 use crate::command_line::{Request, read_request};
 use crate::end_lines::EndLines;
@@ -13,7 +15,7 @@ use path_server::{call_stream, query_stream, read_call, read_keys, replay_stream
 use socket_wire::{StreamWire, serve_streams};
 use std::net::{Net, OpenListener, OpenStream, TcpListener, TcpStream};
 use std::process::ExitCode;
-use std::rt::Env;
+use std::rt::{Clock, Env, Files};
 use std::{env, io};
 
 // Answers `path_server query QUERY`.
@@ -84,7 +86,7 @@ fn call<R: Input + Print + Net + AllocGlobal>(rt: &R, address: &str) -> Result<(
     .map_err(Failure::Call)
 }
 
-fn run<R: Input + Print + Eprint + Env + Net + AllocGlobal>(rt: &R) -> Result<(), Failure> {
+fn run<R: Input + Print + Eprint + Env + Net + Files + Clock + AllocGlobal>(rt: &R) -> Result<(), Failure> {
     let mut words = Vec::new(rt.alloc());
     for word in env::args(rt).map_err(|error| Failure::of_words(&error))? {
         if words.push(word).is_err() {
@@ -99,6 +101,7 @@ fn run<R: Input + Print + Eprint + Env + Net + AllocGlobal>(rt: &R) -> Result<()
             keys,
             count,
         } => serve(rt, address, keys, count),
+        Request::Listen(wanted) => many::listen(rt, &wanted),
         Request::Call(address) => call(rt, address),
     }
 }

@@ -1,0 +1,19 @@
+//! A server of many connections in one thread: it waits until some are ready, takes in new ones, and gives each that can go on one turn.
+//!
+//! A turn ([`outbox::turn`]) makes at most three calls of the system and answers at most 64 requests, so that no connection keeps the
+//! others waiting for long. What is reported of a connection is kept until a call says that it would wait.
+#![tactic(auto)]
+
+mod connection;
+mod counted;
+mod journal;
+mod limits;
+mod load;
+mod meter;
+mod server;
+mod socket;
+
+pub use counted::Counts;
+pub use journal::{End, Journal, Totals};
+pub use limits::Limits;
+pub use server::{LoopFault, Server};

@@ -1,0 +1,500 @@
+//! The loop over what is ready.
+ghost use Rattle.std.specs.Prelude.{◌≡◌, OnOk, IfOk, IsSome, IsTrue};
+ghost use Rattle.event_loop.specs.Servers.{open_count, IsOver};
+
+use crate::connection::{Connection, Phase};
+use crate::counted::Counted;
+use crate::journal::{End, Journal, Totals};
+use crate::limits::Limits;
+use crate::load::Load;
+use mio::event::Event;
+use mio::net::{TcpListener, TcpStream};
+use mio::unix::SourceFd;
+use mio::{Events, Interest, Poll, Token};
+use path_listen::HubCore;
+use slab::Slab;
+use std::alloc::{AllocError, AllocFailed, Global};
+use std::io::{self, ErrorKind};
+use std::mem;
+use std::net::{Net, SocketAddr};
+use std::time::{Clock, Duration, Instant};
+use thiserror::Error;
+
+/// The most bytes that one turn reads.
+const PIECE: usize = 65_536;
+
+/// The most events that one wait reports.
+const EVENTS: usize = 1_024;
+
+/// The most connections that are taken in between two waits.
+const ACCEPTS: u32 = 256;
+
+/// The seconds between two counts that a journal is told.
+const MINUTE: u64 = 60;
+
+/// The milliseconds after which a failed accept is tried again.
+const RETRY: u64 = 50;
+
+/// The milliseconds between two looks at the time.
+const TICK: u64 = 1_000;
+
+const LISTENER: Token = Token(usize::MAX);
+
+const INPUT: Token = Token(usize::MAX - 1);
+
+/// Why a server ends early.
+#[derive(Clone, Copy, Debug, PartialEq, Eq, Error)]
+pub enum LoopFault {
+    /// The address could not be bound, or the system did not say what is ready.
+    #[error("NetFault")]
+    Net,
+    /// A growth was refused.
+    #[error("NoMemory")]
+    Memory,
+}
+
+impl From<io::Error> for LoopFault {
+    fn from(_: io::Error) -> LoopFault {
+        LoopFault::Net
+    }
+}
+
+impl From<AllocError> for LoopFault {
+    fn from(_: AllocError) -> LoopFault {
+        LoopFault::Memory
+    }
+}
+
+impl<T: Drop> From<AllocFailed<T>> for LoopFault {
+    fn from(_: AllocFailed<T>) -> LoopFault {
+        LoopFault::Memory
+    }
+}
+
+/// A server of many connections.
+#[derive(Drop)]
+pub struct Server {
+    alloc: Global,
+    poll: Poll,
+    events: Events,
+    // None once standard input was closed.
+    listener: Option<TcpListener>,
+    // A connection may wait to be taken in.
+    is_asked: bool,
+    // The last accept failed.
+    is_refused: bool,
+    connections: Slab<Connection>,
+    // No key was above it.
+    bound: usize,
+    // The connections that get a turn, and room for the next ones.
+    due: Vec<usize>,
+    spare: Vec<usize>,
+    core: Counted<HubCore>,
+    buffer: Box<[u8; PIECE]>,
+    limits: Limits,
+    // Those that could go on, but are held back.
+    paused: Vec<usize>,
+    load: Load,
+    // The seconds since the start.
+    start: Instant,
+    second: u64,
+    told: u64,
+    taken: u64,
+    read: u64,
+    written: u64,
+}
+
+impl Server {
+    /// Binds the address.
+    ///
+    /// # Errors
+    ///
+    /// `Net` where it can't be bound, `Memory` where a growth was refused.
+    pub fn bind<R: Net + Clock + AllocGlobal>(
+        rt: &R,
+        addr: SocketAddr,
+        core: HubCore,
+        limits: Limits,
+    ) -> Result<Server, LoopFault>
+        ensures listening { IfOk result (λ server. IsSome server.listener) }
+        ensures unconnected { IfOk result (λ server. open_count server ≡ 0) }
+        ensures none_taken { IfOk result (λ server. server.taken ≡ 0) }
+        ensures limits { IfOk result (λ server. server.limits ≡ limits) }
+    {
+        let alloc = rt.alloc();
+        let poll = Poll::new(rt)?;
+        let mut listener = TcpListener::bind(rt, addr)?;
+        poll.registry()
+            .register(&mut listener, LISTENER, Interest::READABLE)?;
+        // a file can't be waited for: it does not end the server
+        let _ = poll
+            .registry()
+            .register(&mut SourceFd(&0), INPUT, Interest::READABLE);
+        Ok(Server {
+            alloc,
+            poll,
+            events: Events::with_capacity(alloc, EVENTS)?,
+            listener: Some(listener),
+            is_asked: true,
+            is_refused: false,
+            connections: Slab::new(alloc),
+            bound: 0,
+            due: Vec::new(alloc),
+            spare: Vec::new(alloc),
+            core: Counted::new(core),
+            buffer: Box::new(alloc, [0; PIECE])?,
+            limits,
+            paused: Vec::new(alloc),
+            load: Load {
+                limit: limits.memory,
+                held: 0,
+            },
+            start: Instant::now(rt)?,
+            second: 0,
+            told: 0,
+            taken: 0,
+            read: 0,
+            written: 0,
+        })
+    }
+
+    /// The address that is bound.
+    ///
+    /// # Errors
+    ///
+    /// `Net` where the system does not tell it, or the server has stopped listening.
+    pub fn local_addr(&self) -> Result<SocketAddr, LoopFault>
+        ensures listening { OnOk result (IsSome self.now.listener) }
+    {
+        match &self.listener {
+            Some(listener) => Ok(listener.local_addr()?),
+            None => Err(LoopFault::Net),
+        }
+    }
+
+    /// What it did so far.
+    pub fn totals(&self) -> Totals
+        ensures connections { result.connections ≡ self.now.taken }
+        ensures open_ones { result.connected ≡ open_count self.now }
+        ensures bytes_read { result.read ≡ self.now.read }
+        ensures bytes_written { result.written ≡ self.now.written }
+    {
+        Totals {
+            connections: self.taken,
+            connected: self.connections.len(),
+            counts: *self.core.counts(),
+            read: self.read,
+            written: self.written,
+        }
+    }
+
+    /// Serves until standard input is closed, and then each open connection to its end. The journal is told of each connection that
+    /// ended, and each minute of what was done.
+    ///
+    /// # Errors
+    ///
+    /// `Net` where the system does not say what is ready, `Memory` where a growth was refused that no connection asked for.
+    pub fn serve<R: Clock, J: Journal>(
+        &mut self,
+        rt: &R,
+        journal: &mut J,
+    ) -> Result<(), LoopFault>
+        ensures over { OnOk result (IsOver self.new) }
+    {
+        'waits: for _ in 0..u64::MAX {
+            if self.is_over() {
+                return Ok(());
+            }
+            self.wait()?;
+            let is_later = self.look(rt);
+            self.accept();
+            self.take_turns(journal)?;
+            if is_later {
+                self.tick(journal)?;
+            } else if self.load.is_light() && !self.paused.is_empty() {
+                self.resume()?;
+            }
+        }
+        Err(LoopFault::Net)
+    }
+
+    // Whether it takes in no connection any more, and none is open.
+    fn is_over(&self) -> bool
+        ensures { IsTrue result → IsOver self.now }
+    {
+        self.listener.is_none() && self.connections.is_empty()
+    }
+
+    // Waits for what is ready and notes it.
+    fn wait(&mut self) -> Result<(), LoopFault> {
+        let timeout = self.timeout();
+        self.poll.poll(&mut self.events, timeout)?;
+        let mut is_closed = false;
+        'events: for event in &self.events {
+            match event.token() {
+                LISTENER => self.is_asked = true,
+                INPUT => is_closed = is_closed || event.is_read_closed() || event.is_error(),
+                Token(key) => note(&mut self.connections, &mut self.due, key, event)?,
+            }
+        }
+        if is_closed {
+            self.listener = None;
+        }
+        Ok(())
+    }
+
+    // How long a wait may last: not at all where a connection can go on or may be taken in, a little where that failed, a second else.
+    fn timeout(&self) -> Option<Duration> {
+        if !self.due.is_empty() {
+            Some(Duration::from_millis(0))
+        } else if self.is_asked && !self.is_full() {
+            Some(Duration::from_millis(if self.is_refused { RETRY } else { 0 }))
+        } else {
+            Some(Duration::from_millis(TICK))
+        }
+    }
+
+    // Looks at the clock, and tells whether a second passed. Where the clock fails, none did.
+    fn look<R: Clock>(&mut self, rt: &R) -> bool {
+        let Ok(elapsed) = self.start.elapsed(rt) else {
+            return false;
+        };
+        let before = self.second;
+        self.second = elapsed.as_secs();
+        self.second > before
+    }
+
+    // Whether no further connection is taken in for now.
+    fn is_full(&self) -> bool {
+        self.listener.is_none() || self.connections.len() >= self.limits.connections
+    }
+
+    // Takes in connections that wait, as long as the limits allow.
+    fn accept(&mut self) {
+        self.is_refused = false;
+        'accepts: for _ in 0..ACCEPTS {
+            if !self.is_asked || self.is_full() {
+                return;
+            }
+            let accepted = match &self.listener {
+                Some(listener) => listener.accept(),
+                None => return,
+            };
+            match accepted {
+                Ok((stream, _)) => self.take_in(stream),
+                Err(error) => match error.kind() {
+                    ErrorKind::WouldBlock => self.is_asked = false,
+                    ErrorKind::ConnectionAborted => {}
+                    // no descriptor or no memory is left: it is tried again after a wait
+                    _ => {
+                        self.is_refused = true;
+                        return;
+                    }
+                },
+            }
+        }
+    }
+
+    // Takes a connection in. Where memory is refused, or it can't be waited for, it is closed.
+    fn take_in(&mut self, stream: TcpStream) {
+        // without it no reply is wrong, and some come later
+        let _ = stream.set_nodelay(true);
+        let room = self.connections.len().saturating_add(1);
+        if self.due.reserve(room).is_err() || self.spare.reserve(room).is_err() {
+            return;
+        }
+        let connection = Connection::new(self.alloc, self.taken, stream, self.second);
+        let Ok(key) = self.connections.insert(connection) else {
+            return;
+        };
+        if self.connect(key) {
+            self.taken = self.taken.saturating_add(1);
+            self.bound = self.bound.max(key.saturating_add(1));
+        } else {
+            self.connections.try_remove(key);
+        }
+    }
+
+    // Opens a connection's session, and has what is ready of it reported.
+    fn connect(&mut self, key: usize) -> bool {
+        let (Some(connection), Ok(conn)) = (self.connections.get_mut(key), u32::try_from(key))
+        else {
+            return false;
+        };
+        if self.core.core().connect(conn).is_err() {
+            return false;
+        }
+        let interests = Interest::READABLE | Interest::WRITABLE;
+        let stream = &mut connection.socket.stream;
+        if self
+            .poll
+            .registry()
+            .register(stream, Token(key), interests)
+            .is_err()
+        {
+            self.core.core().disconnect(conn);
+            return false;
+        }
+        true
+    }
+
+    // One turn for each connection that is due.
+    fn take_turns<J: Journal>(&mut self, journal: &mut J) -> Result<(), LoopFault> {
+        let next = mem::replace(&mut self.spare, Vec::new(self.alloc));
+        let mut keys = mem::replace(&mut self.due, next);
+        'turns: for key in &keys {
+            self.take_turn(*key, journal)?;
+        }
+        keys.clear();
+        self.spare = keys;
+        Ok(())
+    }
+
+    // One turn for a connection.
+    fn take_turn<J: Journal>(&mut self, key: usize, journal: &mut J) -> Result<(), LoopFault> {
+        let count = self.connections.len();
+        let (Some(connection), Ok(conn)) = (self.connections.get_mut(key), u32::try_from(key))
+        else {
+            return Ok(());
+        };
+        connection.is_due = false;
+        if let Phase::Lingering(_) = connection.phase {
+            if !connection.drain(&mut *self.buffer) {
+                self.close(key, conn);
+                return Ok(());
+            }
+            return self.schedule(key);
+        }
+        let is_held_back = self.load.holds_back(connection.held, count);
+        let (read, written) =
+            connection.turn(&mut self.core, conn, &mut *self.buffer, is_held_back);
+        if read > 0 || written > 0 {
+            connection.moved = self.second;
+        }
+        self.read = self.read.saturating_add(read);
+        self.written = self.written.saturating_add(written);
+        let holds = connection.holds();
+        self.load.change(connection.held, holds);
+        connection.held = holds;
+        match connection.end() {
+            Some(how) => self.finish(key, conn, how, journal),
+            None => self.schedule(key),
+        }
+    }
+
+    // A connection that can go on gets a further turn, at once or once it is not held back.
+    fn schedule(&mut self, key: usize) -> Result<(), LoopFault> {
+        let count = self.connections.len();
+        let Some(connection) = self.connections.get_mut(key) else {
+            return Ok(());
+        };
+        if !connection.can_go_on() || connection.is_due {
+            return Ok(());
+        }
+        if self.load.holds_back(connection.held, count) && !connection.can_write() {
+            if !connection.is_paused {
+                connection.is_paused = true;
+                self.paused.push(key)?;
+            }
+            return Ok(());
+        }
+        connection.is_due = true;
+        self.due.push(key)?;
+        Ok(())
+    }
+
+    // Those that were held back are looked at again.
+    fn resume(&mut self) -> Result<(), LoopFault> {
+        let keys = mem::replace(&mut self.paused, Vec::new(self.alloc));
+        'paused: for key in &keys {
+            if let Some(connection) = self.connections.get_mut(*key) {
+                connection.is_paused = false;
+            }
+            self.schedule(*key)?;
+        }
+        Ok(())
+    }
+
+    // A connection that is over is closed. Where bytes may be unread, what still comes is read for a little while before, since a close
+    // with bytes unread can take the last replies with it.
+    fn finish<J: Journal>(
+        &mut self,
+        key: usize,
+        conn: u32,
+        how: End,
+        journal: &mut J,
+    ) -> Result<(), LoopFault> {
+        let Some(connection) = self.connections.get_mut(key) else {
+            return Ok(());
+        };
+        journal.ended(connection.number, how);
+        match how {
+            End::FrameFault | End::Memory => {
+                connection.linger(self.second);
+                self.core.core().disconnect(conn);
+                self.load.change(connection.held, 0);
+                connection.held = 0;
+                self.schedule(key)
+            }
+            End::Done | End::ReadFault | End::WriteFault | End::Idle => {
+                self.close(key, conn);
+                Ok(())
+            }
+        }
+    }
+
+    // Closes a connection.
+    fn close(&mut self, key: usize, conn: u32) {
+        self.core.core().disconnect(conn);
+        if let Some(connection) = self.connections.try_remove(key) {
+            self.load.change(connection.held, 0);
+        }
+    }
+
+    // What is done once a second: connections whose time is up are closed, and those that were held back looked at.
+    fn tick<J: Journal>(&mut self, journal: &mut J) -> Result<(), LoopFault> {
+        'keys: for key in 0..self.bound {
+            self.expire(key, journal)?;
+        }
+        if self.second.saturating_sub(self.told) >= MINUTE {
+            self.told = self.second;
+            journal.counted(&self.totals());
+        }
+        self.resume()
+    }
+
+    // Closes a connection whose time is up.
+    fn expire<J: Journal>(&mut self, key: usize, journal: &mut J) -> Result<(), LoopFault> {
+        let (Some(connection), Ok(conn)) = (self.connections.get(key), u32::try_from(key)) else {
+            return Ok(());
+        };
+        if !connection.expires(self.second, self.limits.idle) {
+            return Ok(());
+        }
+        match connection.phase {
+            Phase::Served => self.finish(key, conn, End::Idle, journal),
+            Phase::Lingering(_) => {
+                self.close(key, conn);
+                Ok(())
+            }
+        }
+    }
+}
+
+// Notes an event, and that the connection gets a turn.
+fn note(
+    connections: &mut Slab<Connection>,
+    due: &mut Vec<usize>,
+    key: usize,
+    event: &Event,
+) -> Result<(), AllocError> {
+    let Some(connection) = connections.get_mut(key) else {
+        return Ok(());
+    };
+    connection.note(event);
+    if !connection.is_due && connection.can_go_on() {
+        connection.is_due = true;
+        due.push(key)?;
+    }
+    Ok(())
+}

@@ -1,0 +1,98 @@
+//! A wire over a stream that never waits.
+
+use outbox::{Given, Taken, Wire};
+use std::io::{ErrorKind, Read, Write};
+
+/// How a stream came to its end.
+#[derive(Clone, Copy, Debug, PartialEq, Eq)]
+pub(crate) enum Fate {
+    /// It goes on.
+    Lives,
+    /// Its input ended.
+    Ended,
+    /// A read failed.
+    Unread,
+    /// A write failed.
+    Unwritten,
+}
+
+/// A wire over a stream that never waits, as a socket that was told so.
+#[derive(Drop)]
+pub(crate) struct Socket<S> {
+    pub(crate) stream: S,
+    pub(crate) fate: Fate,
+    // The last read gave less than it had room for, and nothing was reported since: a further one would only say that it would wait.
+    is_drained: bool,
+    // The peer ended its side, so that a short read is no sign that nothing is left.
+    is_ending: bool,
+    // The bytes that were read and written.
+    pub(crate) read: u64,
+    pub(crate) written: u64,
+}
+
+impl<S: Read + Write> Socket<S> {
+    /// A wire over this stream.
+    pub fn new(stream: S) -> Socket<S> {
+        Socket {
+            stream,
+            fate: Fate::Lives,
+            is_drained: false,
+            is_ending: false,
+            read: 0,
+            written: 0,
+        }
+    }
+
+    /// Whether a read would only say that it would wait.
+    pub fn is_drained(&self) -> bool {
+        self.is_drained
+    }
+
+    /// The stream was reported ready, or its input as ended.
+    pub fn report(&mut self, is_ending: bool) {
+        self.is_drained = false;
+        self.is_ending = self.is_ending || is_ending;
+    }
+}
+
+impl<S: Read + Write> Wire for Socket<S> {
+    ghost use Rattle.std.specs.Prelude.{None};
+
+    ghost told = { λ _. None };
+
+    fn read(&mut self, buffer: &mut [u8]) -> Given {
+        if self.is_drained {
+            return Given::Blocked;
+        }
+        match self.stream.read(buffer) {
+            Ok(0) => {
+                self.fate = Fate::Ended;
+                Given::Ended
+            }
+            Ok(count) => {
+                self.is_drained = count < buffer.len() && !self.is_ending;
+                self.read = self.read.saturating_add(count as u64);
+                Given::Bytes(count)
+            }
+            Err(error) if error.kind() == ErrorKind::WouldBlock => Given::Blocked,
+            Err(_) => {
+                self.fate = Fate::Unread;
+                Given::Failed
+            }
+        }
+    }
+
+    fn write(&mut self, bytes: &[u8]) -> Taken {
+        match self.stream.write(bytes) {
+            Ok(count) if count > 0 || bytes.is_empty() => {
+                self.written = self.written.saturating_add(count as u64);
+                Taken::Bytes(count)
+            }
+            Err(error) if error.kind() == ErrorKind::WouldBlock => Taken::Blocked,
+            _ => {
+                self.fate = Fate::Unwritten;
+                Taken::Failed
+            }
+        }
+    }
+}
