@@ -194,11 +194,7 @@ impl Server {
     /// # Errors
     ///
     /// `Net` where the system does not say what is ready, `Memory` where a growth was refused that no connection asked for.
-    pub fn serve<R: Clock, J: Journal>(
-        &mut self,
-        rt: &R,
-        journal: &mut J,
-    ) -> Result<(), LoopFault>
+    pub fn serve<R: Clock, J: Journal>(&mut self, rt: &R, journal: &mut J) -> Result<(), LoopFault>
         ensures over { OnOk result (IsOver self.new) }
     {
         'waits: for _ in 0..u64::MAX {
@@ -366,8 +362,12 @@ impl Server {
             return self.schedule(key);
         }
         let is_held_back = self.load.holds_back(connection.held, count);
-        let (read, written) =
-            connection.turn(&mut self.core, conn, &mut *self.buffer, is_held_back);
+        let (read, written) = connection.turn(
+            &mut self.core,
+            conn,
+            &mut *self.buffer,
+            is_held_back,
+        );
         if read > 0 || written > 0 {
             connection.moved = self.second;
         }

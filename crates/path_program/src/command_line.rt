@@ -98,24 +98,44 @@ fn serve<'a>(alloc: Global) -> Result<Command<'a>, AllocError> {
 
 fn listen<'a>(alloc: Global) -> Result<Command<'a>, AllocError> {
     Command::new(alloc, "listen")
-        .about("Prints a line with the bound address and serves many connections at once, until standard input is closed")
+        .about(
+            "Prints a line with the bound address and serves many connections at once, until standard input is closed",
+        )
         .arg(word(alloc, "ADDR", ADDRESS_HELP))?
         .arg(keys_word(alloc)?)?
-        .arg(option(alloc, "keys", "FILE", "A file with keys, joined by commas or line feeds"))?
+        .arg(option(
+            alloc,
+            "keys",
+            "FILE",
+            "A file with keys, joined by commas or line feeds",
+        ))?
         .arg(
-            option(alloc, "connections", "NUMBER", "The most connections that are open at once, 1 to 1000000")
-                .default_value("10000")
-                .value_parser(ValueParser::Unsigned(1, MOST_OPEN)),
+            option(
+                alloc,
+                "connections",
+                "NUMBER",
+                "The most connections that are open at once, 1 to 1000000",
+            )
+            .default_value("10000")
+            .value_parser(ValueParser::Unsigned(1, MOST_OPEN)),
         )?
         .arg(
-            option(alloc, "memory", "BYTES", "What connections may hold before those that hold most are not read")
-                .default_value("1073741824")
-                .value_parser(ValueParser::Unsigned(0, MOST_BYTES)),
+            option(
+                alloc,
+                "memory",
+                "BYTES",
+                "What connections may hold before those that hold most are not read",
+            )
+            .default_value("1073741824")
+            .value_parser(ValueParser::Unsigned(0, MOST_BYTES)),
         )?
-        .arg(
-            option(alloc, "idle", "SECONDS", "Closes a connection on which no byte moved for so long, 1 to 31536000")
-                .value_parser(ValueParser::Unsigned(1, MOST_SECONDS)),
-        )?
+        .arg(option(
+            alloc,
+            "idle",
+            "SECONDS",
+            "Closes a connection on which no byte moved for so long, 1 to 31536000",
+        )
+        .value_parser(ValueParser::Unsigned(1, MOST_SECONDS)))?
         .arg(
             Arg::new(alloc, "log")
                 .long("log")
