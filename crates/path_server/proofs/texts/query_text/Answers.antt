@@ -24,3 +24,6 @@ returns-clause-answered c =
       within = c.in_ok-selected.ensures.within refl;
       appended = written ∙ ap (λ (ns : List Node). c.args.out.now.items ++ lines_of (map hit_of ns)) c.in_ok-selected.ensures.nodes;
     }
+
+pub returns-clause-paths : goal.returns-clause-paths
+returns-clause-paths c = c.hits_lead_back.ensures c.args.query.now c.args.document.now
