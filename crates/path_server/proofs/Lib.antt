@@ -10,3 +10,4 @@ pub mod Framed
 pub mod Replying
 pub mod Calling
 pub mod WholeCalls
+pub mod Paths

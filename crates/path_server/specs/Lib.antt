@@ -1,5 +1,6 @@
 pub mod Lines
 pub mod QueryText
+pub mod Paths
 pub mod Faults
 pub mod QueryStream
 pub mod Keys

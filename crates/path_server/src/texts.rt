@@ -1,10 +1,12 @@
 //! A query on a text.
 
 ghost use Rattle.std.specs.Prelude.{◌≡◌, IfErr, OnErr, OnOk};
+ghost use Rattle.path_server.specs.Paths.{PathsLeadBack};
 ghost use Rattle.path_server.specs.QueryText.{Answers, Refuses};
 
 use crate::fault::QueryTextFault;
 use crate::found::find;
+use crate::laws::hits_lead_back;
 use crate::lines::write_lines;
 use std::alloc::Global;
 
@@ -13,7 +15,8 @@ use std::alloc::Global;
 ///
 /// Refused is, in this order, what the text's verdict refuses (TooLong to DuplicateName), then what the query's does
 /// (QueryTooLong, NotWellFormed, NotValid), then Costly, where the charge is above
-/// [`tape_select::BUDGET`]. Memory comes where a growth was refused. A refusal leaves the vector unchanged.
+/// [`tape_select::BUDGET`]. Memory comes where a growth was refused. A refusal leaves the vector unchanged. The path of each hit,
+/// asked as a query on this text, has this hit alone.
 pub fn query_text(
     alloc: Global,
     query: &[u8],
@@ -21,9 +24,11 @@ pub fn query_text(
     out: &mut Vec<u8>,
 ) -> Result<(), QueryTextFault>
     ensures answered { OnOk result (Answers query.now document.now out.old.items out.new.items) }
+    ensures paths { OnOk result (PathsLeadBack query.now document.now) }
     ensures refused { IfErr result (λ fault. Refuses query.now document.now fault) }
     ensures unchanged { OnErr result (out.new.items ≡ out.old.items) }
 {
+    hits_lead_back();
     let found = find(alloc, query, document)?;
     write_lines(alloc, &found.document, found.nodes.as_slice(), out)?;
     Ok(())
