@@ -136,7 +136,10 @@ impl Connection {
 
     /// The bytes that it is owed and that wait on it.
     pub fn holds(&self) -> usize {
-        self.outbox.owed().len().saturating_add(self.meter.waiting())
+        self.outbox
+            .owed()
+            .len()
+            .saturating_add(self.meter.waiting())
     }
 
     /// How it ended, where it is over.

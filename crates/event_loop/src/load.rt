@@ -31,6 +31,10 @@ impl Load {
     fn share(&self, count: usize) -> usize
         ensures { result ≡ share self.now.limit count }
     {
-        if count == 0 { self.limit } else { self.limit / count }
+        if count == 0 {
+            self.limit
+        } else {
+            self.limit / count
+        }
     }
 }

@@ -38,14 +38,14 @@ pub enum Request<'a> {
         count: u32,
     },
     /// A server of many connections at once.
-    Listen(Listen<'a>),
+    Listen(Listening<'a>),
     /// The lines of the replies to the frames on standard input by the server at this address.
     Call(&'a str),
 }
 
 /// A server of many connections at once.
 #[derive(Drop)]
-pub struct Listen<'a> {
+pub struct Listening<'a> {
     /// The address.
     pub address: &'a str,
     /// The tenants' keys.
@@ -98,24 +98,44 @@ fn serve<'a>(alloc: Global) -> Result<Command<'a>, AllocError> {
 
 fn listen<'a>(alloc: Global) -> Result<Command<'a>, AllocError> {
     Command::new(alloc, "listen")
-        .about("Prints a line with the bound address and serves many connections at once, until standard input is closed")
+        .about(
+            "Prints a line with the bound address and serves many connections at once, until standard input is closed",
+        )
         .arg(word(alloc, "ADDR", ADDRESS_HELP))?
         .arg(keys_word(alloc)?)?
-        .arg(option(alloc, "keys", "FILE", "A file with keys, joined by commas or line feeds"))?
+        .arg(option(
+            alloc,
+            "keys",
+            "FILE",
+            "A file with keys, joined by commas or line feeds",
+        ))?
         .arg(
-            option(alloc, "connections", "NUMBER", "The most connections that are open at once, 1 to 1000000")
-                .default_value("10000")
-                .value_parser(ValueParser::Unsigned(1, MOST_OPEN)),
+            option(
+                alloc,
+                "connections",
+                "NUMBER",
+                "The most connections that are open at once, 1 to 1000000",
+            )
+            .default_value("10000")
+            .value_parser(ValueParser::Unsigned(1, MOST_OPEN)),
         )?
         .arg(
-            option(alloc, "memory", "BYTES", "What connections may hold before those that hold most are not read")
-                .default_value("1073741824")
-                .value_parser(ValueParser::Unsigned(0, MOST_BYTES)),
+            option(
+                alloc,
+                "memory",
+                "BYTES",
+                "What connections may hold before those that hold most are not read",
+            )
+            .default_value("1073741824")
+            .value_parser(ValueParser::Unsigned(0, MOST_BYTES)),
         )?
-        .arg(
-            option(alloc, "idle", "SECONDS", "Closes a connection on which no byte moved for so long, 1 to 31536000")
-                .value_parser(ValueParser::Unsigned(1, MOST_SECONDS)),
-        )?
+        .arg(option(
+            alloc,
+            "idle",
+            "SECONDS",
+            "Closes a connection on which no byte moved for so long, 1 to 31536000",
+        )
+        .value_parser(ValueParser::Unsigned(1, MOST_SECONDS)))?
         .arg(
             Arg::new(alloc, "log")
                 .long("log")
@@ -190,8 +210,8 @@ fn request_of<'a>(matches: &ArgMatches<'a>) -> Option<Request<'a>> {
     }
 }
 
-fn listen_of<'a>(words: &ArgMatches<'a>) -> Option<Listen<'a>> {
-    Some(Listen {
+fn listen_of<'a>(words: &ArgMatches<'a>) -> Option<Listening<'a>> {
+    Some(Listening {
         address: words.get_str("ADDR")?,
         keys: words.get_str("KEYS"),
         file: words.get_str("keys"),
@@ -244,7 +264,7 @@ mod tests {
     }
 
     #[test]
-    fn listening(rt: HostRuntime) -> Result<(), Fail> {
+    fn many_at_once(rt: HostRuntime) -> Result<(), Fail> {
         let address = "127.0.0.1:0";
         for (words, status) in [
             (&["00"][..], None),

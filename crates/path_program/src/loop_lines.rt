@@ -77,7 +77,11 @@ struct CountLine<'a>(&'a Totals);
 impl<'a> fmt::Display for CountLine<'a> {
     fn fmt<W: fmt::Write>(&self, f: &mut fmt::Formatter<W>) -> fmt::Result {
         let totals = self.0;
-        write!(f, "connections {}, open {}", totals.connections, totals.connected)?;
+        write!(
+            f,
+            "connections {}, open {}",
+            totals.connections, totals.connected
+        )?;
         write!(f, ", requests {}", totals.counts.requests)?;
         write!(f, ", read {}, written {}", totals.read, totals.written)?;
         'statuses: for (status, count) in totals.counts.statuses.iter().enumerate() {
@@ -113,7 +117,8 @@ mod tests {
             written: 2_000,
         };
         let printed = format!(in rt.alloc(); "{}", CountLine(&totals))?;
-        let wanted = "connections 4, open 3, requests 8, read 1000, written 2000, NotFound 2, FrameFault 1";
+        let wanted =
+            "connections 4, open 3, requests 8, read 1000, written 2000, NotFound 2, FrameFault 1";
         assert_eq!(rt; printed.as_str(), wanted);
         Ok(())
     }

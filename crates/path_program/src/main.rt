@@ -86,7 +86,9 @@ fn call<R: Input + Print + Net + AllocGlobal>(rt: &R, address: &str) -> Result<(
     .map_err(Failure::Call)
 }
 
-fn run<R: Input + Print + Eprint + Env + Net + Files + Clock + AllocGlobal>(rt: &R) -> Result<(), Failure> {
+fn run<R: Input + Print + Eprint + Env + Net + Files + Clock + AllocGlobal>(
+    rt: &R,
+) -> Result<(), Failure> {
     let mut words = Vec::new(rt.alloc());
     for word in env::args(rt).map_err(|error| Failure::of_words(&error))? {
         if words.push(word).is_err() {
