@@ -296,7 +296,10 @@ impl Server {
         // without it no reply is wrong, and some come later
         let _ = stream.set_nodelay(true);
         let room = self.connections.len().saturating_add(1);
-        if self.due.reserve(room).is_err() || self.spare.reserve(room).is_err() {
+        if self.due.reserve(room).is_err()
+            || self.spare.reserve(room).is_err()
+            || self.paused.reserve(room).is_err()
+        {
             return;
         }
         let connection = Connection::new(self.alloc, self.taken, stream, self.second);
@@ -403,15 +406,20 @@ impl Server {
         Ok(())
     }
 
-    // Those that were held back are looked at again.
+    // Those that were held back get a turn, after which they are again where that is still so.
     fn resume(&mut self) -> Result<(), LoopFault> {
-        let keys = mem::replace(&mut self.paused, Vec::new(self.alloc));
+        let mut keys = mem::replace(&mut self.paused, Vec::new(self.alloc));
         'paused: for key in &keys {
             if let Some(connection) = self.connections.get_mut(*key) {
                 connection.is_paused = false;
+                if !connection.is_due {
+                    connection.is_due = true;
+                    self.due.push(*key)?;
+                }
             }
-            self.schedule(*key)?;
         }
+        keys.clear();
+        self.paused = keys;
         Ok(())
     }
 

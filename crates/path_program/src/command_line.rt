@@ -38,14 +38,14 @@ pub enum Request<'a> {
         count: u32,
     },
     /// A server of many connections at once.
-    Listen(Listen<'a>),
+    Listen(Listening<'a>),
     /// The lines of the replies to the frames on standard input by the server at this address.
     Call(&'a str),
 }
 
 /// A server of many connections at once.
 #[derive(Drop)]
-pub struct Listen<'a> {
+pub struct Listening<'a> {
     /// The address.
     pub address: &'a str,
     /// The tenants' keys.
@@ -210,8 +210,8 @@ fn request_of<'a>(matches: &ArgMatches<'a>) -> Option<Request<'a>> {
     }
 }
 
-fn listen_of<'a>(words: &ArgMatches<'a>) -> Option<Listen<'a>> {
-    Some(Listen {
+fn listen_of<'a>(words: &ArgMatches<'a>) -> Option<Listening<'a>> {
+    Some(Listening {
         address: words.get_str("ADDR")?,
         keys: words.get_str("KEYS"),
         file: words.get_str("keys"),
@@ -264,7 +264,7 @@ mod tests {
     }
 
     #[test]
-    fn listening(rt: HostRuntime) -> Result<(), Fail> {
+    fn many_at_once(rt: HostRuntime) -> Result<(), Fail> {
         let address = "127.0.0.1:0";
         for (words, status) in [
             (&["00"][..], None),

@@ -3,8 +3,8 @@
 use event_loop::{End, Journal, Totals};
 use std::fmt;
 
-/// The names of the statuses from 0 on, as the protocol has them.
-const STATUSES: [&str; 22] = [
+/// The names of the statuses from 0 on, as the protocol has them. 19 is never given.
+const STATUSES: [&str; 23] = [
     "Ok",
     "Short",
     "NoTenant",
@@ -24,9 +24,10 @@ const STATUSES: [&str; 22] = [
     "QueryTooLong",
     "NotWellFormed",
     "NotValid",
-    "TooManyNodes",
+    "Retired",
     "ReplyTooLarge",
     "NoMemory",
+    "Costly",
 ];
 
 /// Prints a line for each connection that did not end by the end of its input, and one with counts each minute where that is asked for. A

@@ -1,6 +1,6 @@
 //! A server of many connections at once.
 
-use crate::command_line::Listen;
+use crate::command_line::Listening;
 use crate::failure::Failure;
 use crate::loop_lines::LoopLines;
 use event_loop::{Limits, Server};
@@ -18,7 +18,7 @@ const MOST_BYTES: u64 = 65_536;
 /// Answers `path_server listen`.
 pub fn listen<R: Print + Eprint + Net + Files + Clock + AllocGlobal>(
     rt: &R,
-    wanted: &Listen<'_>,
+    wanted: &Listening<'_>,
 ) -> Result<(), Failure> {
     let text = keys_text(rt, wanted.keys, wanted.file)?;
     let keys = read_keys(rt.alloc(), text.as_slice()).map_err(Failure::Keys)?;
