@@ -263,33 +263,49 @@ mod tests {
         Ok(())
     }
 
+    // The status that `listen` on an address ends with, with these words behind it.
+    fn status_of_listen(rt: &HostRuntime, options: &[&str]) -> Result<Option<u8>, Fail> {
+        let mut words = Vec::new(rt.alloc());
+        for word in ["path_server", "listen", "127.0.0.1:0"] {
+            words.push(word)?;
+        }
+        for word in options {
+            words.push(*word)?;
+        }
+        status_of(rt, words.as_slice())
+    }
+
     #[test]
-    fn many_at_once(rt: HostRuntime) -> Result<(), Fail> {
-        let address = "127.0.0.1:0";
-        for (words, status) in [
-            (&["00"][..], None),
-            (&["--keys", "keys.txt"][..], None),
-            (&["00", "--keys", "keys.txt", "--log"][..], None),
-            (&[][..], Some(3)),
-            (&["--log"][..], Some(3)),
-            (&["00", "--connections", "1"][..], None),
-            (&["00", "--connections", "0"][..], Some(3)),
-            (&["00", "--connections", "1000001"][..], Some(3)),
-            (&["00", "--memory", "0"][..], None),
-            (&["00", "--memory", "1.5"][..], Some(3)),
-            (&["00", "--idle", "31536000"][..], None),
-            (&["00", "--idle", "0"][..], Some(3)),
-            (&["00", "--idle"][..], Some(3)),
-            (&["00", "00"][..], Some(3)),
+    fn keys_of_many_at_once(rt: HostRuntime) -> Result<(), Fail> {
+        assert_eq!(rt; status_of_listen(&rt, &["00"])?, None);
+        assert_eq!(rt; status_of_listen(&rt, &["--keys", "keys.txt"])?, None);
+        assert_eq!(rt;
+            status_of_listen(&rt, &["00", "--keys", "keys.txt", "--log"])?,
+            None
+        );
+        assert_eq!(rt; status_of_listen(&rt, &[])?, Some(3));
+        assert_eq!(rt; status_of_listen(&rt, &["--log"])?, Some(3));
+        assert_eq!(rt; status_of_listen(&rt, &["00", "00"])?, Some(3));
+        assert_eq!(rt; status_of_listen(&rt, &["00", "--idle"])?, Some(3));
+        Ok(())
+    }
+
+    #[test]
+    fn limits_of_many_at_once(rt: HostRuntime) -> Result<(), Fail> {
+        for (option, value, status) in [
+            ("--connections", "1", None),
+            ("--connections", "0", Some(3)),
+            ("--connections", "1000001", Some(3)),
+            ("--memory", "0", None),
+            ("--memory", "1.5", Some(3)),
+            ("--idle", "31536000", None),
+            ("--idle", "0", Some(3)),
         ] {
-            let mut all = Vec::new(rt.alloc());
-            for word in ["path_server", "listen", address] {
-                all.push(word)?;
-            }
-            for word in words {
-                all.push(*word)?;
-            }
-            assert_eq!(rt; status_of(&rt, all.as_slice())?, status);
+            assert_eq!(rt;
+                status_of_listen(&rt, &["00", option, value])?,
+                status,
+                "{option} {value}"
+            );
         }
         Ok(())
     }
