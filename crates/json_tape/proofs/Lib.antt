@@ -54,3 +54,8 @@ pub mod Walking
 pub mod PlaceWalk
 pub mod Placing
 pub mod LoneSteps
+pub mod Halving
+pub mod KeysLeft
+pub mod Runs
+pub mod WideNodes
+pub mod CountedStrings

@@ -57,6 +57,7 @@ pub record Next (text : List ℕ) (tape : List Entry) (up k end : ℕ) (ms : Mem
   pub lies : Lies text name.source
   pub string : IsString name.source.bytes name.characters
   pub later : k < (get_or tape k no_entry).after
+  pub past : (get_or tape k no_entry).after ≡ k + size value
   pub left : Left text tape up (get_or tape k no_entry).after end others
 
 pub next_left : (text : List ℕ) (tape : List Entry) (up k end : ℕ) (ms : Members) → Left text tape up k end ms → k < end → Next text tape up k end ms
@@ -82,6 +83,7 @@ next_left text tape up k end (Member m v ms) l h =
       lies = l.fits.0;
       string = l.fits.1;
       later = omega arith;
+      past = next;
       left = subst (λ j. Left text tape up j end ms) (sym next) (record {
         front = l.front ++ own;
         back = l.back;

@@ -22,7 +22,7 @@ plain_first b bs h n =
     let t : eqb b 92 ≡ false = grind (arith, nat_tests) in
     rw (chars_first b bs h, t) refl
 
-plain_at : (inside : List ℕ) (i : ℕ) → i < length inside → get_or inside i 0 < 128 → get_or inside i 0 ≢ 92
+pub plain_at : (inside : List ℕ) (i : ℕ) → i < length inside → get_or inside i 0 < 128 → get_or inside i 0 ≢ 92
     → scalars_in (chars (drop i inside)) ≡ get_or inside i 0 ∷ scalars_in (chars (drop (i + 1) inside))
 plain_at inside i l h n = rw (drop_more inside i 0 l) (plain_first (get_or inside i 0) (drop (i + 1) inside) h n)
 

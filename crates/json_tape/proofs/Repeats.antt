@@ -97,7 +97,7 @@ module _ {K : Type 0} (same : K → K → Bool) (order : K → K → Ordering) (
       go Equal e k = absurd (let x = sym n ∙ sym (same_turned b a) ∙ ap is_eq e in cc)
       go Greater e k = refl
 
-  strict : (d : K) (xs : List K) → IsSorted order xs → repeats_next_by same xs ≡ false → IsStrictlySortedBy order xs
+  pub strict : (d : K) (xs : List K) → IsSorted order xs → repeats_next_by same xs ≡ false → IsStrictlySortedBy order xs
   strict d xs s h = sorted_from_all_adjacent total xs d (λ k l. below (get_or xs k d) (get_or xs (k + 1) d) (s k d (omega arith) l) (let e : suc k ≡ k + 1 = omega arith in subst (λ j. same (get_or xs k d) (get_or xs j d) ≡ false) e (apart xs k d h (omega arith))))
 
   -- in order, one that comes again comes right behind itself

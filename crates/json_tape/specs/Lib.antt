@@ -23,3 +23,6 @@ pub mod Counting
 pub mod Walking
 pub mod Building
 pub mod Placing
+pub mod Ordered
+pub mod KeyOrder
+pub mod Counted

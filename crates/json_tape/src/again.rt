@@ -41,7 +41,8 @@ fn has_equal<T: PartialEq>(values: &[T]) -> bool
     false
 }
 
-fn has_equal_neighbours<T: PartialEq>(values: &[T]) -> bool
+/// Whether one of the values is equal to the next one.
+pub fn has_equal_neighbours<T: PartialEq>(values: &[T]) -> bool
     ensures { result ≡ repeats_next_by T.eq values.now }
 {
     for i in 1..values.len() {

@@ -5,6 +5,7 @@ ghost use Rattle.json_tape.specs.Machine.{Opening, Closing, Comma, Between, Text
 ghost use Rattle.json_tape.specs.Tape.{role_of, label_spot};
 ghost use Rattle.json_tape.specs.Cells.{IsNear, is_container};
 ghost use Rattle.json_tape.specs.Opened.{HasRoom};
+ghost use Rattle.json_tape.specs.Verdict.{text_limit};
 
 use crate::compact::Tape;
 use crate::tape::{BuildFault, Extent, Kind, Level, Open, Role, Seat, Shape, Want};
@@ -96,7 +97,7 @@ impl Builder {
 
     /// A word, a number or a string that is a value.
     pub fn leaf(&mut self, source: Extent, kind: Kind) -> Result<(), BuildFault>
-        requires small { IsSmall (2 ^ 22) self.old }
+        requires small { IsSmall text_limit self.old }
         requires room { HasRoom source }
         requires scalar { is_container kind ≡ false }
         ensures { Took (step (Word source kind) self.old) result self.new }
@@ -147,7 +148,7 @@ impl Builder {
 
     /// A string: a name where one may come, otherwise a value.
     pub fn text(&mut self, source: Extent) -> Result<(), BuildFault>
-        requires small { IsSmall (2 ^ 22) self.old }
+        requires small { IsSmall text_limit self.old }
         requires room { HasRoom source }
         ensures { Took (step (Text source) self.old) result self.new }
     {
@@ -162,7 +163,7 @@ impl Builder {
     /// An opening bracket or brace.
     #[inline(always)]
     pub fn open(&mut self, shape: Shape, place: u32) -> Result<(), BuildFault>
-        requires small { IsSmall (2 ^ 22) self.old }
+        requires small { IsSmall text_limit self.old }
         requires near { place < 2 ^ 24 }
         ensures { Took (step (Opening shape place) self.old) result self.new }
     {
@@ -195,7 +196,7 @@ impl Builder {
 
     /// A closing bracket or brace.
     pub fn close(&mut self, shape: Shape, place: u32) -> Result<(), BuildFault>
-        requires small { IsSmall (2 ^ 22) self.old }
+        requires small { IsSmall text_limit self.old }
         requires near { place < 2 ^ 24 }
         ensures took { Took (step (Closing shape place) self.old) result self.new }
         ensures no_memory { IsErrOf result BuildFault.Memory → ⊥ }

@@ -1,6 +1,6 @@
 //! A text that was read, and the readers of its values.
 
-ghost use Rattle.std.specs.Prelude.{IfSome, ◌≡◌, ℕ, ◌^◌, ◌<◌, ◌≤◌, ◌-◌, ◌↔◌, length, MatchResult, IsTrue, slice_index_or};
+ghost use Rattle.std.specs.Prelude.{IfSome, ◌≡◌, ℕ, List, ◌^◌, ◌<◌, ◌≤◌, ◌-◌, ◌↔◌, length, MatchResult, MatchOption, IsTrue, slice_index_or};
 ghost use Rattle.std.specs.List.{Contains};
 ghost use Rattle.std.specs.Str.{chars};
 ghost use Rattle.json_tape.specs.Spelling.{scalars_in, AreWordsOf};
@@ -11,43 +11,54 @@ ghost use Rattle.json_tape.specs.Tree.{source_of};
 ghost use Rattle.json_tape.specs.Verdict.{text_limit, IsAccepted};
 ghost use Rattle.json_tape.specs.Nodes.{size, children, visit, is_named, first_where};
 ghost use Rattle.json_tape.specs.Tape.{Top, tape_of};
+ghost use Rattle.json_tape.specs.Ordered.{IsOrderOf, IsWide, entry_in, sought_name};
 ghost use Rattle.json_tape.specs.Document.{tree_of, count, node_at, later, seen, following, single, root_of, counting, IsIn, IsDocument, IsMember, HasName, LeadIs, ParentIs, StandsIn, kind_of, length_of, string_meaning};
 
 use crate::compact::Tape;
 use crate::judge::{judge_tape, part_at};
+use crate::lengths::{Lengths, count_of, count_strings, is_long};
+use crate::order::{NameOrder, Run, is_wide, member_in};
 use crate::plain::{Words, is_meant_by, is_meant_plainly, words_of};
 use crate::scalars::{Scalars, unquoted};
 use crate::second_stage::read;
+use crate::sought::{Sought, is_sought};
 use crate::tape::{BuildFault, Entry, Kind, Lead, NodeId, Role, TextFault};
 use std::alloc::Global;
 use std::marker::Model;
 
 /// The most bytes of a text.
-pub const TEXT_LIMIT: usize = 1_048_576;
+pub const TEXT_LIMIT: usize = 4_194_304;
 
 /// A text within the limits, with an entry for each of its values. Nothing changes it.
 #[derive(Drop)]
 pub struct Document {
     text: String,
     tape: Tape,
+    names: NameOrder,
+    lengths: Lengths,
 }
 
 impl Model for Document {
     ghost use Rattle.std.specs.String.{string_bytes};
+    ghost use Rattle.std.specs.Prelude.{length};
     ghost use Rattle.json_tape.specs.Document.{Doc, IsDocument};
+    ghost use Rattle.json_tape.specs.Ordered.{AreKept};
+    ghost use Rattle.json_tape.specs.Counted.{AreCounted};
 
     ghost Value = { Doc };
 
     ghost view = { λ d. record { text = string_bytes d.text; entries = d.tape } };
 
-    ghost invariant = { λ d. IsDocument (record { text = string_bytes d.text; entries = d.tape }) };
+    ghost invariant = { λ d. IsDocument (record { text = string_bytes d.text; entries = d.tape })
+        × AreKept (string_bytes d.text) d.tape (length d.tape) d.names.objects.items d.names.starts.items d.names.hashes.items d.names.members.items
+        × AreCounted (record { text = string_bytes d.text; entries = d.tape }) d.lengths.strings.items d.lengths.lengths.items };
 }
 
 impl Document {
     /// Reads a text (RFC 8259).
     ///
-    /// Errors, the first that applies in this order, wherever in the text it shows: `TooLong` above 1,048,576 bytes;
-    /// `NotUtf8`; `NotJson`, where the grammar has no tree for the bytes; `TooDeep` above 128 containers in one another;
+    /// Errors, the first that applies in this order, wherever in the text it shows: `TooLong` above [`TEXT_LIMIT`] bytes;
+    /// `NotUtf8`; `NotJson`, where the grammar has no tree for the bytes; `TooDeep` above [`crate::DEPTH_LIMIT`] containers in one another;
     /// `NumberLimit`, where a number has more than 256 bytes or an exponent above 999,999,999; `LoneSurrogate`, where a
     /// string or a name spells a surrogate without its partner; `DuplicateName`, where two names of one object mean the
     /// same. `Memory` where a growth was refused, which comes after the first two were looked for.
@@ -65,14 +76,20 @@ impl Document {
             Err(BuildFault::NotJson) => return Err(TextFault::NotJson),
             Err(BuildFault::Memory) => return Err(TextFault::Memory),
         };
-        if let Err(fault) = judge_tape(alloc, checked, &reading) {
-            return Err(fault);
-        }
+        let names = match judge_tape(alloc, checked, &reading) {
+            Ok(names) => names,
+            Err(fault) => return Err(fault),
+        };
+        let Ok(lengths) = count_strings(alloc, checked, &reading.tape) else {
+            return Err(TextFault::Memory);
+        };
         match String::from_str(alloc, checked) {
             Err(_) => Err(TextFault::Memory),
             Ok(text) => Ok(Document {
                 text,
                 tape: reading.tape,
+                names,
+                lengths,
             }),
         }
     }
@@ -117,6 +134,27 @@ impl Document {
         self.tape.entry(n.0)
     }
 
+    // The order of a wide object's members; `None` of any other value.
+    fn run(&self, n: NodeId) -> Option<Run<'_>>
+        requires { n.0 < count self.now }
+        ensures document { IsDocument self.now }
+        ensures order { MatchOption result (IsWide (entry_in self.now.entries n.0) → ⊥) (λ run. IsOrderOf self.now.text self.now.entries n.0 run.hashes.now run.members.now) }
+    {
+        let entry = self.entry(n);
+        if !is_wide(entry) {
+            return None;
+        }
+        let Ok(place) = self.names.objects.binary_search(&n.0) else {
+            return None;
+        };
+        let start = self.names.starts[place];
+        let end = start + entry.children as usize;
+        Some(Run {
+            hashes: &self.names.hashes[start..end],
+            members: &self.names.members[start..end],
+        })
+    }
+
     /// What the value is.
     pub fn kind(&self, n: NodeId) -> Kind
         requires { n.0 < count self.now }
@@ -145,9 +183,23 @@ impl Document {
         let entry = self.entry(n);
         match entry.kind {
             Kind::Array | Kind::Object => Some(entry.children),
-            Kind::Text => Some(count_of(self.string_scalars(n))),
+            Kind::Text => Some(self.string_length(n)),
             Kind::Null | Kind::Bool(_) | Kind::Number => None,
         }
+    }
+
+    // The number of scalar values of a string, which is kept where it is long.
+    fn string_length(&self, n: NodeId) -> u32
+        requires inside { n.0 < count self.now }
+        requires string { kind_of (node_at self.now n.0).tree ≡ Kind.Text }
+        ensures { result ≡ length (string_meaning (node_at self.now n.0).tree) }
+    {
+        if is_long(self.entry(n)) {
+            if let Ok(place) = self.lengths.strings.binary_search(&n.0) {
+                return self.lengths.lengths[place];
+            }
+        }
+        count_of(self.string_scalars(n))
     }
 
     /// The first element or the first member's value.
@@ -248,10 +300,15 @@ impl Document {
     {
         let value = self.entry(n);
         match value.kind {
-            Kind::Object => match words_of(name) {
-                Some(words) => self.first_named(n, name, Some(words)),
-                None => self.first_by_bytes(n, name),
-            },
+            Kind::Object => {
+                if is_wide(value) {
+                    return self.sought_in(n, Sought::Meant(name));
+                }
+                match words_of(name) {
+                    Some(words) => self.first_named(n, name, Some(words)),
+                    None => self.first_by_bytes(n, name),
+                }
+            }
             Kind::Null | Kind::Bool(_) | Kind::Number | Kind::Text | Kind::Array => None,
         }
     }
@@ -274,7 +331,7 @@ impl Document {
             match is_meant_plainly(&self.text, entry.label, name, words) {
                 Some(true) => return Some(NodeId(k)),
                 Some(false) => k = entry.after,
-                None => return self.first_meant(n, name),
+                None => return self.first_meant(n, Sought::Meant(name)),
             }
         }
         None
@@ -293,10 +350,10 @@ impl Document {
 
     // The same by what the names mean.
     #[inline(never)]
-    fn first_meant(&self, n: NodeId, name: &[char]) -> Option<NodeId>
+    fn first_meant(&self, n: NodeId, sought: Sought<'_>) -> Option<NodeId>
         requires inside { n.0 < count self.now }
         requires object { kind_of (node_at self.now n.0).tree ≡ Kind.Object }
-        ensures node { single self.now result ≡ first_where (is_named name.now) (children (node_at self.now n.0)) }
+        ensures node { single self.now result ≡ first_where (is_named (sought_name sought.entry)) (children (node_at self.now n.0)) }
         ensures inside { IsIn self.now result }
     {
         let object = self.entry(n);
@@ -304,12 +361,45 @@ impl Document {
         let mut next = n.0 + 1;
         while next < end {
             let entry = self.entry(NodeId(next));
-            if is_meant_by(&self.text, entry.label, name) {
+            if is_sought(&self.text, entry.label, sought) {
                 return Some(NodeId(next));
             }
             next = entry.after;
         }
         None
+    }
+
+    // The same by halving, where the object is wide.
+    #[inline(never)]
+    fn sought_in(&self, n: NodeId, sought: Sought<'_>) -> Option<NodeId>
+        requires inside { n.0 < count self.now }
+        requires object { kind_of (node_at self.now n.0).tree ≡ Kind.Object }
+        ensures node { single self.now result ≡ first_where (is_named (sought_name sought.entry)) (children (node_at self.now n.0)) }
+        ensures inside { IsIn self.now result }
+    {
+        match self.run(n) {
+            None => self.first_meant(n, sought),
+            Some(run) => match member_in(&self.text, &self.tape, run, sought) {
+                Some(number) => Some(NodeId(number)),
+                None => None,
+            },
+        }
+    }
+
+    /// The value of the object's member that has the name of this member of another object; `None` where there is none or
+    /// the value is no object.
+    pub fn twin(&self, n: NodeId, other: &Document, m: NodeId) -> Option<NodeId>
+        requires inside { n.0 < count self.now }
+        requires member { m.0 < count other.now }
+        requires named { HasName (node_at other.now m.0) }
+        ensures node { (name : List ℕ) → IsMember name (node_at other.now m.0) → single self.now result ≡ first_where (is_named name) (children (node_at self.now n.0)) }
+        ensures inside { IsIn self.now result }
+    {
+        let value = self.entry(n);
+        match value.kind {
+            Kind::Object => self.sought_in(n, Sought::Spelt(other.name_inside(m))),
+            Kind::Null | Kind::Bool(_) | Kind::Number | Kind::Text | Kind::Array => None,
+        }
     }
 
     // What stands between the quotes of a member's name.
@@ -343,12 +433,4 @@ impl Document {
         let string = self.entry(n).source;
         Scalars::new(unquoted(&self.text, string))
     }
-}
-
-// How many scalar values are left.
-fn count_of(scalars: Scalars<'_>) -> u32
-    requires { length scalars ≤ text_limit }
-    ensures { result ≡ length scalars.entry }
-{
-    scalars.count() as u32
 }

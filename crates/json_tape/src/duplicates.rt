@@ -1,38 +1,66 @@
 // Objects with two names that mean the same (RFC 8259, section 4).
 
-ghost use Rattle.std.specs.Prelude.{◌≡◌, ◌<◌, ◌^◌, ◌↔◌, length, map, IsTrue, IfOk, OnOk};
+ghost use Rattle.std.specs.Prelude.{◌≡◌, ◌+◌, ◌<◌, ◌^◌, ◌↔◌, length, map, IsTrue, IfOk, OnOk, MatchOption, false};
 ghost use Rattle.json_tape.specs.Tree.{Members};
 ghost use Rattle.json_tape.specs.Answer.{IsJson, StandsForAll};
 ghost use Rattle.json_tape.specs.Verdict.{Applies};
 ghost use Rattle.json_tape.specs.Repeats.{meanings, repeats, hash_of, IsObject};
+ghost use Rattle.json_tape.specs.Ordered.{AreKept};
 ghost use Rattle.json_tape.specs.declared.tape.TextFault.TheVariants.{LoneSurrogate, DuplicateName};
 
 use crate::again::has_repeated;
 use crate::compact::Tape;
 use crate::hashes::hash;
 use crate::names::Name;
+use crate::order::{NameOrder, is_wide, order_members};
 use crate::scalars::unquoted;
 use crate::tape::{Entry, Kind};
 use std::alloc::{AllocError, Global};
 
-/// Whether two names of one object mean the same, in a text without lone surrogates.
-pub fn has_duplicate(alloc: Global, text: &str, tape: &Tape) -> Result<bool, AllocError>
+/// The order of the members of wide objects; `None` where two names of one object mean the same. Of a text without lone
+/// surrogates.
+pub fn order_names(alloc: Global, text: &str, tape: &Tape) -> Result<Option<NameOrder>, AllocError>
     requires spelt { IsJson text.now }
     requires stands { StandsForAll text.now tape.now }
     requires short { length tape.now < 2 ^ 31 }
     requires paired { Applies text.now LoneSurrogate → ⊥ }
-    ensures { IfOk result (λ found. IsTrue found ↔ Applies text.now DuplicateName) }
+    ensures { IfOk result (λ found. MatchOption found (Applies text.now DuplicateName) (λ order. (Applies text.now DuplicateName → ⊥)
+        × AreKept text.now tape.now (length tape.now) order.objects.items order.starts.items order.hashes.items order.members.items)) }
 {
     let mut hashes = Vec::new(alloc);
+    let mut order = NameOrder::new(alloc);
     for n in 0..tape.len() {
         if may_repeat(tape.entry(n)) {
-            let found = repeats_in(alloc, text, tape, n, &mut hashes)?;
+            let found = repeats_at(alloc, text, tape, n, &mut hashes, &mut order)?;
             if found {
-                return Ok(true);
+                return Ok(None);
             }
         }
     }
-    Ok(false)
+    Ok(Some(order))
+}
+
+// Whether two names of the object with this number mean the same. Where it is wide, its members are kept in order.
+fn repeats_at(
+    alloc: Global,
+    text: &str,
+    tape: &Tape,
+    n: u32,
+    hashes: &mut Vec<u64>,
+    order: &mut NameOrder,
+) -> Result<bool, AllocError>
+    requires inside { n < length tape.now }
+    requires object { (ms : Members) × IsObject text.now tape.now n ms }
+    requires short { length tape.now < 2 ^ 31 }
+    requires kept { AreKept text.now tape.now n order.old.objects.items order.old.starts.items order.old.hashes.items order.old.members.items }
+    ensures found { IfOk result (λ found. (ms : Members) → IsObject text.now tape.now n ms → found ≡ repeats (meanings ms)) }
+    ensures kept { IfOk result (λ found. found ≡ false → AreKept text.now tape.now (n + 1) order.new.objects.items order.new.starts.items order.new.hashes.items order.new.members.items) }
+{
+    if is_wide(tape.entry(n)) {
+        order_members(alloc, text, tape, n, order)
+    } else {
+        repeats_in(alloc, text, tape, n, hashes)
+    }
 }
 
 // Only an object of two members or more has two names.

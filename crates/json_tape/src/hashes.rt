@@ -5,6 +5,7 @@ ghost use Rattle.std.specs.Str.{chars};
 ghost use Rattle.json_tape.specs.Limits.{bytes_at};
 ghost use Rattle.json_tape.specs.Spelling.{scalars_in, unquoted as inside, IsQuoted};
 ghost use Rattle.json_tape.specs.Repeats.{next_hash as hash_next, hash_of};
+ghost use Rattle.json_tape.specs.Ordered.{mixed as mix};
 
 use crate::scalars::{Scalars, unquoted};
 use crate::tape::Extent;
@@ -36,9 +37,9 @@ fn decoded_hash(mut scalars: Scalars<'_>) -> u64
     hash
 }
 
-// They are decoded only where a byte is no character that stands for itself.
+/// The hash of what characters mean. They are decoded only where a byte is no character that stands for itself.
 #[inline(never)]
-fn long_hash(inside: &str) -> u64
+pub fn long_hash(inside: &str) -> u64
     ensures { result ≡ hash_of (scalars_in (chars inside.now)) }
 {
     let bytes = inside.as_bytes();
@@ -85,4 +86,24 @@ pub fn hash(text: &str, string: Extent) -> u64
         Some(hash) => hash,
         None => long_hash(unquoted(text, string)),
     }
+}
+
+/// The hash of these scalar values.
+pub fn meant_hash(name: &[char]) -> u64
+    ensures { result ≡ hash_of name.now }
+{
+    let mut hash = 0;
+    for c in name {
+        hash = next_hash(hash, u32::from(*c));
+    }
+    hash
+}
+
+/// The half of a hash in which all of it shows.
+#[inline(always)]
+#[tactic(auto, unfolding(crate::specs::Ordered::mixed))]
+pub fn mixed(hash: u64) -> u32
+    ensures { result ≡ mix hash }
+{
+    (hash.wrapping_mul(FACTOR) >> 32) as u32
 }

@@ -1,12 +1,13 @@
 //! The scalar values that a string or a name means (RFC 8259, section 7).
 
-ghost use Rattle.std.specs.Prelude.{◌≡◌, ℕ, ◌<◌, IfSome};
+ghost use Rattle.std.specs.Prelude.{◌≡◌, ℕ, ◌+◌, ◌<◌, length, IfSome};
 ghost use Rattle.std.specs.Char.{IsScalar};
 ghost use Rattle.json_tape.specs.Meaning.{IsHigh, IsLow, short_value as value_of_short, pair_value as value_of_pair};
 ghost use Rattle.json_tape.specs.Limits.{bytes_at};
 ghost use Rattle.json_tape.specs.Spelling.{hex_value as value_of_hex, unquoted as inside, IsQuoted};
 ghost use Rattle.json_tape.specs.Reading.{Reads, ReadsUnit};
 
+use crate::lengths::plain_beginning;
 use crate::scan::Mode;
 use crate::tape::Extent;
 use std::marker::Model;
@@ -167,6 +168,16 @@ impl<'a> Scalars<'a> {
         Scalars {
             rest: inside.chars(),
         }
+    }
+
+    /// Passes characters that stand for themselves in one byte, and tells how many.
+    pub(crate) fn pass_plain(&mut self) -> usize
+        ensures { length self.old ≡ result + length self.new }
+    {
+        let rest = self.rest.as_str();
+        let run = plain_beginning(rest.as_bytes());
+        self.rest = rest[run..].chars();
+        run
     }
 }
 

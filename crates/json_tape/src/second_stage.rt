@@ -153,7 +153,7 @@ fn past_sign(taken: Result<(), BuildFault>, i: usize) -> Result<usize, BuildFaul
 #[inline(always)]
 fn has_quote_before(looks: &mut Looks<'_>, i: usize, next: usize) -> bool
     requires near { next ≤ length looks.old.0 }
-    requires short { length looks.old.0 ≤ 2 ^ 22 }
+    requires short { length looks.old.0 ≤ text_limit }
     ensures behind { IsTrue result → i + 1 < next }
     ensures quote { IsTrue result → slice_index looks.old.0 (next - 1) ≡ 34 }
     ensures same { looks.new.0 ≡ looks.old.0 }
@@ -170,7 +170,7 @@ fn has_quote_before(looks: &mut Looks<'_>, i: usize, next: usize) -> bool
 fn string_end(looks: &mut Looks<'_>, i: usize, next: usize, escapes: bool) -> Option<usize>
     requires in_text { i < length looks.old.0 }
     requires near { next ≤ length looks.old.0 }
-    requires short { length looks.old.0 ≤ 2 ^ 22 }
+    requires short { length looks.old.0 ≤ text_limit }
     requires quote { slice_index looks.old.0 i ≡ 34 }
     requires indexed { IsIndexed looks.old.0 escapes }
     requires closes { ClosesBefore looks.old.0 i next }
@@ -202,8 +202,8 @@ fn string(
 ) -> Result<usize, BuildFault>
     requires in_text { i < length looks.old.0 }
     requires near { next ≤ length looks.old.0 }
-    requires short { length looks.old.0 ≤ 2 ^ 22 }
-    requires small { IsSmall (2 ^ 22) builder.old }
+    requires short { length looks.old.0 ≤ text_limit }
+    requires small { IsSmall text_limit builder.old }
     requires quote { slice_index looks.old.0 i ≡ 34 }
     requires indexed { IsIndexed looks.old.0 escapes }
     requires closes { ClosesBefore looks.old.0 i next }
@@ -235,8 +235,8 @@ fn word(
     has_long: &mut bool,
 ) -> Result<usize, BuildFault>
     requires in_text { i < length looks.old.0 }
-    requires short { length looks.old.0 ≤ 2 ^ 22 }
-    requires small { IsSmall (2 ^ 22) builder.old }
+    requires short { length looks.old.0 ≤ text_limit }
+    requires small { IsSmall text_limit builder.old }
     requires is_atom { atom (slice_index looks.old.0 i) ≡ true }
     ensures stepped { Stepped looks.old.0 i builder.old result builder.new }
     ensures marked { Marked looks.old.0 i has_long.old result has_long.new }
@@ -274,8 +274,8 @@ fn token(
 ) -> Result<usize, BuildFault>
     requires in_text { i < length looks.old.0 }
     requires near { next ≤ length looks.old.0 }
-    requires short { length looks.old.0 ≤ 2 ^ 22 }
-    requires small { IsSmall (2 ^ 22) builder.old }
+    requires short { length looks.old.0 ≤ text_limit }
+    requires small { IsSmall text_limit builder.old }
     requires indexed { IsIndexed looks.old.0 escapes }
     requires closes { ClosesBefore looks.old.0 i next }
     requires no_blank { blank (slice_index looks.old.0 i) ≡ false }
@@ -307,7 +307,7 @@ pub struct Reading {
 /// The tape of a text and its marks, or why there is none, by the places of its index.
 #[inline(always)]
 fn walk(alloc: Global, index: &Index, looks: &mut Looks<'_>) -> Result<Reading, BuildFault>
-    requires short { length looks.old.0 ≤ 2 ^ 22 }
+    requires short { length looks.old.0 ≤ text_limit }
     requires utf8 { IsUtf8 looks.old.0 }
     requires index { IsIndexOf index.now looks.old.0 }
     ensures same { looks.new.0 ≡ looks.old.0 }
@@ -380,7 +380,7 @@ pub fn build(alloc: Global, index: &Index, looks: &mut Looks<'_>) -> Result<Tape
 
 /// The tape of a text, by its index, or why there is none.
 pub fn read(alloc: Global, text: &[u8]) -> Result<Reading, BuildFault>
-    requires long { length text.now ≤ 2 ^ 22 }
+    requires long { length text.now ≤ text_limit }
     requires utf8 { IsUtf8 text.now }
     // A tape is given only where the text is JSON.
     ensures spelt { IfOk result (λ reading. IsJson text.now) }

@@ -107,13 +107,13 @@ pub struct Open {
 /// Why a text is refused. A text that shows several gets the first in this order, wherever they stand in it.
 #[derive(Clone, Copy, Debug, PartialEq, Eq, Error)]
 pub enum TextFault {
-    #[error("the text is longer than 1048576 bytes")]
+    #[error("the text is longer than the limit")]
     TooLong,
     #[error("the text is not UTF-8")]
     NotUtf8,
     #[error("the text is not JSON")]
     NotJson,
-    #[error("arrays and objects lie more than 128 deep in one another")]
+    #[error("arrays and objects lie deeper in one another than the limit")]
     TooDeep,
     #[error("a number has more than 256 bytes, or an exponent above 999999999")]
     NumberLimit,

@@ -10,7 +10,6 @@ pub mod Turned
 pub mod Following
 pub mod Learnt
 pub mod Slots
-pub mod Containers
 pub mod Filtering
 pub mod Plainness
 pub mod Naming

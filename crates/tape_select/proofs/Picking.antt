@@ -1,5 +1,5 @@
 -- The places of a slice, which follow one another in steps: from the next place that is wanted on.
-use Rattle.std.proofs.Common.{◌≡◌, ◌≢◌, ℕ, suc, ◌+◌, ◌-◌, ◌%◌, ◌<◌, ◌≤◌, true, false, List, [], ◌∷◌, inl, inr, refl, sym, arith}
+use Rattle.std.proofs.Common.{◌≡◌, ◌≢◌, ℕ, zero, suc, drop, ◌+◌, ◌-◌, ◌%◌, ◌<◌, ◌≤◌, true, false, List, [], ◌∷◌, inl, inr, refl, sym, arith}
 use Rattle.std.proofs.Math.Nat.{mod-eq_of_lt, add-mod_right, mod-le}
 use Rattle.std.proofs.lemmas.Bool.{cases_lt}
 use Rattle.std.proofs.lemmas.Bool.Decides.{nat_tests}
@@ -41,5 +41,18 @@ picked_none first end step i [] h = refl
 picked_none first end step i (n ∷ ns) h =
     let no : is_place first end step i ≡ false = grind (arith, nat_tests) in
     rw (no, picked_none first end step (suc i) ns h) refl
+
+-- what stands before the first place is not picked
+picked_on : (first end step i j : ℕ) (ns : List Node) → i + j ≡ first → picked (is_place first end step) first (drop j ns) ≡ picked (is_place first end step) i ns
+picked_on first end step i zero ns e = let h : i ≡ first = omega (arith, e) in rw h refl
+picked_on first end step i (suc j) [] e = refl
+picked_on first end step i (suc j) (n ∷ ns) e =
+    let no : is_place first end step i ≡ false = grind (arith, nat_tests) in
+    rw no (picked_on first end step (suc i) j ns (omega (arith, e)))
+
+pub picked_from : (first end step : ℕ) (ns others : List Node) → others ≡ drop first ns → picked (is_place first end step) first others ≡ picked (is_place first end step) 0 ns
+picked_from first end step ns others e = rw e (picked_on first end step 0 first ns (omega arith))
+
+pub ruleset beginning = (picked_from, picked_none)
 
 pub ruleset picking = (picked_first, picked_before, picked_none, add_more, has_none, append_nil)

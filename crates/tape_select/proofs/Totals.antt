@@ -49,29 +49,7 @@ object_total n e = object_length n.way_up n.number n.tree e
 pub none_are : (n : Node) → kind_of n.tree ≢ kinds.Array → kind_of n.tree ≢ kinds.Object → children n ≡ []
 none_are n a o = no_children n.way_up n.number n.tree a o
 
-array_elements : (up : List Step) (k : ℕ) (t : Tree) → kind_of t ≡ kinds.Array → children_of up k t ≡ elements_of up k t
-array_elements up k (Leaf s Null) e = cc
-array_elements up k (Leaf s True) e = cc
-array_elements up k (Leaf s False) e = cc
-array_elements up k (Leaf s Num) e = cc
-array_elements up k (Leaf s (Str cs)) e = cc
-array_elements up k (Arr s es) e = refl
-array_elements up k (Obj s ms) e = cc
-
-no_elements_of : (up : List Step) (k : ℕ) (t : Tree) → kind_of t ≢ kinds.Array → elements_of up k t ≡ []
-no_elements_of up k (Leaf s c) a = refl
-no_elements_of up k (Arr s es) a = absurd (a refl)
-no_elements_of up k (Obj s ms) a = refl
-
-pub elements_are : (n : Node) → kind_of n.tree ≡ kinds.Array → children n ≡ elements n
-elements_are n e = array_elements n.way_up n.number n.tree e
-
-pub no_elements : (n : Node) → kind_of n.tree ≢ kinds.Array → elements n ≡ []
-no_elements n a = no_elements_of n.way_up n.number n.tree a
-
 pub ruleset totals = (array_total, object_total, none_are)
-
-pub ruleset element_facts = (elements_are, no_elements)
 
 pub length_nodes : (d : Doc) (ids : List NodeId) → length (nodes_of d ids) ≡ length ids
 length_nodes d [] = refl

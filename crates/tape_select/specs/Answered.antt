@@ -1,19 +1,19 @@
 -- Comparisons that were made.
-use Rattle.std.specs.Prelude.{◌≡◌, List, [], ◌∷◌, Bool, true, false, Option, Some, None}
+use Rattle.std.specs.Prelude.{◌≡◌, List, [], ◌∷◌, Option, Some, None}
 use Rattle.json_tape.specs.Document.{Doc, node_at}
-use Rattle.json_tape.specs.Tree.{Tree, Leaf, Arr, Obj}
-use Rattle.tape_values.specs.Comparison.{equal_trees}
+use Rattle.json_tape.specs.declared.tape.NodeId.{NodeId}
+use Rattle.tape_values.specs.Comparison.{value_of, equal_results, less_results}
 use Rattle.tape_select.specs.declared.answers.Answer.{Answer}
+
+-- how the values of these nodes compare
+pub record Answers (d : Doc) (left right : NodeId) (a : Answer) : Type 0 where
+  pub equal : a.is_equal ≡ equal_results (Some (value_of (node_at d left.0).tree)) (Some (value_of (node_at d right.0).tree))
+  pub less : a.is_less ≡ less_results (Some (value_of (node_at d left.0).tree)) (Some (value_of (node_at d right.0).tree))
 
 abbrev pub IsRight : Doc → Option Answer → Type 0
 IsRight d None = Unit {0}
-IsRight d (Some a) = a.is_equal ≡ equal_trees (node_at d a.left.0).tree (node_at d a.right.0).tree
+IsRight d (Some a) = Answers d a.left a.right a
 
 abbrev pub AreRight : Doc → List (Option Answer) → Type 0
 AreRight d [] = Unit {0}
 AreRight d (a ∷ rest) = IsRight d a × AreRight d rest
-
-abbrev pub is_container : Tree → Bool
-is_container (Leaf s c) = false
-is_container (Arr s es) = true
-is_container (Obj s ms) = true

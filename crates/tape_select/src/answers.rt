@@ -1,19 +1,20 @@
 //! Comparisons that were made: a table of a fixed size, which answers or does not.
 
-ghost use Rattle.std.specs.Prelude.{◌≡◌, ◌<◌, IfSome, length};
-ghost use Rattle.json_tape.specs.Document.{count, node_at};
-ghost use Rattle.tape_values.specs.Comparison.{equal_trees};
-ghost use Rattle.tape_select.specs.Answered.{AreRight};
+ghost use Rattle.std.specs.Prelude.{◌<◌, IfSome, Some, length};
+ghost use Rattle.json_tape.specs.Document.{count};
+ghost use Rattle.tape_select.specs.Answered.{AreRight, IsRight, Answers};
 
 use json_tape::{Document, NodeId};
-use tape_values::equal_values;
+use path_grammar::Op;
+use tape_values::{Side, compare_sides};
 
-/// Whether the values of two nodes are equal.
+/// How the values of two nodes compare.
 #[derive(Clone, Copy)]
 pub struct Answer {
     pub left: NodeId,
     pub right: NodeId,
     pub is_equal: bool,
+    pub is_less: bool,
 }
 
 /// How many comparisons are kept at most.
@@ -45,11 +46,11 @@ fn place(a: NodeId, b: NodeId, places: usize) -> usize
     (mixed as usize) % places
 }
 
-/// What is known of two nodes.
+// What is known of two nodes.
 #[tactic(auto, using(crate::proofs::Learnt::answers))]
-pub fn known(doc: &Document, table: &[Option<Answer>], a: NodeId, b: NodeId) -> Option<bool>
+fn known(doc: &Document, table: &[Option<Answer>], a: NodeId, b: NodeId) -> Option<Answer>
     requires right { AreRight doc.now table.now }
-    ensures { IfSome result (λ is_equal. is_equal ≡ equal_trees (node_at doc.now a.0).tree (node_at doc.now b.0).tree) }
+    ensures { IfSome result (λ answer. Answers doc.now a b answer) }
 {
     let _ = doc;
     if table.is_empty() {
@@ -57,32 +58,43 @@ pub fn known(doc: &Document, table: &[Option<Answer>], a: NodeId, b: NodeId) -> 
     }
     let answer = table[place(a, b, table.len())]?;
     if answer.left.0 == a.0 && answer.right.0 == b.0 {
-        Some(answer.is_equal)
+        Some(answer)
     } else {
         None
     }
 }
 
-/// Whether two values are equal, found once while the table keeps it.
+// Two values compared.
+fn found(doc: &Document, a: NodeId, b: NodeId) -> Answer
+    requires left { a.0 < count doc.now }
+    requires right { b.0 < count doc.now }
+    ensures answer { Answers doc.now a b result }
+    ensures kept { IsRight doc.now (Some result) }
+{
+    Answer {
+        left: a,
+        right: b,
+        is_equal: compare_sides(doc, Op::Eq, &Side::Node(a), &Side::Node(b)),
+        is_less: compare_sides(doc, Op::Lt, &Side::Node(a), &Side::Node(b)),
+    }
+}
+
+/// How two values compare, found once while the table keeps it.
 #[tactic(auto, using(crate::proofs::Learnt::answers))]
-pub fn equal_once(doc: &Document, table: &mut [Option<Answer>], a: NodeId, b: NodeId) -> bool
+pub fn compare_once(doc: &Document, table: &mut [Option<Answer>], a: NodeId, b: NodeId) -> Answer
     requires left { a.0 < count doc.now }
     requires right { b.0 < count doc.now }
     requires before { AreRight doc.now table.old }
-    ensures equal { result ≡ equal_trees (node_at doc.now a.0).tree (node_at doc.now b.0).tree }
+    ensures answer { Answers doc.now a b result }
     ensures after { AreRight doc.now table.new }
 {
-    if let Some(is_equal) = known(doc, table, a, b) {
-        return is_equal;
+    if let Some(answer) = known(doc, table, a, b) {
+        return answer;
     }
-    let is_equal = equal_values(doc, a, b);
+    let answer = found(doc, a, b);
     if !table.is_empty() {
         let at = place(a, b, table.len());
-        table[at] = Some(Answer {
-            left: a,
-            right: b,
-            is_equal,
-        });
+        table[at] = Some(answer);
     }
-    is_equal
+    answer
 }

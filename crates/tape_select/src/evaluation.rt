@@ -18,7 +18,7 @@ use crate::names::{lone_name, named};
 use crate::nodes::{child_total, lone, push, push_some, wild};
 use crate::plain::{filtered_plainly, units_of};
 use crate::plan::{Condition, Nested, Operand, Parts, Selection, Stage};
-use crate::sides::{compare_once, length_of, side_found};
+use crate::sides::{compare, length_of, side_found};
 use crate::slices::sliced;
 use crate::state::{Found, State, chain_found, found_in, keep, recall};
 use json_tape::{Document, NodeId};
@@ -110,7 +110,7 @@ fn does_hold(
         Condition::Compare(left, op, right) => {
             let left = side_of(alloc, doc, plan, left, child, state)?;
             let right = side_of(alloc, doc, plan, right, child, state)?;
-            Ok(compare_once(doc, *op, &left, &right, &mut state.answers))
+            Ok(compare(doc, *op, &left, &right, &mut state.answers))
         }
         Condition::Leads(chain) => {
             let found = chain_found(doc, plan, chain, child, state)?;

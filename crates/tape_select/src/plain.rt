@@ -22,7 +22,7 @@ use crate::fault::SelectFault;
 use crate::meter::Meter;
 use crate::nodes::{child_total, push};
 use crate::plan::{Chain, Condition, Constant, Operand};
-use crate::sides::{compare_once, length_of, side_found};
+use crate::sides::{compare, length_of, side_found};
 use json_tape::{Document, NodeId};
 use path_grammar::Op;
 use std::slice::from_ref;
@@ -136,7 +136,7 @@ fn compare_plainly(
 {
     let left = side_plainly(doc, left, child);
     let right = side_plainly(doc, right, child);
-    compare_once(doc, op, &left, &right, answers)
+    compare(doc, op, &left, &right, answers)
 }
 
 // Whether a comparison of a query's value with a literal holds, as most are.

@@ -1,17 +1,20 @@
 //! The sides of a comparison, found and compared.
 
-ghost use Rattle.std.specs.Prelude.{◌≡◌, ◌<◌, Some};
+ghost use Rattle.std.specs.Prelude.{◌≡◌, ◌<◌, Some, None};
 ghost use Rattle.json_tape.specs.Document.{count, node_at, IsIn};
-ghost use Rattle.tape_values.specs.Comparison.{a_container, compared, value_of};
+ghost use Rattle.tape_values.specs.Comparison.{Value, compared, value_of};
 ghost use Rattle.tape_values.specs.Functions.{length_value};
 ghost use Rattle.tape_values.specs.Sides.{side_value, IsSide};
-ghost use Rattle.tape_select.specs.Answered.{AreRight, is_container};
+ghost use Rattle.tape_select.specs.Answered.{AreRight};
 ghost use Rattle.tape_select.specs.Memo.{value_found};
 
-use crate::answers::{Answer, equal_once, make_room};
+use crate::answers::{Answer, compare_once, make_room};
 use json_tape::{Document, Kind, NodeId};
 use path_grammar::{Literal, Op};
 use tape_values::{Side, compare_sides};
+
+// The most bytes of a string that is compared each time.
+const SHORT: usize = 64;
 
 /// The value of a node, or Nothing.
 pub fn side_found<'a>(doc: &Document, found: Option<NodeId>) -> Side<'a>
@@ -42,18 +45,19 @@ pub fn length_of<'a>(doc: &Document, side: Side<'_>) -> Side<'a>
     }
 }
 
-fn is_container(doc: &Document, n: NodeId) -> bool
+// Whether a comparison with this value may take long: an array, an object or a long string.
+fn is_costly(doc: &Document, n: NodeId) -> bool
     requires { n.0 < count doc.now }
-    ensures { result ≡ is_container (node_at doc.now n.0).tree }
 {
     match doc.kind(n) {
         Kind::Array | Kind::Object => true,
-        Kind::Null | Kind::Bool(_) | Kind::Number | Kind::Text => false,
+        Kind::Text => doc.text(n).len() > SHORT,
+        Kind::Null | Kind::Bool(_) | Kind::Number => false,
     }
 }
 
-// Whether a comparison of two arrays or objects holds. They have no order.
-fn compare_containers(
+// Whether a comparison of two nodes' values holds, by what is kept of them.
+fn compare_kept(
     doc: &Document,
     op: Op,
     a: NodeId,
@@ -62,24 +66,46 @@ fn compare_containers(
 ) -> bool
     requires left { a.0 < count doc.now }
     requires right { b.0 < count doc.now }
-    requires left_container { value_of (node_at doc.now a.0).tree ≡ a_container (node_at doc.now a.0).tree }
-    requires right_container { value_of (node_at doc.now b.0).tree ≡ a_container (node_at doc.now b.0).tree }
     requires before { AreRight doc.now answers.old.items }
     ensures held { result ≡ compared op (Some (value_of (node_at doc.now a.0).tree)) (Some (value_of (node_at doc.now b.0).tree)) }
     ensures after { AreRight doc.now answers.new.items }
 {
     make_room(doc, answers);
+    let answer = match op {
+        Op::Eq | Op::Ne | Op::Lt | Op::Le => compare_once(doc, answers, a, b),
+        Op::Gt | Op::Ge => compare_once(doc, answers, b, a),
+    };
     match op {
-        Op::Eq | Op::Le => equal_once(doc, answers, a, b),
-        Op::Ge => equal_once(doc, answers, b, a),
-        Op::Ne => !equal_once(doc, answers, a, b),
-        Op::Lt | Op::Gt => false,
+        Op::Eq => answer.is_equal,
+        Op::Ne => !answer.is_equal,
+        Op::Lt | Op::Gt => answer.is_less,
+        Op::Le | Op::Ge => answer.is_less || answer.is_equal,
     }
 }
 
-/// Whether a comparison holds. Those of two arrays or objects are made once, while they are kept.
-#[tactic(auto, using(crate::proofs::Containers::containers))]
-pub fn compare_once(
+// Whether a comparison of Nothing with Nothing holds.
+fn both_missing(op: Op) -> bool
+    ensures { result ≡ compared op None None }
+{
+    match op {
+        Op::Eq | Op::Le | Op::Ge => true,
+        Op::Ne | Op::Lt | Op::Gt => false,
+    }
+}
+
+// Whether a comparison of a value with Nothing holds, on whichever side that is.
+fn one_missing(op: Op) -> bool
+    ensures right { (v : Value) → result ≡ compared op (Some v) None }
+    ensures left { (v : Value) → result ≡ compared op None (Some v) }
+{
+    match op {
+        Op::Ne => true,
+        Op::Eq | Op::Lt | Op::Le | Op::Gt | Op::Ge => false,
+    }
+}
+
+/// Whether a comparison holds. Those of two arrays, objects or long strings are made once, while they are kept.
+pub fn compare(
     doc: &Document,
     op: Op,
     left: &Side<'_>,
@@ -94,12 +120,15 @@ pub fn compare_once(
 {
     match (left, right) {
         (Side::Node(a), Side::Node(b)) => {
-            if is_container(doc, *a) && is_container(doc, *b) {
-                compare_containers(doc, op, *a, *b, answers)
+            if is_costly(doc, *a) && is_costly(doc, *b) {
+                compare_kept(doc, op, *a, *b, answers)
             } else {
                 compare_sides(doc, op, left, right)
             }
         }
+        (Side::Nothing, Side::Nothing) => both_missing(op),
+        (Side::Nothing, Side::Node(_) | Side::Literal(_) | Side::Whole(_)) => one_missing(op),
+        (Side::Node(_) | Side::Literal(_) | Side::Whole(_), Side::Nothing) => one_missing(op),
         _ => compare_sides(doc, op, left, right),
     }
 }

@@ -10,33 +10,23 @@ ghost use Rattle.tape_select.specs.Paying.{Inside, Adds};
 
 use crate::fault::SelectFault;
 use crate::meter::Meter;
-use crate::nodes::{child_total, push};
-use json_tape::{Document, Kind, NodeId};
+use crate::nodes::push;
+use json_tape::{Document, NodeId};
 use path_grammar::IntLit;
-use tape_values::{Places, slice_places};
+use tape_values::{Places, element_total, elements_from, slice_places};
 
-// The first element of an array.
-#[tactic(auto, using(crate::proofs::Totals::element_facts))]
-fn first_element(doc: &Document, n: NodeId) -> Option<NodeId>
-    requires { n.0 < count doc.now }
-    ensures nodes { following doc.now result ≡ elements (node_at doc.now n.0) }
+// The element at the first place, and those behind it.
+#[tactic(auto, using(crate::proofs::Picking::beginning))]
+fn first_picked(doc: &Document, n: NodeId, places: Places) -> Option<NodeId>
+    requires inside { n.0 < count doc.now }
+    requires end_fits { places.end ≤ 2 ^ 32 }
+    ensures nodes { picked (is_place places.first places.end places.step) places.first (following doc.now result) ≡ picked (is_place places.first places.end places.step) 0 (elements (node_at doc.now n.0)) }
     ensures inside { IsIn doc.now result }
 {
-    match doc.kind(n) {
-        Kind::Array => doc.first_child(n),
-        _ => None,
-    }
-}
-
-// How many elements there are; a value that is no array has none.
-#[tactic(auto, using(crate::proofs::Totals::element_facts))]
-fn element_total(doc: &Document, n: NodeId) -> u32
-    requires { n.0 < count doc.now }
-    ensures { result ≡ length (elements (node_at doc.now n.0)) }
-{
-    match doc.kind(n) {
-        Kind::Array => child_total(doc, n),
-        _ => 0,
+    if places.first < places.end {
+        elements_from(doc, n, places.first as u32)
+    } else {
+        None
     }
 }
 
@@ -56,8 +46,8 @@ fn picked(
     requires sound { Inside doc.now out.old.items }
     ensures { Adds doc.now result out.new.items (nodes_of doc.now out.old.items ++ picked (is_place places.first places.end places.step) 0 (elements (node_at doc.now n.0))) (length (picked (is_place places.first places.end places.step) 0 (elements (node_at doc.now n.0)))) meter.old.left meter.new.left }
 {
-    let mut child = first_element(doc, n);
-    let mut i = 0;
+    let mut child = first_picked(doc, n, places);
+    let mut i = places.first;
     let mut wanted = places.first;
     while wanted < places.end {
         let Some(c) = child else {

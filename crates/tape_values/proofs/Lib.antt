@@ -3,5 +3,5 @@ pub mod Progressions
 pub mod Sizes
 pub mod Twins
 pub mod Members
-pub mod Guessing
 pub mod Lines
+pub mod Ends

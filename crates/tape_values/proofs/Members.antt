@@ -1,12 +1,12 @@
 -- Equality of arrays and objects, by their children.
-use Rattle.std.proofs.Common.{◌≡◌, ℕ, suc, ◌+◌, List, ◌∷◌, Bool, true, ◌&&◌, ◌||◌, length, nat_eq, eq-eqb, refl, sym, ap, ◌∙◌}
+use Rattle.std.proofs.Common.{◌≡◌, ℕ, suc, ◌+◌, List, ◌∷◌, Bool, true, ◌&&◌, ◌||◌, length, Option, Some, nat_eq, eq-eqb, refl, sym, ap, ◌∙◌}
 use Rattle.std.specs.Prelude.{bytes_eq}
 use Rattle.json_tape.specs.Tree.{Null, True, False, Num, Str, Name, Tree, Leaf, Arr, Obj, Elements, NoElement, Element, Members, NoMember, Member}
 use Rattle.json_tape.specs.Meaning.{meaning}
 use Rattle.json_tape.specs.Nodes.{Node, Step, key, size, elements_from, members_from, children_of, children}
 use Rattle.json_tape.specs.Document.{kind_of}
 use Rattle.json_tape.specs.declared.tape.Kind.TheVariants as kinds
-use Rattle.tape_values.specs.Comparison.{equal_trees, equal_elements, each_in, has_member}
+use Rattle.tape_values.specs.Comparison.{Value, value_of, equal_values, equal_results, equal_trees, equal_elements, each_in, has_member}
 use Rattle.tape_values.specs.Pairs.{equal_each, has_twin, each_has_twin}
 use Rattle.tape_values.proofs.Sizes.{length_members, children_smaller}
 
@@ -70,6 +70,41 @@ pub objects_met : (m n : Node) (all : Bool) → kind_of m.tree ≡ kinds.Object 
 objects_met m n all p q l h =
     let t : nat_eq (length (children m)) (length (children n)) ≡ true = eq-eqb (length (children m)) (length (children n)) l in
     h ∙ sym (objects_equal m n p q ∙ rw t refl)
+
+-- the values of two trees are equal where the trees are
+values_equal : (t u : Tree) → equal_values (value_of t) (value_of u) ≡ equal_trees t u
+values_equal (Arr s es) (Arr u fs) = refl
+values_equal (Arr s es) (Obj u fs) = refl
+values_equal (Arr s es) (Leaf u Null) = refl
+values_equal (Arr s es) (Leaf u True) = refl
+values_equal (Arr s es) (Leaf u False) = refl
+values_equal (Arr s es) (Leaf u Num) = refl
+values_equal (Arr s es) (Leaf u (Str cs)) = refl
+values_equal (Obj s es) (Arr u fs) = refl
+values_equal (Obj s es) (Obj u fs) = refl
+values_equal (Obj s es) (Leaf u Null) = refl
+values_equal (Obj s es) (Leaf u True) = refl
+values_equal (Obj s es) (Leaf u False) = refl
+values_equal (Obj s es) (Leaf u Num) = refl
+values_equal (Obj s es) (Leaf u (Str cs)) = refl
+values_equal (Leaf s Null) (Leaf u d) = refl
+values_equal (Leaf s Null) (Arr u fs) = refl
+values_equal (Leaf s Null) (Obj u fs) = refl
+values_equal (Leaf s True) (Leaf u d) = refl
+values_equal (Leaf s True) (Arr u fs) = refl
+values_equal (Leaf s True) (Obj u fs) = refl
+values_equal (Leaf s False) (Leaf u d) = refl
+values_equal (Leaf s False) (Arr u fs) = refl
+values_equal (Leaf s False) (Obj u fs) = refl
+values_equal (Leaf s Num) (Leaf u d) = refl
+values_equal (Leaf s Num) (Arr u fs) = refl
+values_equal (Leaf s Num) (Obj u fs) = refl
+values_equal (Leaf s (Str cs)) (Leaf u d) = refl
+values_equal (Leaf s (Str cs)) (Arr u fs) = refl
+values_equal (Leaf s (Str cs)) (Obj u fs) = refl
+
+pub values_met : (t u : Tree) (a b : Option Value) (r : Bool) → a ≡ Some (value_of t) → b ≡ Some (value_of u) → r ≡ equal_results a b → r ≡ equal_trees t u
+values_met t u a b r p q e = rw (p, q) at e ∙ values_equal t u
 
 pub ruleset arrays = (arrays_equal, children_smaller)
 

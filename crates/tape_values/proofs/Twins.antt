@@ -1,10 +1,12 @@
 -- The search for a member with this one's name and an equal value, from somewhere on and then from the first.
-use Rattle.std.proofs.Common.{◌≡◌, ℕ, zero, suc, ◌+◌, ◌-◌, ◌<◌, ◌≤◌, Bool, true, false, ◌||◌, List, [], ◌∷◌, ◌++◌, length, take, Option, Some, None, refl, sym, ap, ◌∙◌, arith, append_assoc, length-append}
+use Rattle.std.proofs.Common.{inl, inr, ◌≡◌, ℕ, zero, suc, ◌+◌, ◌-◌, ◌<◌, ◌≤◌, Bool, true, false, ◌||◌, List, [], ◌∷◌, ◌++◌, length, take, Option, Some, None, refl, sym, ap, ◌∙◌, arith, append_assoc, length-append}
+use Rattle.std.proofs.lemmas.Bool.{cases_Bool}
 use Rattle.std.specs.Option.{option_or}
-use Rattle.json_tape.specs.Nodes.{Node}
-use Rattle.json_tape.specs.Document.{Doc, node_at, later, following}
+use Rattle.std.specs.Prelude.{IfSome, MatchOption}
+use Rattle.json_tape.specs.Nodes.{Node, first_where}
+use Rattle.json_tape.specs.Document.{Doc, node_at, later, following, single}
 use Rattle.json_tape.specs.declared.tape.NodeId.{NodeId}
-use Rattle.tape_values.specs.Pairs.{are_twins, has_twin, IsEnd}
+use Rattle.tape_values.specs.Pairs.{are_twins, has_twin, IsEnd, IsAmong}
 
 or_false : (a : Bool) → a || false ≡ a
 or_false true = refl
@@ -65,8 +67,33 @@ round_more d m (Some n) first o total i e l h t =
     rw (s, q, t) refl
 
 -- one that is found
+there : (m : Node) (ns : List Node) (n : Node) (rest : List Node) → IsEnd ns (n ∷ rest) → are_twins m n ≡ true → has_twin m ns ≡ true
+there m ns n rest e t = rw (e.parts, among_both m e.front (n ∷ rest), t) (or_true (has_twin m e.front))
+
 pub found_there : (d : Doc) (m : Node) (whole : List Node) (o : NodeId) → IsEnd whole (following d (Some o)) → are_twins m (node_at d o.0) ≡ true → has_twin m whole ≡ true
-found_there d m whole o e t = rw (e.parts, among_both m e.front (following d (Some o)), t) (or_true (has_twin m e.front))
+found_there d m whole o e t = there m whole (node_at d o.0) (later d o.0) e t
+
+-- the first for which a test holds is one of the list
+pub among_first : (d : Doc) (p : Node → Bool) (ns : List Node) (r : Option NodeId) → single d r ≡ first_where p ns → IfSome r (λ o. IsAmong ns (node_at d o.0))
+among_first d p ns None e = tt
+among_first d p [] (Some o) e = absurd (cc)
+among_first d p (n ∷ ns) (Some o) e = elim (cases_Bool (p n)) [
+  | inl q ↦ let f : first_where p (n ∷ ns) ≡ n ∷ [] = rw q refl in let s : node_at d o.0 ≡ n = cc in (ns, record { front = []; parts = rw s refl })
+  | inr q ↦
+      let f : first_where p (n ∷ ns) ≡ first_where p ns = rw q refl in
+      let r = among_first d p ns (Some o) (e ∙ f) in
+      (r.0, record { front = n ∷ r.1.front; parts = ap (λ xs. n ∷ xs) r.1.parts })
+]
+
+pub guess_there : (d : Doc) (m : Node) (ns cs : List Node) (r : Option NodeId) (b : Bool) → ns ≡ cs → IfSome r (λ o. IsAmong cs (node_at d o.0))
+    → MatchOption r (b ≡ false) (λ o. b ≡ are_twins m (node_at d o.0)) → b ≡ true → has_twin m ns ≡ true
+guess_there d m ns cs None b e a h t = absurd (cc)
+guess_there d m ns cs (Some o) b e a h t = rw e (there m cs (node_at d o.0) a.0 a.1 (sym h ∙ t))
+
+pub guess_unlike : (d : Doc) (m : Node) (r : Option NodeId) (b : Bool) → MatchOption r (b ≡ false) (λ o. b ≡ are_twins m (node_at d o.0)) → b ≡ false
+    → IfSome r (λ u. are_twins m (node_at d u.0) ≡ false)
+guess_unlike d m None b h t = tt
+guess_unlike d m (Some o) b h t = sym h ∙ t
 
 pub end_itself : (ns : List Node) → IsEnd ns ns
 end_itself ns = record { front = []; parts = refl }
@@ -84,6 +111,10 @@ end_or d None None o e h = absurd (cc)
 end_or d None (Some p) o e h = let q : p ≡ o = cc in rw q (end_itself (following d (Some o)))
 end_or d (Some n) first o e h = let q : n ≡ o = cc in rw (← q) h
 
-pub ruleset ends = (end_itself, end_later)
+pub ruleset ends = (end_itself)
+
+pub ruleset found = (among_first)
+
+pub ruleset guessing = (guess_there, guess_unlike, end_later)
 
 pub ruleset searching = (round_all, round_more, found_there, end_or, end_later)

@@ -5,4 +5,4 @@ pub mod Functions
 pub mod Sides
 pub mod Pairs
 pub mod Contents
-pub mod Guessing
+pub mod Ends

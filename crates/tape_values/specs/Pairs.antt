@@ -33,6 +33,10 @@ pub record IsEnd (whole part : List Node) : Type 0 where
   pub front : List Node
   pub parts : whole ≡ front ++ part
 
+-- the node is one of the list
+abbrev pub IsAmong : List Node → Node → Type 0
+IsAmong ns n = (rest : List Node) × IsEnd ns (n ∷ rest)
+
 -- how many values there are in the values of these nodes
 abbrev pub total_size : List Node → ℕ
 total_size [] = 0

@@ -1,120 +1,75 @@
-//! Where a member of an object may have its twin in another: guesses by the hashes of names, which take no memory.
+//! Members of one name, and where a member of an object may have its twin in another.
 //!
-//! A guess only says where a search is to begin, so no fact rests on a hash.
+//! A guess only says where a search is to begin.
 
-ghost use Rattle.std.specs.Prelude.{◌<◌, List, IfSome};
-ghost use Rattle.json_tape.specs.Document.{Doc, count, following, IsIn};
-ghost use Rattle.json_tape.specs.Nodes.{Node};
-ghost use Rattle.tape_values.specs.Guessing.{AreGuesses};
+ghost use Rattle.std.specs.Prelude.{◌≡◌, ◌<◌, IfSome, length};
+ghost use Rattle.json_tape.specs.Document.{count, node_at, following, IsIn};
+ghost use Rattle.json_tape.specs.Nodes.{children};
+ghost use Rattle.tape_values.specs.Pairs.{same_name, IsAmong};
 
+use crate::letters::{Letters, equal_letters};
 use json_tape::{Document, NodeId};
 
-/// How many members are guessed for at once.
-pub const BLOCK: usize = 256;
+// How many members are gone over where a member's twin is sought.
+const FEW: u32 = 16;
 
-// Places for the members' hashes: each stands at one of the first places from its own on.
-const SLOTS: usize = 1024;
-
-const PROBES: usize = 8;
-
-// The hashes of some members' names. A slot holds a member's place and one more, or 0.
-#[derive(Drop)]
-struct Hashes {
-    slots: [u16; SLOTS],
-    hashes: [u32; BLOCK],
-}
-
-/// For each of some members where its twin may stand.
-#[derive(Clone, Copy)]
-pub struct Guesses {
-    pub spots: [Option<NodeId>; BLOCK],
-}
-
-fn name_hash(doc: &Document, n: NodeId) -> u32
-    requires { n.0 < count doc.now }
+/// Whether two members have one name.
+pub fn have_one_name(doc: &Document, m: NodeId, o: NodeId) -> bool
+    requires left { m.0 < count doc.now }
+    requires right { o.0 < count doc.now }
+    ensures { result ≡ same_name (node_at doc.now m.0).way_up (node_at doc.now o.0).way_up }
 {
-    let mut hash: u32 = 0x811C_9DC5;
-    if doc.has_name(n) {
-        for c in doc.name_scalars(n) {
-            hash = (hash ^ u32::from(c)).wrapping_mul(0x0100_0193);
-        }
-    }
-    hash ^ (hash >> 15)
-}
-
-fn note(hashes: &mut Hashes, place: u16, hash: u32)
-    requires { place < 256 }
-{
-    hashes.hashes[place as usize] = hash;
-    for probe in 0..PROBES {
-        let slot = (hash as usize + probe) % SLOTS;
-        if hashes.slots[slot] == 0 {
-            hashes.slots[slot] = place + 1;
-            return;
-        }
+    if doc.has_name(m) && doc.has_name(o) {
+        equal_letters(
+            Letters::Spelt(doc.name_scalars(m)),
+            Letters::Spelt(doc.name_scalars(o)),
+        )
+    } else {
+        false
     }
 }
 
-// The place of a member with this hash.
-fn place_of(hashes: &Hashes, hash: u32) -> Option<usize>
-    ensures { IfSome result (λ k. k < 256) }
+fn is_named_alike(doc: &Document, m: NodeId, next: Option<NodeId>) -> bool
+    requires member { m.0 < count doc.now }
+    requires next { IsIn doc.now next }
 {
-    for probe in 0..PROBES {
-        let slot = (hash as usize + probe) % SLOTS;
-        let next = hashes.slots[slot] as usize;
-        if next == 0 || next > BLOCK {
-            return None;
-        }
-        if hashes.hashes[next - 1] == hash {
-            return Some(next - 1);
-        }
-    }
-    None
-}
-
-// The hashes of the members from this one on, as far as there is room.
-fn hashes_from(doc: &Document, first: Option<NodeId>) -> Hashes
-    requires { IsIn doc.now first }
-{
-    let mut hashes = Hashes {
-        slots: [0; SLOTS],
-        hashes: [0; BLOCK],
-    };
-    let mut member = first;
-    for place in 0..256u16 {
-        let Some(m) = member else {
-            return hashes;
-        };
-        note(&mut hashes, place, name_hash(doc, m));
-        member = doc.next_sibling(m);
-    }
-    hashes
-}
-
-/// No guesses.
-pub fn no_guesses() -> Guesses
-    ensures { (d : Doc) (whole : List Node) → AreGuesses d whole result }
-{
-    Guesses {
-        spots: [None; BLOCK],
+    match next {
+        None => false,
+        Some(o) => have_one_name(doc, m, o),
     }
 }
 
-/// Guesses for the members from `first` on, among the members from `among` on.
-#[tactic(auto, using(crate::proofs::Guessing::guessing))]
-pub fn guessed(doc: &Document, first: Option<NodeId>, among: Option<NodeId>) -> Guesses
-    requires first { IsIn doc.now first }
-    requires among { IsIn doc.now among }
-    ensures { AreGuesses doc.now (following doc.now among) result }
+// The member of an object that has this member's name.
+fn namesake(doc: &Document, m: NodeId, object: NodeId) -> Option<NodeId>
+    requires member { m.0 < count doc.now }
+    requires object { object.0 < count doc.now }
+    ensures inside { IsIn doc.now result }
+    ensures among { IfSome result (λ o. IsAmong (children (node_at doc.now object.0)) (node_at doc.now o.0)) }
 {
-    let hashes = hashes_from(doc, first);
-    let mut guesses = no_guesses();
-    let mut other = among;
-    while let Some(o) = other {
-        if let Some(place) = place_of(&hashes, name_hash(doc, o)) {
-            guesses.spots[place] = Some(o);
-        }
-        other = doc.next_sibling(o);
+    if doc.has_name(m) {
+        doc.twin(object, doc, m)
+    } else {
+        None
     }
-    guesses
+}
+
+/// Where a member may have its twin among the many of an object, if the one that comes next has another name.
+pub fn guess(
+    doc: &Document,
+    m: NodeId,
+    object: NodeId,
+    next: Option<NodeId>,
+    total: u32,
+) -> Option<NodeId>
+    requires member { m.0 < count doc.now }
+    requires object { object.0 < count doc.now }
+    requires next { IsIn doc.now next }
+    ensures inside { IsIn doc.now result }
+    ensures among { IfSome result (λ o. IsAmong (children (node_at doc.now object.0)) (node_at doc.now o.0)) }
+{
+    if total <= FEW || is_named_alike(doc, m, next) {
+        None
+    } else {
+        namesake(doc, m, object)
+    }
 }

@@ -4,7 +4,8 @@
 //! scalar values, objects whatever the order of their members. [`compare_sides`] does so for the sides of a comparison. They take
 //! no memory.
 //!
-//! [`element`] finds the element with an index, and [`slice_places`] the places of a slice.
+//! [`element`] finds the element with an index, [`elements_from`] the one at a place with those behind it, and [`slice_places`] the
+//! places of a slice.
 #![tactic(auto)]
 
 mod compare;
@@ -17,7 +18,7 @@ mod slices;
 mod values;
 
 pub use compare::{compare as compare_sides, compare_found};
-pub use indexes::element;
+pub use indexes::{element, element_total, elements_from};
 pub use sides::Side;
 pub use slices::{Places, slice_places};
 pub use values::{equal_values, less_values};

@@ -1,16 +1,15 @@
 //! Values of a text, compared (RFC 9535, section 2.3.5.2.2).
 
-ghost use Rattle.std.specs.Prelude.{◌≡◌, ◌<◌, length, Some};
+ghost use Rattle.std.specs.Prelude.{◌≡◌, ◌<◌, length, Some, false, IsTrue, IfSome, MatchOption};
 ghost use Rattle.json_tape.specs.Document.{count, node_at, following, IsIn, kind_of};
 ghost use Rattle.json_tape.specs.Tree.{source_of};
 ghost use Rattle.json_tape.specs.Nodes.{children};
 ghost use Rattle.tape_values.specs.Comparison.{equal_trees, less_trees, value_of, equal_results, less_results};
-ghost use Rattle.tape_values.specs.Pairs.{equal_each, same_name, are_twins, each_has_twin, IsEnd};
-ghost use Rattle.tape_values.specs.Guessing.{AreGuesses};
+ghost use Rattle.tape_values.specs.Pairs.{equal_each, are_twins, has_twin, each_has_twin, IsEnd};
 ghost use Rattle.tape_values.specs.Contents.{IsNumberText, content_value, IsContent, MatchTwin};
 
 use crate::digits::{Digits, compare_digits};
-use crate::guesses::{BLOCK, Guesses, guessed, no_guesses};
+use crate::guesses::{guess, have_one_name};
 use crate::letters::{Letters, equal_letters, less_letters};
 use json_tape::{Document, Kind, NodeId};
 use std::cmp::Ordering;
@@ -67,22 +66,6 @@ fn member_total(doc: &Document, n: NodeId) -> u32
     }
 }
 
-// Whether two members have one name.
-fn have_one_name(doc: &Document, m: NodeId, o: NodeId) -> bool
-    requires left { m.0 < count doc.now }
-    requires right { o.0 < count doc.now }
-    ensures { result ≡ same_name (node_at doc.now m.0).way_up (node_at doc.now o.0).way_up }
-{
-    if doc.has_name(m) && doc.has_name(o) {
-        equal_letters(
-            Letters::Spelt(doc.name_scalars(m)),
-            Letters::Spelt(doc.name_scalars(o)),
-        )
-    } else {
-        false
-    }
-}
-
 // Whether the values of two lists of siblings are equal, one by one.
 #[cycle(equal)]
 fn equal_siblings(doc: &Document, a: Option<NodeId>, b: Option<NodeId>) -> bool
@@ -105,18 +88,48 @@ fn equal_siblings(doc: &Document, a: Option<NodeId>, b: Option<NodeId>) -> bool
     right.is_none()
 }
 
-// Whether two members have one name and equal values.
+// Whether two members are known not to be twins.
+fn are_known(doc: &Document, m: NodeId, o: NodeId, unlike: Option<NodeId>) -> bool
+    requires { IfSome unlike (λ u. are_twins (node_at doc.now m.0) (node_at doc.now u.0) ≡ false) }
+    ensures { IsTrue result → are_twins (node_at doc.now m.0) (node_at doc.now o.0) ≡ false }
+{
+    let _ = doc;
+    let _ = m;
+    match unlike {
+        None => false,
+        Some(u) => u.0 == o.0,
+    }
+}
+
+// Whether two members have one name and equal values. One is perhaps known not to be the first one's twin.
 #[cycle(equal)]
-fn are_twins(doc: &Document, m: NodeId, o: NodeId) -> bool
+fn are_twins(doc: &Document, m: NodeId, o: NodeId, unlike: Option<NodeId>) -> bool
     requires left { m.0 < count doc.now }
     requires right { o.0 < count doc.now }
+    requires unlike { IfSome unlike (λ u. are_twins (node_at doc.now m.0) (node_at doc.now u.0) ≡ false) }
     ensures { result ≡ are_twins (node_at doc.now m.0) (node_at doc.now o.0) }
 {
+    if are_known(doc, m, o, unlike) {
+        return false;
+    }
     have_one_name(doc, m, o) && equal_values(doc, m, o)
 }
 
+// Whether the member that was guessed is this one's twin.
+#[cycle(equal)]
+fn is_twin(doc: &Document, m: NodeId, guess: Option<NodeId>) -> bool
+    requires member { m.0 < count doc.now }
+    requires guess { IsIn doc.now guess }
+    ensures { MatchOption guess (result ≡ false) (λ o. result ≡ are_twins (node_at doc.now m.0) (node_at doc.now o.0)) }
+{
+    match guess {
+        None => false,
+        Some(o) => are_twins(doc, m, o, None),
+    }
+}
+
 // A member that has this one's name and an equal value: among the members from `first` on, of which there are so many, and
-// sought from `start` on and then from the first.
+// sought from `start` on and then from the first. One that is known to be none is passed over.
 #[cycle(equal)]
 #[tactic(auto, using(crate::proofs::Twins::searching))]
 fn twin(
@@ -125,12 +138,14 @@ fn twin(
     first: Option<NodeId>,
     total: u32,
     start: Option<NodeId>,
+    unlike: Option<NodeId>,
 ) -> Option<NodeId>
     requires member { m.0 < count doc.now }
     requires first { IsIn doc.now first }
     requires start { IsIn doc.now start }
     requires all { total ≡ length (following doc.now first) }
     requires end { IsEnd (following doc.now first) (following doc.now start) }
+    requires unlike { IfSome unlike (λ u. are_twins (node_at doc.now m.0) (node_at doc.now u.0) ≡ false) }
     ensures { MatchTwin doc.now (node_at doc.now m.0) (following doc.now first) result }
 {
     let mut next = start;
@@ -138,7 +153,7 @@ fn twin(
         let Some(o) = next.or(first) else {
             return None;
         };
-        if are_twins(doc, m, o) {
+        if are_twins(doc, m, o, unlike) {
             return Some(o);
         }
         next = doc.next_sibling(o);
@@ -146,77 +161,64 @@ fn twin(
     None
 }
 
-// Guesses for the members to come, and how many of them are used up.
-#[derive(Drop)]
-struct Search {
-    guesses: Guesses,
-    used: usize,
-}
-
-fn is_named_alike(doc: &Document, m: NodeId, next: Option<NodeId>) -> bool
-    requires member { m.0 < count doc.now }
-    requires next { IsIn doc.now next }
-{
-    match next {
-        None => false,
-        Some(o) => have_one_name(doc, m, o),
-    }
-}
-
-// Where to begin to look for a member's twin among the members from `first` on: at the next one, where that has its name, or
-// else where it is guessed.
-#[tactic(auto, using(crate::proofs::Guessing::beginning))]
-fn begin(
+// Whether a member of the object from `first` on, of which there are so many, has this one's name and an equal value. It is sought
+// from `next` on, which is moved behind it; but where that has another name, at a guess first.
+#[cycle(equal)]
+#[tactic(auto, using(crate::proofs::Twins::guessing))]
+fn has_twin(
     doc: &Document,
     m: NodeId,
+    object: NodeId,
     first: Option<NodeId>,
-    next: Option<NodeId>,
-    search: &mut Search,
-) -> Option<NodeId>
+    total: u32,
+    next: &mut Option<NodeId>,
+) -> bool
     requires member { m.0 < count doc.now }
+    requires object { object.0 < count doc.now }
     requires first { IsIn doc.now first }
-    requires next { IsIn doc.now next }
-    requires end { IsEnd (following doc.now first) (following doc.now next) }
-    requires guesses { AreGuesses doc.now (following doc.now first) search.old.guesses }
-    ensures inside { IsIn doc.now result }
-    ensures end { IsEnd (following doc.now first) (following doc.now result) }
-    ensures guesses { AreGuesses doc.now (following doc.now first) search.new.guesses }
+    requires members { following doc.now first ≡ children (node_at doc.now object.0) }
+    requires next { IsIn doc.now next.old }
+    requires all { total ≡ length (following doc.now first) }
+    requires end { IsEnd (following doc.now first) (following doc.now next.old) }
+    ensures has { result ≡ has_twin (node_at doc.now m.0) (following doc.now first) }
+    ensures next { IsIn doc.now next.new }
+    ensures end { IsEnd (following doc.now first) (following doc.now next.new) }
 {
-    if is_named_alike(doc, m, next) {
-        search.used = search.used.saturating_add(1);
-        return next;
+    let guess = guess(doc, m, object, *next, total);
+    if is_twin(doc, m, guess) {
+        return true;
     }
-    if search.used >= BLOCK {
-        search.guesses = guessed(doc, Some(m), first);
-        search.used = 0;
-    }
-    let guess = search.guesses.spots[search.used];
-    search.used += 1;
-    guess.or(next)
+    let Some(found) = twin(doc, m, first, total, *next, guess) else {
+        return false;
+    };
+    *next = doc.next_sibling(found);
+    true
 }
 
-// Whether each member from `a` on has one of its name and of an equal value among those from `b` on, of which there are so
-// many. The search goes on behind the last one found, so that members in one order are looked at once.
+// Whether each member from `a` on has one of its name and of an equal value among those of the object from `b` on, of which there
+// are so many. The search goes on behind the last one found, so that members in one order are looked at once.
 #[cycle(equal)]
 #[tactic(auto, using(crate::proofs::Twins::ends))]
-fn have_twins(doc: &Document, a: Option<NodeId>, b: Option<NodeId>, total: u32) -> bool
+fn have_twins(
+    doc: &Document,
+    a: Option<NodeId>,
+    object: NodeId,
+    b: Option<NodeId>,
+    total: u32,
+) -> bool
     requires left { IsIn doc.now a }
+    requires object { object.0 < count doc.now }
     requires right { IsIn doc.now b }
+    requires members { following doc.now b ≡ children (node_at doc.now object.0) }
     requires all { total ≡ length (following doc.now b) }
     ensures { result ≡ each_has_twin (following doc.now a) (following doc.now b) }
 {
     let mut member = a;
     let mut next = b;
-    let mut search = Search {
-        guesses: no_guesses(),
-        used: BLOCK,
-    };
     while let Some(m) = member {
-        let start = begin(doc, m, b, next, &mut search);
-        let Some(found) = twin(doc, m, b, total, start) else {
+        if !has_twin(doc, m, object, b, total, &mut next) {
             return false;
-        };
-        next = doc.next_sibling(found);
+        }
         member = doc.next_sibling(m);
     }
     true
@@ -232,11 +234,13 @@ fn equal_objects(doc: &Document, a: NodeId, b: NodeId) -> bool
     ensures { result ≡ equal_trees (node_at doc.now a.0).tree (node_at doc.now b.0).tree }
 {
     let total = member_total(doc, b);
-    member_total(doc, a) == total && have_twins(doc, doc.first_child(a), doc.first_child(b), total)
+    member_total(doc, a) == total
+        && have_twins(doc, doc.first_child(a), b, doc.first_child(b), total)
 }
 
 /// Whether two sides are equal.
 #[cycle(equal)]
+#[inline(never)]
 #[tactic(auto, using(crate::proofs::Members::arrays))]
 pub fn equal_contents(doc: &Document, a: Content<'_>, b: Content<'_>) -> bool
     requires left { IsContent doc.now a }
@@ -264,15 +268,22 @@ pub fn equal_contents(doc: &Document, a: Content<'_>, b: Content<'_>) -> bool
 /// different kinds are not equal.
 ///
 /// No memory is taken, and no deeper calls are made than the values are deep. The time is linear in the bytes of the two
-/// values where members stand in one order. Where they do not, the members of the second object are gone over once for each
-/// 256 members of the first; only names whose hashes were made to agree cost more, up to a comparison for each pair.
+/// values where members stand in one order. Where they do not, a member is looked up by its name (`Document::twin`) where there are
+/// more than 16, and else looked for from the last one found on.
 #[cycle(equal)]
+#[tactic(auto, using(crate::proofs::Members::arrays))]
 pub fn equal_values(doc: &Document, a: NodeId, b: NodeId) -> bool
     requires left { a.0 < count doc.now }
     requires right { b.0 < count doc.now }
     ensures { result ≡ equal_trees (node_at doc.now a.0).tree (node_at doc.now b.0).tree }
 {
-    equal_contents(doc, value_content(doc, a), value_content(doc, b))
+    match (doc.kind(a), doc.kind(b)) {
+        (Kind::Array, Kind::Array) => {
+            equal_siblings(doc, doc.first_child(a), doc.first_child(b))
+        }
+        (Kind::Object, Kind::Object) => equal_objects(doc, a, b),
+        _ => equal_contents(doc, value_content(doc, a), value_content(doc, b)),
+    }
 }
 
 /// Whether the first side comes before the second.

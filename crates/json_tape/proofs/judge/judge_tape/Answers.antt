@@ -18,21 +18,24 @@ returns-then-has_lone c =
     (applies_not NumberLimit c.args.text.now c.as_bytes.result.now _ c.as_bytes.ensures.value c.breaks_limit.ensures c.if-breaks_limit.false)
     (applies_at LoneSurrogate c.args.text.now c.as_bytes-2.result.now _ c.as_bytes-2.ensures.value c.has_lone.ensures c.if-has_lone.true)
 
-pub has_duplicate-requires-clause-paired : goal.has_duplicate-requires-clause-paired
-has_duplicate-requires-clause-paired c = applies_not LoneSurrogate c.args.text.now c.as_bytes-2.result.now _ c.as_bytes-2.ensures.value c.has_lone.ensures c.if-has_lone.false
+pub order_names-requires-clause-paired : goal.order_names-requires-clause-paired
+order_names-requires-clause-paired c = applies_not LoneSurrogate c.args.text.now c.as_bytes-2.result.now _ c.as_bytes-2.ensures.value c.has_lone.ensures c.if-has_lone.false
 
-pub returns-in-Ok-true : goal.returns-in-Ok-true
-returns-in-Ok-true c =
+pub returns-in-Ok-None : goal.returns-in-Ok-None
+returns-in-Ok-None c =
     refused_twice c.args.text.now c.requires.short c.utf8.text c.requires.spelt
     (not_deep c.args.text.now c.args.reading.now.depth c.requires.depth c.if-reading-gt-DEPTH_LIMIT.false)
     (applies_not NumberLimit c.args.text.now c.as_bytes.result.now _ c.as_bytes.ensures.value c.breaks_limit.ensures c.if-breaks_limit.false)
     (applies_not LoneSurrogate c.args.text.now c.as_bytes-2.result.now _ c.as_bytes-2.ensures.value c.has_lone.ensures c.if-has_lone.false)
-    (c.in-Ok-true.ensures.0 c.in-Ok-true.field-0-test)
+    (rw c.in-Ok-None.field-0-is at c.in-Ok-None.ensures)
 
-pub returns-in-Ok-false : goal.returns-in-Ok-false
-returns-in-Ok-false c =
-    faultless c.args.text.now c.requires.short c.utf8.text c.requires.spelt
-    (not_deep c.args.text.now c.args.reading.now.depth c.requires.depth c.if-reading-gt-DEPTH_LIMIT.false)
-    (applies_not NumberLimit c.args.text.now c.as_bytes.result.now _ c.as_bytes.ensures.value c.breaks_limit.ensures c.if-breaks_limit.false)
-    (applies_not LoneSurrogate c.args.text.now c.as_bytes-2.result.now _ c.as_bytes-2.ensures.value c.has_lone.ensures c.if-has_lone.false)
-    (λ x. let y = c.in-Ok-false.ensures.1 x in let t = c.in-Ok-false.field-0-test in cc)
+pub returns-in-Ok-Some : goal.returns-in-Ok-Some
+returns-in-Ok-Some c =
+    let found = rw c.in-Ok-Some.field-0-is at c.in-Ok-Some.ensures in (
+      faultless c.args.text.now c.requires.short c.utf8.text c.requires.spelt
+          (not_deep c.args.text.now c.args.reading.now.depth c.requires.depth c.if-reading-gt-DEPTH_LIMIT.false)
+          (applies_not NumberLimit c.args.text.now c.as_bytes.result.now _ c.as_bytes.ensures.value c.breaks_limit.ensures c.if-breaks_limit.false)
+          (applies_not LoneSurrogate c.args.text.now c.as_bytes-2.result.now _ c.as_bytes-2.ensures.value c.has_lone.ensures c.if-has_lone.false)
+          found.0,
+      found.1,
+    )

@@ -3,6 +3,7 @@ use Rattle.structural_index.specs.Places.{places}
 use Rattle.std.specs.Prelude.{Ok, Err}
 use Rattle.json_tape.specs.Lexing.{is_blank, Stepped, Taken, Marked}
 use Rattle.json_tape.specs.Placing.{ClosesBefore}
+use Rattle.json_tape.specs.Verdict.{text_limit}
 use Rattle.json_tape.specs.declared.tape.BuildFault.TheVariants.{NotJson}
 use Rattle.json_tape.proofs.Marks.{Kept, kept_start, kept_token}
 use Rattle.json_tape.proofs.PlaceWalk.{Walks, walks_start, walks_end}
@@ -54,7 +55,7 @@ token-requires-clause-small c =
     let knows = c.loop-k.invariant.walks.knows in
     let within = knows.within in
     let short = c.requires.short in
-    reads_small _ 4194304 c.loop-k.builder (omega (arith, within, short)) knows.small
+    reads_small _ text_limit c.loop-k.builder (omega (arith, within, short)) knows.small
 
 pub token-requires-clause-closes : goal.token-requires-clause-closes
 token-requires-clause-closes c =

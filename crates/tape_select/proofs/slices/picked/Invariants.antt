@@ -8,8 +8,8 @@ use Rattle.tape_select.proofs.slices.picked.Given as goal
 
 abbrev pub invariant-loop-wanted : goal.invariant-loop-wanted
 invariant-loop-wanted l = record {
-  same : nodes_of l.doc l.out.items ++ picked (is_place l.wanted l.places.end l.places.step) l.i (following l.doc l.child) ≡ nodes_of l.doc l.initial.out.items ++ picked (is_place l.initial.wanted l.places.end l.places.step) 0 (following l.doc l.initial.child);
-  paid : l.meter.left + length (picked (is_place l.initial.wanted l.places.end l.places.step) 0 (following l.doc l.initial.child)) ≡ l.initial.meter.left + length (picked (is_place l.wanted l.places.end l.places.step) l.i (following l.doc l.child));
+  same : nodes_of l.doc l.out.items ++ picked (is_place l.wanted l.places.end l.places.step) l.i (following l.doc l.child) ≡ nodes_of l.doc l.initial.out.items ++ picked (is_place l.initial.wanted l.places.end l.places.step) l.initial.i (following l.doc l.initial.child);
+  paid : l.meter.left + length (picked (is_place l.initial.wanted l.places.end l.places.step) l.initial.i (following l.doc l.initial.child)) ≡ l.initial.meter.left + length (picked (is_place l.wanted l.places.end l.places.step) l.i (following l.doc l.child));
   before : l.i ≤ l.wanted;
   inside : IsIn l.doc l.child;
   sound : Inside l.doc l.out.items;

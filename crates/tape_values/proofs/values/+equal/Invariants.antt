@@ -2,7 +2,6 @@ use Rattle.std.proofs.Common.{◌≡◌, ◌+◌, ◌-◌, ◌*◌, ◌≤◌, �
 use Rattle.json_tape.specs.Nodes.{size}
 use Rattle.json_tape.specs.Document.{node_at, following, IsIn}
 use Rattle.tape_values.specs.Pairs.{equal_each, has_twin, each_has_twin, IsEnd, total_size}
-use Rattle.tape_values.specs.Guessing.{AreGuesses}
 use Rattle.tape_values.specs.Contents.{content_value}
 use Rattle.tape_values.proofs.Sizes.{weight}
 use Rattle.tape_values.proofs.values.+equal.Given as goal
@@ -20,10 +19,16 @@ abbrev pub decreases-equal_values : goal.decreases-equal_values
 decreases-equal_values l = 8 * size (node_at l.doc.now l.a.0).tree + 3
 
 abbrev pub decreases-have_twins : goal.decreases-have_twins
-decreases-have_twins l = 8 * total_size (following l.doc.now l.a) + 6
+decreases-have_twins l = 8 * total_size (following l.doc.now l.a) + 7
 
 abbrev pub decreases-twin : goal.decreases-twin
 decreases-twin l = 8 * size (node_at l.doc.now l.m.0).tree + 5
+
+abbrev pub decreases-has_twin : goal.decreases-has_twin
+decreases-has_twin l = 8 * size (node_at l.doc.now l.m.0).tree + 6
+
+abbrev pub decreases-is_twin : goal.decreases-is_twin
+decreases-is_twin l = 8 * size (node_at l.doc.now l.m.0).tree + 5
 
 abbrev pub decreases-are_twins : goal.decreases-are_twins
 decreases-are_twins l = 8 * size (node_at l.doc.now l.m.0).tree + 4
@@ -45,7 +50,6 @@ invariant-have_twins-loop-member l = record {
   member_inside : IsIn l.doc l.member;
   next_inside : IsIn l.doc l.next;
   end : IsEnd (following l.doc l.b) (following l.doc l.next);
-  guesses : AreGuesses l.doc (following l.doc l.b) l.search.guesses;
   small : total_size (following l.doc l.member) ≤ total_size (following l.doc l.initial.member);
 }
 

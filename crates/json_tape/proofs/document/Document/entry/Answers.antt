@@ -6,7 +6,7 @@ pub entry-requires : goal.entry-requires
 entry-requires c = let l = within _ c.args.self.now c.self.view_is c.args.n.0 c.requires in omega (arith, l)
 
 pub returns-clause-document : goal.returns-clause-document
-returns-clause-document c = told _ c.args.self.now c.self.view_is c.self.invariant
+returns-clause-document c = told _ c.args.self.now c.self.view_is c.self.invariant.0
 
 pub returns-clause-value : goal.returns-clause-value
 returns-clause-value c = shown _ c.args.self.now c.self.view_is _ _ c.entry.ensures

@@ -1,6 +1,7 @@
 use Rattle.std.proofs.Common.{◌+◌, ◌<◌, ◌^◌, ◌∙◌, sym, ap, arith, rules}
 use Rattle.std.specs.Prelude.{bytes_eq}
 use Rattle.json_tape.specs.Document.{Doc}
+use Rattle.json_tape.specs.Ordered.{sought_name}
 use Rattle.json_tape.proofs.Spelled.{quoted_at, scalars_at}
 use Rattle.json_tape.proofs.Readers.{small_count, past_is}
 use Rattle.json_tape.proofs.MembersSeen.{all_rest, next_seen, none_left}
@@ -13,37 +14,37 @@ overflow_add-next c =
     let g : c.args.n.0 + 1 < 2 ^ 32 = omega arith in search (rules, g)
 
 pub loop-next-init : goal.loop-next-init
-loop-next-init c = all_rest c.args.self.now c.entry-object.ensures.document c.args.name.now c.args.n.0 c.requires.inside c.entry-object.result c.entry-object.ensures.value c.requires.object
+loop-next-init c = all_rest c.args.self.now c.entry-object.ensures.document (sought_name c.args.sought) c.args.n.0 c.requires.inside c.entry-object.result c.entry-object.ensures.value c.requires.object
 
 pub entry-entry-requires : goal.entry-entry-requires
-entry-entry-requires c = (next_seen c.args.self.now c.entry-object.ensures.document c.args.name.now c.args.n.0 c.loop-next.next c.entry-object.result.after c.loop-next.invariant c.loop-next-test.true).inside
+entry-entry-requires c = (next_seen c.args.self.now c.entry-object.ensures.document (sought_name c.args.sought) c.args.n.0 c.loop-next.next c.entry-object.result.after c.loop-next.invariant c.loop-next-test.true).inside
 
-pub is_meant_by-requires : goal.is_meant_by-requires
-is_meant_by-requires c =
-    let x = next_seen c.args.self.now c.entry-object.ensures.document c.args.name.now c.args.n.0 c.loop-next.next c.entry-object.result.after c.loop-next.invariant c.loop-next-test.true in
+pub is_sought-requires : goal.is_sought-requires
+is_sought-requires c =
+    let x = next_seen c.args.self.now c.entry-object.ensures.document (sought_name c.args.sought) c.args.n.0 c.loop-next.next c.entry-object.result.after c.loop-next.invariant c.loop-next-test.true in
     quoted_at c.args.self.now.text c.deref.result.now c.entry-entry.result.label x.member.source x.member.characters (c.deref.ensures ∙ ap (λ (x : Doc). x.text) c.self.view_is) (x.label c.entry-entry.result c.entry-entry.ensures.value) x.lies x.string
 
-pub returns-then-is_meant_by-clause-node : goal.returns-then-is_meant_by-clause-node
-returns-then-is_meant_by-clause-node c =
-    let x = next_seen c.args.self.now c.entry-object.ensures.document c.args.name.now c.args.n.0 c.loop-next.next c.entry-object.result.after c.loop-next.invariant c.loop-next-test.true in
+pub returns-then-is_sought-clause-node : goal.returns-then-is_sought-clause-node
+returns-then-is_sought-clause-node c =
+    let x = next_seen c.args.self.now c.entry-object.ensures.document (sought_name c.args.sought) c.args.n.0 c.loop-next.next c.entry-object.result.after c.loop-next.invariant c.loop-next-test.true in
     let v = scalars_at c.args.self.now.text c.deref.result.now c.entry-entry.result.label x.member.source x.member.characters (c.deref.ensures ∙ ap (λ (x : Doc). x.text) c.self.view_is) (x.label c.entry-entry.result c.entry-entry.ensures.value) x.lies x.string in
-    x.found (sym (c.is_meant_by.ensures ∙ ap (bytes_eq c.args.name.now) v) ∙ c.if-is_meant_by.true)
+    x.found (sym (c.is_sought.ensures ∙ ap (bytes_eq (sought_name c.args.sought)) v) ∙ c.if-is_sought.true)
 
-pub returns-then-is_meant_by-clause-inside : goal.returns-then-is_meant_by-clause-inside
-returns-then-is_meant_by-clause-inside c = (next_seen c.args.self.now c.entry-object.ensures.document c.args.name.now c.args.n.0 c.loop-next.next c.entry-object.result.after c.loop-next.invariant c.loop-next-test.true).inside
+pub returns-then-is_sought-clause-inside : goal.returns-then-is_sought-clause-inside
+returns-then-is_sought-clause-inside c = (next_seen c.args.self.now c.entry-object.ensures.document (sought_name c.args.sought) c.args.n.0 c.loop-next.next c.entry-object.result.after c.loop-next.invariant c.loop-next-test.true).inside
 
 pub loop-next-smaller : goal.loop-next-smaller
 loop-next-smaller c =
-    let x = next_seen c.args.self.now c.entry-object.ensures.document c.args.name.now c.args.n.0 c.loop-next.next c.entry-object.result.after c.loop-next.invariant c.loop-next-test.true in
+    let x = next_seen c.args.self.now c.entry-object.ensures.document (sought_name c.args.sought) c.args.n.0 c.loop-next.next c.entry-object.result.after c.loop-next.invariant c.loop-next-test.true in
     let p = past_is c.args.self.now c.entry-object.ensures.document c.loop-next.next x.inside c.entry-entry.result c.entry-entry.ensures.value in
     let t = c.loop-next-test.true in
     omega arith
 
 pub loop-next-preserved : goal.loop-next-preserved
 loop-next-preserved c =
-    let x = next_seen c.args.self.now c.entry-object.ensures.document c.args.name.now c.args.n.0 c.loop-next.next c.entry-object.result.after c.loop-next.invariant c.loop-next-test.true in
+    let x = next_seen c.args.self.now c.entry-object.ensures.document (sought_name c.args.sought) c.args.n.0 c.loop-next.next c.entry-object.result.after c.loop-next.invariant c.loop-next-test.true in
     let v = scalars_at c.args.self.now.text c.deref.result.now c.entry-entry.result.label x.member.source x.member.characters (c.deref.ensures ∙ ap (λ (x : Doc). x.text) c.self.view_is) (x.label c.entry-entry.result c.entry-entry.ensures.value) x.lies x.string in
-    x.passed (sym (c.is_meant_by.ensures ∙ ap (bytes_eq c.args.name.now) v) ∙ c.if-is_meant_by.false) c.entry-entry.result c.entry-entry.ensures.value
+    x.passed (sym (c.is_sought.ensures ∙ ap (bytes_eq (sought_name c.args.sought)) v) ∙ c.if-is_sought.false) c.entry-entry.result c.entry-entry.ensures.value
 
 pub returns-clause-node : goal.returns-clause-node
-returns-clause-node c = none_left c.args.self.now c.args.name.now c.args.n.0 c.loop-next.next c.entry-object.result.after c.loop-next.invariant c.loop-next-test.false
+returns-clause-node c = none_left c.args.self.now (sought_name c.args.sought) c.args.n.0 c.loop-next.next c.entry-object.result.after c.loop-next.invariant c.loop-next-test.false

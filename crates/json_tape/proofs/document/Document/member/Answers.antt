@@ -19,3 +19,6 @@ returns-in-Null c =
       node = unnamed c.args.name.now (node_at c.args.self.now c.args.n.0) (λ k. no_object (kind_is c.args.self.now c.entry-value.ensures.document c.args.n.0 c.requires c.entry-value.result c.entry-value.ensures.value ∙ k));
       inside = tt;
     }
+
+pub sought_in-requires-clause-object : goal.sought_in-requires-clause-object
+sought_in-requires-clause-object c = sym (kind_is c.args.self.now c.entry-value.ensures.document c.args.n.0 c.requires c.entry-value.result c.entry-value.ensures.value) ∙ c.in-Object.is

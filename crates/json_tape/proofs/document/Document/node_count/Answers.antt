@@ -5,7 +5,7 @@ use Rattle.json_tape.proofs.document.Document.node_count.Goals as goal
 pub returns : goal.returns
 returns c =
     let k = counts _ c.args.self.now c.self.view_is in
-    let d = told _ c.args.self.now c.self.view_is c.self.invariant in
+    let d = told _ c.args.self.now c.self.view_is c.self.invariant.0 in
     let z = some_entry c.args.self.now d in
     let m = small_count c.args.self.now d in
     let t = size_of_document c.args.self.now d in

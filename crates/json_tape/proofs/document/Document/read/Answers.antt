@@ -1,7 +1,9 @@
 use Rattle.std.specs.String.{string_bytes}
-use Rattle.std.proofs.Common.{◌∙◌, arith, ap, subst, Err}
+use Rattle.std.proofs.Common.{◌∙◌, arith, ap, sym, subst, Err}
 use Rattle.json_tape.specs.Verdict.{IsFaultless}
 use Rattle.json_tape.proofs.Told.{is_accepted, document}
+use Rattle.json_tape.proofs.Runs.{kept_of}
+use Rattle.json_tape.proofs.CountedStrings.{counted_of}
 use Rattle.json_tape.proofs.Verdicts.{refused_json}
 use Rattle.json_tape.proofs.document.Document.read.Goals as goal
 
@@ -12,11 +14,18 @@ returns-in-Err-NotJson c =
 pub returns-in-Ok-from_str : goal.returns-in-Ok-from_str
 returns-in-Ok-from_str c =
     let same = c.in-Ok-from_str.ensures.ok ∙ c.in-Ok.ensures.0 in
-    let none = subst IsFaultless c.in-Ok.ensures.0 c.in_default-judge_tape.ensures in
+    let none = subst IsFaultless c.in-Ok.ensures.0 c.in-Ok-judge_tape.ensures.0 in
     (same, is_accepted c.args.text.now (string_bytes c.in-Ok-from_str.text) c.in-Ok-read.reading.tape same c.in-Ok-read.ensures.spelt c.in-Ok-read.ensures.stands none)
 
 pub invariant_of-result : goal.invariant_of-result
 invariant_of-result c =
     let same = c.in-Ok-from_str.ensures.ok ∙ c.in-Ok.ensures.0 in
-    let none = subst IsFaultless c.in-Ok.ensures.0 c.in_default-judge_tape.ensures in
-    document c.args.text.now (string_bytes c.in-Ok-from_str.text) c.in-Ok-read.reading.tape same c.in-Ok-read.ensures.spelt c.in-Ok-read.ensures.stands none c.in-Ok-read.ensures.short
+    let none = subst IsFaultless c.in-Ok.ensures.0 c.in-Ok-judge_tape.ensures.0 in (
+      document c.args.text.now (string_bytes c.in-Ok-from_str.text) c.in-Ok-read.reading.tape same c.in-Ok-read.ensures.spelt c.in-Ok-read.ensures.stands none c.in-Ok-read.ensures.short,
+      kept_of (string_bytes c.in-Ok-from_str.text) _ c.in-Ok-read.reading.tape _ _ _ _ (sym c.in-Ok-from_str.ensures.ok) c.in-Ok-judge_tape.ensures.1,
+      counted_of (string_bytes c.in-Ok-from_str.text) _ c.in-Ok-read.reading.tape _ _ (sym c.in-Ok-from_str.ensures.ok) c.in-Ok-count_strings.ensures,
+    )
+
+pub count_strings-requires : goal.count_strings-requires
+count_strings-requires c =
+    document c.args.text.now _ c.in-Ok-read.reading.tape c.in-Ok.ensures.0 c.in-Ok-read.ensures.spelt c.in-Ok-read.ensures.stands (subst IsFaultless c.in-Ok.ensures.0 c.in-Ok-judge_tape.ensures.0) c.in-Ok-read.ensures.short

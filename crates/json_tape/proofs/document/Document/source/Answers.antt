@@ -7,5 +7,5 @@ pub returns-clause-short : goal.returns-clause-short
 returns-clause-short c =
     let shown = ap length c.as_bytes.ensures.value in
     let same = ap (λ (x : Doc). length x.text) c.self.view_is in
-    let short = text_short c.args.self.now (told _ c.args.self.now c.self.view_is c.self.invariant) in
+    let short = text_short c.args.self.now (told _ c.args.self.now c.self.view_is c.self.invariant.0) in
     omega arith

@@ -1,0 +1,101 @@
+-- The order of names in which objects of many members keep them: by a hash, and by the scalar values where hashes meet.
+use Rattle.std.specs.Prelude.{◌≡◌, ℕ, ◌+◌, ◌*◌, ◌/◌, ◌%◌, ◌^◌, ◌<◌, ◌≤◌, List, [], ◌∷◌, length, map, take, drop, get_or}
+use Rattle.std.specs.Ordering.{nat_cmp, on, then_cmp}
+use Rattle.std.specs.declared.cmp.Ordering.{Ordering}
+use Rattle.std.specs.declared.cmp.Ordering.TheVariants.{Less}
+use Rattle.std.specs.Cmp.Lexicographic.{slice_cmp}
+use Rattle.std.specs.List.Sorted.{IsPermutation}
+use Rattle.std.specs.Str.{chars}
+use Rattle.json_tape.specs.Tree.{Members, NoMember, Member}
+use Rattle.json_tape.specs.Meaning.{meaning}
+use Rattle.json_tape.specs.Nodes.{size}
+use Rattle.json_tape.specs.Spelling.{scalars_in, unquoted, IsQuoted}
+use Rattle.json_tape.specs.Limits.{bytes_at}
+use Rattle.json_tape.specs.Repeats.{hash_of, IsObject}
+use Rattle.json_tape.specs.declared.tape.Entry.{Entry}
+use Rattle.json_tape.specs.declared.tape.Kind.TheVariants as kinds
+use Rattle.json_tape.specs.declared.tape.Role.TheVariants as roles
+use Rattle.json_tape.specs.declared.sought.Sought.{Sought}
+use Rattle.json_tape.specs.declared.sought.Sought.TheVariants.{Spelt, Meant}
+
+-- the most members of an object that keeps no order
+abbrev pub narrow : ℕ
+narrow = 16
+
+-- the high half of a hash times a number
+unfoldable pub mixed : ℕ → ℕ
+mixed h = (h * 0x9E3779B97F4A7C15) % (2 ^ 64) / 2 ^ 32
+
+-- No fact of a text rests on which hash it is.
+abbrev pub name_hash : List ℕ → ℕ
+name_hash cs = mixed (hash_of cs)
+
+abbrev pub name_cmp : List ℕ → List ℕ → Ordering
+name_cmp = then_cmp (on name_hash nat_cmp) (slice_cmp nat_cmp)
+
+-- the name that is looked for
+abbrev pub sought_name : Sought → List ℕ
+sought_name (Spelt inside) = scalars_in (chars inside.now)
+sought_name (Meant name) = name.now
+
+-- a member: the number of its value, and what its name means
+pub record Keyed : Type 0 where
+  pub number : ℕ
+  pub name : List ℕ
+
+-- the members in document order, where the first has this number
+abbrev pub keyed : Members → ℕ → List Keyed
+keyed NoMember k = []
+keyed (Member n t ms) k = record { number = k; name = meaning n.characters } ∷ keyed ms (k + size t)
+
+abbrev pub key_number : Keyed → ℕ
+key_number x = x.number
+
+abbrev pub key_name : Keyed → List ℕ
+key_name x = x.name
+
+abbrev pub key_hash : Keyed → ℕ
+key_hash x = name_hash x.name
+
+-- ---- By the entries
+
+abbrev pub nothing_there : Entry
+nothing_there = record { kind = kinds.Null; role = roles.Whole; label = record { start = 0; len = 0 }; source = record { start = 0; len = 0 }; up = 0; children = 0; after = 0 }
+
+abbrev pub entry_in : List Entry → ℕ → Entry
+entry_in tape n = get_or tape n nothing_there
+
+-- what the name of the member with this number means
+abbrev pub name_at : List ℕ → List Entry → ℕ → List ℕ
+name_at text tape n = scalars_in (chars (unquoted (bytes_at text (entry_in tape n).label)))
+
+-- the numbers of members whose names rise, and the hashes of their names
+pub record AreNamed (text : List ℕ) (tape : List Entry) (hashes members : List ℕ) : Type 0 where
+  pub long : length hashes ≡ length members
+  pub inside : (k : ℕ) → k < length members → get_or members k 0 < length tape
+  pub quoted : (k : ℕ) → k < length members → IsQuoted text (entry_in tape (get_or members k 0)).label
+  pub hashed : (k : ℕ) → k < length members → get_or hashes k 0 ≡ name_hash (name_at text tape (get_or members k 0))
+  pub rising : (j k : ℕ) → j < k → k < length members → name_cmp (name_at text tape (get_or members j 0)) (name_at text tape (get_or members k 0)) ≡ Less
+
+-- all members of the object with this number, in the order of their names
+pub record IsOrderOf (text : List ℕ) (tape : List Entry) (n : ℕ) (hashes members : List ℕ) : Type 0 where
+  pub named : AreNamed text tape hashes members
+  pub all : (ms : Members) → IsObject text tape n ms → IsPermutation (map key_number (keyed ms (n + 1))) members
+
+abbrev pub IsWide : Entry → Type 0
+IsWide e = (e.kind ≡ kinds.Object) × (narrow < e.children)
+
+-- so many from a place on
+abbrev pub part : ℕ → ℕ → List ℕ → List ℕ
+part start n xs = take n (drop start xs)
+
+-- of the objects below a number those of many members, and for each where its members begin in one list for all
+pub record AreKept (text : List ℕ) (tape : List Entry) (below : ℕ) (objects starts hashes members : List ℕ) : Type 0 where
+  pub rising : (i j : ℕ) → i ≤ j → j < length objects → get_or objects i 0 ≤ get_or objects j 0
+  pub under : (i : ℕ) → i < length objects → get_or objects i 0 < below
+  pub begun : length starts ≡ length objects
+  pub long : length hashes ≡ length members
+  pub room : (i : ℕ) → i < length objects → get_or starts i 0 + (entry_in tape (get_or objects i 0)).children ≤ length members
+  pub each : (i : ℕ) → i < length objects → (let n = get_or objects i 0 in let c = (entry_in tape n).children in
+      IsOrderOf text tape n (part (get_or starts i 0) c hashes) (part (get_or starts i 0) c members))
+  pub all : (n : ℕ) → n < below → IsWide (entry_in tape n) → (i : ℕ) × (i < length objects) × (get_or objects i 0 ≡ n)
