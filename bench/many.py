@@ -3,7 +3,7 @@
 
 It compiles bench/many_echo.c and bench/many_load.c (cc), starts the program as `path_server listen` and the loop in C, and loads them in
 turns: each line has, for both, the middle one of five rates and the times of a request, and the ratio of the rates. Then what an idle
-connection takes in the process. Build the program first, as bin/path_server does, or name it in the environment's PATH_SERVER.
+connection takes in the process, and the times of requests beside others that take long or come without a pause (bench/many_flood.c). Build the program first, as bin/path_server does, or name it in the environment's PATH_SERVER.
 """
 import os
 import re
@@ -21,6 +21,8 @@ KEY = "00112233445566778899aabbccddeeff"
 TURNS = 5
 COUNTS = (1, 100, 1_000, 10_000)
 IDLE = 5_000
+OTHERS = (1, 100)
+LARGE = b"[" + b",".join(b'{"id":%d,"price":%d,"stock":%d}' % (at, at % 97, at % 1_009) for at in range(29_500)) + b"]"
 
 
 def start(words):
@@ -67,6 +69,39 @@ def idle(process, port):
     print(f"an idle connection: {(resident(process) - before) * 1024 / IDLE:.0f} bytes in the process", flush=True)
 
 
+def request(command, fields):
+    body = bytes([command]) + bytes(4) + bytes.fromhex(KEY) + fields
+    return len(body).to_bytes(4, "big") + body
+
+
+GET = request(2, b"\x01c\x01n")
+QUERY = request(5, b"\x01q$[?@.price<10&&@.stock>250].id")
+BESIDE = [("nothing else", None), ("a query on 1 MiB, one after the other", (QUERY, 1, 1)), ("four floods of GET", (GET, 4, 0)),
+          ("four floods of a query on 1 MiB", (QUERY, 4, 64))]
+
+
+def beside(load, flood, port, seconds):
+    """The times of requests beside others: on so many connections, with so many on their way at once, or as many as there is room for."""
+    with socket.create_connection(("127.0.0.1", port)) as connection:
+        connection.sendall(request(1, b"\x01q\x01d" + LARGE))
+        assert connection.recv(100) == bytes.fromhex("000000050000000000")
+    for name, others in BESIDE:
+        for count in OTHERS:
+            rows = []
+            for _ in range(TURNS):
+                if others:
+                    words = [flood, str(port), str(others[1]), str(seconds + 1), str(others[2])]
+                    flooding = subprocess.Popen(words, stdin=subprocess.PIPE, stdout=subprocess.DEVNULL)
+                    flooding.stdin.write(others[0])
+                    flooding.stdin.close()
+                    time.sleep(0.5)
+                rows.append(rates(load, port, count, seconds))
+                if others:
+                    flooding.wait()
+            row = middle(rows)
+            print(f"{count} beside {name}: {row[0]:.0f} a second, median {row[1]:.0f}, 99 of 100 within {row[2]:.0f} us", flush=True)
+
+
 def main():
     if not os.access(PROGRAM, os.X_OK):
         sys.exit(__doc__)
@@ -75,7 +110,7 @@ def main():
     resource.setrlimit(resource.RLIMIT_NOFILE, (most, most))
     with tempfile.TemporaryDirectory() as room:
         folder = Path(room)
-        for source in ("many_echo", "many_load"):
+        for source in ("many_echo", "many_load", "many_flood"):
             subprocess.run(["cc", "-O2", "-o", folder / source, TOP / f"bench/{source}.c"], check=True)
         server, server_port = start([PROGRAM, "listen", "127.0.0.1:0", KEY, "--connections", "20000"])
         echo, echo_port = start([folder / "many_echo"])
@@ -84,6 +119,7 @@ def main():
             for count in COUNTS:
                 if count + 100 <= most:
                     compare(folder / "many_load", server_port, echo_port, count, seconds)
+            beside(folder / "many_load", folder / "many_flood", server_port, seconds)
         finally:
             server.kill()
             echo.kill()

@@ -9,7 +9,7 @@
 #include <sys/socket.h>
 #include <unistd.h>
 
-enum { PIECE = 65536, EVENTS = 1024, LONGEST = 2097152 };
+enum { PIECE = 65536, EVENTS = 1024, LONGEST = 6291456 };
 
 /* what waits of a frame in part, and what is owed */
 struct peer {

@@ -1,13 +1,17 @@
 -- A server of many connections, as its clauses see it: this project's own.
-use Rattle.std.specs.Prelude.{◌≡◌, ℕ, None}
-use Rattle.slab.specs.Slab.{slab_len}
-use Rattle.event_loop.specs.declared.server.Server.{Server}
+use Rattle.std.specs.Prelude.{◌≡◌, ℕ, Bool, IsFalse}
+use Rattle.event_loop.specs.declared.limits.Limits.{Limits}
 
--- how many connections are open
-abbrev pub open_count : Server → ℕ
-open_count server = slab_len server.connections
+-- whether it takes in connections, how many are open and were taken in, the bytes read and written, and its limits
+pub record Serving : Type 0 where
+  pub listens : Bool
+  pub connected : ℕ
+  pub taken : ℕ
+  pub read : ℕ
+  pub written : ℕ
+  pub limits : Limits
 
 -- it takes in no connection any more, and none is open
-pub record IsOver (server : Server) : Type 0 where
-  pub deaf : server.listener ≡ None
-  pub empty : open_count server ≡ 0
+pub record IsOver (server : Serving) : Type 0 where
+  pub deaf : IsFalse server.listens
+  pub empty : server.connected ≡ 0

@@ -12,6 +12,7 @@ use outbox::{Core, Outbox, Readiness, turn};
 use std::alloc::Global;
 use std::io::{ErrorKind, Read};
 use std::net::Shutdown;
+use std::time::Clock;
 
 /// The seconds for which what a peer still sends is read and thrown away, so that the last replies reach it.
 const LINGER: u64 = 2;
@@ -77,9 +78,9 @@ impl Connection {
     }
 
     /// One turn, which neither reads nor answers where it is held back. Tells how many bytes were read and written.
-    pub fn turn<C: Core>(
+    pub fn turn<C: Core, R: Clock>(
         &mut self,
-        core: &mut Counted<C>,
+        core: &mut Counted<'_, C, R>,
         conn: u32,
         buffer: &mut [u8],
         is_held_back: bool,

@@ -1,9 +1,13 @@
-//! A core whose answers are counted.
+//! A core whose answers are counted, and the time that they take.
 ghost use Rattle.std.specs.Prelude.{◌≡◌};
 
 use crate::meter::Meter;
 use outbox::{Core, Step};
 use std::marker::Model;
+use std::time::{Clock, Duration, Instant};
+
+/// The milliseconds after which a turn ends, with the request that it is at.
+const SPAN: u64 = 1;
 
 /// The place of the status in a reply, behind its length.
 const STATUS: usize = 4;
@@ -17,35 +21,41 @@ pub struct Counts {
     pub statuses: [u64; 256],
 }
 
-/// A core that counts what another one answers, and what waits on the connection whose turn it is. Its value is that core's.
+/// A core that counts what another one answers, and what waits on the connection whose turn it is, and rests once a turn took long. Its
+/// value is that core's.
 #[derive(Drop)]
-pub(crate) struct Counted<C: Core> {
+pub(crate) struct Counted<'r, C: Core, R: Clock> {
     core: C,
+    rt: &'r R,
     counts: Counts,
     meter: Meter,
     // The last answer of this turn was given: a framing fault.
     has_faulted: bool,
+    // When this turn began, where the clock tells it.
+    began: Option<Instant>,
 }
 
-impl<C: Core> Model for Counted<C> {
+impl<'r, C: Core, R: Clock> Model for Counted<'r, C, R> {
     ghost Value = { C };
 
     ghost view = { λ counted. counted.core };
 }
 
-impl<C: Core> Counted<C> {
+impl<'r, C: Core, R: Clock> Counted<'r, C, R> {
     /// Over this core. Nothing is counted yet.
-    pub fn new(core: C) -> Counted<C>
+    pub fn new(rt: &'r R, core: C) -> Counted<'r, C, R>
         ensures { result ≡ core }
     {
         Counted {
             core,
+            rt,
             counts: Counts {
                 requests: 0,
                 statuses: [0; 256],
             },
             meter: Meter::default(),
             has_faulted: false,
+            began: None,
         }
     }
 
@@ -65,6 +75,7 @@ impl<C: Core> Counted<C> {
     {
         self.meter = meter;
         self.has_faulted = false;
+        self.began = Instant::now(self.rt).ok();
     }
 
     /// What waits on the connection whose turn it is.
@@ -89,12 +100,14 @@ impl<C: Core> Counted<C> {
     }
 }
 
-impl<C: Core> Core for Counted<C> {
+impl<'r, C: Core, R: Clock> Core for Counted<'r, C, R> {
     ghost takes = { C.takes };
 
     ghost answers = { C.answers };
 
     ghost idle = { C.idle };
+
+    ghost over = { C.over };
 
     fn take(&mut self, conn: u32, piece: &[u8]) -> bool {
         if self.core.take(conn, piece) {
@@ -118,5 +131,15 @@ impl<C: Core> Core for Counted<C> {
             Step::Refused => {}
         }
         step
+    }
+
+    fn rests(&self) -> bool {
+        let Some(began) = &self.began else {
+            return false;
+        };
+        match began.elapsed(self.rt) {
+            Ok(taken) => taken >= Duration::from_millis(SPAN),
+            Err(_) => false,
+        }
     }
 }

@@ -1,7 +1,7 @@
 //! A server of many connections in one thread: it waits until some are ready, takes in new ones, and gives each that can go on one turn.
 //!
-//! A turn ([`outbox::turn`]) makes at most three calls of the system and answers at most 64 requests, so that no connection keeps the
-//! others waiting for long. What is reported of a connection is kept until a call says that it would wait.
+//! A turn ([`outbox::turn`]) makes at most three calls of the system and answers at most 64 requests, fewer where they take more than a
+//! millisecond, so that no connection keeps the others waiting for long. What is reported of a connection is kept until a call says that it would wait.
 #![tactic(auto)]
 
 mod connection;

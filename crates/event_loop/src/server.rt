@@ -1,6 +1,6 @@
 //! The loop over what is ready.
-ghost use Rattle.std.specs.Prelude.{◌≡◌, OnOk, IfOk, IsSome, IsTrue};
-ghost use Rattle.event_loop.specs.Servers.{open_count, IsOver};
+ghost use Rattle.std.specs.Prelude.{◌≡◌, OnOk, IfOk, IsTrue};
+ghost use Rattle.event_loop.specs.Servers.{IsOver};
 
 use crate::connection::{Connection, Phase};
 use crate::counted::Counted;
@@ -15,6 +15,7 @@ use path_listen::HubCore;
 use slab::Slab;
 use std::alloc::{AllocError, AllocFailed, Global};
 use std::io::{self, ErrorKind};
+use std::marker::Model;
 use std::mem;
 use std::net::{Net, SocketAddr};
 use std::time::{Clock, Duration, Instant};
@@ -71,9 +72,10 @@ impl<T: Drop> From<AllocFailed<T>> for LoopFault {
     }
 }
 
-/// A server of many connections.
+/// A server of many connections. Its value is whether it listens, how many connections are open and were taken in, the bytes that were read
+/// and written, and its limits.
 #[derive(Drop)]
-pub struct Server {
+pub struct Server<'r, R: Clock> {
     alloc: Global,
     poll: Poll,
     events: Events,
@@ -89,7 +91,7 @@ pub struct Server {
     // The connections that get a turn, and room for the next ones.
     due: Vec<usize>,
     spare: Vec<usize>,
-    core: Counted<HubCore>,
+    core: Counted<'r, HubCore, R>,
     buffer: Box<[u8; PIECE]>,
     limits: Limits,
     // Those that could go on, but are held back.
@@ -104,20 +106,30 @@ pub struct Server {
     written: u64,
 }
 
-impl Server {
+impl<'r, R: Clock> Model for Server<'r, R> {
+    ghost use Rattle.event_loop.specs.Servers.{Serving};
+    ghost use Rattle.slab.specs.Slab.{slab_len};
+    ghost use Rattle.std.specs.Prelude.{is_some};
+
+    ghost Value = { Serving };
+
+    ghost view = { λ s. record { listens = is_some s.listener; connected = slab_len s.connections; taken = s.taken; read = s.read; written = s.written; limits = s.limits } };
+}
+
+impl<'r, R: Net + Clock + AllocGlobal> Server<'r, R> {
     /// Binds the address.
     ///
     /// # Errors
     ///
     /// `Net` where it can't be bound, `Memory` where a growth was refused.
-    pub fn bind<R: Net + Clock + AllocGlobal>(
-        rt: &R,
+    pub fn bind(
+        rt: &'r R,
         addr: SocketAddr,
         core: HubCore,
         limits: Limits,
-    ) -> Result<Server, LoopFault>
-        ensures listening { IfOk result (λ server. IsSome server.listener) }
-        ensures unconnected { IfOk result (λ server. open_count server ≡ 0) }
+    ) -> Result<Server<'r, R>, LoopFault>
+        ensures listening { IfOk result (λ server. IsTrue server.listens) }
+        ensures unconnected { IfOk result (λ server. server.connected ≡ 0) }
         ensures none_taken { IfOk result (λ server. server.taken ≡ 0) }
         ensures limits { IfOk result (λ server. server.limits ≡ limits) }
     {
@@ -141,7 +153,7 @@ impl Server {
             bound: 0,
             due: Vec::new(alloc),
             spare: Vec::new(alloc),
-            core: Counted::new(core),
+            core: Counted::new(rt, core),
             buffer: Box::new(alloc, [0; PIECE])?,
             limits,
             paused: Vec::new(alloc),
@@ -157,14 +169,16 @@ impl Server {
             written: 0,
         })
     }
+}
 
+impl<'r, R: Clock> Server<'r, R> {
     /// The address that is bound.
     ///
     /// # Errors
     ///
     /// `Net` where the system does not tell it, or the server has stopped listening.
     pub fn local_addr(&self) -> Result<SocketAddr, LoopFault>
-        ensures listening { OnOk result (IsSome self.now.listener) }
+        ensures listening { OnOk result (IsTrue self.now.listens) }
     {
         match &self.listener {
             Some(listener) => Ok(listener.local_addr()?),
@@ -175,7 +189,7 @@ impl Server {
     /// What it did so far.
     pub fn totals(&self) -> Totals
         ensures connections { result.connections ≡ self.now.taken }
-        ensures open_ones { result.connected ≡ open_count self.now }
+        ensures open_ones { result.connected ≡ self.now.connected }
         ensures bytes_read { result.read ≡ self.now.read }
         ensures bytes_written { result.written ≡ self.now.written }
     {
@@ -194,7 +208,7 @@ impl Server {
     /// # Errors
     ///
     /// `Net` where the system does not say what is ready, `Memory` where a growth was refused that no connection asked for.
-    pub fn serve<R: Clock, J: Journal>(&mut self, rt: &R, journal: &mut J) -> Result<(), LoopFault>
+    pub fn serve<J: Journal>(&mut self, rt: &R, journal: &mut J) -> Result<(), LoopFault>
         ensures over { OnOk result (IsOver self.new) }
     {
         'waits: for _ in 0..u64::MAX {
@@ -251,7 +265,7 @@ impl Server {
     }
 
     // Looks at the clock, and tells whether a second passed. Where the clock fails, none did.
-    fn look<R: Clock>(&mut self, rt: &R) -> bool {
+    fn look(&mut self, rt: &R) -> bool {
         let Ok(elapsed) = self.start.elapsed(rt) else {
             return false;
         };

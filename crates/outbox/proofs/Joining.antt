@@ -94,13 +94,13 @@ any_of_four false false false false = refl
 abbrev pub either : (Readiness → Line → Bool) → (Readiness → Line → Bool) → Readiness → Line → Bool
 either p q ready line = p ready line || q ready line
 
-moves_both : {C : Type 0} (m n m' n' : ℕ) (T R : C → List ℕ → C → Type 0) (I : C → Type 0) (p q : Readiness → Line → Bool) (a b c : Moment C) (x : Turned m n T R I p a b) (y : Turned m' n' T R I q b c)
+moves_both : {C : Type 0} (m n m' n' : ℕ) (T R : C → List ℕ → C → Type 0) (I : C → Type 0) (O : C → Bool) (p q : Readiness → Line → Bool) (a b c : Moment C) (x : Turned m n T R I O p a b) (y : Turned m' n' T R I O q b c)
     → moves a.line (x.events ++ y.events) ≡ (moves a.line x.events || moves b.line y.events)
-moves_both m n m' n' T R I p q a b c x y = moves-append a.line x.events y.events ∙ ap (λ (l : Line). moves a.line x.events || moves l y.events) (sym x.line_is)
+moves_both m n m' n' T R I O p q a b c x y = moves-append a.line x.events y.events ∙ ap (λ (l : Line). moves a.line x.events || moves l y.events) (sym x.line_is)
 
 -- a turn after a turn is a turn
-pub both : {C : Type 0} (m n m' n' : ℕ) (T R : C → List ℕ → C → Type 0) (I : C → Type 0) (p q : Readiness → Line → Bool) (a b c : Moment C) → Turned m n T R I p a b → Turned m' n' T R I q b c → Turned (m + m') (n + n') T R I (either p q) a c
-both {C} m n m' n' T R I p q a b c x y = record {
+pub both : {C : Type 0} (m n m' n' : ℕ) (T R : C → List ℕ → C → Type 0) (I : C → Type 0) (O : C → Bool) (p q : Readiness → Line → Bool) (a b c : Moment C) → Turned m n T R I O p a b → Turned m' n' T R I O q b c → Turned (m + m') (n + n') T R I O (either p q) a c
+both {C} m n m' n' T R I O p q a b c x y = record {
   events = x.events ++ y.events;
   line_is = y.line_is ∙ ap (λ (l : Line). run l y.events) x.line_is ∙ sym (run-append a.line x.events y.events);
   wire_is = y.wire_is
@@ -112,24 +112,25 @@ both {C} m n m' n' T R I p q a b c x y = record {
   core_is = does_both T R a.line x.events y.events a.core b.core c.core x.core_is (subst (λ (l : Line). DoesAll T R l y.events b.core c.core) x.line_is y.core_is);
   few_pieces = (let e = count-append pieces_at x.events y.events in let f = x.few_pieces in let g = y.few_pieces in omega (arith, e, f, g));
   few_answers = (let e = count-append answers_at x.events y.events in let f = x.few_answers in let g = y.few_answers in omega (arith, e, f, g));
-  goes_on = λ h. subst (λ (v : Bool). (v ≡ true) ⊎ HasFallen a.ready c.ready) (sym (moves_both m n m' n' T R I p q a b c x y))
+  goes_on = λ h. subst (λ (v : Bool). (v ≡ true) ⊎ HasFallen a.ready c.ready) (sym (moves_both m n m' n' T R I O p q a b c x y))
       (elim (cases_Bool (p a.ready a.line)) [
         | inl e ↦ goes_on_first a.ready b.ready c.ready (moves a.line x.events) (moves b.line y.events) (x.goes_on e) y.rises
         | inr e ↦ goes_on_next a.ready b.ready c.ready (moves a.line x.events) (moves b.line y.events) (ap (λ (m : Moment C). m.ready) (x.stays e))
             (y.goes_on (ap (λ (m : Moment C). q m.ready m.line) (x.stays e) ∙ or_right (p a.ready a.line) (q a.ready a.line) e h))
       ]);
   rises = λ h.
-      let f : (moves a.line x.events ≡ false) × (moves b.line y.events ≡ false) = or_false (moves a.line x.events) (moves b.line y.events) (sym (moves_both m n m' n' T R I p q a b c x y) ∙ h) in
+      let f : (moves a.line x.events ≡ false) × (moves b.line y.events ≡ false) = or_false (moves a.line x.events) (moves b.line y.events) (sym (moves_both m n m' n' T R I O p q a b c x y) ∙ h) in
       down_twice a.ready b.ready c.ready (x.rises f.0) (y.rises f.1);
   stays = λ h.
       let f : (p a.ready a.line ≡ false) × (q a.ready a.line ≡ false) = or_false (p a.ready a.line) (q a.ready a.line) h in
       y.stays (ap (λ (m : Moment C). q m.ready m.line) (x.stays f.0) ∙ f.1) ∙ x.stays f.0;
   told = λ h. y.told (x.told h);
+  ended = λ h. y.ended (x.ended h);
 }
 
 -- the same where it could go on under another name
-pub renamed : {C : Type 0} (m n : ℕ) (T R : C → List ℕ → C → Type 0) (I : C → Type 0) (p q : Readiness → Line → Bool) (a b : Moment C) → p a.ready a.line ≡ q a.ready a.line → Turned m n T R I p a b → Turned m n T R I q a b
-renamed m n T R I p q a b e x = record {
+pub renamed : {C : Type 0} (m n : ℕ) (T R : C → List ℕ → C → Type 0) (I : C → Type 0) (O : C → Bool) (p q : Readiness → Line → Bool) (a b : Moment C) → p a.ready a.line ≡ q a.ready a.line → Turned m n T R I O p a b → Turned m n T R I O q a b
+renamed m n T R I O p q a b e x = record {
   events = x.events;
   line_is = x.line_is;
   wire_is = x.wire_is;
@@ -140,11 +141,12 @@ renamed m n T R I p q a b e x = record {
   rises = x.rises;
   stays = λ h. x.stays (e ∙ h);
   told = x.told;
+  ended = x.ended;
 }
 
 -- the same with more
-pub loosened : {C : Type 0} (m n m' n' : ℕ) (T R : C → List ℕ → C → Type 0) (I : C → Type 0) (p : Readiness → Line → Bool) (a b : Moment C) → m ≤ m' → n ≤ n' → Turned m n T R I p a b → Turned m' n' T R I p a b
-loosened m n m' n' T R I p a b h k x = record {
+pub loosened : {C : Type 0} (m n m' n' : ℕ) (T R : C → List ℕ → C → Type 0) (I : C → Type 0) (O : C → Bool) (p : Readiness → Line → Bool) (a b : Moment C) → m ≤ m' → n ≤ n' → Turned m n T R I O p a b → Turned m' n' T R I O p a b
+loosened m n m' n' T R I O p a b h k x = record {
   events = x.events;
   line_is = x.line_is;
   wire_is = x.wire_is;
@@ -155,18 +157,19 @@ loosened m n m' n' T R I p a b h k x = record {
   rises = x.rises;
   stays = x.stays;
   told = x.told;
+  ended = x.ended;
 }
 
 -- one request more
-pub again : {C : Type 0} (n : ℕ) (T R : C → List ℕ → C → Type 0) (I : C → Type 0) (p : Readiness → Line → Bool) (a b c : Moment C) → Turned 0 n T R I p a b → Turned 0 1 T R I p b c → Turned 0 (n + 1) T R I p a c
-again n T R I p a b c x y = renamed 0 (n + 1) T R I (either p p) p a c (or_twice (p a.ready a.line)) (both 0 n 0 1 T R I p p a b c x y)
+pub again : {C : Type 0} (n : ℕ) (T R : C → List ℕ → C → Type 0) (I : C → Type 0) (O : C → Bool) (p : Readiness → Line → Bool) (a b c : Moment C) → Turned 0 n T R I O p a b → Turned 0 1 T R I O p b c → Turned 0 (n + 1) T R I O p a c
+again n T R I O p a b c x y = renamed 0 (n + 1) T R I O (either p p) p a c (or_twice (p a.ready a.line)) (both 0 n 0 1 T R I O p p a b c x y)
 
 -- a write, a read, answers, and a write again
-pub four : {C : Type 0} (T R : C → List ℕ → C → Type 0) (I : C → Type 0) (a b c d e : Moment C)
-    → Turned 0 0 T R I can_write a b → Turned 1 0 T R I can_read b c → Turned 0 most_requests T R I can_answer c d → Turned 0 0 T R I can_write d e → Turned 1 most_requests T R I can_go_on a e
-four T R I a b c d e v x y z =
-    renamed 1 most_requests T R I (either (either (either can_write can_read) can_answer) can_write) can_go_on a e
+pub four : {C : Type 0} (T R : C → List ℕ → C → Type 0) (I : C → Type 0) (O : C → Bool) (a b c d e : Moment C)
+    → Turned 0 0 T R I O can_write a b → Turned 1 0 T R I O can_read b c → Turned 0 most_requests T R I O can_answer c d → Turned 0 0 T R I O can_write d e → Turned 1 most_requests T R I O can_go_on a e
+four T R I O a b c d e v x y z =
+    renamed 1 most_requests T R I O (either (either (either can_write can_read) can_answer) can_write) can_go_on a e
     (any_of_four (can_write a.ready a.line) a.ready.readable a.ready.waiting (reads a.line))
-    (both 1 most_requests 0 0 T R I (either (either can_write can_read) can_answer) can_write a d e
-    (both 1 0 0 most_requests T R I (either can_write can_read) can_answer a c d
-    (both 0 0 1 0 T R I can_write can_read a b c v x) y) z)
+    (both 1 most_requests 0 0 T R I O (either (either can_write can_read) can_answer) can_write a d e
+    (both 1 0 0 most_requests T R I O (either can_write can_read) can_answer a c d
+    (both 0 0 1 0 T R I O can_write can_read a b c v x) y) z)

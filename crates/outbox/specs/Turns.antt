@@ -68,6 +68,10 @@ here line wire core ready = record { line = line; wire = wire; core = core; read
 abbrev pub IsTold : {C : Type 0} → (C → Type 0) → Moment C → Type 0
 IsTold idle now = now.ready.waiting ≡ false → idle now.core
 
+-- where none is answered any more, the line is closed
+abbrev pub IsEnded : {C : Type 0} → (C → Bool) → Moment C → Type 0
+IsEnded over now = over now.core ≡ true → is_open now.line.stage ≡ false
+
 -- the pieces that were read, and the requests that were answered
 abbrev pub pieces_at : Event → ℕ
 pieces_at (Readable piece) = 1
@@ -94,7 +98,7 @@ abbrev pub most_requests : ℕ
 most_requests = 64
 
 -- These events happened: to the line, on the wire, and to the core, with so many pieces and requests at most. Where it could go on, something moved or turned out to want a wait; where it could not, nothing changed.
-pub record Turned {C : Type 0} (most_pieces most_answers : ℕ) (takes answers : C → List ℕ → C → Type 0) (idle : C → Type 0) (can : Readiness → Line → Bool) (old new : Moment C) : Type 0 where
+pub record Turned {C : Type 0} (most_pieces most_answers : ℕ) (takes answers : C → List ℕ → C → Type 0) (idle : C → Type 0) (over : C → Bool) (can : Readiness → Line → Bool) (old new : Moment C) : Type 0 where
   pub events : List Event
   pub line_is : new.line ≡ run old.line events
   pub wire_is : new.wire ≡ moved (read old.line events) (sent old.line events) old.wire
@@ -105,6 +109,7 @@ pub record Turned {C : Type 0} (most_pieces most_answers : ℕ) (takes answers :
   pub rises : moves old.line events ≡ false → HasNotRisen old.ready new.ready
   pub stays : can old.ready old.line ≡ false → new ≡ old
   pub told : IsTold idle old → IsTold idle new
+  pub ended : IsEnded over old → IsEnded over new
 
 -- One write, in the contract of a private function: some bytes went out, or there is no room, or a fault came.
 abbrev pub WritesOnce : Line → Option Told → Readiness → Line → Option Told → Readiness → Type 0

@@ -106,7 +106,7 @@ impl Outbox {
 
     /// Has the next request answered, and owes the reply too.
     pub fn answer_next<C: Core>(&mut self, core: &mut C, conn: u32) -> Step
-        ensures { appends.Owes (C.answers conn) (C.idle conn) result core.old self.old self.new core.new }
+        ensures { appends.Owes (C.answers conn) (C.idle conn) (C.over conn) result core.old self.old self.new core.new }
     {
         self.shift();
         core.answer_next(conn, &mut self.bytes)

@@ -1,5 +1,5 @@
 //! Turns over a wire in memory that gives and takes a few bytes at a time, and a core that answers each byte.
-ghost use Rattle.std.specs.Prelude.{None};
+ghost use Rattle.std.specs.Prelude.{None, false};
 
 use crate::{Core, Given, Outbox, Readiness, Step, Taken, Wire, turn};
 use std::alloc::Global;
@@ -77,6 +77,8 @@ impl Core for Repeating {
     ghost answers = { λ conn old reply new. Unit {0} };
 
     ghost idle = { λ conn now. Unit {0} };
+
+    ghost over = { λ conn now. false };
 
     fn take(&mut self, _conn: u32, piece: &[u8]) -> bool {
         if self.most == 0 {

@@ -12,7 +12,7 @@ use crate::wire::{Given, Taken, Wire};
 pub const REQUESTS: u32 = 64;
 
 /// Writes what is owed, reads a piece where no request waits, answers at most [`REQUESTS`] of them, and writes again. Nothing is read
-/// or answered while the outbox holds its cap.
+/// or answered while the outbox holds its cap, and one request is answered where the core rests.
 ///
 /// A fault of the wire throws away what is owed, and ends the connection. The end of its input, a piece that the core declines, its
 /// last answer and one that it refuses leave what is owed to be written.
@@ -25,7 +25,7 @@ pub fn turn<W: Wire, C: Core>(
     ready: &mut Readiness,
 )
     requires { 0 < length buffer.old }
-    ensures { Turned 1 most_requests (C.takes conn) (C.answers conn) (C.idle conn) can_go_on
+    ensures { Turned 1 most_requests (C.takes conn) (C.answers conn) (C.idle conn) (C.over conn) can_go_on
         (here outbox.old (W.told wire.old) core.old ready.old) (here outbox.new (W.told wire.new) core.new ready.new) }
 {
     flush(outbox, wire, ready);
@@ -58,7 +58,7 @@ fn feed<W: Wire, C: Core>(
     ready: &mut Readiness,
 )
     requires { 0 < length buffer.old }
-    ensures { Turned 1 0 (C.takes conn) (C.answers conn) (C.idle conn) can_read
+    ensures { Turned 1 0 (C.takes conn) (C.answers conn) (C.idle conn) (C.over conn) can_read
         (here outbox.old (W.told wire.old) core.old ready.old) (here outbox.new (W.told wire.new) core.new ready.new) }
 {
     if !ready.can_read(outbox) {
@@ -80,11 +80,14 @@ fn feed<W: Wire, C: Core>(
 
 // Answers some of the requests that wait.
 fn answer<C: Core>(outbox: &mut Outbox, core: &mut C, conn: u32, ready: &mut Readiness)
-    ensures { (wire : Option Told) → Turned 0 most_requests (C.takes conn) (C.answers conn) (C.idle conn) can_answer
+    ensures { (wire : Option Told) → Turned 0 most_requests (C.takes conn) (C.answers conn) (C.idle conn) (C.over conn) can_answer
         (here outbox.old wire core.old ready.old) (here outbox.new wire core.new ready.new) }
 {
     answer_one(outbox, core, conn, ready);
     'requests: for _ in 1..REQUESTS {
+        if core.rests() {
+            return;
+        }
         if !ready.can_answer(outbox) {
             return;
         }
@@ -94,7 +97,7 @@ fn answer<C: Core>(outbox: &mut Outbox, core: &mut C, conn: u32, ready: &mut Rea
 
 // Answers one of them.
 fn answer_one<C: Core>(outbox: &mut Outbox, core: &mut C, conn: u32, ready: &mut Readiness)
-    ensures { (wire : Option Told) → Turned 0 1 (C.takes conn) (C.answers conn) (C.idle conn) can_answer
+    ensures { (wire : Option Told) → Turned 0 1 (C.takes conn) (C.answers conn) (C.idle conn) (C.over conn) can_answer
         (here outbox.old wire core.old ready.old) (here outbox.new wire core.new ready.new) }
 {
     if !ready.can_answer(outbox) {

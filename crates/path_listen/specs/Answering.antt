@@ -1,5 +1,6 @@
 -- What the hub does for one connection, a request at a time: this project's own.
-use Rattle.std.specs.Prelude.{◌≡◌, ℕ, List, [], Option, Some, None}
+use Rattle.std.specs.Prelude.{◌≡◌, ℕ, List, [], Option, Some, None, Bool, false}
+use Rattle.std.specs.Option.{option_map_or}
 use Rattle.wire_frames.specs.Framing.{Framing, fresh}
 use Rattle.path_hub.specs.HubState.{HubState}
 use Rattle.path_hub.specs.Runs.{StepItem}
@@ -29,6 +30,10 @@ pub record Answers (conn : ℕ) (old : HubState) (frame : List ℕ) (new : HubSt
   pub body : Option (List ℕ)
   pub step : StepItem old.tenants body frame new.tenants
   pub takes_off : Takes framing body left
+
+-- a framing fault closed it
+abbrev pub is_over : ℕ → HubState → Bool
+is_over conn now = option_map_or (λ f. f.closed) (session conn now.sessions) false
 
 -- none waits
 abbrev pub IsIdle : ℕ → HubState → Type 0

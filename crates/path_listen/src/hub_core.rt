@@ -55,13 +55,15 @@ impl HubCore {
 
 impl Core for HubCore {
     ghost use Rattle.path_hub.specs.Into.{IsTaken};
-    ghost use Rattle.path_listen.specs.Answering.{takes, Answers, IsIdle};
+    ghost use Rattle.path_listen.specs.Answering.{takes, Answers, IsIdle, is_over};
 
     ghost takes = { takes };
 
     ghost answers = { Answers };
 
     ghost idle = { IsIdle };
+
+    ghost over = { is_over };
 
     // A piece is declined where the connection has no session, where a framing fault closed it, and where a growth was refused.
     fn take(&mut self, conn: u32, piece: &[u8]) -> bool {

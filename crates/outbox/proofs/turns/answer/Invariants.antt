@@ -5,5 +5,5 @@ use Rattle.outbox.proofs.turns.answer.Given as goal
 
 -- what happened so far is a turn
 abbrev pub invariant-requests : goal.invariant-requests
-invariant-requests g l = (wire : Option Told) → Turned 0 l.counter (g.C.Core.takes l.conn) (g.C.Core.answers l.conn) (g.C.Core.idle l.conn) can_answer
+invariant-requests g l = (wire : Option Told) → Turned 0 l.counter (g.C.Core.takes l.conn) (g.C.Core.answers l.conn) (g.C.Core.idle l.conn) (g.C.Core.over l.conn) can_answer
     (here l.fn.outbox wire l.fn.core l.fn.ready) (here l.outbox wire l.core l.ready)
