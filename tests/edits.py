@@ -1,11 +1,14 @@
 #!/usr/bin/env python3
-"""Tests bin/check-edits on a made crate: an edit that fits passes, and each that does not is named with its reason."""
+"""Tests bin/check-edits on a made crate: an edit that fits passes, and each that does not is named with its reason. And of bin/edits.py
+that edits are tried together only where each is in a function of its own, and that an open goal counts for its own function alone."""
 import subprocess
 import sys
 import tempfile
 from pathlib import Path
 
 CHECK = Path(__file__).resolve().parent.parent / "bin/check-edits"
+sys.path.insert(0, str(CHECK.parent))
+from edits import Edit, functions_of, in_groups
 SOURCE = "fn one() -> u8 {\n    1\n}\nfn two() -> u8 {\n    2\n}\n"
 FITTING = {
     "must-fail/turned": "file: src/lib.rt\nold:     1\nnew:     3\n",
@@ -41,7 +44,56 @@ def write(root, edits):
         (crate / f"{name}.edit").write_text(text)
 
 
+CALLS = """const LIMIT: u8 = 9;
+
+/// One.
+#[inline]
+pub fn one() -> u8 {
+    1
+}
+
+impl Two {
+    fn two(&self) -> u8
+        ensures { result ≡ 3 }
+    {
+        one() + 2
+    }
+
+    fn three() -> u8 {
+        if true { 30 } else { 31 }
+    }
+}
+"""
+PLACES = {"three_a": ("{ 30 }", "{ 28 + 2 }"), "two": ("+ 2", "+ 7"), "one": ("    1", "    7"), "three_b": ("{ 31 }", "{ 7 }"), "limit": ("u8 = 9", "u8 = 7")}
+OPEN = {
+    "note: src/made.rt:4:1: it is not proved that what the function ensures holds when it returns (`returns`)": ["one"],
+    "note: src/made.rt:13:9: it is not proved that this sum fits (`add`)": ["two"],
+    "note: `returns` of proofs/made/Two/three/Answers.antt must prove: c.result ≡ 30": ["three"],
+    "./proofs/made/Two/two/Answers.antt:3:1: error: `returns`: expected type `a`": ["two"],
+    "./proofs/made/Two/two/Answers.antt:3:1: error: `c.args` has no field `gone`": [],
+    "./proofs/other/Two/two/Answers.antt:3:1: error: `returns`: expected type `a`": [],
+    "note: src/other.rt:13:9: it is not proved that this sum fits (`add`)": [],
+    "./proofs/Lemmas.antt:3:1: error: `shorter`: expected type `a`": [],
+    "logic=not-proved": [],
+}
+
+
+def test_groups(crate):
+    (crate / "src").mkdir(parents=True)
+    (crate / "src/made.rt").write_text(CALLS)
+    for name, (old, new) in PLACES.items():
+        (crate / f"{name}.edit").write_text(f"file: src/made.rt\nold: {old}\nnew: {new}\n")
+    edits = {name: Edit(crate / f"{name}.edit", crate) for name in PLACES}
+    assert [name for name, edit in edits.items() if not edit.function] == ["limit"], edits
+    groups = [[it.name.split(".")[0] for it in group] for group in in_groups([edit for edit in edits.values() if edit.function], crate)]
+    assert groups == [["three_a", "one"], ["two", "three_b"]], groups
+    for line, wanted in OPEN.items():
+        assert [it.name for it in functions_of("src/made.rt", CALLS) if it.is_at(line)] == wanted, line
+
+
 def main():
+    with tempfile.TemporaryDirectory() as folder:
+        test_groups(Path(folder) / "made")
     with tempfile.TemporaryDirectory() as root:
         write(root, FITTING)
         assert said_of(root) == (0, ["3 edits, 0 of them do not fit"]), said_of(root)
@@ -51,7 +103,7 @@ def main():
         for name, (_, why) in MISFITS.items():
             line = [it for it in lines if it.startswith(f"crates/made/{name}.edit: ")]
             assert len(line) == 1 and why in line[0], (name, lines)
-    print(f"{len(FITTING)} edits pass, {len(MISFITS)} are named")
+    print(f"{len(FITTING)} edits pass, {len(MISFITS)} are named, {len(OPEN)} lines are told apart")
 
 
 main()

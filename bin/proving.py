@@ -1,0 +1,110 @@
+"""The crates of the repository, and rooms in which they are proved side by side.
+
+While rt works in a crate it locks that one and all below it, so that in one tree two crates over a common one wait for each other. Here each
+has a room of its own: a folder with copies of its sources and of those below it, and with links to the libraries made of these. What rt
+keeps goes by the content of the files, so it is of use in any folder.
+"""
+import os
+import re
+import shutil
+import subprocess
+from concurrent.futures import FIRST_COMPLETED, ThreadPoolExecutor, wait
+from pathlib import Path
+
+PARTS = ("src", "specs", "proofs", "c")
+BYTES_EACH = 2_500_000_000
+# lines of source from which more than one job makes a check shorter
+LARGE = 300
+MOST_JOBS = 4
+
+
+def lanes():
+    """How many checks there are processors and memory for."""
+    found = re.search(r"MemAvailable:\s+(\d+)", Path("/proc/meminfo").read_text())
+    return max(min(len(os.sched_getaffinity(0)), int(found[1]) * 1024 // BYTES_EACH), 1)
+
+
+class Crates:
+    """What crates.txt says: for each crate those of the repository that it stands on."""
+
+    def __init__(self, top):
+        self.top = top
+        lines = [line.partition("#")[0] for line in (top / "crates.txt").read_text(encoding="utf-8").splitlines()]
+        self.lines = {line.split(":")[0].split()[0]: line for line in lines if ":" in line}
+        self.uses = {name: [it for it in line.split(":")[1].split() if it in self.lines] for name, line in self.lines.items()}
+
+    def folder(self, name):
+        return self.top / "crates" / name
+
+    def below(self, names):
+        """All crates below these, each behind those that it stands on."""
+        found = []
+        for name in names:
+            for lower in self.uses[name]:
+                found += [it for it in [*self.below([lower]), lower] if it not in found]
+        return found
+
+    def is_large(self, name):
+        sources = (self.folder(name) / "src").rglob("*.rt")
+        return sum(file.read_text(encoding="utf-8").count("\n") for file in sources) >= LARGE
+
+
+class Room:
+    """A folder with the sources of a crate and of those below it, and what is kept of the crate's own proof."""
+
+    def __init__(self, at, crates, name):
+        self.name, self.folder = name, at / "crates" / name
+        needed = [*crates.below([name]), name]
+        at.mkdir(parents=True)
+        shutil.copy2(crates.top / "HANDLES", at)
+        (at / "crates.txt").write_text("".join(f"{crates.lines[it]}\n" for it in needed), encoding="utf-8")
+        for it in needed:
+            for part in PARTS:
+                if (crates.folder(it) / part).is_dir():
+                    shutil.copytree(crates.folder(it) / part, at / "crates" / it / part)
+
+    def lend(self, name, library):
+        """Links to the library of a crate below, which was made elsewhere."""
+        shutil.copytree(library, self.folder.parent / name / "out/rlib", copy_function=os.link)
+
+    def library(self):
+        return self.folder / "out/rlib"
+
+    def rt(self, *words, seconds=None):
+        """The exit status of a command of rt in the crate, and what it said."""
+        how = {"cwd": self.folder, "stdin": subprocess.DEVNULL, "stdout": subprocess.PIPE, "stderr": subprocess.STDOUT}
+        ran = subprocess.run(["rt", *words], timeout=seconds, **how)
+        return ran.returncode, ran.stdout.decode(errors="replace").splitlines()
+
+
+class Task:
+    """Something to do once others are done: a function of how many jobs it may use, whose answer says whether it went well."""
+
+    def __init__(self, name, waits, work, is_large=False):
+        self.name, self.waits, self.work, self.is_large = name, waits, work, is_large
+
+
+def run_all(tasks, many, tell, silence):
+    """Does the tasks, many at a time, those in front first; one whose work did not go well, and all that wait for it, stay undone.
+    A large task gets the processors that no other one can use. tell gets each task that is done, with whether it went well, and
+    nothing but the names of those that run where none was done for so many seconds."""
+    done, failed, running, runs = set(), set(), {}, {}
+    with ThreadPoolExecutor(len(tasks)) as pool:
+        while True:
+            left = [it for it in tasks if it.name not in {*done, *failed, *running}]
+            ready = [it for it in left if done.issuperset(it.waits)]
+            for at, task in enumerate(ready):
+                idle = many - sum(running.values())
+                if idle > 0:
+                    running[task.name] = max(min(idle // (len(ready) - at), MOST_JOBS), 1) if task.is_large else 1
+                    runs[pool.submit(task.work, running[task.name])] = task
+            if not runs:
+                return
+            ended = wait(runs, timeout=silence, return_when=FIRST_COMPLETED).done
+            for it in ended:
+                task = runs.pop(it)
+                del running[task.name]
+                (done if it.result() else failed).add(task.name)
+                tell(task, it.result())
+            if not ended:
+                tell(None, list(running))
