@@ -1,9 +1,9 @@
 #!/usr/bin/env python3
 """Times `path_server query` on texts and queries that were made to take long: bench/hostile.py [SECONDS [WORD]].
 
-Each text has up to 1,048,576 bytes, each query up to 4,096. A row of the table is the shape, how the program ended, its
-seconds of processor time, and the aim: 1 s, and 1.5 s for what has a charge of nearly 10,000,000 units. The program has a
-stack of 256 KiB, and is stopped after so many SECONDS (5). With a WORD, only the rows that have it in their names are run. The
+Each text has up to 1,048,576 bytes, or as many as the environment's MEBIBYTES (1 to 4) says, each query up to 4,096. A row of the table is
+the shape, how the program ended, its seconds of processor time, and the aim: 1 s for each mebibyte, and at least 1.5 s for what has a
+charge of nearly 10,000,000 units. The program has a stack of 256 KiB, and is stopped after so many SECONDS (5). With a WORD, only the rows that have it in their names are run. The
 last line is the number of rows above their aim, and the exit status is 1 where there is one. The program is the one that
 bin/path_server builds, or the one that the environment's PATH_SERVER names.
 """
@@ -18,8 +18,10 @@ import tempfile
 from pathlib import Path
 
 PROGRAM = os.environ.get("PATH_SERVER") or str(Path(__file__).resolve().parent.parent / "crates/path_program/out/path_program")
-TEXT, QUERY, STACK = 1_048_576, 4_096, 256 << 10
-AIM, AIM_OF_UNITS = 1.0, 1.5
+MEBIBYTES = int(os.environ.get("MEBIBYTES") or 1)
+TEXT, QUERY, STACK = MEBIBYTES << 20, 4_096, 256 << 10
+DEPTH = 254
+AIM, AIM_OF_UNITS = 1.0 * MEBIBYTES, max(1.5, 1.0 * MEBIBYTES)
 NUMBER, STRING = "7" * 256, '"' + "s" * 998 + '"'
 LEAVES = {"zeros": "0", "words": "true", "long numbers": NUMBER, "strings": '"a"', "long strings": STRING,
           "escapes": '"' + "\\u0061" * 160 + '"', "arrays": "[0]", "empty arrays": "[]", "objects": '{"a":0}',
@@ -46,15 +48,15 @@ def members(names, value="0", room=TEXT):
     return "{" + ",".join(parts) + "}", len(parts)
 
 
-def numbered(count=200_000):
+def numbered(count=200_000 * MEBIBYTES):
     return (f"k{at:05}" for at in range(count))
 
 
-def escaped(count=200_000):
+def escaped(count=200_000 * MEBIBYTES):
     return (f"\\u006b{at:05}" for at in range(count))
 
 
-def long_names(count=20_000):
+def long_names(count=20_000 * MEBIBYTES):
     return (f"\\u006b{at:05}".ljust(68, "x") for at in range(count))
 
 
@@ -171,19 +173,19 @@ def equality():
 def depths():
     """Values as deep as they may be."""
     def turned(way):
-        return nested(126, lambda it, at: f'{{"a":{it},"b":{at}}}' if at % 2 == way else f'{{"b":{at},"a":{it}}}')
-    yield "two objects 126 deep, turned at each level", f"[{turned(0)},{turned(1)}]", "$[?@==$[0]]"
-    array = nested(126, lambda it, _: f"[{it}]")
-    yield "two arrays 126 deep", f"[{array},{array}]", "$[?@==$[0]]"
-    wide = nested(126, lambda it, _: "{" + ",".join(f'"{c}":0' for c in "bcdefghijklmnopqrst") + f',"a":{it}}}')
-    yield "two wide objects 126 deep", f"[{wide},{wide}]", filled("@==$[0]", "&&")
-    brackets = "[" * 126 + many("0", room=TEXT - 260) + "]" * 126
+        return nested(DEPTH, lambda it, at: f'{{"a":{it},"b":{at}}}' if at % 2 == way else f'{{"b":{at},"a":{it}}}')
+    yield f"two objects {DEPTH} deep, turned at each level", f"[{turned(0)},{turned(1)}]", "$[?@==$[0]]"
+    array = nested(DEPTH, lambda it, _: f"[{it}]")
+    yield f"two arrays {DEPTH} deep", f"[{array},{array}]", "$[?@==$[0]]"
+    wide = nested(DEPTH, lambda it, _: "{" + ",".join(f'"{c}":0' for c in "bcdefghijklmnopqrst") + f',"a":{it}}}')
+    yield f"two wide objects {DEPTH} deep", f"[{wide},{wide}]", filled("@==$[0]", "&&")
+    brackets = "[" * DEPTH + many("0", room=TEXT - 2 * DEPTH - 8) + "]" * DEPTH
     for query in ("$..[0]..[0]..zz", "$..*..zz", "$..[-1]..[-1]..zz", "$..[?@]..zz", "$..[:1]..[:1]..zz", "$..[?@[0]]..zz",
                   "$..*..*..*..zz"):
-        yield f"126 brackets round zeros, {query}", brackets, query
-    braces = '{"a":' * 126 + many("0", room=TEXT - 800) + "}" * 126
+        yield f"{DEPTH} brackets round zeros, {query}", brackets, query
+    braces = '{"a":' * DEPTH + many("0", room=TEXT - 6 * DEPTH - 44) + "}" * DEPTH
     for query in ("$..a..a..zz", "$..a..a..a..a..zz", "$..['a','b']..['a','b']..zz", "$..[?@.a]..zz", "$..[?@..a]..zz"):
-        yield f"126 braces round zeros, {query}", braces, query
+        yield f"{DEPTH} braces round zeros, {query}", braces, query
 
 
 def selectors():

@@ -42,7 +42,7 @@ def written(chance, level):
     elif kind == 3:
         text = "[" + ",".join(written(chance, level - 1) for _ in range(chance.randint(0, 4))) + "]"
     elif kind == 4:
-        deep = chance.choice([1, 2, 120, 127, 128, 129])
+        deep = chance.choice([1, 2, 120, 255, 256, 257])
         text = "[" * deep + "]" * deep
     else:
         members = [string(chance) + blank + ":" + written(chance, level - 1) for _ in range(chance.randint(0, 3))]

@@ -16,7 +16,7 @@ import sys
 import time
 
 from against_model import COLLECTIONS, KEYS, Traffic
-from path_client import Refused, Request, connect
+from path_client import REQUEST_LIMIT, Refused, Request, connect
 from plain_model import Server, number
 from running_server import Report, Running, frames_of, open_connection, reset, talk
 
@@ -24,7 +24,7 @@ BYSTANDER = KEYS[0]
 VICTIMS = 200
 AT_ONCE = 20
 READ_LIMIT = 1_000_000
-FAULT = bytes.fromhex("00200001")
+FAULT = (REQUEST_LIMIT + 1).to_bytes(4, "big")
 FAULT_REPLY = bytes.fromhex("00000005ff00000000")
 BROKEN = {"ReadFault", "WriteFault"}
 MEBIBYTE = 1 << 20

@@ -5,7 +5,7 @@ do then stands in docs/PROTOCOL.md.
 import socket
 import threading
 
-from path_client import BrokenConnection, Hit, Refused, Request, Usage, connect
+from path_client import REQUEST_LIMIT, BrokenConnection, Hit, Refused, Request, Usage, connect
 from running_server import Report
 
 KEY = bytes(16)
@@ -17,14 +17,15 @@ SOUND = {
     "query": ("00000017 00 00000001 00000001 0164 00000003 24c3a9 00000001 31", [Hit("d", "$é", b"1")]),
     "remove": ("00000005 0f 00000001", "NotFound"),
     "drop": ("00000005 4d 00000001", "Status77"),
+    "put_new": ("00000005 17 00000001", "Exists"),
 }
 ARGUMENTS = {"usage": [], "put": ["c", "d", "1"], "get": ["c", "d"], "list": ["c"], "query": ["c", "$"], "remove": ["c", "d"],
-             "drop": ["c"]}
+             "drop": ["c"], "put_new": ["c", "d", "1"]}
 UNSOUND = [
     ("the end", "usage", ""),
     ("the end within a reply", "usage", "00000011 00 00000001 0000"),
     ("a body below 5 bytes", "usage", "00000004 00 000000"),
-    ("a body above the limit", "usage", "00400001"),
+    ("a body above the limit", "usage", "00800001"),
     ("another number", "put", "00000005 00 00000002"),
     ("the number of an earlier request", "put", "00000005 00 00000000"),
     ("a framing fault", "put", "00000005 ff 00000000"),
@@ -90,11 +91,11 @@ def check_silence(report):
 def check_what_is_not_sent(report):
     """A request that has no frame is refused before anything is sent, and the connection goes on."""
     with connect(Answering(bytes.fromhex(SOUND["usage"][0])).address, KEY, timeout=10.0) as client:
-        report.case("a body above the limit", "", "ValueError", result_of(lambda: client.put("c", "d", " " * 2_097_152)))
+        report.case("a body above the limit", "", "ValueError", result_of(lambda: client.put("c", "d", " " * REQUEST_LIMIT)))
         report.case("a name of 256 bytes", "", "ValueError", result_of(lambda: client.list("c" * 256)))
         report.case("the next request", "", SOUND["usage"][1], result_of(client.usage))
-    longest = Request.put("c", "d", b" " * (2_097_152 - 25))
-    report.case("the longest frame", "", "00200000", longest.frame(KEY, 0)[:4].hex())
+    longest = Request.put("c", "d", b" " * (REQUEST_LIMIT - 25))
+    report.case("the longest frame", "", "00600000", longest.frame(KEY, 0)[:4].hex())
     report.case("a key of 15 bytes", "", "ValueError", result_of(lambda: connect("127.0.0.1:1", bytes(15))))
     report.case("no address", "", "ValueError", result_of(lambda: connect("127.0.0.1", KEY)))
 

@@ -11,6 +11,8 @@ import subprocess
 import sys
 from pathlib import Path
 
+from path_client import REQUEST_LIMIT
+
 TOP = Path(__file__).resolve().parent.parent
 PROGRAM = os.environ.get("PATH_SERVER", str(TOP / "crates/path_program/out/path_program"))
 KEY, OTHER = "00112233445566778899aabbccddeeff", "ffeeddccbbaa99887766554433221100"
@@ -21,7 +23,7 @@ DONE_PUT = bytes.fromhex("00000005 00 00000001")
 ONE_TEXT = bytes.fromhex("00000011 00 00000004 00000001 00000001 00000007")
 NO_TEXT = bytes.fromhex("00000011 00 00000004 00000000 00000000 00000000")
 SHORT = bytes.fromhex("00000005 01 00000000")
-TOO_LONG = bytes.fromhex("00200001")
+TOO_LONG = (REQUEST_LIMIT + 1).to_bytes(4, "big")
 FRAME_FAULT = bytes.fromhex("00000005 ff 00000000")
 
 

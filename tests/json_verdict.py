@@ -6,8 +6,8 @@ members in order, from which the other refusals follow.
 import json
 import re
 
-TEXT_LIMIT = 1_048_576
-DEPTH_LIMIT = 128
+TEXT_LIMIT = 4_194_304
+DEPTH_LIMIT = 256
 
 
 def refuse_constant(_):

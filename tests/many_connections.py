@@ -18,13 +18,13 @@ import tempfile
 import time
 
 from against_model import KEYS, UNKNOWN, Traffic
-from path_client import Request, connect, parse_address
+from path_client import REQUEST_LIMIT, Request, connect, parse_address
 from plain_model import Server, number
 from running_server import GIVE_BACK, PATIENCE, Listening, Report, frames_of, open_connection, reset, talk
 
 TENANTS = 64
 MEBIBYTE = 1 << 20
-FAULT = bytes.fromhex("00200001")
+FAULT = (REQUEST_LIMIT + 1).to_bytes(4, "big")
 FAULT_REPLY = bytes.fromhex("00000005ff00000000")
 KEY = KEYS[0]
 LARGE = b'"' + b"x" * (MEBIBYTE - 2) + b'"'
@@ -158,6 +158,16 @@ class Crowd:
                 self.report.case("the replies", "", "they come", "silence")
                 self.report.close("given up")
         selector.close()
+
+    def settle(self):
+        """Waits for the replies that are on their way."""
+        for lane in self.lanes:
+            lane.current.settimeout(PATIENCE)
+            lane.current.sendall(lane.rest)
+            lane.rest = b""
+            while not lane.is_done():
+                lane.read()
+            lane.compare()
 
     def close(self):
         for lane in self.lanes:
@@ -413,4 +423,5 @@ def main():
     report.close("many connections")
 
 
-main()
+if __name__ == "__main__":
+    main()

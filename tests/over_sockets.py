@@ -11,11 +11,13 @@ import sys
 import time
 
 from against_model import KEYS, Traffic
+from json_verdict import TEXT_LIMIT
+from path_client import REQUEST_LIMIT
 from plain_model import STATUS, Server, named, number
 from running_server import Report, Running, compare_replies, open_connection, talk
 
 CROWDED, HEAVY, WIDE = (bytes([place] * 16) for place in (1, 2, 3))
-FAULTS = [b"\x00\x20\x00\x01", b"\xff\xff\xff\xff"]
+FAULTS = [number(REQUEST_LIMIT + 1), b"\xff\xff\xff\xff"]
 PER_CONNECTION = 20
 MEBIBYTE = 1 << 20
 
@@ -37,8 +39,8 @@ class Crowd:
     def next(self):
         pick = self.chance.randrange
         collection, document = named(b"c%d" % pick(18)), named(b"d%d" % pick(1_010))
-        command = self.chance.choice([1] * 12 + [2, 3, 3, 4, 5, 7] + [6] * (pick(20) == 0))
-        more = {1: document + b"%d" % pick(10), 2: document, 3: document, 5: b"$", 7: b""}.get(command, b"")
+        command = self.chance.choice([1] * 12 + [2, 3, 3, 4, 5, 7, 8, 8, 8] + [6] * (pick(20) == 0))
+        more = {1: document + b"%d" % pick(10), 2: document, 3: document, 5: b"$", 7: b"", 8: document + b"%d" % pick(10)}.get(command, b"")
         return body(command, CROWDED, b"" if command == 7 else collection, more)
 
 
@@ -51,15 +53,15 @@ class Load:
     def first(self):
         return (self.put(place, MEBIBYTE) for place in range(16))
 
-    def put(self, place, size):
-        return body(1, HEAVY, named(b"c"), named(b"%d" % place), b" " * (size - 1) + b"1")
+    def put(self, place, size, command=1):
+        return body(command, HEAVY, named(b"c"), named(b"%d" % place), b" " * (size - 1) + b"1")
 
     def next(self):
         pick = self.chance.randrange
         place = pick(40)
-        command = self.chance.choice([1] * 10 + [2, 2, 3, 3, 4, 7])
-        if command == 1:
-            return self.put(place, self.chance.choice([2, MEBIBYTE - 1] + [MEBIBYTE] * 5 + [MEBIBYTE + 1]))
+        command = self.chance.choice([1] * 10 + [2, 2, 3, 3, 4, 7, 8, 8])
+        if command in (1, 8):
+            return self.put(place, self.chance.choice([2, MEBIBYTE - 1] + [MEBIBYTE] * 5 + [MEBIBYTE + 1, TEXT_LIMIT + 1]), command)
         return body(command, HEAVY, {4: named(b"c"), 7: b""}.get(command, named(b"c") + named(b"%d" % place)))
 
 
@@ -68,7 +70,7 @@ class Width:
     152 * 65,789 = 9,999,928 units, and on one more 10,000,080."""
 
     TEXTS = {b"cost": (b"[0" + b",0" * 65_788 + b"]", b"[0" + b",0" * 65_787 + b"]", b"[0]"),
-             b"reply": (b'"' + b"x" * 1_048_570 + b'"', b'"x"')}
+             b"reply": (b'"' + b"x" * 2_097_146 + b'"', b'"x"')}
     QUERIES = {b"cost": b"$[" + b",".join([b"*"] * 152) + b"]", b"reply": b"$"}
 
     def __init__(self, chance):

@@ -21,6 +21,7 @@ As a command (KEY is the tenant's key as 32 hexadecimal digits; a text to put co
     path_client.py ADDRESS KEY query COLLECTION QUERY
     path_client.py ADDRESS KEY drop COLLECTION
     path_client.py ADDRESS KEY usage
+    path_client.py ADDRESS KEY put_new COLLECTION DOCUMENT < TEXT
 
 It exits with 0, with 1 when the server refused (the status's name stands on standard error), with 2 when the arguments are wrong and
 with 3 when the connection is lost.
@@ -35,9 +36,9 @@ import sys
 import time
 from typing import Any, Callable, Deque, Iterable, Iterator, List, NamedTuple, Optional, Tuple, Union
 
-REQUEST_LIMIT = 2_097_152
+REQUEST_LIMIT = 6_291_456
 """Bytes of a request's body, at most."""
-REPLY_LIMIT = 4_194_304
+REPLY_LIMIT = 8_388_608
 """Bytes of a reply's body, at most."""
 KEY_BYTES = 16
 PIECE_BYTES = 65_536
@@ -68,6 +69,7 @@ class Status(enum.IntEnum):
     ReplyTooLarge = 20
     NoMemory = 21
     Costly = 22
+    Exists = 23
     FrameFault = 255
 
 
@@ -117,7 +119,8 @@ def status_name(status: int) -> str:
 
 
 class Request:
-    """A command with its fields, of no tenant yet: made by one of `put`, `get`, `remove`, `list`, `query`, `drop` and `usage`.
+    """A command with its fields, of no tenant yet: made by one of `put`, `get`, `remove`, `list`, `query`, `drop`, `usage` and
+    `put_new`.
 
     Collections and documents are named by text or bytes of at most 255 bytes, texts and queries are given as text or bytes; text is
     sent as UTF-8. Raises ValueError for a name of more than 255 bytes: such a name has no frame.
@@ -156,6 +159,10 @@ class Request:
     @staticmethod
     def usage() -> Request:
         return Request(7, b"", read_usage)
+
+    @staticmethod
+    def put_new(collection: Union[str, bytes], document: Union[str, bytes], text: Union[str, bytes]) -> Request:
+        return Request(8, name_field(collection) + name_field(document) + as_bytes(text), read_nothing)
 
     def frame(self, key: bytes, number: int) -> bytes:
         """The request's bytes on the wire. Raises ValueError when the body would be longer than REQUEST_LIMIT."""
@@ -327,6 +334,10 @@ class Client:
         """How much the tenant keeps."""
         return self._call(Request.usage())
 
+    def put_new(self, collection: Union[str, bytes], document: Union[str, bytes], text: Union[str, bytes]) -> None:
+        """Keeps a JSON text under two names. Refused as Exists if there is one."""
+        return self._call(Request.put_new(collection, document, text))
+
     def pipelined(self, requests: Iterable[Request]) -> List[Any]:
         """Sends requests without waiting for one reply before the next, and gives one result for each, in their order: the value, or
         the Refused that the call would have raised. It takes in replies while it sends, so neither side ever waits for the other, and
@@ -433,6 +444,7 @@ COMMANDS = {
     "query": (2, lambda client, names: write(b"".join(hit_line(hit) for hit in client.query(*names)))),
     "drop": (1, lambda client, names: client.drop(*names)),
     "usage": (0, lambda client, names: print("collections {} documents {} bytes {}".format(*client.usage()))),
+    "put_new": (2, lambda client, names: client.put_new(names[0], names[1], sys.stdin.buffer.read())),
 }
 
 

@@ -6,15 +6,15 @@ import re
 import struct
 
 from json_verdict import verdict
+from path_client import REPLY_LIMIT, REQUEST_LIMIT
 from plain_queries import asked
 
-REQUEST_LIMIT = 2_097_152
-PAYLOAD_LIMIT = 4_194_299
+PAYLOAD_LIMIT = REPLY_LIMIT - 5
 BUDGET = 10_000_000
 QUOTAS = (("TooManyCollections", 16), ("TooManyDocuments", 1_000), ("TooManyBytes", 16_777_216))
 STATUS = {name: number for number, name in enumerate(
     "Ok Short NoTenant BadCommand BadFields TooLong NotUtf8 NotJson TooDeep NumberLimit LoneSurrogate DuplicateName TooManyCollections "
-    "TooManyDocuments TooManyBytes NotFound QueryTooLong NotWellFormed NotValid Status19 ReplyTooLarge NoMemory Costly".split())}
+    "TooManyDocuments TooManyBytes NotFound QueryTooLong NotWellFormed NotValid Status19 ReplyTooLarge NoMemory Costly Exists".split())}
 STATUS["FrameFault"] = 255
 NOT_WELL_FORMED = [b"", b"$ ", b"a", b"$[", b"$[01]", b"$[-0]", b"$..", b"$.a.", b"$['a]", b"$\xff", b"$[?true]"]
 NOT_VALID = [b"$[9007199254740992]", b"$[?count(@.a)]", b"$[?match(@.a,'b')]", b"$[-9007199254740992]"]
@@ -67,10 +67,12 @@ def counts(tenant):
     return len(tenant), len(texts), sum(map(len, texts))
 
 
-def put(tenant, collection, document, text):
+def put(tenant, collection, document, text, only_new=False):
     refusal = verdict(text)
     if refusal:
         raise Refused(refusal)
+    if only_new and document in tenant.get(collection, {}):
+        raise Refused("Exists")
     old = tenant.get(collection, {})
     after = {**tenant, collection: {**old, document: text}}
     for count, (name, quota) in zip(counts(after), QUOTAS):
@@ -124,12 +126,12 @@ def payload(tenant, command, data):
         done(data)
         return b"".join(map(number, counts(tenant)))
     collection, data = field(data, 64)
-    if command in (1, 2, 3):
+    if command in (1, 2, 3, 8):
         document, data = field(data, 128)
     if command in (2, 3, 4, 6):
         done(data)
-    if command == 1:
-        return put(tenant, collection, document, data)
+    if command in (1, 8):
+        return put(tenant, collection, document, data, only_new=command == 8)
     if command == 2:
         return get(tenant, collection, document)
     if command == 3:
@@ -153,7 +155,7 @@ def answer(tenants, body):
             raise Refused("Short")
         if body[5:21] not in tenants:
             raise Refused("NoTenant")
-        if not 1 <= body[0] <= 7:
+        if not 1 <= body[0] <= 8:
             raise Refused("BadCommand")
         return reply("Ok", request, payload(tenants[body[5:21]], body[0], body[21:]))
     except Refused as refused:

@@ -105,6 +105,7 @@ def check_command(report, address):
     run(0, b"", b"", key, "put", "c", "d", text=b'{"a":[1, 2]}')
     run(0, b'{"a":[1, 2]}', b"", key, "get", "c", "d")
     run(0, b"d $['a'][1] 2\n", b"", key, "query", "c", "$.a[1]")
+    run(1, b"", b"Exists\n", key, "put_new", "c", "d", text=b"1")
     run(0, b"d\n", b"", key, "list", "c")
     run(0, b"collections 1 documents 1 bytes 12\n", b"", key, "usage")
     run(0, b"", b"", key, "remove", "c", "d")
@@ -115,7 +116,7 @@ def check_command(report, address):
 
 def main():
     report = Report()
-    with Running([KEY, OTHER], 12) as server:
+    with Running([KEY, OTHER], 13) as server:
         check_shell(report, server.address)
         check_python(report, server.address)
         with connect(server.address, KEY) as client:

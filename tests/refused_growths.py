@@ -25,6 +25,7 @@ from running_server import END_LINE, PROGRAM, TOP, Report, Running
 
 PATIENCE = 20
 KINDS = ("memory", "read", "write")
+COUNTS = ("memory", "read", "write", "accept", "poll")
 PIECE = 65_536
 WITHOUT_MEMORY = {STATUS[name] for name in "Short NoTenant BadCommand BadFields TooLong NotUtf8 NotFound QueryTooLong".split()}
 NO_MEMORY = STATUS["NoMemory"]
@@ -60,16 +61,16 @@ class Calls:
         self.library, self.file = folder / "failing_calls.so", folder / "counts"
         words = ["cc", "-O1", "-shared", "-fPIC", "-o", str(self.library), str(TOP / "tests/failing_calls.c")]
         subprocess.run(words, check=True)
-        self.file.write_bytes(bytes(24))
+        self.file.write_bytes(bytes(8 * len(COUNTS)))
 
-    def environment(self, kind="", at=0, goes_on=False):
+    def environment(self, kind="", at=0, goes_on=False, **more):
         """Sets the counts back, and gives what a process needs in which that call fails."""
-        self.file.write_bytes(bytes(24))
+        self.file.write_bytes(bytes(8 * len(COUNTS)))
         return {**os.environ, "LD_PRELOAD": str(self.library), "FAILING_COUNTS": str(self.file), "FAILING_KIND": kind,
-                "FAILING_AT": str(at), "FAILING_ON": str(int(goes_on))}
+                "FAILING_AT": str(at), "FAILING_ON": str(int(goes_on)), **more}
 
     def made(self, kind):
-        place = 8 * KINDS.index(kind)
+        place = 8 * COUNTS.index(kind)
         return int.from_bytes(self.file.read_bytes()[place:place + 8], sys.byteorder)
 
 
@@ -80,8 +81,8 @@ class Refusals:
         self.report, self.calls, self.share, self.chance = report, calls, share, chance
         self.runs = self.faults = self.replies = 0
 
-    def each(self, name, run):
-        for kind in KINDS:
+    def each(self, name, run, kinds=KINDS):
+        for kind in kinds:
             for goes_on in (False, True):
                 at, last = 1, False
                 while not last:
@@ -291,9 +292,16 @@ class Served:
 
 def asked(connection, frame):
     """The reply to a request, or what came of it and how the connection ended before."""
-    data, length = b"", 4
     try:
         connection.sendall(frame)
+    except ConnectionError:
+        return b"", "reset"
+    return received(connection)
+
+
+def received(connection):
+    data, length = b"", 4
+    try:
         while len(data) < length:
             piece = connection.recv(length - len(data))
             if not piece:

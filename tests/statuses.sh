@@ -42,7 +42,7 @@ expect 0 '' '' '[1]' query '$[?@>1]'
 
 expect 1 '' 'path_server: NotUtf8' '"\xff"' query '$'
 expect 1 '' 'path_server: NotJson' '[1' query '$'
-expect 1 '' 'path_server: TooDeep' "$(times 129 '[')$(times 129 ']')" query '$'
+expect 1 '' 'path_server: TooDeep' "$(times 257 '[')$(times 257 ']')" query '$'
 expect 0 '' '' "$(times 128 '[')$(times 128 ']')" query '$.a'
 expect 1 '' 'path_server: NumberLimit' "$(times 257 1)" query '$'
 expect 1 '' 'path_server: NumberLimit' '1e1000000000' query '$'
@@ -60,7 +60,7 @@ key=00112233445566778899aAbBccDdEeFf
 other=ffeeddccbbaa99887766554433221100
 usage="00000015 07 00000004 $key"
 expect 0 "1 000000110000000004000000000000000000000000$newline" '' "1 open\n1 ${usage// /}\n1 close\n" replay "$key"
-expect 0 "4294967295 00000005ff00000000$newline" '' "4294967295 open\n4294967295 00200001" replay "$key,$other"
+expect 0 "4294967295 00000005ff00000000$newline" '' "4294967295 open\n4294967295 00600001" replay "$key,$other"
 expect 0 '' '' '' replay "$key"
 expect 1 '' 'path_server: BadLine 1' '1  open' replay "$key"
 expect 1 '' 'path_server: BadLine 2' '1 open\n\n1 close\n' replay "$key"
@@ -75,9 +75,9 @@ expect 3 '' 'path_server: BadKeys' '' replay ''
 { times 67108864 0; printf 0; } >"$room/input"
 compare 1 '' 'path_server: TooLong' replay "$key"
 
-{ times 1048576 ' '; printf 1; } >"$room/input"
+{ times 4194304 ' '; printf 1; } >"$room/input"
 compare 1 '' 'path_server: TooLong' query '$'
-{ times 1048575 ' '; printf 1; } >"$room/input"
+{ times 4194303 ' '; printf 1; } >"$room/input"
 compare 0 "\$	1$newline" '' query '$'
 { times 128 '['; times 128 ']'; } >"$room/input"
 compare 2 '' 'path_server: Costly' query '$..*..*..*..*'

@@ -60,7 +60,7 @@ int main() {
     std::printf("frames of 30 bytes, pieces of %5zu: %6.2f million a second, %6.1f ns each, with read_request %6.1f ns\n",
                 piece, count / taken / 1e6, taken * 1e9 / count, read * 1e9 / count);
   }
-  for (size_t body : {524288, 2097152}) {
+  for (size_t body : {524288, 6291456}) {
     Bytes large;
     for (int i = 0; i < 4; i++) add_frame(large, body);
     for (size_t piece : {1, 7, 1024, 65536, 8388624}) {

@@ -117,7 +117,7 @@ fn sends_nothing_where_a_line_is_bad(rt: HostRuntime) -> Result<(), Fail> {
         ("0000000g", 1),
         ("00000000\r\n", 1),
         ("0000000100ff", 1),
-        ("00000000\n00200001\n", 2),
+        ("00000000\n00600001\n", 2),
     ] {
         let bad = called(rt.alloc(), lines.as_bytes(), &[0, 0, 0, 0], &[])?;
         assert_eq!(rt; bad.ended, Err(CallFault::BadLine(number)), "{lines}");
@@ -130,14 +130,14 @@ fn sends_nothing_where_a_line_is_bad(rt: HostRuntime) -> Result<(), Fail> {
 
 #[test]
 fn sends_requests_up_to_the_limit(rt: HostRuntime) -> Result<(), Fail> {
-    let digits = zeros(rt.alloc(), 4_194_304)?;
-    let mut longest = Vec::from_slice(rt.alloc(), b"00200000")?;
+    let digits = zeros(rt.alloc(), 12_582_912)?;
+    let mut longest = Vec::from_slice(rt.alloc(), b"00600000")?;
     longest.extend_from_slice(digits.as_slice())?;
     let sent = called(rt.alloc(), longest.as_slice(), &[0, 0, 0, 0], &[])?;
     assert_eq!(rt; sent.ended, Ok(()));
-    assert_eq!(rt; sent.written.len(), 2_097_156);
+    assert_eq!(rt; sent.written.len(), 6_291_460);
     assert_eq!(rt; sent.out.as_slice(), b"00000000\n".as_slice());
-    let mut longer = Vec::from_slice(rt.alloc(), b"00200001")?;
+    let mut longer = Vec::from_slice(rt.alloc(), b"00600001")?;
     longer.extend_from_slice(digits.as_slice())?;
     longer.extend_from_slice(b"00")?;
     let bad = called(rt.alloc(), longer.as_slice(), &[0, 0, 0, 0], &[])?;
@@ -246,13 +246,13 @@ fn takes_no_byte_beyond_the_reply(rt: HostRuntime) -> Result<(), Fail> {
 
 #[test]
 fn reads_replies_up_to_the_limit(rt: HostRuntime) -> Result<(), Fail> {
-    let body = zeros(rt.alloc(), 4_194_304)?;
-    let mut longest = Vec::from_slice(rt.alloc(), &[0, 0x40, 0, 0])?;
+    let body = zeros(rt.alloc(), 8_388_608)?;
+    let mut longest = Vec::from_slice(rt.alloc(), &[0, 0x80, 0, 0])?;
     longest.extend_from_slice(body.as_slice())?;
     let whole = called(rt.alloc(), b"00000000", longest.as_slice(), &[])?;
     assert_eq!(rt; whole.ended, Ok(()));
-    assert_eq!(rt; whole.out.len(), 8_388_617);
-    let mut longer = Vec::from_slice(rt.alloc(), &[0, 0x40, 0, 1])?;
+    assert_eq!(rt; whole.out.len(), 16_777_225);
+    let mut longer = Vec::from_slice(rt.alloc(), &[0, 0x80, 0, 1])?;
     longer.extend_from_slice(body.as_slice())?;
     let refused = called(rt.alloc(), b"00000000", longer.as_slice(), &[])?;
     assert_eq!(rt; refused.ended, Err(CallFault::ReadFault));

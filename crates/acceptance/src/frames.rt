@@ -18,7 +18,7 @@ const TWO_BODIES: &[u8] = b"\
 /// The tenant `ffeeddcc..00` puts `[2]` under c/d, and a length above the limit follows.
 const FRAME_AND_FAULT: &[u8] = b"\
 \x00\x00\x00\x1c\x01\x00\x00\x00\x01\xff\xee\xdd\xcc\xbb\xaa\x99\x88\x77\x66\x55\x44\x33\x22\x11\x00\x01c\x01d[2]\
-\x00\x20\x00\x01";
+\x00\x60\x00\x01";
 
 const ONE_BODY: &[u8] = b"\
 \x01\x00\x00\x00\x01\xff\xee\xdd\xcc\xbb\xaa\x99\x88\x77\x66\x55\x44\x33\x22\x11\x00\x01c\x01d[2]";
@@ -145,6 +145,7 @@ fn letter_of(command: &Command<'_>) -> u8 {
         Command::Query { .. } => b'Q',
         Command::DropCollection { .. } => b'D',
         Command::Usage => b'U',
+        Command::PutNew { .. } => b'N',
     }
 }
 
@@ -157,6 +158,11 @@ fn push_field(out: &mut Vec<u8>, field: &[u8]) -> Result<(), Fail> {
 fn push_fields(out: &mut Vec<u8>, command: &Command<'_>) -> Result<(), Fail> {
     match command {
         Command::Put {
+            collection,
+            document,
+            text,
+        }
+        | Command::PutNew {
             collection,
             document,
             text,
@@ -189,7 +195,7 @@ fn push_fields(out: &mut Vec<u8>, command: &Command<'_>) -> Result<(), Fail> {
 
 #[test]
 fn reads_requests(rt: HostRuntime) -> Result<(), Fail> {
-    let asked: [(&[u8], &[u8]); 9] = [
+    let asked: [(&[u8], &[u8]); 10] = [
         (
             b"\x01\0\0\0\x01\x00\x11\x22\x33\x44\x55\x66\x77\x88\x99\xaa\xbb\xcc\xdd\xee\xff\x01c\x01d{\"a\":1}",
             b"P\0\0\0\x01\x00\x11\x22\x33\x44\x55\x66\x77\x88\x99\xaa\xbb\xcc\xdd\xee\xff|c|d|{\"a\":1}",
@@ -225,6 +231,10 @@ fn reads_requests(rt: HostRuntime) -> Result<(), Fail> {
         (
             b"\x05\0\0\0\x09\x00\x11\x22\x33\x44\x55\x66\x77\x88\x99\xaa\xbb\xcc\xdd\xee\xff\x01c",
             b"Q\0\0\0\x09\x00\x11\x22\x33\x44\x55\x66\x77\x88\x99\xaa\xbb\xcc\xdd\xee\xff|c|",
+        ),
+        (
+            b"\x08\0\0\0\x0a\x00\x11\x22\x33\x44\x55\x66\x77\x88\x99\xaa\xbb\xcc\xdd\xee\xff\x01c\x01d[1]",
+            b"N\0\0\0\x0a\x00\x11\x22\x33\x44\x55\x66\x77\x88\x99\xaa\xbb\xcc\xdd\xee\xff|c|d|[1]",
         ),
     ];
     for (body, want) in asked {

@@ -107,7 +107,7 @@ fn answers(
 }
 
 /// B puts `[2]` at c/d, and a length above the limit follows.
-const STREAM_OF_B: [&str; 2] = ["0000001c 01 00000001 B 0163 0164 5b325d", "00200001"];
+const STREAM_OF_B: [&str; 2] = ["0000001c 01 00000001 B 0163 0164 5b325d", "00600001"];
 
 #[test]
 fn closes_one_connection_at_its_fault(rt: HostRuntime) -> Result<(), Fail> {
@@ -320,7 +320,7 @@ fn serves_wires(rt: HostRuntime) -> Result<(), Fail> {
     let alloc = rt.alloc();
     let put = bytes_of(alloc, &[PUT])?;
     let cut = bytes_of(alloc, &["0000001a 01 00000001 00"])?;
-    let fault = bytes_of(alloc, &["00200001"])?;
+    let fault = bytes_of(alloc, &["00600001"])?;
     let told = bytes_of(alloc, &["00000005 ff 00000000"])?;
     for (at, wanted) in [
         Served {

@@ -1,6 +1,7 @@
 //! The places of texts, at and around the edges of blocks.
 
 ghost use Rattle.std.specs.Prelude.{◌≤◌, length};
+ghost use Rattle.json_tape.specs.Verdict.{text_limit};
 
 use std::alloc::Global;
 use std::process::Abort;
@@ -16,7 +17,7 @@ fn expect(
     unclosed: bool,
     control_inside: bool,
 ) -> Result<(), Fail>
-    requires { length text.now ≤ 1048576 }
+    requires { length text.now ≤ text_limit }
 {
     let found = index(alloc, text)?;
     assert_eq!(rt; found.places.as_slice(), places);

@@ -1,6 +1,7 @@
 //! Texts read by their places: verdicts, block edges, and how often a byte is looked at.
 
 ghost use Rattle.std.specs.Prelude.{◌≤◌, length};
+ghost use Rattle.json_tape.specs.Verdict.{text_limit};
 
 use json_tape::{Document, NodeId, TextFault, build};
 use std::alloc::Global;
@@ -17,7 +18,7 @@ fn verdict(alloc: Global, text: &[u8]) -> Result<u32, TextFault> {
 
 // What `build` takes: the number of places, and of looks where it accepts the text.
 fn looked(alloc: Global, text: &str) -> Result<(usize, Option<u64>), Fail>
-    requires { length text.now ≤ 1048576 }
+    requires { length text.now ≤ text_limit }
 {
     let bytes = text.as_bytes();
     let found = index(alloc, bytes)?;

@@ -35,6 +35,21 @@ fn put(
     ))
 }
 
+fn put_new(
+    tenant: &mut Tenant,
+    alloc: Global,
+    collection: &str,
+    document: &str,
+    text: &[u8],
+) -> Result<Result<(), StoreFault>, Fail> {
+    Ok(tenant.put_new(
+        alloc,
+        collection_name(collection)?,
+        document_name(document)?,
+        text,
+    ))
+}
+
 fn remove(
     tenant: &mut Tenant,
     collection: &str,
@@ -152,6 +167,31 @@ fn writes_hits_behind_what_stands_there(rt: HostRuntime) -> Result<(), Fail> {
     Ok(())
 }
 
+#[test]
+fn puts_new_documents_where_none_is(rt: HostRuntime) -> Result<(), Fail> {
+    let alloc = rt.alloc();
+    let mut tenant = Tenant::new(alloc);
+    for number in 0..1_000u32 {
+        let name = format!(in alloc; "{number}")?;
+        assert_eq!(rt;
+            put_new(&mut tenant, alloc, "c", name.as_str(), b"1")?,
+            Ok(())
+        );
+    }
+    let there = put_new(&mut tenant, alloc, "c", "999", b"22")?;
+    assert_eq!(rt; there, Err(StoreFault::Exists));
+    let none = put_new(&mut tenant, alloc, "c", "999", b"{")?;
+    assert_eq!(rt; none, Err(StoreFault::NotJson));
+    let new = put_new(&mut tenant, alloc, "c", "1000", b"22")?;
+    assert_eq!(rt; new, Err(StoreFault::TooManyDocuments));
+    assert_eq!(rt; get(&tenant, "c", "999")?, b"1".as_slice());
+    assert_eq!(rt; remove(&mut tenant, "c", "999")?, Ok(()));
+    assert_eq!(rt; put_new(&mut tenant, alloc, "c", "999", b"22")?, Ok(()));
+    assert_eq!(rt; get(&tenant, "c", "999")?, b"22".as_slice());
+    assert_eq!(rt; tenant.usage().bytes, 1_001);
+    Ok(())
+}
+
 /// On an array of 4,649 zeros this filter is charged 1 + 4,649 (2 + 1 + 2,148) = 10,000,000, and selects none.
 const WHOLE_BUDGET: &str = "?!$[:2148]";
 
@@ -182,7 +222,7 @@ fn charges_the_documents_of_a_collection_in_turn(rt: HostRuntime) -> Result<(), 
 fn refuses_a_payload_past_the_limit(rt: HostRuntime) -> Result<(), Fail> {
     let alloc = rt.alloc();
     let mut tenant = Tenant::new(alloc);
-    let string = string_of(alloc, 1_048_557)?;
+    let string = string_of(alloc, 2_097_133)?;
     let fits = array_of(alloc, string.as_slice())?;
     assert_eq!(rt; put(&mut tenant, alloc, "c", "d", fits.as_slice())?, Ok(()));
     let mut payload = Vec::new(alloc);
@@ -190,8 +230,8 @@ fn refuses_a_payload_past_the_limit(rt: HostRuntime) -> Result<(), Fail> {
         ask(&tenant, alloc, "$[0,0,0,0]", "c", &mut payload)?,
         Ok(())
     );
-    assert_eq!(rt; payload.len(), 4_194_301 - 5);
-    let string = string_of(alloc, 1_048_558)?;
+    assert_eq!(rt; payload.len(), 8_388_605 - 5);
+    let string = string_of(alloc, 2_097_134)?;
     let passes = array_of(alloc, string.as_slice())?;
     assert_eq!(rt;
         put(&mut tenant, alloc, "c", "d", passes.as_slice())?,
@@ -220,7 +260,7 @@ fn refused_for(alloc: Global, documents: &[(&str, &[u8])]) -> Result<Option<Stor
 #[test]
 fn tells_the_first_document_that_shows_a_fault(rt: HostRuntime) -> Result<(), Fail> {
     let alloc = rt.alloc();
-    let string = string_of(alloc, 600_000)?;
+    let string = string_of(alloc, 1_200_000)?;
     let long = array_of(alloc, string.as_slice())?;
     let wide = zeros(alloc, 4_649)?;
     let mut both = array_of(alloc, string.as_slice())?;

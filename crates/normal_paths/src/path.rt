@@ -113,7 +113,7 @@ pub fn write_path(
 fn step_length(doc: &Document, node: NodeId) -> usize
     requires { node.0 < count doc.now }
     ensures length { result ≡ length (last_text (node_at doc.now node.0)) }
-    ensures short { result < 8388608 }
+    ensures short { result ≤ path_limit + 3 }
 {
     match doc.lead(node) {
         Lead::Root => 0,
@@ -125,7 +125,7 @@ fn step_length(doc: &Document, node: NodeId) -> usize
     }
 }
 
-/// The length of a node's normalized path, in bytes: at most 6,291,457.
+/// The length of a node's normalized path, in bytes: at most six for each byte of a text, and one.
 pub fn path_length(doc: &Document, node: NodeId) -> usize
     requires { node.0 < count doc.now }
     ensures value { result ≡ length (normal_path (node_at doc.now node.0)) }

@@ -12,11 +12,11 @@ use Rattle.tenant_store.specs.declared.faults.StoreFault.{StoreFault}
 use Rattle.tenant_store.specs.declared.faults.StoreFault.TheVariants as f
 use Rattle.tenant_store.specs.Statuses.{status_of}
 use Rattle.tenant_store.specs.Maps.{Map, documents_of}
-use Rattle.tenant_store.specs.Answers.{RefusesPut, missing}
+use Rattle.tenant_store.specs.Answers.{RefusesPut, RefusesPutNew, missing}
 use Rattle.tenant_store.specs.Laws.{PutsAnswerOnce, QueriesAnswerOnce}
 use Rattle.tenant_store.specs.Payloads.{AnswersQuery, RefusesQuery}
 use Rattle.tenant_store.specs.Tenancy.{Tenancy}
-use Rattle.wire_frames.specs.Requests.{Asked, Put, Get, Remove, ListNames, Query, DropCollection, Usage, Reading, Short, BadCommand, BadFields, Asks, reading, key_of}
+use Rattle.wire_frames.specs.Requests.{Asked, Put, Get, Remove, ListNames, Query, DropCollection, Usage, PutNew, Reading, Short, BadCommand, BadFields, Asks, reading, key_of}
 use Rattle.wire_frames.specs.Replies.{reply}
 use Rattle.path_hub.specs.Answers.{Does, Refuses, Finds, RefusesText, RefusesHits, IsMissing, query_status, HasStatus, IsAnswer, AnswersReading, Alone, is_no_memory}
 use Rattle.path_hub.specs.Tenants.{map_of, with_map_of, ServesBy, is_short, short_number}
@@ -79,6 +79,7 @@ does_once w (Query c t) m p q a b x y =
     (w.hits.appended x.0.0 (documents_of c m) [] p q x.0.2 (subst (λ s. AnswersQuery s (documents_of c m) [] q) same y.0.2), x.1 ∙ sym y.1)
 does_once w (DropCollection c) m p q a b x y = (x.1 ∙ sym y.1, x.2 ∙ sym y.2)
 does_once w Usage m p q a b x y = (x.0 ∙ sym y.0, x.1 ∙ sym y.1)
+does_once w (PutNew c d t) m p q a b x y = (x.1 ∙ sym y.1, x.0.put.put ∙ sym y.0.put.put)
 
 status_once : (refused : StoreFault → Type 0) (s t : ℕ) → ((d e : StoreFault) → d ≢ f.NoMemory → e ≢ f.NoMemory → refused d → refused e → d ≡ e) → HasStatus refused s → HasStatus refused t → s ≡ t
 status_once refused s t once x y = x.3 ∙ ap status_of (once x.0 y.0 x.2 y.2 x.1 y.1) ∙ sym y.3
@@ -102,6 +103,7 @@ refuses_once w (ListNames c) m a b x y = absurd x
 refuses_once w (Query c t) m a b x y = query_refused_once w c t m a b x y
 refuses_once w (DropCollection c) m a b x y = missing_once _ a b x y
 refuses_once w Usage m a b x y = absurd x
+refuses_once w (PutNew c d t) m a b x y = status_once (RefusesPutNew c d t m) a b (w.puts.new_fault c d t m) x y
 
 not_query : (w : OneAnswer) (c t : List ℕ) (m : Map) (p : List ℕ) (s : ℕ) {A : Type 0} → Finds c t m p → RefusesText t s ⊎ RefusesHits c t m s → A
 not_query w c t m p s x (inl y) = not_valid_and w t x.0 y.0 y.2 x.1 y.1
@@ -120,6 +122,7 @@ not_both w (ListNames c) m p a s x y = absurd y
 not_both w (Query c t) m p a s x y = not_query w c t m p s x.0 y
 not_both w (DropCollection c) m p a s x y = not_missing_here _ s x.0 y
 not_both w Usage m p a s x y = absurd y
+not_both w (PutNew c d t) m p a s x y = absurd (w.puts.new_either c d t m a y.0 y.2 x.0 y.1)
 
 answer_once : (w : OneAnswer) (asked : Asked) (n : ℕ) (m : Map) (f g : List ℕ) (a b : Map) → IsAnswer asked n m f a → IsAnswer asked n m g b → (f ≡ g) × (a ≡ b)
 answer_once w asked n m f g a b (inl x) (inl y) = let e = does_once w asked m x.payload y.payload a b x.does y.does in (x.frame_is ∙ ap (reply 0 n) e.0 ∙ sym y.frame_is, e.1)

@@ -5,7 +5,7 @@ use Rattle.tenant_store.specs.declared.faults.StoreFault.{StoreFault}
 use Rattle.tenant_store.specs.declared.faults.StoreFault.TheVariants as f
 use Rattle.tenant_store.specs.Statuses.{status_of}
 use Rattle.tenant_store.specs.Maps.{Map, documents_of}
-use Rattle.tenant_store.specs.Answers.{RefusesPut, missing}
+use Rattle.tenant_store.specs.Answers.{RefusesPut, RefusesPutNew, FailsVerdict, missing}
 use Rattle.tenant_store.specs.Payloads.{Text, query_fault, payload_limit, found_in, RefusesQuery, IsFault}
 use Rattle.tenant_store.specs.Tenancy.{Tenancy, place_in, with_map}
 use Rattle.tape_select.specs.Budget.{budget}
@@ -16,7 +16,7 @@ use Rattle.path_grammar.specs.Tree.{Segments}
 use Rattle.path_types.specs.Verdict.{RefusesQueryText}
 use Rattle.path_types.specs.declared.query_text.QueryFault.{QueryFault}
 use Rattle.path_types.specs.declared.query_text.QueryFault.TheVariants as q
-use Rattle.wire_frames.specs.Requests.{Reading, Short, BadCommand, BadFields, Asks, Asked, Put, Query, reading, with_fields, asked_at, fields_of, number_of, key_of}
+use Rattle.wire_frames.specs.Requests.{Reading, Short, BadCommand, BadFields, Asks, Asked, Put, Query, PutNew, reading, with_fields, asked_at, fields_of, number_of, key_of}
 use Rattle.wire_frames.specs.Replies.{reply}
 use Rattle.path_hub.specs.Answers.{Gives, Answers, AnswersReading, IsAnswer, Does, Refuses, HasStatus, IsMissing, RefusesHits, query_status, is_no_memory, may_want, MayWant, reading_wants, is_free, is_plain, status_in}
 use Rattle.path_hub.specs.Tenants.{map_of, with_map_of, put_at, Serves, ServesBody, ServesBy, BodyMayWant, is_short, short_number}
@@ -64,6 +64,7 @@ only_memory f.NotFound h = absurd cc
 only_memory f.ReplyTooLarge h = absurd cc
 only_memory f.NoMemory h = refl
 only_memory f.Costly h = absurd cc
+only_memory f.Exists h = absurd cc
 
 -- a fault of the store: the definition's, or that memory ran out
 pub gives_fault : (old new : Map) (asked : Asked) (n : ℕ) (before after : List ℕ) (e : StoreFault) → after ≡ before ++ reply (status_of e) n [] → new ≡ old
@@ -104,25 +105,64 @@ may_want_by asked n m p r = λ frame m' a. want_by asked n m p r frame m' a
 pub not_missing : {X : Type 0} (o : Option X) (x : X) (s : ℕ) → o ≡ Some x → HasStatus (IsMissing o) s → is_free s ≡ false
 not_missing o x s h r = let y : None ≡ Some r.0 = sym (ap missing h) ∙ r.1 in absurd (cc)
 
--- a put that found no fault of the first two kinds
+-- a text that none of the first two faults is about
+verdict_not_free : (t : List ℕ) (e : StoreFault) → NoneApplies t 2 → FailsVerdict t e → is_free (status_of e) ≡ false
+verdict_not_free t f.TooLong none r = absurd (none verdict.TooLong (omega arith) r.0)
+verdict_not_free t f.NotUtf8 none r = absurd (none verdict.NotUtf8 (omega arith) r.0)
+verdict_not_free t f.NotJson none r = refl
+verdict_not_free t f.TooDeep none r = refl
+verdict_not_free t f.NumberLimit none r = refl
+verdict_not_free t f.LoneSurrogate none r = refl
+verdict_not_free t f.DuplicateName none r = refl
+verdict_not_free t f.TooManyCollections none r = absurd r
+verdict_not_free t f.TooManyDocuments none r = absurd r
+verdict_not_free t f.TooManyBytes none r = absurd r
+verdict_not_free t f.NotFound none r = absurd r
+verdict_not_free t f.ReplyTooLarge none r = absurd r
+verdict_not_free t f.NoMemory none r = refl
+verdict_not_free t f.Costly none r = absurd r
+verdict_not_free t f.Exists none r = absurd r
+
+-- a put is refused as its text is, or with a status of its own
 put_not_free : (c d t : List ℕ) (m : Map) (e : StoreFault) → NoneApplies t 2 → RefusesPut c d t m e → is_free (status_of e) ≡ false
-put_not_free c d t m f.TooLong none r = absurd (none verdict.TooLong (omega arith) r.0)
-put_not_free c d t m f.NotUtf8 none r = absurd (none verdict.NotUtf8 (omega arith) r.0)
-put_not_free c d t m f.NotJson none r = refl
-put_not_free c d t m f.TooDeep none r = refl
-put_not_free c d t m f.NumberLimit none r = refl
-put_not_free c d t m f.LoneSurrogate none r = refl
-put_not_free c d t m f.DuplicateName none r = refl
+put_not_free c d t m f.TooLong none r = verdict_not_free t f.TooLong none r
+put_not_free c d t m f.NotUtf8 none r = verdict_not_free t f.NotUtf8 none r
+put_not_free c d t m f.NotJson none r = verdict_not_free t f.NotJson none r
+put_not_free c d t m f.TooDeep none r = verdict_not_free t f.TooDeep none r
+put_not_free c d t m f.NumberLimit none r = verdict_not_free t f.NumberLimit none r
+put_not_free c d t m f.LoneSurrogate none r = verdict_not_free t f.LoneSurrogate none r
+put_not_free c d t m f.DuplicateName none r = verdict_not_free t f.DuplicateName none r
 put_not_free c d t m f.TooManyCollections none r = refl
 put_not_free c d t m f.TooManyDocuments none r = refl
 put_not_free c d t m f.TooManyBytes none r = refl
-put_not_free c d t m f.NotFound none r = absurd r
-put_not_free c d t m f.ReplyTooLarge none r = absurd r
-put_not_free c d t m f.NoMemory none r = refl
-put_not_free c d t m f.Costly none r = absurd r
+put_not_free c d t m f.NotFound none r = verdict_not_free t f.NotFound none r
+put_not_free c d t m f.ReplyTooLarge none r = verdict_not_free t f.ReplyTooLarge none r
+put_not_free c d t m f.NoMemory none r = verdict_not_free t f.NoMemory none r
+put_not_free c d t m f.Costly none r = verdict_not_free t f.Costly none r
+put_not_free c d t m f.Exists none r = verdict_not_free t f.Exists none r
+
+put_new_not_free : (c d t : List ℕ) (m : Map) (e : StoreFault) → NoneApplies t 2 → RefusesPutNew c d t m e → is_free (status_of e) ≡ false
+put_new_not_free c d t m f.TooLong none r = verdict_not_free t f.TooLong none r
+put_new_not_free c d t m f.NotUtf8 none r = verdict_not_free t f.NotUtf8 none r
+put_new_not_free c d t m f.NotJson none r = verdict_not_free t f.NotJson none r
+put_new_not_free c d t m f.TooDeep none r = verdict_not_free t f.TooDeep none r
+put_new_not_free c d t m f.NumberLimit none r = verdict_not_free t f.NumberLimit none r
+put_new_not_free c d t m f.LoneSurrogate none r = verdict_not_free t f.LoneSurrogate none r
+put_new_not_free c d t m f.DuplicateName none r = verdict_not_free t f.DuplicateName none r
+put_new_not_free c d t m f.TooManyCollections none r = refl
+put_new_not_free c d t m f.TooManyDocuments none r = refl
+put_new_not_free c d t m f.TooManyBytes none r = refl
+put_new_not_free c d t m f.NotFound none r = verdict_not_free t f.NotFound none r
+put_new_not_free c d t m f.ReplyTooLarge none r = verdict_not_free t f.ReplyTooLarge none r
+put_new_not_free c d t m f.NoMemory none r = verdict_not_free t f.NoMemory none r
+put_new_not_free c d t m f.Costly none r = verdict_not_free t f.Costly none r
+put_new_not_free c d t m f.Exists none r = refl
 
 pub put_may_want : (c d t : List ℕ) (n : ℕ) (m : Map) (e : StoreFault) → RefusesPut c d t m e → e ≡ f.NoMemory → MayWant (Put c d t) n m
 put_may_want c d t n m e r x = may_want_by (Put c d t) n m refl (λ s h. ap is_free h.3 ∙ put_not_free c d t m h.0 (subst (λ y. RefusesPut c d t m y) x r) h.1)
+
+pub put_new_may_want : (c d t : List ℕ) (n : ℕ) (m : Map) (e : StoreFault) → RefusesPutNew c d t m e → e ≡ f.NoMemory → MayWant (PutNew c d t) n m
+put_new_may_want c d t n m e r x = may_want_by (PutNew c d t) n m refl (λ s h. ap is_free h.3 ∙ put_new_not_free c d t m h.0 (subst (λ y. RefusesPutNew c d t m y) x r) h.1)
 
 -- what a body's reading says of its bytes
 abbrev pub Shape : Reading → List ℕ → Type 0
@@ -254,6 +294,7 @@ fault_is o f.NotFound h n = h
 fault_is o f.ReplyTooLarge h n = h
 fault_is o f.NoMemory h n = absurd (n refl)
 fault_is o f.Costly h n = h
+fault_is o f.Exists h n = h
 
 hits_not_free : (c t : List ℕ) (m : Map) (s : ℕ) → RefusesHits c t m s → is_free s ≡ false
 hits_not_free c t m s h =

@@ -11,10 +11,10 @@ use Rattle.tenant_store.specs.declared.faults.StoreFault.TheVariants as store
 use Rattle.tenant_store.specs.Statuses.{status_of}
 use Rattle.tenant_store.specs.Keyed.{at}
 use Rattle.tenant_store.specs.Maps.{Map, text_at, documents_of, remove_text, drop_texts}
-use Rattle.tenant_store.specs.Answers.{AcceptsPut, RefusesPut, missing}
+use Rattle.tenant_store.specs.Answers.{AcceptsPut, RefusesPut, AcceptsPutNew, RefusesPutNew, missing}
 use Rattle.tenant_store.specs.Payloads.{number, listing, AnswersQuery, RefusesQuery}
 use Rattle.tenant_store.specs.Quotas.{usage_of}
-use Rattle.wire_frames.specs.Requests.{Asked, Put, Get, Remove, ListNames, Query, DropCollection, Usage, Reading, Short, BadCommand, BadFields, Asks, reading}
+use Rattle.wire_frames.specs.Requests.{Asked, Put, Get, Remove, ListNames, Query, DropCollection, Usage, PutNew, Reading, Short, BadCommand, BadFields, Asks, reading}
 use Rattle.wire_frames.specs.Replies.{reply}
 
 -- three numbers: collections, documents and bytes of texts
@@ -34,6 +34,7 @@ Does (ListNames c) m payload m' = (payload ≡ listing (documents_of c m)) × (m
 Does (Query c text) m payload m' = Finds c text m payload × (m' ≡ m)
 Does (DropCollection c) m payload m' = (missing (lookup (at c) m) ≡ None) × (payload ≡ []) × (m' ≡ drop_texts c m)
 Does Usage m payload m' = (payload ≡ usage_payload m) × (m' ≡ m)
+Does (PutNew c d text) m payload m' = AcceptsPutNew c d text m m' × (payload ≡ [])
 
 -- the status of one of these faults that is not want of memory
 abbrev pub HasStatus : (StoreFault → Type 0) → ℕ → Type 0
@@ -66,6 +67,7 @@ Refuses (ListNames c) m status = ⊥
 Refuses (Query c text) m status = RefusesText text status ⊎ RefusesHits c text m status
 Refuses (DropCollection c) m status = HasStatus (IsMissing (lookup (at c) m)) status
 Refuses Usage m status = ⊥
+Refuses (PutNew c d text) m status = HasStatus (RefusesPutNew c d text m) status
 
 pub record IsDone (asked : Asked) (number : ℕ) (m : Map) (frame : List ℕ) (m' : Map) : Type 0 where
   pub payload : List ℕ
@@ -121,6 +123,7 @@ is_plain (ListNames c) = false
 is_plain (Query c text) = false
 is_plain (DropCollection c) = true
 is_plain Usage = true
+is_plain (PutNew c d text) = false
 
 -- a request that gets this reply may want memory
 abbrev pub may_want : Asked → List ℕ → Bool

@@ -1,9 +1,10 @@
 //! One request of a tenant, answered.
 ghost use Rattle.std.specs.Prelude.{◌≡◌, ◌≤◌, ◌+◌, ◌++◌, length, take, drop, vec_len, [], OnOk, IfErr, IsTrue, Result};
 ghost use Rattle.std.specs.Vec.{vec_capacity};
+ghost use Rattle.tenant_store.specs.Payloads.{payload_limit};
 ghost use Rattle.tenant_store.specs.Statuses.{status_of};
 ghost use Rattle.wire_frames.specs.Replies.{reply};
-ghost use Rattle.wire_frames.specs.Requests.{Get, Put, Remove, ListNames, Query, DropCollection, Usage};
+ghost use Rattle.wire_frames.specs.Requests.{Get, Put, Remove, ListNames, Query, DropCollection, Usage, PutNew};
 ghost use Rattle.wire_frames.specs.Readings.{asked_of, refusal};
 ghost use Rattle.wire_frames.specs.Requests.{reading};
 ghost use Rattle.path_hub.specs.Answers.{Gives, query_status};
@@ -55,6 +56,24 @@ fn answer_put(
     ensures { Gives map.old (Put collection.entry.bytes.now document.entry.bytes.now text.now) number out.old.items out.new.items map.new }
 {
     match map.put(alloc, collection, document, text) {
+        Ok(()) => write_small(OK, number, &[], out),
+        Err(fault) => write_small(fault.status(), number, &[], out),
+    }
+}
+
+fn answer_put_new(
+    map: &mut Tenant,
+    alloc: Global,
+    number: u32,
+    collection: CollName<'_>,
+    document: DocName<'_>,
+    text: &[u8],
+    out: &mut Vec<u8>,
+)
+    requires { vec_len out.old + 21 ≤ vec_capacity out.old }
+    ensures { Gives map.old (PutNew collection.entry.bytes.now document.entry.bytes.now text.now) number out.old.items out.new.items map.new }
+{
+    match map.put_new(alloc, collection, document, text) {
         Ok(()) => write_small(OK, number, &[], out),
         Err(fault) => write_small(fault.status(), number, &[], out),
     }
@@ -118,7 +137,7 @@ fn begin(out: &mut Vec<u8>)
 /// Writes the head of a reply in front of its payload.
 fn finish(start: usize, number: u32, out: &mut Vec<u8>)
     requires started { start + 9 ≤ vec_len out.old }
-    requires short { vec_len out.old ≤ start + (9 + 4194299) }
+    requires short { vec_len out.old ≤ start + (9 + payload_limit) }
     ensures { out.new.items ≡ take start out.old.items ++ reply 0 number (drop (start + 9) out.old.items) }
 {
     let payload = (out.len() - start - 9) as u32;
@@ -236,6 +255,11 @@ fn answer_command(
         }
         Command::DropCollection { collection } => answer_drop(map, number, collection, out),
         Command::Usage => answer_usage(map, number, out),
+        Command::PutNew {
+            collection,
+            document,
+            text,
+        } => answer_put_new(map, alloc, number, collection, document, text, out),
     }
 }
 

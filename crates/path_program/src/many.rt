@@ -45,12 +45,12 @@ pub fn listen<R: Print + Eprint + Net + Files + Clock + AllocGlobal>(
 }
 
 // Binds the first address of those that the text names.
-fn bind<R: Net + Clock + AllocGlobal>(
-    rt: &R,
+fn bind<'r, R: Net + Clock + AllocGlobal>(
+    rt: &'r R,
     address: &str,
     core: HubCore,
     limits: Limits,
-) -> Result<Server, Failure> {
+) -> Result<Server<'r, R>, Failure> {
     let Ok(mut addresses) = address.to_socket_addrs(rt) else {
         return Err(Failure::Net);
     };

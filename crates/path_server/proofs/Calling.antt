@@ -5,11 +5,12 @@ use Rattle.std.proofs.lemmas.List.{append-nil, append_assoc, drop_at, length-app
 use Rattle.std.proofs.Math.Seq.{drop-append-add, split_at}
 use Rattle.std.proofs.lemmas.List.Concat.{flat_map-append}
 use Rattle.std.proofs.lemmas.List.Elements.{All-nil, All-push}
+use Rattle.tenant_store.specs.Payloads.{longest_reply}
 use Rattle.wire_frames.specs.Frames.{frame}
 use Rattle.path_hub.specs.Into.{joined}
 use Rattle.path_hub.specs.Wires.{Meaning, Move, Gave, Took, Moved, read_in, written_in}
 use Rattle.path_server.specs.FrameLines.{frame_line}
-use Rattle.path_server.specs.Calls.{AreReplies, AreTurns, Calls, frame_of, EndsCall, HoldsNoReply, IsAsked, IsPaced, IsTurn, StartsNext, longest_reply, reply_lines}
+use Rattle.path_server.specs.Calls.{AreReplies, AreTurns, Calls, frame_of, EndsCall, HoldsNoReply, IsAsked, IsPaced, IsTurn, StartsNext, reply_lines}
 use Rattle.path_server.specs.Exchanges.{Exchanges, IsReply}
 use Rattle.path_server.specs.declared.request_lines.Request.{Request}
 use Rattle.path_server.specs.declared.call_fault.CallFault.{CallFault}

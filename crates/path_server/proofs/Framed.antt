@@ -7,8 +7,9 @@ use Rattle.std.proofs.lemmas.Nat.{from_be_bytes-to_be_bytes_4}
 use Rattle.std.proofs.lemmas.Bool.{false≢true}
 use Rattle.std.proofs.lemmas.Slice.Eq.{bytes_eq-Decides}
 use Rattle.std.specs.Str.{bytes_eq}
-use Rattle.wire_frames.specs.Frames.{body_length, frame}
-use Rattle.path_server.specs.Calls.{HoldsNoReply, IsRequest, longest_reply}
+use Rattle.tenant_store.specs.Payloads.{longest_reply}
+use Rattle.wire_frames.specs.Frames.{body_length, frame, longest_body}
+use Rattle.path_server.specs.Calls.{HoldsNoReply, IsRequest}
 use Rattle.path_server.specs.Exchanges.{IsReply, SpellsLength}
 
 -- what bytes that begin with a frame are made of
@@ -41,7 +42,7 @@ body_long bytes n long = omega (arith, length-drop 4 bytes, long)
 
 -- ---- requests
 
-pub is_request : (bytes : List ℕ) (n : ℕ) → SpellsLength bytes n → length bytes ≡ n + 4 → n ≤ 2097152 → IsRequest bytes
+pub is_request : (bytes : List ℕ) (n : ℕ) → SpellsLength bytes n → length bytes ≡ n + 4 → n ≤ longest_body → IsRequest bytes
 is_request bytes n s long small = record { body = drop 4 bytes; short = omega (arith, body_long bytes n long, small); framed = framed bytes n s long }
 
 request_parts : (bytes : List ℕ) → (r : IsRequest bytes) → HasFrame bytes r.body []
@@ -50,7 +51,7 @@ request_parts bytes r = let short = r.short in has_frame bytes r.body [] (omega 
 pub request_long : (bytes : List ℕ) → IsRequest bytes → 4 ≤ length bytes
 request_long bytes r = let h = (request_parts bytes r).long in omega (arith, h)
 
-pub request_spells : (bytes : List ℕ) → IsRequest bytes → (body_length bytes ≤ 2097152) × (length bytes ≡ body_length bytes + 4)
+pub request_spells : (bytes : List ℕ) → IsRequest bytes → (body_length bytes ≤ longest_body) × (length bytes ≡ body_length bytes + 4)
 request_spells bytes r =
     let p = request_parts bytes r in
     let short = r.short in
@@ -76,7 +77,7 @@ not_whole bytes short body more small e =
 pub holds_nothing : HoldsNoReply []
 holds_nothing body more small e = let p = has_frame [] body more (omega (arith, small)) e in let long = p.long in omega (arith, long)
 
-pub is_reply : (bytes : List ℕ) (n : ℕ) → SpellsLength bytes n → length bytes ≡ n + 4 → n ≤ 4194304 → IsReply bytes
+pub is_reply : (bytes : List ℕ) (n : ℕ) → SpellsLength bytes n → length bytes ≡ n + 4 → n ≤ longest_reply → IsReply bytes
 is_reply bytes n s long small = record { body = drop 4 bytes; short = omega (arith, body_long bytes n long, small); framed = framed bytes n s long }
 
 other_head : (bytes : List ℕ) → (to_be_bytes w32 (body_length bytes) ≢ take 4 bytes) → HoldsNoReply bytes
@@ -84,15 +85,15 @@ other_head bytes other body more small e =
     let p = has_frame bytes body more (omega (arith, small)) e in
     other (ap (to_be_bytes w32) p.spelled ∙ sym p.head)
 
-by_head : (bytes : List ℕ) (same : Bool) → bytes_eq (to_be_bytes w32 (body_length bytes)) (take 4 bytes) ≡ same → length bytes ≡ body_length bytes + 4 → body_length bytes ≤ 4194304 → HoldsNoReply bytes ⊎ IsReply bytes
+by_head : (bytes : List ℕ) (same : Bool) → bytes_eq (to_be_bytes w32 (body_length bytes)) (take 4 bytes) ≡ same → length bytes ≡ body_length bytes + 4 → body_length bytes ≤ longest_reply → HoldsNoReply bytes ⊎ IsReply bytes
 by_head bytes true e long small = inr (is_reply bytes (body_length bytes) (record { length_is = refl; head = (bytes_eq-Decides (to_be_bytes w32 (body_length bytes)) (take 4 bytes)).0 e }) long small)
 by_head bytes false e long small = inl (other_head bytes (λ same. false≢true (sym e ∙ (bytes_eq-Decides (to_be_bytes w32 (body_length bytes)) (take 4 bytes)).1 same)))
 
-by_length : (bytes : List ℕ) (less above : Bool) → nat_lt (length bytes) (4 + body_length bytes) ≡ less → nat_lt 4194304 (body_length bytes) ≡ above → length bytes ≤ 4 + body_length bytes → HoldsNoReply bytes ⊎ IsReply bytes
+by_length : (bytes : List ℕ) (less above : Bool) → nat_lt (length bytes) (4 + body_length bytes) ≡ less → nat_lt longest_reply (body_length bytes) ≡ above → length bytes ≤ 4 + body_length bytes → HoldsNoReply bytes ⊎ IsReply bytes
 by_length bytes true above l a most = inl (not_whole bytes (grind (arith, nat_tests, l)))
 by_length bytes false true l a most = inl (above_limit bytes (grind (arith, nat_tests, a)))
 by_length bytes false false l a most = by_head bytes (bytes_eq (to_be_bytes w32 (body_length bytes)) (take 4 bytes)) refl (grind (arith, nat_tests, l, most)) (grind (arith, nat_tests, a))
 
 -- no more than they spell: less than a reply, or one
 pub reply_or_none : (bytes : List ℕ) → length bytes ≤ 4 + body_length bytes → HoldsNoReply bytes ⊎ IsReply bytes
-reply_or_none bytes most = by_length bytes (nat_lt (length bytes) (4 + body_length bytes)) (nat_lt 4194304 (body_length bytes)) refl refl most
+reply_or_none bytes most = by_length bytes (nat_lt (length bytes) (4 + body_length bytes)) (nat_lt longest_reply (body_length bytes)) refl refl most

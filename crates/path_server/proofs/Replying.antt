@@ -4,8 +4,9 @@ use Rattle.std.proofs.lemmas.List.{append-nil, map_push, map-append, take_at, ta
 use Rattle.std.specs.Int.{w32, from_be_bytes}
 use Rattle.path_hub.specs.Into.{joined}
 use Rattle.path_hub.specs.Wires.{Meaning, Gave, Took, Moved, Reads, Faults, WritesAll, HasEnded}
+use Rattle.tenant_store.specs.Payloads.{longest_reply}
 use Rattle.wire_frames.specs.Frames.{body_length}
-use Rattle.path_server.specs.Calls.{HoldsNoReply, IsReadFault, longest_reply}
+use Rattle.path_server.specs.Calls.{HoldsNoReply, IsReadFault}
 use Rattle.path_server.specs.Exchanges.{EndsReply, EndsExchange, Exchanges, IsCutShort, IsReply, ReadsBytes, ReadsReply, SpellsLength}
 use Rattle.path_server.specs.declared.call_fault.CallFault.{CallFault}
 use Rattle.path_server.specs.declared.call_fault.CallFault.TheVariants.{TooLong, BadLine, ReadFault, WriteFault, Memory}
@@ -114,7 +115,7 @@ no_head m n old head reply Memory r = let few = r.ends.0 in record { chunks = r.
 head_long : (m n : Meaning) (old head : List ℕ) → ReadsBytes 4 m old (Ok tt) n head → old ≡ [] → length head ≡ 4
 head_long m n old head r none = let few = r.ends.0 in ap length (r.ends.1 ∙ ap (λ s. s ++ joined r.chunks) none) ∙ few
 
-pub too_long : (m n : Meaning) (old head reply : List ℕ) (length' : ℕ) → ReadsBytes 4 m old (Ok tt) n head → old ≡ [] → SpellsLength head length' → 4194304 < length' → ReadsReply m (Err ReadFault) n reply
+pub too_long : (m n : Meaning) (old head reply : List ℕ) (length' : ℕ) → ReadsBytes 4 m old (Ok tt) n head → old ≡ [] → SpellsLength head length' → longest_reply < length' → ReadsReply m (Err ReadFault) n reply
 too_long m n old head reply length' r none s above =
     let came : head ≡ joined r.chunks = r.ends.1 ∙ ap (λ x. x ++ joined r.chunks) none in
     let long : longest_reply < body_length (joined r.chunks) = subst (λ x. longest_reply < body_length x) came (subst (λ x. longest_reply < x) s.length_is above) in
@@ -153,7 +154,7 @@ behind len m n k head part cs r s told part_is =
 cut_body : (len : ℕ) (head part : List ℕ) → SpellsLength (head ++ part) len → length (head ++ part) ≡ 4 + length part → length part < len → HoldsNoReply (head ++ part)
 cut_body len head part s long few = let spelled = s.length_is in not_whole (head ++ part) (omega (arith, long, few, spelled))
 
-pub body_read : (len : ℕ) (m n k : Meaning) (head reply : List ℕ) (end' : Result (Unit {0}) CallFault) → ReadsBytes 4 m [] (Ok tt) n head → SpellsLength head len → len ≤ 4194304 → ReadsBytes len n head end' k reply → ReadsReply m end' k reply
+pub body_read : (len : ℕ) (m n k : Meaning) (head reply : List ℕ) (end' : Result (Unit {0}) CallFault) → ReadsBytes 4 m [] (Ok tt) n head → SpellsLength head len → len ≤ longest_reply → ReadsBytes len n head end' k reply → ReadsReply m end' k reply
 body_read len m n k head reply (Ok u) r s small b =
     let w = behind len m n k head (joined b.chunks) b.chunks r s b.told refl in
     let whole = b.ends.0 in

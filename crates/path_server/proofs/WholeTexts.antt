@@ -1,9 +1,9 @@
 -- A text that is cut one byte past the limit on texts is refused as the whole text is, or it is the whole text.
-use Rattle.std.proofs.Common.{◌≡◌, ℕ, ◌<◌, min, List, [], length, take, arith, Option, None, Some, refl}
+use Rattle.std.proofs.Common.{◌≡◌, ℕ, ◌+◌, ◌<◌, min, List, [], length, take, arith, Option, None, Some, refl}
 use Rattle.std.specs.Prelude.{IfSome}
 use Rattle.std.specs.Io.KnownBytes.{Keeps, Appends}
 use Rattle.std.proofs.lemmas.List.{length-take, take_all}
-use Rattle.json_tape.specs.Verdict.{IsRefused}
+use Rattle.json_tape.specs.Verdict.{text_limit, IsRefused}
 use Rattle.json_tape.specs.declared.tape.TextFault.TheVariants as text
 use Rattle.standard_streams.specs.Fronts.{WritesFront}
 use Rattle.path_server.specs.QueryText.{Refuses, Answers}
@@ -11,19 +11,19 @@ use Rattle.path_server.specs.QueryStream.{AnswersStream, BreaksOff}
 use Rattle.path_server.specs.declared.fault.QueryTextFault.{QueryTextFault}
 use Rattle.path_server.specs.declared.fault.QueryTextFault.TheVariants.{TooLong, NotUtf8, NotJson, TooDeep, NumberLimit, LoneSurrogate, DuplicateName, QueryTooLong, NotWellFormed, NotValid, Costly, Memory}
 
-whole : (document : List ℕ) → (1048576 < length (take 1048577 document) → ⊥) → take 1048577 document ≡ document
+whole : (document : List ℕ) → (text_limit < length (take (text_limit + 1) document) → ⊥) → take (text_limit + 1) document ≡ document
 whole document f =
-    let e : length (take 1048577 document) ≡ min 1048577 (length document) = length-take 1048577 document in
-    let h : 1048576 < min 1048577 (length document) → ⊥ = λ l. f (rw e l) in
-    take_all 1048577 document (omega arith)
+    let e : length (take (text_limit + 1) document) ≡ min (text_limit + 1) (length document) = length-take (text_limit + 1) document in
+    let h : text_limit < min (text_limit + 1) (length document) → ⊥ = λ l. f (rw e l) in
+    take_all (text_limit + 1) document (omega arith)
 
-too_long : (document : List ℕ) → IsRefused (take 1048577 document) text.TooLong → IsRefused document text.TooLong
+too_long : (document : List ℕ) → IsRefused (take (text_limit + 1) document) text.TooLong → IsRefused document text.TooLong
 too_long document r =
-    let e : length (take 1048577 document) ≡ min 1048577 (length document) = length-take 1048577 document in
-    let l : 1048576 < min 1048577 (length document) = rw (← e) r.0 in
+    let e : length (take (text_limit + 1) document) ≡ min (text_limit + 1) (length document) = length-take (text_limit + 1) document in
+    let l : text_limit < min (text_limit + 1) (length document) = rw (← e) r.0 in
     (omega arith, λ g k. absurd (omega arith))
 
-pub refuses_whole : (query document : List ℕ) (fault : QueryTextFault) → Refuses query (take 1048577 document) fault → Refuses query document fault
+pub refuses_whole : (query document : List ℕ) (fault : QueryTextFault) → Refuses query (take (text_limit + 1) document) fault → Refuses query document fault
 refuses_whole query document TooLong r = too_long document r
 refuses_whole query document NotUtf8 r = rw (whole document (r.1 text.TooLong (omega arith))) at r
 refuses_whole query document NotJson r = rw (whole document (r.1 text.TooLong (omega arith))) at r
@@ -37,18 +37,18 @@ refuses_whole query document NotValid r = rw (whole document (r.0.1.1 text.TooLo
 refuses_whole query document Costly (t, q, a, v, r) = (t, q, (rw (whole document (a.1 text.TooLong)) at a), v, r)
 refuses_whole query document Memory r = tt
 
-pub answers_whole : (query document old new : List ℕ) → Answers query (take 1048577 document) old new → Answers query document old new
+pub answers_whole : (query document old new : List ℕ) → Answers query (take (text_limit + 1) document) old new → Answers query document old new
 answers_whole query document old new a = rw (whole document (a.accepted.1 text.TooLong)) at a
 
-pub refused_whole : (query cut : List ℕ) (left : Option (List ℕ)) (fault : QueryTextFault) → IfSome left (λ document. cut ≡ take 1048577 document) → Refuses query cut fault → IfSome left (λ document. Refuses query document fault)
+pub refused_whole : (query cut : List ℕ) (left : Option (List ℕ)) (fault : QueryTextFault) → IfSome left (λ document. cut ≡ take (text_limit + 1) document) → Refuses query cut fault → IfSome left (λ document. Refuses query document fault)
 refused_whole query cut None fault e r = tt
 refused_whole query cut (Some document) fault e r = refuses_whole query document fault (rw e at r)
 
-pub answered_whole : (query cut lines : List ℕ) (left old new : Option (List ℕ)) → IfSome left (λ document. cut ≡ take 1048577 document) → Answers query cut [] lines → Appends old new lines → AnswersStream query left old new
+pub answered_whole : (query cut lines : List ℕ) (left old new : Option (List ℕ)) → IfSome left (λ document. cut ≡ take (text_limit + 1) document) → Answers query cut [] lines → Appends old new lines → AnswersStream query left old new
 answered_whole query cut lines None old new e a w = tt
 answered_whole query cut lines (Some document) old new e a w = (lines, answers_whole query document [] lines (rw e at a), w)
 
-pub breaks_whole : (query cut lines : List ℕ) (left old new : Option (List ℕ)) → IfSome left (λ document. cut ≡ take 1048577 document) → Answers query cut [] lines → WritesFront lines old new → BreaksOff query left old new
+pub breaks_whole : (query cut lines : List ℕ) (left old new : Option (List ℕ)) → IfSome left (λ document. cut ≡ take (text_limit + 1) document) → Answers query cut [] lines → WritesFront lines old new → BreaksOff query left old new
 breaks_whole query cut lines None old new e a w = tt
 breaks_whole query cut lines (Some document) old new e a w = (lines, answers_whole query document [] lines (rw e at a), w)
 

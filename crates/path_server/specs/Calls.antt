@@ -2,6 +2,7 @@
 use Rattle.std.specs.Prelude.{◌≡◌, ◌≢◌, ◌⊎◌, ◌+◌, ◌<◌, ◌≤◌, ℕ, List, [], ◌∷◌, ◌++◌, length, map, drop, flat_map, Result, Ok, Err}
 use Rattle.std.specs.List.{All}
 use Rattle.hex.specs.Hex.{decode_of}
+use Rattle.tenant_store.specs.Payloads.{longest_reply}
 use Rattle.wire_frames.specs.Frames.{frame, body_length, longest_body}
 use Rattle.path_hub.specs.Into.{joined}
 use Rattle.path_hub.specs.Wires.{Move, Gave, Took, Meaning, Moved, HasEnded, read_in, written_in}
@@ -10,10 +11,6 @@ use Rattle.path_server.specs.FrameLines.{frame_line}
 use Rattle.path_server.specs.declared.request_lines.Request.{Request}
 use Rattle.path_server.specs.declared.call_fault.CallFault.{CallFault}
 use Rattle.path_server.specs.declared.call_fault.CallFault.TheVariants.{TooLong, BadLine, ReadFault, WriteFault, Memory}
-
--- the longest body of a reply
-abbrev pub longest_reply : ℕ
-longest_reply = 4194304
 
 -- ---- lines
 

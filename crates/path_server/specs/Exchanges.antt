@@ -1,10 +1,11 @@
 -- One request sent and the reply to it read, in the contracts of private functions: this project's own.
 use Rattle.std.specs.Prelude.{◌≡◌, ◌⊎◌, ◌+◌, ◌<◌, ◌≤◌, ℕ, List, [], ◌++◌, length, take, map, Result, Ok, Err}
 use Rattle.std.specs.Int.{w32, to_be_bytes}
+use Rattle.tenant_store.specs.Payloads.{longest_reply}
 use Rattle.wire_frames.specs.Frames.{frame, body_length}
 use Rattle.path_hub.specs.Into.{joined}
 use Rattle.path_hub.specs.Wires.{Gave, Took, Meaning, Moved, HasEnded}
-use Rattle.path_server.specs.Calls.{HoldsNoReply, IsReadFault, longest_reply}
+use Rattle.path_server.specs.Calls.{HoldsNoReply, IsReadFault}
 use Rattle.path_server.specs.declared.call_fault.CallFault.{CallFault}
 use Rattle.path_server.specs.declared.call_fault.CallFault.TheVariants.{TooLong, BadLine, ReadFault, WriteFault, Memory}
 

@@ -17,7 +17,8 @@ pub enum CallFault {
     /// The first bad line has this number, counted from 1.
     #[error("BadLine {0}")]
     BadLine(u64),
-    /// A read failed, the input ended before a reply was whole, or the length of a reply is above 4,194,304.
+    /// A read failed, the input ended before a reply was whole, or the length of a reply is above
+    /// [`tenant_store::LONGEST_REPLY`].
     #[error("ReadFault")]
     ReadFault,
     /// A write failed.

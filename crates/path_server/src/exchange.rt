@@ -6,9 +6,7 @@ ghost use Rattle.path_server.specs.Exchanges.{Exchanges, ReadsBytes, ReadsReply}
 use crate::call_fault::CallFault;
 use crate::request_lines::{LENGTH_BYTES, spelled_length};
 use path_hub::{Wire, write_all};
-
-/// The most bytes in the body of a reply.
-const LONGEST_REPLY: usize = 4_194_304;
+use tenant_store::LONGEST_REPLY;
 
 // Reads so many bytes, and puts them behind those that stand there. No more are taken off the wire.
 fn read_bytes<W: Wire>(

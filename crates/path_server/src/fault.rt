@@ -22,7 +22,7 @@ pub enum QueryTextFault {
     /// The text is none of RFC 8259.
     #[error("NotJson")]
     NotJson,
-    /// Containers lie more than 128 deep.
+    /// Containers lie more than [`json_tape::DEPTH_LIMIT`] deep.
     #[error("TooDeep")]
     TooDeep,
     /// A number has more than 256 bytes, or an exponent of absolute value above 999,999,999.

@@ -6,7 +6,7 @@ use Rattle.std.proofs.lemmas.List.{take_at, drop_at}
 use Rattle.std.proofs.lemmas.Nat.{from_be_bytes-to_be_bytes_4}
 use Rattle.std.proofs.lemmas.Bool.Decides.{nat_tests}
 use Rattle.tenant_store.specs.Names.{is_collection_name, is_document_name}
-use Rattle.wire_frames.specs.Requests.{Asked, Put, Get, Remove, ListNames, Query, DropCollection, Usage, Reading, Short, BadCommand, Asks, reading, with_fields, is_known, command_of, number_of, key_of, fields_of, prefixed, name_at, place_at, whole_place_at, whole_collection_at, asked_at}
+use Rattle.wire_frames.specs.Requests.{Asked, Put, Get, Remove, ListNames, Query, DropCollection, Usage, PutNew, Reading, Short, BadCommand, Asks, reading, with_fields, is_known, command_of, number_of, key_of, fields_of, prefixed, name_at, place_at, whole_place_at, whole_collection_at, asked_at}
 use Rattle.wire_frames.specs.Encoding.{command_byte, name_field, fields, written, IsNamed}
 
 -- a field behind its length
@@ -49,6 +49,7 @@ asked_back (ListNames c) n = ap (λ o. option_and_then (λ c. Some (ListNames c)
 asked_back (Query c query) n = ap (λ o. option_and_then (λ (p : List ℕ × List ℕ). Some (Query p.0 p.1)) o) (name_back is_collection_name c query n)
 asked_back (DropCollection c) n = ap (λ o. option_and_then (λ c. Some (DropCollection c)) o) (whole_collection_back c n)
 asked_back Usage n = refl
+asked_back (PutNew c d text) n = ap (λ o. option_and_then (λ (p : List ℕ × List ℕ × List ℕ). Some (PutNew p.0 p.1 p.2)) o) (place_back c d text n.0 n.1)
 
 known : (asked : Asked) → is_known (command_byte asked) ≡ true
 known (Put c d text) = refl
@@ -58,6 +59,7 @@ known (ListNames c) = refl
 known (Query c query) = refl
 known (DropCollection c) = refl
 known Usage = refl
+known (PutNew c d text) = refl
 
 -- a body of these parts
 reading_of_parts : (body : List ℕ) (number : ℕ) (key : List ℕ) (asked : Asked) → 21 ≤ length body → is_known (command_of body) ≡ true → number_of body ≡ number → key_of body ≡ key → asked_at (command_of body) (fields_of body) ≡ Some asked

@@ -2,7 +2,7 @@
 use Rattle.std.specs.Prelude.{◌≡◌, ℕ, ◌<◌, ◌^◌, List, [], ◌∷◌, ◌++◌, length, IsTrue}
 use Rattle.std.specs.Int.{w32, to_be_bytes}
 use Rattle.tenant_store.specs.Names.{is_collection_name, is_document_name}
-use Rattle.wire_frames.specs.Requests.{Asked, Put, Get, Remove, ListNames, Query, DropCollection, Usage, Asks, reading}
+use Rattle.wire_frames.specs.Requests.{Asked, Put, Get, Remove, ListNames, Query, DropCollection, Usage, PutNew, Asks, reading}
 
 abbrev pub command_byte : Asked → ℕ
 command_byte (Put c d text) = 1
@@ -12,6 +12,7 @@ command_byte (ListNames c) = 4
 command_byte (Query c query) = 5
 command_byte (DropCollection c) = 6
 command_byte Usage = 7
+command_byte (PutNew c d text) = 8
 
 -- a name behind its length
 abbrev pub name_field : List ℕ → List ℕ
@@ -25,6 +26,7 @@ fields (ListNames c) = name_field c
 fields (Query c query) = name_field c ++ query
 fields (DropCollection c) = name_field c
 fields Usage = []
+fields (PutNew c d text) = name_field c ++ (name_field d ++ text)
 
 -- the body of the request
 abbrev pub written : (number : ℕ) (key : List ℕ) → Asked → List ℕ
@@ -42,6 +44,7 @@ IsNamed (ListNames c) = IsTrue (is_collection_name c)
 IsNamed (Query c query) = IsTrue (is_collection_name c)
 IsNamed (DropCollection c) = IsTrue (is_collection_name c)
 IsNamed Usage = Unit {0}
+IsNamed (PutNew c d text) = IsPlace c d
 
 -- each request is read as what was written
 abbrev pub ReadsBack : Type 0

@@ -5,7 +5,7 @@ use Rattle.std.specs.Int.{w32, to_be_bytes, from_be_bytes}
 
 -- the longest body of a request
 abbrev pub longest_body : ℕ
-longest_body = 2097152
+longest_body = 6291456
 
 abbrev pub frame : List ℕ → List ℕ
 frame body = to_be_bytes w32 (length body) ++ body

@@ -18,6 +18,7 @@ asked_of (c.List collection) = r.ListNames collection.bytes.now
 asked_of (c.Query collection query) = r.Query collection.bytes.now query.now
 asked_of (c.DropCollection collection) = r.DropCollection collection.bytes.now
 asked_of c.Usage = r.Usage
+asked_of (c.PutNew collection document text) = r.PutNew collection.bytes.now document.bytes.now text.now
 
 abbrev pub refusal : RequestFault → Reading
 refusal (fault.Short number) = r.Short number

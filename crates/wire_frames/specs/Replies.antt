@@ -2,10 +2,6 @@
 use Rattle.std.specs.Prelude.{ℕ, ◌+◌, List, ◌∷◌, ◌++◌, length}
 use Rattle.std.specs.Int.{w32, to_be_bytes}
 
--- a reply's body has at most 4,194,304 bytes, and five of them stand before the payload
-abbrev pub longest_payload : ℕ
-longest_payload = 4194299
-
 abbrev pub head : ℕ → ℕ → ℕ → List ℕ
 head status number payload = to_be_bytes w32 (5 + payload) ++ status ∷ to_be_bytes w32 number
 

@@ -12,6 +12,7 @@ pub data Asked : Type 0 where
   Query : (collection query : List ℕ) → Asked
   DropCollection : (collection : List ℕ) → Asked
   Usage : Asked
+  PutNew : (collection document text : List ℕ) → Asked
 
 -- a body is refused for one of three reasons, or asks something
 pub data Reading : Type 0 where
@@ -64,11 +65,12 @@ asked_at command fields =
     else (if command == 5 then (name_at is_collection_name fields >>= λ c. Some (Query c.0 c.1))
     else (if command == 6 then (whole_collection_at fields >>= λ c. Some (DropCollection c))
     else (if command == 7 then (if length fields == 0 then Some Usage else None)
-    else None))))))
+    else (if command == 8 then (place_at fields >>= λ p. Some (PutNew p.0 p.1 p.2))
+    else None)))))))
 
--- 1 PUT, 2 GET, 3 REMOVE, 4 LIST, 5 QUERY, 6 DROP, 7 USAGE
+-- 1 PUT, 2 GET, 3 REMOVE, 4 LIST, 5 QUERY, 6 DROP, 7 USAGE, 8 PUT_NEW
 abbrev pub is_known : ℕ → Bool
-is_known command = nat_le 1 command && nat_le command 7
+is_known command = nat_le 1 command && nat_le command 8
 
 abbrev pub command_of : List ℕ → ℕ
 command_of body = slice_index body 0

@@ -10,7 +10,7 @@ use std::marker::Model;
 use thiserror::Error;
 
 /// The most bytes in the body of a request frame.
-pub const LONGEST_BODY: usize = 2_097_152;
+pub const LONGEST_BODY: usize = 6_291_456;
 
 /// The bytes of a frame's length.
 const LENGTH_BYTES: usize = 4;

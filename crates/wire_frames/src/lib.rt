@@ -15,5 +15,5 @@ pub use laws::{
     cuts_do_not_matter, nothing_follows_a_fault, prefix_comes_first, reads_what_is_written,
     splits_from_the_front, splits_one_way,
 };
-pub use replies::{LONGEST_PAYLOAD, reply_head, write_reply};
+pub use replies::{reply_head, write_reply};
 pub use requests::{Command, Request, RequestFault, read_request};

@@ -1,19 +1,16 @@
 //! The frames of replies.
 ghost use Rattle.std.specs.Prelude.{◌≡◌, ◌≤◌, ◌+◌, ◌++◌, length, OnOk, OnErr, IsOk, vec_len};
 ghost use Rattle.std.specs.Vec.{vec_capacity};
-ghost use Rattle.wire_frames.specs.Replies.{longest_payload, head, reply};
+ghost use Rattle.tenant_store.specs.Payloads.{payload_limit};
+ghost use Rattle.wire_frames.specs.Replies.{head, reply};
 
 use std::alloc::AllocError;
+use tenant_store::BEFORE_PAYLOAD;
 
-/// The most bytes in the payload of a reply, whose body has five bytes before it and at most 4,194,304 in all.
-pub const LONGEST_PAYLOAD: u32 = 4_194_299;
-
-/// The bytes of a reply's body that stand before the payload.
-const BEFORE_PAYLOAD: u32 = 5;
-
-/// The first bytes of a reply frame, up to its payload, of which only the length is asked.
+/// The first bytes of a reply frame, up to its payload, of which only the length is asked: at most
+/// [`tenant_store::PAYLOAD_LIMIT`] bytes.
 pub fn reply_head(status: u8, number: u32, payload: u32) -> [u8; 9]
-    requires { payload ≤ longest_payload }
+    requires { payload ≤ payload_limit }
     ensures { result ≡ head status number payload }
 {
     let [a, b, c, d] = (BEFORE_PAYLOAD + payload).to_be_bytes();
@@ -21,7 +18,7 @@ pub fn reply_head(status: u8, number: u32, payload: u32) -> [u8; 9]
     [a, b, c, d, status, e, f, g, h]
 }
 
-/// Appends a reply frame. It grows the vector at most once.
+/// Appends a reply frame with a payload of at most [`tenant_store::PAYLOAD_LIMIT`] bytes. It grows the vector at most once.
 ///
 /// # Errors
 ///
@@ -34,7 +31,7 @@ pub fn write_reply(
     payload: &[u8],
     out: &mut Vec<u8>,
 ) -> Result<(), AllocError>
-    requires { length payload.now ≤ longest_payload }
+    requires { length payload.now ≤ payload_limit }
     ensures appended { OnOk result (out.new.items ≡ out.old.items ++ reply status number payload.now) }
     ensures fits { vec_len out.old + (9 + length payload.now) ≤ vec_capacity out.old → IsOk result }
     ensures unchanged { OnErr result (out.new.items ≡ out.old.items) }

@@ -22,6 +22,8 @@ const DROP: u8 = 6;
 
 const USAGE: u8 = 7;
 
+const PUT_NEW: u8 = 8;
+
 /// Where the key begins: behind the command byte and the number.
 const KEY_AT: usize = 5;
 
@@ -62,6 +64,12 @@ pub enum Command<'a> {
     },
     /// Tell how much the tenant holds.
     Usage,
+    /// Put a text under a name that has none.
+    PutNew {
+        collection: CollName<'a>,
+        document: DocName<'a>,
+        text: &'a [u8],
+    },
 }
 
 /// A request: its number, which the reply repeats, the tenant's key, and what is asked.
@@ -123,7 +131,7 @@ pub fn read_request(body: &[u8]) -> Result<Request<'_>, RequestFault>
 fn is_command(byte: u8) -> bool
     ensures { result ≡ is_known byte }
 {
-    matches!(byte, PUT..=USAGE)
+    matches!(byte, PUT..=PUT_NEW)
 }
 
 #[tactic(auto, unfolding(crate::specs::Requests::asked_at))]
@@ -172,6 +180,18 @@ fn read_fields(command: u8, fields: &[u8]) -> Option<Command<'_>>
         USAGE => {
             read_end(fields)?;
             Some(Command::Usage)
+        }
+        PUT_NEW => {
+            let Place {
+                collection,
+                document,
+                rest,
+            } = read_place(fields)?;
+            Some(Command::PutNew {
+                collection,
+                document,
+                text: rest,
+            })
         }
         _ => None,
     }
