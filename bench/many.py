@@ -2,8 +2,10 @@
 """Times requests over many connections at once beside an epoll loop in C with the same frames: bench/many.py [SECONDS].
 
 It compiles bench/many_echo.c and bench/many_load.c (cc), starts the program as `path_server listen` and the loop in C, and loads them in
-turns: each line has, for both, the middle one of five rates and the times of a request, and the ratio of the rates. Then what an idle
-connection takes in the process, and the times of requests beside others that take long or come without a pause (bench/many_flood.c). Build the program first, as bin/path_server does, or name it in the environment's PATH_SERVER.
+turns: each line has, for both, the middle one of five rates and the times of a request, and the ratio of the rates. Before
+that, what a connection takes in the process that is idle or has announced the longest body, and at last the times of requests beside others
+that take long or come without a pause (bench/many_flood.c). Build the program first, as bin/path_server does, or name it in the environment's
+PATH_SERVER.
 """
 import os
 import re
@@ -55,18 +57,24 @@ def resident(process):
     return int(re.search(r"VmRSS:\s*(\d+) kB", Path(f"/proc/{process.pid}/status").read_text())[1])
 
 
-def idle(process, port):
-    """Bytes of an idle connection, after it had one request."""
-    body = bytes([7]) + bytes(4) + bytes.fromhex(KEY)
-    request = len(body).to_bytes(4, "big") + body
-    before, opened = resident(process), []
-    for _ in range(IDLE):
-        connection = socket.create_connection(("127.0.0.1", port))
-        connection.sendall(request)
-        assert len(connection.recv(100)) == 21
-        opened.append(connection)
-    time.sleep(1)
-    print(f"an idle connection: {(resident(process) - before) * 1024 / IDLE:.0f} bytes in the process", flush=True)
+def listening():
+    return start([PROGRAM, "listen", "127.0.0.1:0", KEY, "--connections", "20000"])
+
+
+def idle(name, sent, replies):
+    """Says how many bytes a connection takes that sent these bytes, got a reply of so many, and then does nothing."""
+    process, port = listening()
+    try:
+        before, opened = resident(process), []
+        for _ in range(IDLE):
+            connection = socket.create_connection(("127.0.0.1", port))
+            connection.sendall(sent)
+            assert not replies or len(connection.recv(100)) == replies
+            opened.append(connection)
+        time.sleep(1)
+        print(f"a connection that {name}: {(resident(process) - before) * 1024 / IDLE:.0f} bytes in the process", flush=True)
+    finally:
+        process.kill()
 
 
 def request(command, fields):
@@ -75,6 +83,7 @@ def request(command, fields):
 
 
 GET = request(2, b"\x01c\x01n")
+STILL = [("had a request and is idle", request(7, b""), 21), ("announces the longest body and sends nothing", (6_291_456).to_bytes(4, "big"), 0)]
 QUERY = request(5, b"\x01q$[?@.price<10&&@.stock>250].id")
 BESIDE = [("nothing else", None), ("a query on 1 MiB, one after the other", (QUERY, 1, 1)), ("four floods of GET", (GET, 4, 0)),
           ("four floods of a query on 1 MiB", (QUERY, 4, 64))]
@@ -112,10 +121,11 @@ def main():
         folder = Path(room)
         for source in ("many_echo", "many_load", "many_flood"):
             subprocess.run(["cc", "-O2", "-o", folder / source, TOP / f"bench/{source}.c"], check=True)
-        server, server_port = start([PROGRAM, "listen", "127.0.0.1:0", KEY, "--connections", "20000"])
+        for row in STILL:
+            idle(*row)
+        server, server_port = listening()
         echo, echo_port = start([folder / "many_echo"])
         try:
-            idle(server, server_port)
             for count in COUNTS:
                 if count + 100 <= most:
                     compare(folder / "many_load", server_port, echo_port, count, seconds)

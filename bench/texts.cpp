@@ -56,7 +56,7 @@ static void measure(const std::string &path) {
               text.size() / ours / 1e9, text.size() / theirs / 1e9, theirs / ours);
 }
 
-// ---- texts of n parts
+// ---- texts of n parts, of which four times as many are just below the text limit
 
 static std::string joined(size_t n, const std::string &open, const std::string &close, std::string (*part)(size_t)) {
   std::string text = open;
@@ -90,16 +90,16 @@ struct Shape {
 };
 
 static const Shape shapes[] = {
-    {"members of one object", 16000, [](size_t n) { return joined(n, "{", "}", [](size_t i) { return "\"" + digits(i) + "\":0"; }); }},
-    {"members with a long common prefix", 4000, [](size_t n) { return joined(n, "{", "}", [](size_t i) { return "\"" + std::string(40, 'x') + digits(i) + "\":0"; }); }},
-    {"members spelt by escapes", 4000, [](size_t n) { return joined(n, "{", "}", [](size_t i) { return "\"" + spelt(i) + "\":0"; }); }},
-    {"members of which each other one is spelt by escapes", 6000, [](size_t n) { return joined(n, "{", "}", [](size_t i) { return "\"" + (i % 2 == 0 ? digits(i) : spelt(i)) + "\":0"; }); }},
-    {"small objects", 12000, [](size_t n) { return joined(n, "[", "]", [](size_t) { return std::string("{\"a\":0,\"b\":1}"); }); }},
-    {"small numbers", 60000, [](size_t n) { return joined(n, "[", "]", [](size_t) { return std::string("1"); }); }},
-    {"empty arrays", 60000, [](size_t n) { return joined(n, "[", "]", [](size_t) { return std::string("[]"); }); }},
-    {"bytes of one string", 250000, [](size_t n) { return "\"" + std::string(n, 'x') + "\""; }},
-    {"escapes of one string", 40000, [](size_t n) { std::string text = "\""; for (size_t i = 0; i < n; i++) text += "\\u00e9"; return text + "\""; }},
-    {"blanks", 250000, [](size_t n) { return std::string(n, ' ') + "1"; }},
+    {"members of one object", 95000, [](size_t n) { return joined(n, "{", "}", [](size_t i) { return "\"" + digits(i) + "\":0"; }); }},
+    {"members with a long common prefix", 20500, [](size_t n) { return joined(n, "{", "}", [](size_t i) { return "\"" + std::string(40, 'x') + digits(i) + "\":0"; }); }},
+    {"members spelt by escapes", 25000, [](size_t n) { return joined(n, "{", "}", [](size_t i) { return "\"" + spelt(i) + "\":0"; }); }},
+    {"members of which each other one is spelt by escapes", 40000, [](size_t n) { return joined(n, "{", "}", [](size_t i) { return "\"" + (i % 2 == 0 ? digits(i) : spelt(i)) + "\":0"; }); }},
+    {"small objects", 74000, [](size_t n) { return joined(n, "[", "]", [](size_t) { return std::string("{\"a\":0,\"b\":1}"); }); }},
+    {"small numbers", 520000, [](size_t n) { return joined(n, "[", "]", [](size_t) { return std::string("1"); }); }},
+    {"empty arrays", 345000, [](size_t n) { return joined(n, "[", "]", [](size_t) { return std::string("[]"); }); }},
+    {"bytes of one string", 1048000, [](size_t n) { return "\"" + std::string(n, 'x') + "\""; }},
+    {"escapes of one string", 174000, [](size_t n) { std::string text = "\""; for (size_t i = 0; i < n; i++) text += "\\u00e9"; return text + "\""; }},
+    {"blanks", 1048000, [](size_t n) { return std::string(n, ' ') + "1"; }},
 };
 
 int main(int count, char **words) {
@@ -115,8 +115,8 @@ int main(int count, char **words) {
   }
   std::printf("\n| shape | parts | ns a part | with four times as many | growth |\n|---|---|---|---|---|\n");
   for (const Shape &shape : shapes) {
-    const double one = reading(shape.made(shape.parts), 60);
-    const double four = reading(shape.made(4 * shape.parts), 30);
+    const double one = reading(shape.made(shape.parts), 40);
+    const double four = reading(shape.made(4 * shape.parts), 20);
     std::printf("| %s | %zu | %.1f | %.1f | %.2f |\n", shape.name, shape.parts, one * 1e9 / shape.parts, four * 1e9 / (4 * shape.parts), four / one);
   }
 }

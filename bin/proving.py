@@ -44,6 +44,9 @@ class Crates:
                 found += [it for it in [*self.below([lower]), lower] if it not in found]
         return found
 
+    def is_program(self, name):
+        return (self.folder(name) / "src/main.rt").is_file()
+
     def is_large(self, name):
         sources = (self.folder(name) / "src").rglob("*.rt")
         return sum(file.read_text(encoding="utf-8").count("\n") for file in sources) >= LARGE

@@ -4,7 +4,7 @@ use event_loop::{End, Journal, Totals};
 use std::fmt;
 
 /// The names of the statuses from 0 on, as the protocol has them. 19 is never given.
-const STATUSES: [&str; 23] = [
+const STATUSES: [&str; 24] = [
     "Ok",
     "Short",
     "NoTenant",
@@ -28,6 +28,7 @@ const STATUSES: [&str; 23] = [
     "ReplyTooLarge",
     "NoMemory",
     "Costly",
+    "Exists",
 ];
 
 /// Prints a line for each connection that did not end by the end of its input, and one with counts each minute where that is asked for. A
@@ -106,12 +107,13 @@ mod tests {
         let mut statuses = [0; 256];
         statuses[0] = 5;
         statuses[15] = 2;
+        statuses[23] = 1;
         statuses[255] = 1;
         let totals = Totals {
             connections: 4,
             connected: 3,
             counts: Counts {
-                requests: 8,
+                requests: 9,
                 statuses,
             },
             read: 1_000,
@@ -119,7 +121,7 @@ mod tests {
         };
         let printed = format!(in rt.alloc(); "{}", CountLine(&totals))?;
         let wanted =
-            "connections 4, open 3, requests 8, read 1000, written 2000, NotFound 2, FrameFault 1";
+            "connections 4, open 3, requests 9, read 1000, written 2000, NotFound 2, Exists 1, FrameFault 1";
         assert_eq!(rt; printed.as_str(), wanted);
         Ok(())
     }

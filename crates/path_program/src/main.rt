@@ -1,15 +1,12 @@
-//! The program `path_server`: reads its command line, answers on the standard streams and ends with a status.
+//! The program `path_server`: answers what its command line asks for on the standard streams or over sockets, and ends with a status.
 #![tactic(auto)]
 
-mod command_line;
 mod end_lines;
-mod failure;
 mod loop_lines;
 mod many;
 
-use crate::command_line::{Request, read_request};
 use crate::end_lines::EndLines;
-use crate::failure::Failure;
+use command_line::{Failure, Request, read_request};
 use path_hub::Hub;
 use path_server::{call_stream, query_stream, read_call, read_keys, replay_stream};
 use socket_wire::{StreamWire, serve_streams};

@@ -1,9 +1,11 @@
 //! A server of many connections at once.
 
-use crate::command_line::Listening;
-use crate::failure::Failure;
+ghost use Rattle.std.specs.Prelude.{◌≡◌, ◌↔◌};
+ghost use Rattle.command_line.specs.Statuses.{status_of};
+
 use crate::loop_lines::LoopLines;
-use event_loop::{Limits, Server};
+use command_line::{Failure, Listening};
+use event_loop::{Limits, LoopFault, Server};
 use path_hub::Hub;
 use path_listen::HubCore;
 use path_server::{KeysFault, read_keys};
@@ -29,18 +31,29 @@ pub fn listen<R: Print + Eprint + Net + Files + Clock + AllocGlobal>(
         idle: wanted.idle,
     };
     let mut server = bind(rt, wanted.address, HubCore::new(rt.alloc(), hub), limits)?;
-    let bound = server.local_addr().map_err(Failure::of_loop)?;
+    let bound = server.local_addr().map_err(failure_of)?;
     if println!(rt; "listening {bound}").is_err() {
         return Err(Failure::Write);
     }
     server
         .serve(rt, &mut LoopLines::new(rt, wanted.log))
-        .map_err(Failure::of_loop)?;
+        .map_err(failure_of)?;
     let totals = server.totals();
     let (connections, requests) = (totals.connections, totals.counts.requests);
     match println!(rt; "served {connections} connections, {requests} requests") {
         Ok(()) => Ok(()),
         Err(_) => Err(Failure::Write),
+    }
+}
+
+// What the end of a server of many connections means that came early.
+fn failure_of(fault: LoopFault) -> Failure
+    ensures memory { (result ≡ Failure.Memory) ↔ (fault ≡ LoopFault.Memory) }
+    ensures status { status_of result ≡ 4 }
+{
+    match fault {
+        LoopFault::Net => Failure::Net,
+        LoopFault::Memory => Failure::Memory,
     }
 }
 
@@ -55,7 +68,7 @@ fn bind<'r, R: Net + Clock + AllocGlobal>(
         return Err(Failure::Net);
     };
     match addresses.next() {
-        Some(addr) => Server::bind(rt, addr, core, limits).map_err(Failure::of_loop),
+        Some(addr) => Server::bind(rt, addr, core, limits).map_err(failure_of),
         None => Err(Failure::Net),
     }
 }

@@ -3,10 +3,9 @@
 ghost use Rattle.std.specs.Prelude.{◌≡◌, ◌⊎◌, ◌↔◌};
 ghost use Rattle.std.specs.IoError.{error_kind};
 ghost use Rattle.clap.specs.Values.{kind_of};
-ghost use Rattle.path_program.specs.Statuses.{status_of, status_of_refusal, status_of_query, status_of_keys, status_of_tenants, status_of_script, status_of_replay, status_of_call, status_of_call_stream, status_of_kind};
+ghost use Rattle.command_line.specs.Statuses.{status_of, status_of_refusal, status_of_query, status_of_keys, status_of_tenants, status_of_script, status_of_replay, status_of_call, status_of_call_stream, status_of_kind};
 
 use clap::error::ErrorKind as ParseKind;
-use event_loop::LoopFault;
 use path_server::{
     CallFault, CallStreamFault, KeysFault, QueryStreamFault, QueryTextFault, ReplayStreamFault,
     ScriptFault,
@@ -62,17 +61,6 @@ impl Failure {
         match error.kind() {
             ErrorKind::OutOfMemory => Failure::Memory,
             _ => Failure::Words,
-        }
-    }
-
-    /// What the end of a server of many connections means that came early.
-    pub fn of_loop(fault: LoopFault) -> Failure
-        ensures memory { (result ≡ Failure.Memory) ↔ (fault ≡ LoopFault.Memory) }
-        ensures status { status_of result ≡ 4 }
-    {
-        match fault {
-            LoopFault::Net => Failure::Net,
-            LoopFault::Memory => Failure::Memory,
         }
     }
 

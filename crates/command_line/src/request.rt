@@ -1,4 +1,4 @@
-//! The command line.
+//! What the words of a command line ask for.
 
 use crate::failure::Failure;
 use clap::builder::ValueParser;

@@ -19,8 +19,8 @@ use Rattle.path_server.specs.declared.keys.KeysFault.{KeysFault}
 use Rattle.path_server.specs.declared.keys.KeysFault.TheVariants as keys
 use Rattle.tenant_store.specs.declared.tenants.TenantsFault.{TenantsFault}
 use Rattle.tenant_store.specs.declared.tenants.TenantsFault.TheVariants as tenants
-use Rattle.path_program.specs.declared.failure.Failure.{Failure}
-use Rattle.path_program.specs.declared.failure.Failure.TheVariants.{CommandLine, Words, Query, Keys, Replay, Tenants, Net, Write, Read, Call, Memory}
+use Rattle.command_line.specs.declared.failure.Failure.{Failure}
+use Rattle.command_line.specs.declared.failure.Failure.TheVariants.{CommandLine, Words, Query, Keys, Replay, Tenants, Net, Write, Read, Call, Memory}
 
 abbrev pub status_of_kind : ErrorKind → ℕ
 status_of_kind DisplayHelp = 0
