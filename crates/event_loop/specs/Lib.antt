@@ -1,3 +1,5 @@
+pub mod Counting
 pub mod Loads
 pub mod Turning
+pub mod Looping
 pub mod Servers

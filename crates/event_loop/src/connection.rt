@@ -1,10 +1,11 @@
 //! One connection and what is known of it.
-ghost use Rattle.std.specs.Prelude.{◌<◌, length};
+ghost use Rattle.std.specs.Prelude.{◌≡◌, ◌<◌, length};
+ghost use Rattle.event_loop.specs.Counting.{added};
 ghost use Rattle.event_loop.specs.Turning.{TakesTurn};
 
 use crate::counted::Counted;
 use crate::journal::End;
-use crate::meter::Meter;
+use crate::load::Load;
 use crate::socket::{Fate, Socket};
 use mio::event::Event;
 use mio::net::TcpStream;
@@ -18,7 +19,7 @@ use std::time::Clock;
 const LINGER: u64 = 2;
 
 /// What is done with a connection.
-#[derive(Clone, Copy, Debug, PartialEq, Eq)]
+#[derive(Clone, Copy)]
 pub(crate) enum Phase {
     /// It is served.
     Served,
@@ -26,14 +27,26 @@ pub(crate) enum Phase {
     Lingering(u64),
 }
 
+/// What comes of a turn.
+#[derive(Clone, Copy)]
+pub(crate) enum Outcome {
+    /// The connection is open.
+    Open,
+    /// It is served no further, and ended so.
+    Over(End),
+    /// It is to be closed, or is closed already.
+    Closed,
+}
+
 /// One connection.
 #[derive(Drop)]
 pub(crate) struct Connection {
     pub number: u64,
+    /// The number that the hub knows it by.
+    pub conn: u32,
     pub socket: Socket<TcpStream>,
     pub outbox: Outbox,
     pub ready: Readiness,
-    pub meter: Meter,
     /// Its last answer was given.
     pub has_faulted: bool,
     pub phase: Phase,
@@ -49,9 +62,10 @@ pub(crate) struct Connection {
 
 impl Connection {
     /// One that was just taken in.
-    pub fn new(alloc: Global, number: u64, stream: TcpStream, now: u64) -> Connection {
+    pub fn new(alloc: Global, number: u64, conn: u32, stream: TcpStream, now: u64) -> Connection {
         Connection {
             number,
+            conn,
             socket: Socket::new(stream),
             outbox: Outbox::new(alloc),
             ready: Readiness {
@@ -59,7 +73,6 @@ impl Connection {
                 writable: false,
                 waiting: false,
             },
-            meter: Meter::default(),
             has_faulted: false,
             phase: Phase::Served,
             is_due: false,
@@ -94,7 +107,7 @@ impl Connection {
             self.ready.readable = false;
             self.ready.waiting = false;
         }
-        core.begin(self.meter);
+        core.begin();
         turn(
             &mut self.outbox,
             &mut self.socket,
@@ -103,7 +116,6 @@ impl Connection {
             buffer,
             &mut self.ready,
         );
-        self.meter = core.meter();
         self.has_faulted = self.has_faulted || core.has_faulted();
         if is_held_back {
             self.ready.readable = ready.readable;
@@ -135,12 +147,17 @@ impl Connection {
         }
     }
 
-    /// The bytes that it is owed and that wait on it.
-    pub fn holds(&self) -> usize {
-        self.outbox
-            .owed()
-            .len()
-            .saturating_add(self.meter.waiting())
+    /// The bytes that it is owed, and those that wait on it, which are so many.
+    pub fn holds(&self, waiting: usize) -> usize
+        ensures { result ≡ added (length self.now.outbox.owed) waiting }
+    {
+        self.outbox.owed().len().saturating_add(waiting)
+    }
+
+    /// It holds so much now.
+    pub fn hold(&mut self, bytes: usize, load: &mut Load) {
+        load.change(self.held, bytes);
+        self.held = bytes;
     }
 
     /// How it ended, where it is over.
@@ -154,6 +171,14 @@ impl Connection {
             Fate::Ended => Some(End::Done),
             Fate::Lives if self.has_faulted => Some(End::FrameFault),
             Fate::Lives => Some(End::Memory),
+        }
+    }
+
+    /// What comes of a turn at it.
+    pub fn outcome(&self) -> Outcome {
+        match self.end() {
+            Some(how) => Outcome::Over(how),
+            None => Outcome::Open,
         }
     }
 

@@ -1,6 +1,6 @@
 //! What a server tells while it runs.
 
-use crate::counted::Counts;
+use crate::counts::Counts;
 
 /// How a connection ended.
 #[derive(Clone, Copy, Debug, PartialEq, Eq)]

@@ -6,14 +6,16 @@
 
 mod connection;
 mod counted;
+mod counts;
 mod journal;
+mod laws;
 mod limits;
 mod load;
-mod meter;
 mod server;
 mod socket;
 
-pub use counted::Counts;
+pub use counts::Counts;
 pub use journal::{End, Journal, Totals};
+pub use laws::loop_is_served;
 pub use limits::Limits;
 pub use server::{LoopFault, Server};

@@ -1,9 +1,10 @@
 //! What all connections hold together.
-ghost use Rattle.std.specs.Prelude.{◌≡◌};
+ghost use Rattle.std.specs.Prelude.{◌≡◌, ◌-◌};
+ghost use Rattle.event_loop.specs.Counting.{added};
 ghost use Rattle.event_loop.specs.Loads.{share, holds_back};
 
 /// The bytes that all connections are owed and that wait on them, and the limit above which those that hold most pause.
-#[derive(Clone, Copy, Debug, PartialEq, Eq)]
+#[derive(Clone, Copy)]
 pub(crate) struct Load {
     pub limit: usize,
     pub held: usize,
@@ -11,7 +12,9 @@ pub(crate) struct Load {
 
 impl Load {
     /// A connection that held so much holds another amount now.
-    pub fn change(&mut self, before: usize, after: usize) {
+    pub fn change(&mut self, before: usize, after: usize)
+        ensures { self.new ≡ record self.old { held = added (self.old.held - before) after } }
+    {
         self.held = self.held.saturating_sub(before).saturating_add(after);
     }
 

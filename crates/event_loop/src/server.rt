@@ -2,7 +2,7 @@
 ghost use Rattle.std.specs.Prelude.{◌≡◌, OnOk, IfOk, IsTrue};
 ghost use Rattle.event_loop.specs.Servers.{IsOver};
 
-use crate::connection::{Connection, Phase};
+use crate::connection::{Connection, Outcome, Phase};
 use crate::counted::Counted;
 use crate::journal::{End, Journal, Totals};
 use crate::limits::Limits;
@@ -134,18 +134,14 @@ impl<'r, R: Net + Clock + AllocGlobal> Server<'r, R> {
         ensures limits { IfOk result (λ server. server.limits ≡ limits) }
     {
         let alloc = rt.alloc();
-        let poll = Poll::new(rt)?;
-        let mut listener = TcpListener::bind(rt, addr)?;
-        poll.registry()
-            .register(&mut listener, LISTENER, Interest::READABLE)?;
-        // a file can't be waited for: it does not end the server
-        let _ = poll
-            .registry()
-            .register(&mut SourceFd(&0), INPUT, Interest::READABLE);
+        let start = Instant::now(rt)?;
+        let events = Events::with_capacity(alloc, EVENTS)?;
+        let buffer = Box::new(alloc, [0; PIECE])?;
+        let (poll, listener) = listen(rt, addr)?;
         Ok(Server {
             alloc,
             poll,
-            events: Events::with_capacity(alloc, EVENTS)?,
+            events,
             listener: Some(listener),
             is_asked: true,
             is_refused: false,
@@ -154,14 +150,14 @@ impl<'r, R: Net + Clock + AllocGlobal> Server<'r, R> {
             due: Vec::new(alloc),
             spare: Vec::new(alloc),
             core: Counted::new(rt, core),
-            buffer: Box::new(alloc, [0; PIECE])?,
+            buffer,
             limits,
             paused: Vec::new(alloc),
             load: Load {
                 limit: limits.memory,
                 held: 0,
             },
-            start: Instant::now(rt)?,
+            start,
             second: 0,
             told: 0,
             taken: 0,
@@ -309,46 +305,41 @@ impl<'r, R: Clock> Server<'r, R> {
     fn take_in(&mut self, stream: TcpStream) {
         // without it no reply is wrong, and some come later
         let _ = stream.set_nodelay(true);
-        let room = self.connections.len().saturating_add(1);
-        if self.due.reserve(room).is_err()
-            || self.spare.reserve(room).is_err()
-            || self.paused.reserve(room).is_err()
-        {
-            return;
-        }
-        let connection = Connection::new(self.alloc, self.taken, stream, self.second);
-        let Ok(key) = self.connections.insert(connection) else {
+        let key = self.connections.vacant_key();
+        let Ok(conn) = u32::try_from(key) else {
             return;
         };
-        if self.connect(key) {
+        if !self.makes_room() || self.core.core().connect(conn).is_err() {
+            return;
+        }
+        if self.insert(key, conn, stream) {
             self.taken = self.taken.saturating_add(1);
             self.bound = self.bound.max(key.saturating_add(1));
         } else {
-            self.connections.try_remove(key);
+            self.core.core().disconnect(conn);
         }
     }
 
-    // Opens a connection's session, and has what is ready of it reported.
-    fn connect(&mut self, key: usize) -> bool {
-        let (Some(connection), Ok(conn)) = (self.connections.get_mut(key), u32::try_from(key))
-        else {
-            return false;
-        };
-        if self.core.core().connect(conn).is_err() {
-            return false;
-        }
+    // Makes room for one more connection in each list of keys, and tells whether that was not refused.
+    fn makes_room(&mut self) -> bool {
+        let room = self.connections.len().saturating_add(1);
+        self.due.reserve(room).is_ok()
+            && self.spare.reserve(room).is_ok()
+            && self.paused.reserve(room).is_ok()
+    }
+
+    // Has what is ready of a stream reported, and keeps its connection under the key that is next.
+    fn insert(&mut self, key: usize, conn: u32, mut stream: TcpStream) -> bool {
         let interests = Interest::READABLE | Interest::WRITABLE;
-        let stream = &mut connection.socket.stream;
-        if self
-            .poll
-            .registry()
-            .register(stream, Token(key), interests)
+        let registry = self.poll.registry();
+        if registry
+            .register(&mut stream, Token(key), interests)
             .is_err()
         {
-            self.core.core().disconnect(conn);
             return false;
         }
-        true
+        let connection = Connection::new(self.alloc, self.taken, conn, stream, self.second);
+        self.connections.insert(connection).is_ok()
     }
 
     // One turn for each connection that is due.
@@ -365,19 +356,31 @@ impl<'r, R: Clock> Server<'r, R> {
 
     // One turn for a connection.
     fn take_turn<J: Journal>(&mut self, key: usize, journal: &mut J) -> Result<(), LoopFault> {
+        match self.turn(key) {
+            Outcome::Over(how) => self.finish(key, how, journal),
+            Outcome::Closed => {
+                self.close(key);
+                Ok(())
+            }
+            Outcome::Open => self.schedule(key),
+        }
+    }
+
+    // One turn for a connection, and what comes of it.
+    fn turn(&mut self, key: usize) -> Outcome {
         let count = self.connections.len();
-        let (Some(connection), Ok(conn)) = (self.connections.get_mut(key), u32::try_from(key))
-        else {
-            return Ok(());
+        let Some(connection) = self.connections.get_mut(key) else {
+            return Outcome::Closed;
         };
         connection.is_due = false;
         if let Phase::Lingering(_) = connection.phase {
-            if !connection.drain(&mut *self.buffer) {
-                self.close(key, conn);
-                return Ok(());
-            }
-            return self.schedule(key);
+            return if connection.drain(&mut *self.buffer) {
+                Outcome::Open
+            } else {
+                Outcome::Closed
+            };
         }
+        let conn = connection.conn;
         let is_held_back = self.load.holds_back(connection.held, count);
         let (read, written) = connection.turn(
             &mut self.core,
@@ -390,13 +393,9 @@ impl<'r, R: Clock> Server<'r, R> {
         }
         self.read = self.read.saturating_add(read);
         self.written = self.written.saturating_add(written);
-        let holds = connection.holds();
-        self.load.change(connection.held, holds);
-        connection.held = holds;
-        match connection.end() {
-            Some(how) => self.finish(key, conn, how, journal),
-            None => self.schedule(key),
-        }
+        let holds = connection.holds(self.core.core().waiting(conn));
+        connection.hold(holds, &mut self.load);
+        connection.outcome()
     }
 
     // A connection that can go on gets a further turn, at once or once it is not held back.
@@ -442,33 +441,35 @@ impl<'r, R: Clock> Server<'r, R> {
     fn finish<J: Journal>(
         &mut self,
         key: usize,
-        conn: u32,
         how: End,
         journal: &mut J,
     ) -> Result<(), LoopFault> {
-        let Some(connection) = self.connections.get_mut(key) else {
-            return Ok(());
-        };
-        journal.ended(connection.number, how);
+        if let Some(connection) = self.connections.get(key) {
+            journal.ended(connection.number, how);
+        }
         match how {
-            End::FrameFault | End::Memory => {
-                connection.linger(self.second);
-                self.core.core().disconnect(conn);
-                self.load.change(connection.held, 0);
-                connection.held = 0;
-                self.schedule(key)
-            }
+            End::FrameFault | End::Memory => self.linger(key),
             End::Done | End::ReadFault | End::WriteFault | End::Idle => {
-                self.close(key, conn);
+                self.close(key);
                 Ok(())
             }
         }
     }
 
+    // Ends a connection's session, and reads what still comes for a little while.
+    fn linger(&mut self, key: usize) -> Result<(), LoopFault> {
+        if let Some(connection) = self.connections.get_mut(key) {
+            connection.linger(self.second);
+            connection.hold(0, &mut self.load);
+            self.core.core().disconnect(connection.conn);
+        }
+        self.schedule(key)
+    }
+
     // Closes a connection.
-    fn close(&mut self, key: usize, conn: u32) {
-        self.core.core().disconnect(conn);
+    fn close(&mut self, key: usize) {
         if let Some(connection) = self.connections.try_remove(key) {
+            self.core.core().disconnect(connection.conn);
             self.load.change(connection.held, 0);
         }
     }
@@ -487,20 +488,31 @@ impl<'r, R: Clock> Server<'r, R> {
 
     // Closes a connection whose time is up.
     fn expire<J: Journal>(&mut self, key: usize, journal: &mut J) -> Result<(), LoopFault> {
-        let (Some(connection), Ok(conn)) = (self.connections.get(key), u32::try_from(key)) else {
+        let Some(connection) = self.connections.get(key) else {
             return Ok(());
         };
         if !connection.expires(self.second, self.limits.idle) {
             return Ok(());
         }
         match connection.phase {
-            Phase::Served => self.finish(key, conn, End::Idle, journal),
+            Phase::Served => self.finish(key, End::Idle, journal),
             Phase::Lingering(_) => {
-                self.close(key, conn);
+                self.close(key);
                 Ok(())
             }
         }
     }
+}
+
+// A listener at the address, and what waits for it and for the end of standard input.
+fn listen<R: Net>(rt: &R, addr: SocketAddr) -> Result<(Poll, TcpListener), LoopFault> {
+    let poll = Poll::new(rt)?;
+    let mut listener = TcpListener::bind(rt, addr)?;
+    let registry = poll.registry();
+    registry.register(&mut listener, LISTENER, Interest::READABLE)?;
+    // a file can't be waited for: it does not end the server
+    let _ = registry.register(&mut SourceFd(&0), INPUT, Interest::READABLE);
+    Ok((poll, listener))
 }
 
 // Notes an event, and that the connection gets a turn.

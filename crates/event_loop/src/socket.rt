@@ -4,7 +4,7 @@ use outbox::{Given, Taken, Wire};
 use std::io::{ErrorKind, Read, Write};
 
 /// How a stream came to its end.
-#[derive(Clone, Copy, Debug, PartialEq, Eq)]
+#[derive(Clone, Copy)]
 pub(crate) enum Fate {
     /// It goes on.
     Lives,

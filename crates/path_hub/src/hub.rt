@@ -1,5 +1,5 @@
 //! The hub: the sessions of all connections, and all tenants.
-ghost use Rattle.std.specs.Prelude.{◌≡◌, OnOk, OnErr, None, IfOk, IfErr, [], is_some, Some, ◌↔◌, IsErrOf, IsSome, false};
+ghost use Rattle.std.specs.Prelude.{◌≡◌, OnOk, OnErr, None, IfOk, IfErr, [], length, is_some, Some, ◌↔◌, IsErrOf, IsSome, false};
 ghost use Rattle.std.specs.Bool.{MatchBool};
 ghost use Rattle.std.specs.Option.{option_map_or};
 ghost use Rattle.wire_frames.specs.Framing.{fresh as fresh_framing};
@@ -76,6 +76,17 @@ impl Hub {
         match self.sessions.get(&conn) {
             Some(framer) => framer.is_closed(),
             None => false,
+        }
+    }
+
+    /// How many bytes came on the connection and are not answered: those of whole frames, and what came of the next one. None where it has
+    /// no session.
+    pub fn waiting(&self, conn: u32) -> usize
+        ensures { result ≡ option_map_or (λ f. length f.waiting) (session conn self.now.sessions) 0 }
+    {
+        match self.sessions.get(&conn) {
+            Some(framer) => framer.waiting(),
+            None => 0,
         }
     }
 

@@ -1,5 +1,6 @@
 //! The hub as what answers the requests of many connections.
-ghost use Rattle.std.specs.Prelude.{◌≡◌, ◌↔◌, OnOk, OnErr, IsErrOf, IsSome, is_some};
+ghost use Rattle.std.specs.Prelude.{◌≡◌, ◌↔◌, OnOk, OnErr, IsErrOf, IsSome, is_some, length};
+ghost use Rattle.std.specs.Option.{option_map_or};
 ghost use Rattle.path_hub.specs.Sessions.{session};
 ghost use Rattle.path_listen.specs.Answering.{Opens, Closes};
 
@@ -50,6 +51,13 @@ impl HubCore {
         ensures closes { Closes conn self.old self.new }
     {
         self.hub.disconnect(conn)
+    }
+
+    /// How many bytes came on a connection and are not answered.
+    pub fn waiting(&self, conn: u32) -> usize
+        ensures { result ≡ option_map_or (λ f. length f.waiting) (session conn self.now.sessions) 0 }
+    {
+        self.hub.waiting(conn)
     }
 }
 

@@ -170,6 +170,13 @@ impl Framer {
         }
     }
 
+    /// How many bytes wait: those of whole frames that were not taken off, and what came of the next one.
+    pub fn waiting(&self) -> usize
+        ensures { result ≡ length self.now.waiting }
+    {
+        self.waiting.len()
+    }
+
     /// Whether a fault was given.
     pub fn is_closed(&self) -> bool
         ensures { result ≡ self.now.closed }
