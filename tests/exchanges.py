@@ -2,7 +2,7 @@
 """Runs the exchanges of tests/exchanges.txt through `path_server replay` and compares each reply: tests/exchanges.py [WORD].
 
 The head of the table says what its lines are. A short exchange is run again with all pieces cut into single bytes, and one
-that the table marks also with its connections by turns. Beside them stand scripts and keys that are refused, each with its
+that the table marks also with its connections by turns, or its bytes in two pieces in every cut. Beside them stand scripts and keys that are refused, each with its
 line on standard error. With a WORD, only what has it in its name is run. The program is the one that bin/path_server builds,
 or the one that the environment's PATH_SERVER names.
 """
@@ -29,14 +29,14 @@ class Exchange:
     """A name, the keys, the events in order, and for each connection its replies as digits."""
 
     def __init__(self, name):
-        self.name, self.keys, self.events, self.replies, self.has_turns = name, "A", [], {}, False
+        self.name, self.keys, self.events, self.replies, self.marks = name, "A", [], {}, set()
 
     def add(self, line):
         words = line.split()
         if words[0] == "keys":
             self.keys = words[1:]
-        elif words[0] == "turns":
-            self.has_turns = True
+        elif words[0] in ("turns", "cuts"):
+            self.marks.add(words[0])
         elif words[0] == "each":
             for number in range(int(words[1]), int(words[2]) + 1):
                 self.add_event(" ".join(words[3:]).replace("###", f"{number:03}".encode().hex()))
@@ -63,6 +63,11 @@ class Exchange:
         """The events byte by byte, one of each connection after the other."""
         lanes = [[event for event in self.bytewise() if event[0] == conn] for conn in dict(self.events)]
         return [event for row in itertools.zip_longest(*lanes) for event in row if event]
+
+    def in_two_pieces(self):
+        """The bytes of the one connection in two pieces, in every cut."""
+        conn, data = self.events[0][0], "".join(data for _, data in self.events if data != "open")
+        return [[(conn, "open"), (conn, data[:at]), (conn, data[at:])] for at in range(0, len(data) + 1, 2)]
 
 
 def digits_of(text):
@@ -133,8 +138,11 @@ def run_all(report, word):
             run(report, exchange, "as written", exchange.events, str.upper)
             if sum(len(data) for _, data in exchange.events) <= SHORT:
                 run(report, exchange, "byte by byte", exchange.bytewise())
-            if exchange.has_turns:
+            if "turns" in exchange.marks:
                 run(report, exchange, "by turns", exchange.by_turns())
+            if "cuts" in exchange.marks:
+                for at, events in enumerate(exchange.in_two_pieces()):
+                    run(report, exchange, f"cut at {at}", events)
     return count
 
 

@@ -15,31 +15,32 @@ fn name_of(query: &ValidQuery) -> Option<char> {
     }
 }
 
-/// Whether the query is cached, and its name.
-fn asked(cache: &mut Cache, alloc: Global, text: &str) -> Result<(bool, Option<char>), Fail> {
-    let compiled = cache.lookup(alloc, text.as_bytes())?;
-    let name = name_of(compiled.query());
-    Ok((compiled.is_cached(), name))
+/// The name that a query selects which is cached then.
+fn asked(cache: &mut Cache, alloc: Global, text: &str) -> Option<char> {
+    match cache.lookup(alloc, text.as_bytes()) {
+        Ok(compiled) if compiled.is_cached() => name_of(compiled.query()),
+        _ => None,
+    }
+}
+
+/// Why a text is refused.
+fn refusal(cache: &mut Cache, alloc: Global, text: &[u8]) -> Option<QueryFault> {
+    match cache.lookup(alloc, text) {
+        Ok(_) => None,
+        Err(fault) => Some(fault),
+    }
 }
 
 #[test]
 fn answers_whatever_it_holds(rt: HostRuntime) -> Result<(), Fail> {
     let alloc = rt.alloc();
     let mut cache = Cache::new(alloc, 1)?;
-    for (text, name) in [("$.a", 'a'), ("$.b", 'b'), ("$.a", 'a')] {
-        assert_eq!(rt;
-            asked(&mut cache, alloc, text)?,
-            (true, Some(name)),
-            "{text}"
-        );
-    }
-    for _ in 0..2 {
-        match cache.lookup(alloc, b"$[") {
-            Ok(_) => return Err(Fail::from("`$[` is no query")),
-            Err(fault) => assert_eq!(rt; fault, QueryFault::NotWellFormed),
-        }
-    }
-    assert_eq!(rt; asked(&mut cache, alloc, "$.a")?, (true, Some('a')));
+    assert!(rt; asked(&mut cache, alloc, "$.a") == Some('a'));
+    assert!(rt; asked(&mut cache, alloc, "$.b") == Some('b'));
+    assert!(rt; asked(&mut cache, alloc, "$.a") == Some('a'));
+    assert!(rt; refusal(&mut cache, alloc, b"$[") == Some(QueryFault::NotWellFormed));
+    assert!(rt; refusal(&mut cache, alloc, b"$[") == Some(QueryFault::NotWellFormed));
+    assert!(rt; asked(&mut cache, alloc, "$.a") == Some('a'));
     Ok(())
 }
 
@@ -47,36 +48,40 @@ fn answers_whatever_it_holds(rt: HostRuntime) -> Result<(), Fail> {
 fn drops_the_text_used_longest_ago(rt: HostRuntime) -> Result<(), Fail> {
     let alloc = rt.alloc();
     let mut cache = Cache::new(alloc, 2)?;
-    for (text, name) in [("$.a", 'a'), ("$.b", 'b'), ("$.a", 'a'), ("$.c", 'c')] {
-        assert_eq!(rt;
-            asked(&mut cache, alloc, text)?,
-            (true, Some(name)),
-            "{text}"
-        );
-    }
-    assert!(rt; cache.holds(b"$.a"));
-    assert!(rt; cache.holds(b"$.c"));
-    assert!(rt; !cache.holds(b"$.b"));
+    assert!(rt; asked(&mut cache, alloc, "$.a") == Some('a'));
+    assert!(rt; asked(&mut cache, alloc, "$.b") == Some('b'));
+    assert!(rt; asked(&mut cache, alloc, "$.a") == Some('a'));
+    assert!(rt; asked(&mut cache, alloc, "$.c") == Some('c'));
+    let held = [
+        cache.holds(b"$.a"),
+        cache.holds(b"$.b"),
+        cache.holds(b"$.c"),
+    ];
+    assert!(rt; held == [true, false, true]);
     Ok(())
+}
+
+/// Whether a text is admitted, and is held then.
+fn admitted(cache: &mut Cache, alloc: Global, text: &[u8]) -> Result<bool, QueryFault> {
+    match cache.admit(alloc, text) {
+        Ok(query) => Ok(query.is_none() && cache.holds(text)),
+        Err(fault) => Err(fault),
+    }
 }
 
 #[test]
 fn refuses_a_long_text_before_it_is_compiled(rt: HostRuntime) -> Result<(), Fail> {
     let alloc = rt.alloc();
     let mut cache = Cache::new(alloc, 1_024)?;
-    let mut text = Vec::new(alloc);
-    text.extend_from_slice(b"$.ab")?;
-    for _ in 0..2_046 {
-        text.extend_from_slice(b".a")?;
+    let mut text = [b'a'; 4_097];
+    text[0] = b'$';
+    text[1] = b'.';
+    text[3] = b'b';
+    for at in 2..2_048usize {
+        text[2 * at] = b'.';
     }
-    assert_eq!(rt; text.len(), 4_096);
-    assert!(rt; cache.admit(alloc, &text)?.is_none());
-    assert!(rt; cache.holds(&text));
-    text.push(b'a')?;
-    match cache.admit(alloc, &text) {
-        Ok(_) => return Err(Fail::from("the text is too long")),
-        Err(fault) => assert_eq!(rt; fault, QueryFault::QueryTooLong),
-    }
+    assert!(rt; admitted(&mut cache, alloc, text.get(..4_096).unwrap_or_default()) == Ok(true));
+    assert!(rt; admitted(&mut cache, alloc, &text) == Err(QueryFault::QueryTooLong));
     assert!(rt; !cache.holds(&text));
     Ok(())
 }

@@ -1,16 +1,13 @@
 //! Documents seen through every reader.
 
-use json_tape::{Document, Kind, Lead, NodeId};
+use json_tape::{Document, Kind, Lead, NodeId, Scalars};
 use std::test::Fail;
 
 const SAMPLE: &[u8] = b"{\"a\":[1,{\"b\":\"\\u00e9\\ud83d\\ude00\"}],\"c\":-1.5e+3}";
 
+/// Numbers of entries that stand around an entry.
 #[derive(Clone, Copy)]
-struct Shown {
-    kind: Kind,
-    text: &'static [u8],
-    length: Option<u32>,
-    lead: Lead,
+struct Around {
     parent: Option<NodeId>,
     first_child: Option<NodeId>,
     next_sibling: Option<NodeId>,
@@ -21,147 +18,159 @@ fn some(n: u32) -> Option<NodeId> {
     Some(NodeId(n))
 }
 
+/// Whether an entry has this kind, text, length and way from its parent.
+fn is(
+    document: &Document,
+    n: u32,
+    kind: Kind,
+    text: &[u8],
+    length: Option<u32>,
+    lead: Lead,
+) -> bool {
+    if n >= document.node_count() {
+        return false;
+    }
+    let node = NodeId(n);
+    document.kind(node) == kind
+        && document.text(node) == text
+        && document.length(node) == length
+        && document.lead(node) == lead
+}
+
+/// Whether an entry stands so.
+fn stands(document: &Document, n: u32, around: Around) -> bool {
+    if n >= document.node_count() {
+        return false;
+    }
+    let node = NodeId(n);
+    document.parent(node) == around.parent
+        && document.first_child(node) == around.first_child
+        && document.next_sibling(node) == around.next_sibling
+        && document.after(node) == around.after
+}
+
 #[test]
 fn shows_values(rt: HostRuntime) -> Result<(), Fail> {
     let document = Document::read(rt.alloc(), SAMPLE)?;
-    assert_eq!(rt; document.source(), SAMPLE);
-    assert_eq!(rt; document.root(), NodeId(0));
+    assert!(rt; document.source() == SAMPLE);
+    assert!(rt; document.root() == NodeId(0));
     assert!(rt; document.node_count() == 6);
-    let rows = [
-        Shown {
-            kind: Kind::Object,
-            text: SAMPLE,
-            length: Some(2),
-            lead: Lead::Root,
-            parent: None,
-            first_child: some(1),
-            next_sibling: None,
-            after: 6,
-        },
-        Shown {
-            kind: Kind::Array,
-            text: b"[1,{\"b\":\"\\u00e9\\ud83d\\ude00\"}]",
-            length: Some(2),
-            lead: Lead::Name,
-            parent: some(0),
-            first_child: some(2),
-            next_sibling: some(5),
-            after: 5,
-        },
-        Shown {
-            kind: Kind::Number,
-            text: b"1",
-            length: None,
-            lead: Lead::Index(0),
-            parent: some(1),
-            first_child: None,
-            next_sibling: some(3),
-            after: 3,
-        },
-        Shown {
-            kind: Kind::Object,
-            text: b"{\"b\":\"\\u00e9\\ud83d\\ude00\"}",
-            length: Some(1),
-            lead: Lead::Index(1),
-            parent: some(1),
-            first_child: some(4),
-            next_sibling: None,
-            after: 5,
-        },
-        Shown {
-            kind: Kind::Text,
-            text: b"\"\\u00e9\\ud83d\\ude00\"",
-            length: Some(2),
-            lead: Lead::Name,
-            parent: some(3),
-            first_child: None,
-            next_sibling: None,
-            after: 5,
-        },
-        Shown {
-            kind: Kind::Number,
-            text: b"-1.5e+3",
-            length: None,
-            lead: Lead::Name,
-            parent: some(0),
-            first_child: None,
-            next_sibling: None,
-            after: 6,
-        },
-    ];
-    for k in 0..6 {
-        let n = NodeId(k);
-        let row = &rows[k as usize];
-        assert_eq!(rt; document.kind(n), row.kind, "{k}");
-        assert_eq!(rt; document.text(n), row.text, "{k}");
-        assert_eq!(rt; document.length(n), row.length, "{k}");
-        assert_eq!(rt; document.lead(n), row.lead, "{k}");
-        assert_eq!(rt; document.parent(n), row.parent, "{k}");
-        assert_eq!(rt; document.first_child(n), row.first_child, "{k}");
-        assert_eq!(rt; document.next_sibling(n), row.next_sibling, "{k}");
-        assert_eq!(rt; document.after(n), row.after, "{k}");
+    let array = b"[1,{\"b\":\"\\u00e9\\ud83d\\ude00\"}]";
+    let inner = b"{\"b\":\"\\u00e9\\ud83d\\ude00\"}";
+    let text = b"\"\\u00e9\\ud83d\\ude00\"";
+    assert!(rt; is(&document, 0, Kind::Object, SAMPLE, Some(2), Lead::Root));
+    assert!(rt; is(&document, 1, Kind::Array, array, Some(2), Lead::Name));
+    assert!(rt; is(&document, 2, Kind::Number, b"1", None, Lead::Index(0)));
+    assert!(rt; is(&document, 3, Kind::Object, inner, Some(1), Lead::Index(1)));
+    assert!(rt; is(&document, 4, Kind::Text, text, Some(2), Lead::Name));
+    assert!(rt; is(&document, 5, Kind::Number, b"-1.5e+3", None, Lead::Name));
+    Ok(())
+}
+
+#[test]
+fn shows_what_stands_around(rt: HostRuntime) -> Result<(), Fail> {
+    let document = Document::read(rt.alloc(), SAMPLE)?;
+    for (n, parent, first_child, next_sibling, after) in [
+        (0u32, None, some(1), None, 6u32),
+        (1, some(0), some(2), some(5), 5),
+        (2, some(1), None, some(3), 3),
+        (3, some(1), some(4), None, 5),
+        (4, some(3), None, None, 5),
+        (5, some(0), None, None, 6),
+    ] {
+        let around = Around {
+            parent,
+            first_child,
+            next_sibling,
+            after,
+        };
+        assert!(rt; stands(&document, n, around), "{n}");
     }
     Ok(())
+}
+
+#[test]
+fn entries_end_behind_their_parts(rt: HostRuntime) -> Result<(), Fail> {
+    let document = Document::read(rt.alloc(), b"[[],1]")?;
+    assert!(rt; document.node_count() == 3);
+    assert!(rt; document.after(NodeId(0)) == 3);
+    assert!(rt; document.after(NodeId(1)) == 2);
+    assert!(rt; document.after(NodeId(2)) == 3);
+    Ok(())
+}
+
+/// Whether these are the characters that come.
+fn are(scalars: Scalars<'_>, wanted: &[char]) -> bool {
+    let mut left = wanted;
+    for scalar in scalars {
+        match left.split_first() {
+            Some((first, rest)) if *first == scalar => left = rest,
+            _ => return false,
+        }
+    }
+    left.is_empty()
+}
+
+/// Whether an entry has this name and not the name `a`.
+fn is_named(document: &Document, n: u32, name: &[char]) -> bool {
+    if n >= document.node_count() {
+        return false;
+    }
+    let node = NodeId(n);
+    document.has_name(node)
+        && document.name_is(node, name)
+        && !document.name_is(node, &['a'])
+        && are(document.name_scalars(node), name)
+}
+
+/// Whether an entry has no name.
+fn is_nameless(document: &Document, n: u32) -> bool {
+    n < document.node_count()
+        && !document.has_name(NodeId(n))
+        && !document.name_is(NodeId(n), &['a'])
 }
 
 #[test]
 fn shows_names(rt: HostRuntime) -> Result<(), Fail> {
-    let alloc = rt.alloc();
-    let text = b"{\"\\u0061\xc3\xa9\":\"\\ud83d\\ude00\\n\",\"\":[0]}".as_slice();
-    let document = Document::read(alloc, text)?;
+    let text = b"{\"\\u0061\xc3\xa9\":\"\\ud83d\\ude00\\n\",\"\":[0]}";
+    let document = Document::read(rt.alloc(), text)?;
     assert!(rt; document.node_count() == 4);
-    let names: [Option<&[char]>; 4] = [
-        None,
-        Some(['a', '\u{e9}'].as_slice()),
-        Some([].as_slice()),
-        None,
-    ];
-    for k in 0..4 {
-        let n = NodeId(k);
-        match names[k as usize] {
-            None => assert!(rt; !document.has_name(n), "{k}"),
-            Some(name) => {
-                assert!(rt; document.has_name(n), "{k}");
-                assert!(rt; document.name_is(n, name), "{k}");
-                let scalars: Vec<char> = document.name_scalars(n).collect(alloc)?;
-                assert_eq!(rt; scalars.as_slice(), name, "{k}");
-            }
-        }
-        assert!(rt; !document.name_is(n, ['a'].as_slice()), "{k}");
-    }
+    assert!(rt; is_nameless(&document, 0));
+    assert!(rt; is_named(&document, 1, &['a', '\u{e9}']));
+    assert!(rt; is_named(&document, 2, &[]));
+    assert!(rt; is_nameless(&document, 3));
     assert!(rt; document.kind(NodeId(1)) == Kind::Text);
-    let scalars: Vec<char> = document.string_scalars(NodeId(1)).collect(alloc)?;
-    assert_eq!(rt; scalars.as_slice(), ['\u{1f600}', '\n'].as_slice());
+    let value = document.string_scalars(NodeId(1));
+    assert!(rt; are(value, &['\u{1f600}', '\n']));
     Ok(())
+}
+
+/// The member of this name of an entry.
+fn found(document: &Document, n: u32, name: &[char]) -> Option<NodeId> {
+    if n < document.node_count() {
+        document.member(NodeId(n), name)
+    } else {
+        None
+    }
 }
 
 #[test]
 fn finds_members(rt: HostRuntime) -> Result<(), Fail> {
-    let alloc = rt.alloc();
-    let text =
-        b"{\"ab\":{\"b\":0},\"b\":[1],\"\":2,\"\\u0061\":3,\"a\xc3\xa9\":4,\"\\\\\":5}".as_slice();
-    let document = Document::read(alloc, text)?;
+    let text = b"{\"ab\":{\"b\":0},\"b\":[1],\"\":2,\"\\u0061\":3,\"a\xc3\xa9\":4,\"\\\\\":5}";
+    let document = Document::read(rt.alloc(), text)?;
     assert!(rt; document.node_count() == 9);
-    let rows: [(&[char], Option<NodeId>); 9] = [
-        (['a', 'b'].as_slice(), some(1)),
-        (['b'].as_slice(), some(3)),
-        ([].as_slice(), some(5)),
-        (['a'].as_slice(), some(6)),
-        (['a', '\u{e9}'].as_slice(), some(7)),
-        (['\\'].as_slice(), some(8)),
-        (['a', 'c'].as_slice(), None),
-        (['a', 'b', 'c'].as_slice(), None),
-        (['\u{e9}'].as_slice(), None),
-    ];
-    for (name, want) in rows {
-        assert_eq!(rt; document.member(document.root(), name), want);
+    assert!(rt; found(&document, 0, &['a', 'b']) == some(1));
+    assert!(rt; found(&document, 0, &['b']) == some(3));
+    assert!(rt; found(&document, 0, &[]) == some(5));
+    assert!(rt; found(&document, 0, &['a']) == some(6));
+    assert!(rt; found(&document, 0, &['a', '\u{e9}']) == some(7));
+    assert!(rt; found(&document, 0, &['\\']) == some(8));
+    assert!(rt; found(&document, 0, &['a', 'c']).is_none());
+    assert!(rt; found(&document, 0, &['a', 'b', 'c']).is_none());
+    assert!(rt; found(&document, 0, &['\u{e9}']).is_none());
+    assert!(rt; found(&document, 1, &['b']) == some(2));
+    for n in [2, 3, 4, 8] {
+        assert!(rt; found(&document, n, &['b']).is_none(), "{n}");
     }
-    for k in [2, 3, 4, 8] {
-        assert!(rt;
-            document.member(NodeId(k), ['b'].as_slice()).is_none(),
-            "{k}"
-        );
-    }
-    assert_eq!(rt; document.member(NodeId(1), ['b'].as_slice()), some(2));
     Ok(())
 }

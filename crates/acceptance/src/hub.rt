@@ -1,439 +1,174 @@
-//! The hub, runs of events, and connections served over wires in memory: frames written out by hand from the tables of the
-//! protocol.
+//! The hub and the tenants as calls.
 
-use path_hub::{
-    Call, ConnEnd, ConnectFault, Event, Hub, HubFault, MemoryWire, Moved, Reply, RunFault,
-    TakeFault, run, serve_connection,
-};
+use crate::session::{KEY, OTHER_KEY, REPLIES, REQUESTS};
+use path_hub::{ConnectFault, Event, Hub, HubFault, RunFault, TakeFault, run};
+use path_server::{ScriptFault, replay_script};
 use std::alloc::Global;
-use std::test::Fail;
-use tenant_store::TenantsFault;
-
-const A: [u8; 16] = [
-    0x00, 0x11, 0x22, 0x33, 0x44, 0x55, 0x66, 0x77, 0x88, 0x99, 0xaa, 0xbb, 0xcc, 0xdd, 0xee, 0xff,
-];
-
-const B: [u8; 16] = [
-    0xff, 0xee, 0xdd, 0xcc, 0xbb, 0xaa, 0x99, 0x88, 0x77, 0x66, 0x55, 0x44, 0x33, 0x22, 0x11, 0x00,
-];
-
-/// A puts `{"a":1}` at c/d, queries `$.a`, gets the text, and asks for the usage.
-const FOUR_REQUESTS: [&str; 4] = [
-    "00000020 01 00000001 A 0163 0164 7b2261223a317d",
-    "0000001a 05 00000002 A 0163 242e61",
-    "00000019 02 00000003 A 0163 0164",
-    "00000015 07 00000004 A",
-];
-
-const FOUR_REPLIES: [&str; 4] = [
-    "00000005 00 00000001",
-    "0000001a 00 00000002 00000001 0164 00000006 245b2761275d 00000001 31",
-    "0000000c 00 00000003 7b2261223a317d",
-    "00000011 00 00000004 00000001 00000001 00000007",
-];
-
-/// A puts `1` at c/d.
-const PUT: &str = "0000001a 01 00000001 A 0163 0164 31";
-
-/// What the digit adds to a byte's value, or `None` where it is none.
-fn digit_of(byte: u8) -> Option<u8> {
-    match byte {
-        b'0'..=b'9' => Some(byte - b'0'),
-        b'a'..=b'f' => Some(byte - b'a' + 10),
-        _ => None,
-    }
-}
-
-/// Appends the bytes of hexadecimal digits, where `A` and `B` stand for the two keys and all else for nothing.
-fn write_bytes(text: &str, out: &mut Vec<u8>) -> Result<(), Fail> {
-    let mut high: Option<u8> = None;
-    for byte in text.as_bytes() {
-        match *byte {
-            b'A' => out.extend_from_slice(&A)?,
-            b'B' => out.extend_from_slice(&B)?,
-            other => match (high, digit_of(other)) {
-                (_, None) => {}
-                (None, digit) => high = digit,
-                (Some(first), Some(digit)) => {
-                    out.push(first.wrapping_mul(16).wrapping_add(digit))?;
-                    high = None;
-                }
-            },
-        }
-    }
-    Ok(())
-}
-
-fn bytes_of(alloc: Global, texts: &[&str]) -> Result<Vec<u8>, Fail> {
-    let mut out = Vec::new(alloc);
-    for text in texts {
-        write_bytes(text, &mut out)?;
-    }
-    Ok(out)
-}
-
-/// Fails where these are other bytes than those that are wanted.
-fn same(at: usize, got: &[u8], wanted: &[u8]) -> Result<(), Fail> {
-    if got == wanted {
-        return Ok(());
-    }
-    Err(Fail::new(format_args!("{at}: {got:?} in place of {wanted:?}")))
-}
-
-/// A hub with an open connection 1.
-fn hub_of(alloc: Global, keys: &[[u8; 16]]) -> Result<Hub, Fail> {
-    let mut hub = Hub::new(alloc, keys)?;
-    hub.connect(alloc, 1)?;
-    Ok(hub)
-}
-
-/// What the hub answers to bytes on connection 1.
-fn answer(hub: &mut Hub, alloc: Global, bytes: &[u8]) -> Result<Vec<u8>, Fail> {
-    let mut out = Vec::new(alloc);
-    hub.bytes(alloc, 1, bytes, &mut out)?;
-    Ok(out)
-}
-
-/// Fails where the hub gives another reply than that to a request on connection 1.
-fn answers(
-    hub: &mut Hub,
-    alloc: Global,
-    at: usize,
-    request: &str,
-    reply: &str,
-) -> Result<(), Fail> {
-    let got = answer(hub, alloc, &bytes_of(alloc, &[request])?)?;
-    same(at, &got, &bytes_of(alloc, &[reply])?)
-}
+use tenant_store::{CollName, DocName, Tenants, TenantsFault};
 
 /// B puts `[2]` at c/d, and a length above the limit follows.
-const STREAM_OF_B: [&str; 2] = ["0000001c 01 00000001 B 0163 0164 5b325d", "00600001"];
+const PUT_AND_FAULT: &[u8] =
+    b"\0\0\0\x1c\x01\0\0\0\x01\xff\xee\xdd\xcc\xbb\xaa\x99\x88\x77\x66\x55\x44\x33\x22\x11\x00\x01c\x01d[2]\0\x60\0\x01";
 
-#[test]
-fn closes_one_connection_at_its_fault(rt: HostRuntime) -> Result<(), Fail> {
-    let alloc = rt.alloc();
-    let mut hub = hub_of(alloc, &[A, B])?;
-    hub.connect(alloc, 2)?;
-    let stream = bytes_of(alloc, &STREAM_OF_B)?;
+const PUT_AND_FAULT_REPLIES: &[u8] = b"\0\0\0\x05\0\0\0\0\x01\0\0\0\x05\xff\0\0\0\0";
+
+/// B gets the text at c/d, and its reply.
+const GET: &[u8] =
+    b"\0\0\0\x19\x02\0\0\0\x01\xff\xee\xdd\xcc\xbb\xaa\x99\x88\x77\x66\x55\x44\x33\x22\x11\x00\x01c\x01d";
+
+const GOT: &[u8] = b"\0\0\0\x08\0\0\0\0\x01[2]";
+
+/// A hub with the open connections 1 and 2, of which 2 met a fault.
+fn hub_with_a_fault(alloc: Global) -> Option<Hub> {
+    let mut hub = Hub::new(alloc, &[KEY, OTHER_KEY]).ok()?;
+    hub.connect(alloc, 1).ok()?;
+    hub.connect(alloc, 2).ok()?;
+    if answers(&mut hub, alloc, 2, PUT_AND_FAULT, PUT_AND_FAULT_REPLIES) {
+        Some(hub)
+    } else {
+        None
+    }
+}
+
+/// Whether these replies are given to bytes on a connection.
+fn answers(hub: &mut Hub, alloc: Global, conn: u32, bytes: &[u8], replies: &[u8]) -> bool {
     let mut out = Vec::new(alloc);
-    hub.bytes(alloc, 2, &stream, &mut out)?;
-    let refused = [
-        hub.bytes(alloc, 2, b"\x00", &mut out),
-        hub.bytes(alloc, 3, b"\x00", &mut out),
-    ];
-    assert_eq!(rt;
-        refused,
-        [Err(HubFault::Closed), Err(HubFault::NoConnection)]
-    );
-    let refused = [hub.take(2, b""), hub.take(3, b"")];
-    assert_eq!(rt;
-        refused,
-        [Err(TakeFault::Closed), Err(TakeFault::NoConnection)]
-    );
-    let open = [hub.is_connected(2), hub.is_connected(3)];
-    assert_eq!(rt; open, [true, false]);
-    assert_eq!(rt; hub.connect(alloc, 2), Err(ConnectFault::Taken));
-    let ended = [hub.disconnect(2), hub.disconnect(2), hub.is_connected(2)];
-    assert_eq!(rt; ended, [true, false, false]);
-    answers(
-        &mut hub,
-        alloc,
-        0,
-        "00000019 02 00000001 B 0163 0164",
-        "00000008 00 00000001 5b325d",
-    )
+    hub.bytes(alloc, conn, bytes, &mut out).is_ok() && out.as_slice() == replies
 }
 
-/// Fails where the frames that wait on connection 1 get other replies.
-fn answers_waiting(hub: &mut Hub, alloc: Global, replies: &[&str]) -> Result<(), Fail> {
-    for (at, reply) in replies.iter().enumerate() {
-        let mut out = Vec::new(alloc);
-        let more = hub.answer_next(alloc, 1, &mut out)?;
-        same(at, &[u8::from(more)], &[1])?;
-        same(at, &out, &bytes_of(alloc, &[*reply])?)?;
-    }
-    Ok(())
-}
-
-#[test]
-fn answers_one_frame_after_another(rt: HostRuntime) -> Result<(), Fail> {
-    let alloc = rt.alloc();
-    let mut hub = hub_of(alloc, &[A])?;
-    hub.take(1, &bytes_of(alloc, &FOUR_REQUESTS)?)?;
-    answers_waiting(&mut hub, alloc, &FOUR_REPLIES)?;
+/// Why a byte on a connection is refused.
+fn refusal(hub: &mut Hub, alloc: Global, conn: u32) -> Option<HubFault> {
     let mut out = Vec::new(alloc);
-    assert_eq!(rt; hub.answer_next(alloc, 1, &mut out)?, false);
-    assert_eq!(rt; hub.answer_next(alloc, 2, &mut out)?, false);
-    assert_eq!(rt; out.len(), 0);
-    Ok(())
+    hub.bytes(alloc, conn, b"\0", &mut out).err()
 }
 
-/// Fails where keys are refused for another reason, and where a run of them replies.
-fn refuses(alloc: Global, keys: &[[u8; 16]], fault: TenantsFault) -> Result<(), Fail> {
-    let mut out = Vec::new(alloc);
-    let answered = run(alloc, keys, &[Event::Connect(1)], &mut out);
-    let told = answered == Err(RunFault::Keys(fault)) && out.is_empty();
-    if told && Hub::new(alloc, keys).err() == Some(fault) {
-        return Ok(());
-    }
-    Err(Fail::new(format_args!("{answered:?} in place of {fault:?}")))
-}
-
-fn keys_of(alloc: Global, count: u16) -> Result<Vec<[u8; 16]>, Fail> {
-    let mut keys = Vec::new(alloc);
-    for i in 0..count {
-        let mut key = A;
-        [key[0], key[1]] = i.to_be_bytes();
-        keys.push(key)?;
-    }
-    Ok(keys)
-}
-
-#[test]
-fn refuses_keys(rt: HostRuntime) -> Result<(), Fail> {
-    let alloc = rt.alloc();
-    refuses(alloc, &[], TenantsFault::NoKeys)?;
-    refuses(alloc, &[A, A], TenantsFault::RepeatedKey)?;
-    refuses(alloc, &keys_of(alloc, 257)?, TenantsFault::TooManyKeys)?;
-    Hub::new(alloc, &keys_of(alloc, 256)?)?;
-    Ok(())
-}
-
-/// Fails where the connection gets other replies than these.
-fn gets(conn: u32, got: &[Reply], alloc: Global, replies: &[&str]) -> Result<(), Fail> {
-    let mut all = Vec::new(alloc);
-    for reply in got {
-        if reply.conn == conn {
-            all.extend_from_slice(&reply.frame)?;
-        }
-    }
-    same(got.len(), &all, &bytes_of(alloc, replies)?)
-}
-
-fn push_piece(events: &mut Vec<Event>, alloc: Global, conn: u32, piece: &[u8]) -> Result<(), Fail> {
-    let piece = Vec::from_slice(alloc, piece)?;
-    events.push(Event::Bytes(conn, piece))?;
-    Ok(())
-}
-
-fn push_byte(
-    events: &mut Vec<Event>,
-    alloc: Global,
-    conn: u32,
-    byte: Option<&u8>,
-) -> Result<(), Fail> {
-    match byte {
-        None => Ok(()),
-        Some(byte) => push_piece(events, alloc, conn, &[*byte]),
-    }
-}
-
-/// Connections 1 and 2 open.
-fn opened(alloc: Global) -> Result<Vec<Event>, Fail> {
-    let mut events = Vec::new(alloc);
-    events.push(Event::Connect(1))?;
-    events.push(Event::Connect(2))?;
-    Ok(events)
-}
-
-/// Two streams, a byte at a time and by turns.
-fn by_turns(alloc: Global, first: &[u8], second: &[u8]) -> Result<Vec<Event>, Fail> {
-    let mut events = opened(alloc)?;
-    for i in 0..first.len().max(second.len()) {
-        push_byte(&mut events, alloc, 1, first.get(i))?;
-        push_byte(&mut events, alloc, 2, second.get(i))?;
-    }
-    Ok(events)
-}
-
-#[test]
-fn answers_two_tenants_by_turns(rt: HostRuntime) -> Result<(), Fail> {
-    let alloc = rt.alloc();
-    let first = bytes_of(alloc, &[PUT, "00000018 05 00000002 A 0163 24"])?;
-    let events = by_turns(alloc, &first, &bytes_of(alloc, &STREAM_OF_B)?)?;
-    let mut out = Vec::new(alloc);
-    run(alloc, &[A, B], &events, &mut out)?;
-    assert_eq!(rt; out.len(), 4);
-    gets(
-        1,
-        &out,
-        alloc,
-        &[
-            "00000005 00 00000001",
-            "00000015 00 00000002 00000001 0164 00000001 24 00000001 31",
-        ],
-    )?;
-    gets(
-        2,
-        &out,
-        alloc,
-        &["00000005 00 00000001", "00000005 ff 00000000"],
-    )
-}
-
-/// What a wire took.
-fn written(alloc: Global, wire: &MemoryWire) -> Result<Vec<u8>, Fail> {
-    let mut all = Vec::new(alloc);
-    for moved in wire.moves() {
-        match moved {
-            Moved::Gave(_) => {}
-            Moved::Took(bytes) => all.extend_from_slice(bytes)?,
-        }
-    }
-    Ok(all)
-}
-
-/// How a connection over a wire in memory ends, and what is written on it.
-#[derive(Clone, Copy)]
-struct Served<'a> {
-    input: &'a [u8],
-    plan: &'a [Call],
-    end: ConnEnd,
-    written: &'a [u8],
-}
-
-/// A new hub of tenant A that served such a connection. It fails where the connection ends otherwise, where other bytes are
-/// written, and where it is left open.
-fn serves(alloc: Global, at: usize, wanted: &Served<'_>) -> Result<Hub, Fail> {
-    let mut hub = Hub::new(alloc, &[A])?;
-    let mut wire = MemoryWire::new(alloc, wanted.input, wanted.plan)?;
-    let end = serve_connection(alloc, &mut hub, 7, &mut wire);
-    if end != wanted.end || hub.is_connected(7) {
-        return Err(Fail::new(format_args!("{at}: {end:?}")));
-    }
-    same(at, &written(alloc, &wire)?, wanted.written)?;
-    Ok(hub)
-}
-
-/// So many calls that move one byte each, after the first ones, and then one that fails.
-fn failing_after(alloc: Global, first: &[Call], times: usize) -> Result<Vec<Call>, Fail> {
-    let mut plan = Vec::from_slice(alloc, first)?;
-    for _ in 0..times {
-        plan.push(Call::Moves(1))?;
-    }
-    plan.push(Call::Fails)?;
-    Ok(plan)
-}
-
-#[test]
-fn serves_wires(rt: HostRuntime) -> Result<(), Fail> {
-    let alloc = rt.alloc();
-    let put = bytes_of(alloc, &[PUT])?;
-    let cut = bytes_of(alloc, &["0000001a 01 00000001 00"])?;
-    let fault = bytes_of(alloc, &["00600001"])?;
-    let told = bytes_of(alloc, &["00000005 ff 00000000"])?;
-    for (at, wanted) in [
-        Served {
-            input: &put,
-            plan: &[Call::Fails],
-            end: ConnEnd::ReadFault,
-            written: b"",
-        },
-        Served {
-            input: &cut,
-            plan: &[],
-            end: ConnEnd::Done,
-            written: b"",
-        },
-        Served {
-            input: &fault,
-            plan: &[],
-            end: ConnEnd::FrameFault,
-            written: &told,
-        },
-    ]
-    .iter()
-    .enumerate()
-    {
-        serves(alloc, at, wanted)?;
-    }
-    Ok(())
-}
-
-#[test]
-fn keeps_a_put_whose_reply_was_not_written(rt: HostRuntime) -> Result<(), Fail> {
-    let alloc = rt.alloc();
-    let put = bytes_of(alloc, &[PUT])?;
-    let wanted = Served {
-        input: &put,
-        plan: &[Call::Moves(99), Call::Moves(3), Call::Fails],
-        end: ConnEnd::WriteFault,
-        written: b"\x00\x00\x00",
+fn closes_one_alone(alloc: Global) -> bool {
+    let Some(mut hub) = hub_with_a_fault(alloc) else {
+        return false;
     };
-    let mut hub = serves(alloc, 0, &wanted)?;
-    hub.connect(alloc, 1)?;
-    answers(
-        &mut hub,
-        alloc,
-        1,
-        "00000019 02 00000002 A 0163 0164",
-        "00000006 00 00000002 31",
-    )
+    refusal(&mut hub, alloc, 2) == Some(HubFault::Closed)
+        && refusal(&mut hub, alloc, 3) == Some(HubFault::NoConnection)
+        && hub.take(2, b"") == Err(TakeFault::Closed)
+        && hub.take(3, b"") == Err(TakeFault::NoConnection)
+        && hub.is_connected(2)
+        && !hub.is_connected(3)
+        && answers(&mut hub, alloc, 1, GET, GOT)
 }
 
-/// The bytes of the replies that the first so many bytes of the four requests get.
-fn due(bytes: usize) -> usize {
-    match bytes {
-        0..=35 => 0,
-        36..=65 => 9,
-        66..=94 => 39,
-        95..=119 => 55,
-        _ => 76,
+#[test]
+fn closes_one_connection_at_its_fault(rt: HostRuntime) {
+    assert!(rt; closes_one_alone(rt.alloc()));
+}
+
+fn ends_once(alloc: Global) -> bool {
+    let Some(mut hub) = hub_with_a_fault(alloc) else {
+        return false;
+    };
+    hub.connect(alloc, 2) == Err(ConnectFault::Taken)
+        && hub.disconnect(2)
+        && !hub.disconnect(2)
+        && !hub.is_connected(2)
+        && answers(&mut hub, alloc, 1, GET, GOT)
+}
+
+#[test]
+fn ends_a_connection_once(rt: HostRuntime) {
+    assert!(rt; ends_once(rt.alloc()));
+}
+
+/// Whether the next frame that waits on connection 1 gets the reply that ends there among the four, and no frame waits behind the last.
+fn answers_up_to(alloc: Global, hub: &mut Hub, out: &mut Vec<u8>, end: usize) -> bool {
+    let Ok(is_answered) = hub.answer_next(alloc, 1, out) else {
+        return false;
+    };
+    is_answered && out.as_slice() == REPLIES.get(..end).unwrap_or_default()
+}
+
+fn answers_in_turn(alloc: Global) -> bool {
+    let Ok(mut hub) = Hub::new(alloc, &[KEY]) else {
+        return false;
+    };
+    let mut out = Vec::new(alloc);
+    hub.connect(alloc, 1).is_ok()
+        && hub.take(1, REQUESTS).is_ok()
+        && answers_up_to(alloc, &mut hub, &mut out, 9)
+        && answers_up_to(alloc, &mut hub, &mut out, 39)
+        && answers_up_to(alloc, &mut hub, &mut out, 55)
+        && answers_up_to(alloc, &mut hub, &mut out, 76)
+        && hub.answer_next(alloc, 1, &mut out) == Ok(false)
+        && hub.answer_next(alloc, 2, &mut out) == Ok(false)
+        && out.len() == 76
+}
+
+#[test]
+fn answers_one_frame_after_another(rt: HostRuntime) {
+    assert!(rt; answers_in_turn(rt.alloc()));
+}
+
+/// Why a run of these keys is refused that replies nothing.
+fn refused_run(alloc: Global, keys: &[[u8; 16]]) -> Option<RunFault> {
+    let mut out = Vec::new(alloc);
+    let ended = run(alloc, keys, &[Event::Connect(1)], &mut out).err();
+    if out.is_empty() { ended } else { None }
+}
+
+/// Why a script of no line is refused, which leaves what stands there.
+fn refused_script(alloc: Global, keys: &[[u8; 16]]) -> Option<ScriptFault> {
+    let mut out = Vec::from_slice(alloc, b"before").ok()?;
+    let ended = replay_script(alloc, keys, b"", &mut out).err();
+    if out.as_slice() == b"before".as_slice() {
+        ended
+    } else {
+        None
     }
 }
 
 #[test]
-fn serves_every_prefix(rt: HostRuntime) -> Result<(), Fail> {
+fn refuses_keys(rt: HostRuntime) {
     let alloc = rt.alloc();
-    let requests = bytes_of(alloc, &FOUR_REQUESTS)?;
-    let replies = bytes_of(alloc, &FOUR_REPLIES)?;
-    assert_eq!(rt; (requests.len(), replies.len()), (120, 76));
-    for k in 0..=120 {
-        let wanted = Served {
-            input: requests.get(..k).unwrap_or_default(),
-            plan: &[],
-            end: ConnEnd::Done,
-            written: replies.get(..due(k)).unwrap_or_default(),
-        };
-        serves(alloc, k, &wanted)?;
-    }
-    Ok(())
+    let none = TenantsFault::NoKeys;
+    assert!(rt; Hub::new(alloc, &[]).err() == Some(none));
+    assert!(rt; refused_run(alloc, &[]) == Some(RunFault::Keys(none)));
+    assert!(rt; refused_script(alloc, &[]) == Some(ScriptFault::Keys(none)));
+    let repeated = TenantsFault::RepeatedKey;
+    assert!(rt; Hub::new(alloc, &[KEY, KEY]).err() == Some(repeated));
+    assert!(rt; refused_run(alloc, &[KEY, KEY]) == Some(RunFault::Keys(repeated)));
 }
 
-/// Reads and writes of one byte, until the read fails that would bring one byte more.
-#[test]
-fn answers_what_came_before_a_failed_read(rt: HostRuntime) -> Result<(), Fail> {
-    let alloc = rt.alloc();
-    let input = bytes_of(alloc, &FOUR_REQUESTS)?;
-    let replies = bytes_of(alloc, &FOUR_REPLIES)?;
-    for k in 0..120usize {
-        let plan = failing_after(alloc, &[], k.wrapping_add(due(k)))?;
-        let wanted = Served {
-            input: &input,
-            plan: &plan,
-            end: ConnEnd::ReadFault,
-            written: replies.get(..due(k)).unwrap_or_default(),
-        };
-        serves(alloc, k, &wanted)?;
-    }
-    Ok(())
+/// Why keys are refused.
+fn refused_keys(alloc: Global, keys: &[[u8; 16]]) -> Option<TenantsFault> {
+    Tenants::new(alloc, keys).err()
 }
 
-/// One read of all, and writes of one byte, of which one fails: those before it are written.
 #[test]
-fn writes_a_prefix_before_a_fault(rt: HostRuntime) -> Result<(), Fail> {
+fn refuses_keys_of_tenants(rt: HostRuntime) {
     let alloc = rt.alloc();
-    let input = bytes_of(alloc, &FOUR_REQUESTS)?;
-    let replies = bytes_of(alloc, &FOUR_REPLIES)?;
-    for j in 0..76 {
-        let plan = failing_after(alloc, &[Call::Moves(999)], j)?;
-        let wanted = Served {
-            input: &input,
-            plan: &plan,
-            end: ConnEnd::WriteFault,
-            written: replies.get(..j).unwrap_or_default(),
-        };
-        serves(alloc, j, &wanted)?;
-    }
-    Ok(())
+    assert!(rt; refused_keys(alloc, &[]) == Some(TenantsFault::NoKeys));
+    assert!(rt; refused_keys(alloc, &[KEY; 2]) == Some(TenantsFault::RepeatedKey));
+    assert!(rt; refused_keys(alloc, &[KEY; 256]) == Some(TenantsFault::RepeatedKey));
+    assert!(rt; refused_keys(alloc, &[KEY; 257]) == Some(TenantsFault::TooManyKeys));
+}
+
+fn keeps_tenants_apart(alloc: Global) -> bool {
+    let (Some(c), Some(d)) = (CollName::read(b"c"), DocName::read(b"d")) else {
+        return false;
+    };
+    let Ok(mut tenants) = Tenants::new(alloc, &[KEY, OTHER_KEY]) else {
+        return false;
+    };
+    let is_put = tenants.tenant_mut(1).put(alloc, c, d, b"1").is_ok();
+    let documents = [
+        tenants.tenant(0).usage().documents,
+        tenants.tenant(1).usage().documents,
+    ];
+    is_put
+        && documents == [0, 1]
+        && tenants.place_of(&KEY) == Some(0)
+        && tenants.place_of(&OTHER_KEY) == Some(1)
+        && tenants.place_of(&[0; 16]).is_none()
+}
+
+#[test]
+fn finds_tenants_by_their_keys(rt: HostRuntime) {
+    assert!(rt; keeps_tenants_apart(rt.alloc()));
 }

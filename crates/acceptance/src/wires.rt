@@ -2,12 +2,9 @@
 
 ghost use Rattle.std.specs.Prelude.{None};
 
+use crate::session::KEY;
 use path_hub::{ConnEnd, Hub, Wire, WireFault, serve_connection};
 use std::test::Fail;
-
-const A: [u8; 16] = [
-    0x00, 0x11, 0x22, 0x33, 0x44, 0x55, 0x66, 0x77, 0x88, 0x99, 0xaa, 0xbb, 0xcc, 0xdd, 0xee, 0xff,
-];
 
 /// Gives a byte 00 at each read, without end, and takes all that is written.
 #[derive(Drop)]
@@ -49,18 +46,15 @@ impl Wire for Zeros {
 #[test]
 fn stops_after_a_million_reads(rt: HostRuntime) -> Result<(), Fail> {
     let alloc = rt.alloc();
-    let mut hub = Hub::new(alloc, &[A])?;
+    let mut hub = Hub::new(alloc, &[KEY])?;
     let mut wire = Zeros {
         failures: 0,
         reads: 0,
         taken: 0,
     };
-    assert_eq!(rt;
-        serve_connection(alloc, &mut hub, 0, &mut wire),
-        ConnEnd::TurnLimit
-    );
-    assert_eq!(rt; wire.reads(), 1_000_000);
-    assert_eq!(rt; wire.taken, 2_250_000);
+    let end = serve_connection(alloc, &mut hub, 0, &mut wire);
+    assert!(rt; end == ConnEnd::TurnLimit);
+    assert!(rt; (wire.reads, wire.taken) == (1_000_000, 2_250_000));
     Ok(())
 }
 
@@ -113,18 +107,15 @@ impl Wire for Owed {
 #[test]
 fn writes_what_it_owes_before_it_reads(rt: HostRuntime) -> Result<(), Fail> {
     let alloc = rt.alloc();
-    let mut hub = Hub::new(alloc, &[A])?;
+    let mut hub = Hub::new(alloc, &[KEY])?;
     let mut wire = Owed {
         failures: 0,
         reads: 0,
         turns: 0,
         owed: 0,
     };
-    assert_eq!(rt;
-        serve_connection(alloc, &mut hub, 0, &mut wire),
-        ConnEnd::Done
-    );
-    assert_eq!(rt; wire.reads(), 4);
-    assert_eq!(rt; wire.failures(), 0);
+    let end = serve_connection(alloc, &mut hub, 0, &mut wire);
+    assert!(rt; end == ConnEnd::Done);
+    assert!(rt; (wire.reads, wire.failures) == (4, 0));
     Ok(())
 }

@@ -1,0 +1,117 @@
+//! Connections served over wires in memory, which fail, end or cut at any call.
+
+use crate::moved::took;
+use crate::session::{KEY, REPLIES, REQUESTS, front};
+use path_hub::{Call, ConnEnd, Hub, MemoryWire, serve_connection};
+use std::alloc::Global;
+
+/// `1` is put at c/d.
+const PUT: &[u8] =
+    b"\0\0\0\x1a\x01\0\0\0\x01\x00\x11\x22\x33\x44\x55\x66\x77\x88\x99\xaa\xbb\xcc\xdd\xee\xff\x01c\x01d1";
+
+/// The text at c/d, and its reply.
+const GET: &[u8] =
+    b"\0\0\0\x19\x02\0\0\0\x02\x00\x11\x22\x33\x44\x55\x66\x77\x88\x99\xaa\xbb\xcc\xdd\xee\xff\x01c\x01d";
+
+const GOT: &[u8] = b"\0\0\0\x06\0\0\0\0\x021";
+
+/// How a connection with this input ends, whose calls go as planned, where a new hub serves it and these bytes are written; none
+/// where others are, or where the connection is left open.
+fn served(alloc: Global, input: &[u8], plan: &[Call], written: &[u8]) -> Option<ConnEnd> {
+    let (Ok(mut hub), Ok(mut wire)) = (Hub::new(alloc, &[KEY]), MemoryWire::new(alloc, input, plan))
+    else {
+        return None;
+    };
+    let end = serve_connection(alloc, &mut hub, 7, &mut wire);
+    if took(&wire, written) && !hub.is_connected(7) {
+        Some(end)
+    } else {
+        None
+    }
+}
+
+#[test]
+fn serves_wires(rt: HostRuntime) {
+    let alloc = rt.alloc();
+    let failing = served(alloc, PUT, &[Call::Fails], b"");
+    assert!(rt; failing == Some(ConnEnd::ReadFault));
+    let cut = served(alloc, front(PUT, 10), &[], b"");
+    assert!(rt; cut == Some(ConnEnd::Done));
+    let above = served(alloc, b"\0\x60\0\x01", &[], b"\0\0\0\x05\xff\0\0\0\0");
+    assert!(rt; above == Some(ConnEnd::FrameFault));
+}
+
+/// Whether the hub answers the get of the text on a new connection.
+fn has_the_text(alloc: Global, hub: &mut Hub) -> bool {
+    let mut out = Vec::new(alloc);
+    hub.connect(alloc, 1).is_ok()
+        && hub.bytes(alloc, 1, GET, &mut out).is_ok()
+        && out.as_slice() == GOT
+}
+
+#[test]
+fn keeps_a_put_whose_reply_was_not_written(rt: HostRuntime) {
+    let alloc = rt.alloc();
+    assert!(rt; is_kept(alloc));
+}
+
+fn is_kept(alloc: Global) -> bool {
+    let plan = [Call::Moves(99), Call::Moves(3), Call::Fails];
+    let (Ok(mut hub), Ok(mut wire)) = (Hub::new(alloc, &[KEY]), MemoryWire::new(alloc, PUT, &plan))
+    else {
+        return false;
+    };
+    let end = serve_connection(alloc, &mut hub, 7, &mut wire);
+    end == ConnEnd::WriteFault && took(&wire, b"\0\0\0") && has_the_text(alloc, &mut hub)
+}
+
+/// The bytes of the replies that the first so many bytes of the four requests get.
+fn due(bytes: usize) -> usize {
+    match bytes {
+        0..=35 => 0,
+        36..=65 => 9,
+        66..=94 => 39,
+        95..=119 => 55,
+        _ => 76,
+    }
+}
+
+#[test]
+fn serves_every_prefix(rt: HostRuntime) {
+    let alloc = rt.alloc();
+    assert!(rt; (REQUESTS.len(), REPLIES.len()) == (120, 76));
+    for k in 0..=120usize {
+        let end = served(alloc, front(REQUESTS, k), &[], front(REPLIES, due(k)));
+        assert!(rt; end == Some(ConnEnd::Done), "{k}");
+    }
+}
+
+/// The most calls of one byte each that a test plans.
+const MOST: usize = 196;
+
+/// Reads and writes of one byte, until the read fails that would bring one byte more.
+#[test]
+fn answers_what_came_before_a_failed_read(rt: HostRuntime) {
+    let alloc = rt.alloc();
+    let mut plan = [Call::Moves(1); MOST + 1];
+    plan[MOST] = Call::Fails;
+    for k in 0..120usize {
+        let calls = k.saturating_add(due(k));
+        let last = plan.get(MOST.saturating_sub(calls)..).unwrap_or_default();
+        let end = served(alloc, REQUESTS, last, front(REPLIES, due(k)));
+        assert!(rt; end == Some(ConnEnd::ReadFault), "{k}");
+    }
+}
+
+/// One read of all, and writes of one byte, of which one fails: those before it are written.
+#[test]
+fn writes_a_prefix_before_a_fault(rt: HostRuntime) {
+    let alloc = rt.alloc();
+    for j in 0..76usize {
+        let mut plan = [Call::Moves(1); 77];
+        plan[0] = Call::Moves(999);
+        plan[j + 1] = Call::Fails;
+        let end = served(alloc, REQUESTS, &plan, front(REPLIES, j));
+        assert!(rt; end == Some(ConnEnd::WriteFault), "{j}");
+    }
+}
