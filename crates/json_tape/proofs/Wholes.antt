@@ -1,9 +1,11 @@
 -- A number without an exponent, by its digits.
-use Rattle.std.proofs.Common.{◌≡◌, ℕ, zero, suc, ◌+◌, ◌-◌, ◌<◌, ◌≤◌, inl, inr, List, [], ◌∷◌, ◌++◌, length, take, drop, get_or, refl, sym, ap, subst, ◌∙◌, arith, append-nil}
+use Rattle.std.proofs.Common.{◌≡◌, ℕ, zero, suc, ◌+◌, ◌-◌, ◌<◌, ◌≤◌, inl, inr, List, [], ◌∷◌, ◌++◌, length, take, drop, get_or, false, refl, sym, ap, subst, ◌∙◌, arith, append-nil}
 use Rattle.std.proofs.lemmas.List.{drop_more, take_all, take-append-drop, length-drop, drop_all}
 use Rattle.std.proofs.lemmas.Bool.{cases_lt}
+use Rattle.std.proofs.lemmas.Bool.Decides.{nat_tests}
 use Rattle.decimal_order.specs.Number.{IsDigit, AreDigits, AreSomeDigits, Optional, IsMinus, IsInt, IsFrac, IsNumber}
-use Rattle.json_tape.specs.Lexing.{DigitsStand, IsFraction}
+use Rattle.decimal_order.specs.Value.{is_e}
+use Rattle.json_tape.specs.Lexing.{DigitsStand, IsFraction, HasNoExponent}
 
 -- the digits from a place on, as a list
 digits_part : (bs : List ℕ) (n a : ℕ) → a + n ≤ length bs → DigitsStand bs a (a + n) → AreDigits (take n (drop a bs))
@@ -79,3 +81,26 @@ decimal_number bs start point one m p l digits lead f =
     let z : start + suc n ≡ point = omega arith in
     let frac = subst IsFrac (sym (drop_more bs point 0 l)) (f.0, digits_last bs (point + 1) f.1 f.2) in
     number_of bs start n one m (omega (arith, z, l)) (subst (DigitsStand bs start) (sym z) digits) (λ e. let few = lead e in omega arith) (inr (subst (λ x. IsFrac (drop x bs)) (sym z) frac))
+
+-- ---- No byte of it begins an exponent
+
+no_e : (b : ℕ) → b < 58 → is_e b ≡ false
+no_e b l = grind (arith, nat_tests)
+
+before_point : (bs : List ℕ) (start point k : ℕ) → start ≤ 1 → (start ≡ 1 → get_or bs 0 0 ≡ 45) → DigitsStand bs start point → k < point → is_e (get_or bs k 0) ≡ false
+before_point bs start point k one m digits l = elim (cases_lt k start) [
+  | inl a ↦ (let z : k ≡ 0 = omega arith in let e = ap (λ n. get_or bs n 0) z ∙ m (omega arith) in no_e (get_or bs k 0) (omega arith))
+  | inr a ↦ (let d = digits k a l in no_e (get_or bs k 0) (omega (arith, d.1)))
+]
+
+pub whole_plain : (bs : List ℕ) (start point : ℕ) → start ≤ 1 → (start ≡ 1 → get_or bs 0 0 ≡ 45) → point ≡ length bs → DigitsStand bs start point → HasNoExponent bs
+whole_plain bs start point one m p digits = λ k l. before_point bs start point k one m digits (omega arith)
+
+pub decimal_plain : (bs : List ℕ) (start point : ℕ) → start ≤ 1 → (start ≡ 1 → get_or bs 0 0 ≡ 45) → DigitsStand bs start point → IsFraction bs point → HasNoExponent bs
+decimal_plain bs start point one m digits f = λ k l. elim (cases_lt k point) [
+  | inl a ↦ before_point bs start point k one m digits a
+  | inr a ↦ elim (cases_lt point k) [
+    | inl b ↦ (let d = f.2 k (omega arith) l in no_e (get_or bs k 0) (omega (arith, d.1)))
+    | inr b ↦ (let z : k ≡ point = omega arith in let e = ap (λ n. get_or bs n 0) z ∙ f.0 in no_e (get_or bs k 0) (omega arith))
+  ]
+]

@@ -4,9 +4,10 @@
 ghost use Rattle.std.specs.Prelude.{◌≡◌, ◌+◌, ◌-◌, ◌^◌, ◌<◌, ◌≤◌, length, get_or, slice_index, IfOk, IfSome, IsUtf8, IsErrOf, IsTrue, true, false};
 ghost use Rattle.structural_index.specs.Answer.{IsIndexOf};
 ghost use Rattle.json_tape.specs.Machine.{IsSmall};
-ghost use Rattle.json_tape.specs.Lexing.{is_blank as blank, is_atom as atom, WordIs, Stepped, ended, Marked, DigitsStand, IsFraction};
-ghost use Rattle.json_tape.specs.Limits.{AreShort};
+ghost use Rattle.json_tape.specs.Lexing.{is_blank as blank, is_atom as atom, WordIs, Stepped, ended, Marked, DigitsStand, IsFraction, HasNoExponent};
+ghost use Rattle.json_tape.specs.Limits.{AreWithinLimits};
 ghost use Rattle.decimal_order.specs.Number.{IsNumber};
+ghost use Rattle.decimal_order.specs.Limits.{IsWithinLimits};
 ghost use Rattle.json_tape.specs.Answer.{IsJson, StandsForAll, HasDepth, IsNoJson};
 ghost use Rattle.json_tape.specs.Building.{IsBounded};
 ghost use Rattle.json_tape.specs.Verdict.{text_limit};
@@ -16,7 +17,7 @@ use crate::builder::Builder;
 use crate::compact::Tape;
 use crate::scan::{quote_end, quote_past};
 use crate::tape::{BuildFault, Extent, Kind, Shape};
-use decimal_order::{SHORT_LENGTH, scan};
+use decimal_order::{MAX_LENGTH, SHORT_LENGTH, late_exponents_keep_limits, scan};
 use std::alloc::Global;
 use structural_index::{Index, Looks, index};
 
@@ -76,7 +77,8 @@ fn is_fraction(bytes: &[u8], point: usize) -> bool
 // Whether the bytes are a number without an exponent.
 #[inline(always)]
 fn is_plain_number(bytes: &[u8]) -> bool
-    ensures { IsTrue result → IsNumber bytes.now }
+    ensures number { IsTrue result → IsNumber bytes.now }
+    ensures plain { IsTrue result → HasNoExponent bytes.now }
 {
     if bytes.is_empty() {
         return false;
@@ -112,15 +114,30 @@ fn word_kind(bytes: &[u8]) -> Option<Kind>
     None
 }
 
-// The kind of a word or a number.
+// The kind of a word or a number, where it is known whether it is a number without an exponent.
 #[inline(always)]
-fn kind_of(bytes: &[u8]) -> Option<Kind>
+fn kind_of(bytes: &[u8], is_plain: bool) -> Option<Kind>
+    requires { is_plain ≡ true → IsNumber bytes.now }
     ensures { WordIs bytes.now result }
 {
-    if is_plain_number(bytes) {
+    if is_plain {
         Some(Kind::Number)
     } else {
         word_kind(bytes)
+    }
+}
+
+// Whether the bytes are few enough for the limits of numbers, whatever else they say.
+#[inline(always)]
+fn keeps_limits(bytes: &[u8], is_plain: bool) -> bool
+    requires { is_plain ≡ true → HasNoExponent bytes.now }
+    ensures { IsTrue result → IsWithinLimits bytes.now }
+{
+    late_exponents_keep_limits();
+    if is_plain {
+        bytes.len() <= MAX_LENGTH
+    } else {
+        bytes.len() <= SHORT_LENGTH
     }
 }
 
@@ -226,28 +243,27 @@ fn string(
     }
 }
 
-// A word or a number. One of few bytes is within the limits.
+// A word or a number. Marks where it may be beyond the limits of numbers.
 #[inline(always)]
 fn word(
     looks: &mut Looks<'_>,
     i: usize,
     builder: &mut Builder,
-    has_long: &mut bool,
+    may_exceed: &mut bool,
 ) -> Result<usize, BuildFault>
     requires in_text { i < length looks.old.0 }
     requires short { length looks.old.0 ≤ text_limit }
     requires small { IsSmall text_limit builder.old }
     requires is_atom { atom (slice_index looks.old.0 i) ≡ true }
     ensures stepped { Stepped looks.old.0 i builder.old result builder.new }
-    ensures marked { Marked looks.old.0 i has_long.old result has_long.new }
+    ensures marked { Marked looks.old.0 i may_exceed.old result may_exceed.new }
     ensures same { looks.new.0 ≡ looks.old.0 }
     ensures looked { IfOk result (λ end. looks.new.1 + i ≤ looks.old.1 + end + 1) }
 {
     let bytes = looks.atoms(i);
-    if bytes.len() > SHORT_LENGTH {
-        *has_long = true;
-    }
-    match kind_of(bytes) {
+    let is_plain = is_plain_number(bytes);
+    *may_exceed |= !keeps_limits(bytes, is_plain);
+    match kind_of(bytes, is_plain) {
         None => Err(BuildFault::NotJson),
         Some(kind) => {
             let source = Extent {
@@ -262,7 +278,7 @@ fn word(
     }
 }
 
-// The token at i, where the place behind it is this one. Marks where a word is long.
+// The token at i, where the place behind it is this one. Marks where a number may be beyond the limits.
 #[inline(always)]
 fn token(
     looks: &mut Looks<'_>,
@@ -270,7 +286,7 @@ fn token(
     next: usize,
     escapes: bool,
     builder: &mut Builder,
-    has_long: &mut bool,
+    may_exceed: &mut bool,
 ) -> Result<usize, BuildFault>
     requires in_text { i < length looks.old.0 }
     requires near { next ≤ length looks.old.0 }
@@ -280,7 +296,7 @@ fn token(
     requires closes { ClosesBefore looks.old.0 i next }
     requires no_blank { blank (slice_index looks.old.0 i) ≡ false }
     ensures stepped { Stepped looks.old.0 i builder.old result builder.new }
-    ensures marked { Marked looks.old.0 i has_long.old result has_long.new }
+    ensures marked { Marked looks.old.0 i may_exceed.old result may_exceed.new }
     ensures same { looks.new.0 ≡ looks.old.0 }
     ensures looked { IfOk result (λ end. looks.new.1 + i ≤ looks.old.1 + end + 2) }
 {
@@ -292,16 +308,16 @@ fn token(
         b'}' => past_sign(builder.close(Shape::Object, i as u32), i),
         b',' => past_sign(builder.comma(), i),
         b':' => past_sign(builder.colon(), i),
-        _ => word(looks, i, builder, has_long),
+        _ => word(looks, i, builder, may_exceed),
     }
 }
 
-/// What reading a text found: its tape, how many containers lie in one another at most, and whether a number may be long.
+/// What reading a text found: its tape, how many containers lie in one another at most, and whether a number may be beyond the limits.
 #[derive(Drop)]
 pub struct Reading {
     pub tape: Tape,
     pub depth: usize,
-    pub has_long: bool,
+    pub may_exceed: bool,
 }
 
 /// The tape of a text and its marks, or why there is none, by the places of its index.
@@ -317,7 +333,7 @@ fn walk(alloc: Global, index: &Index, looks: &mut Looks<'_>) -> Result<Reading, 
     ensures stands { IfOk result (λ reading. StandsForAll looks.old.0 reading.tape) }
     ensures few { IfOk result (λ reading. length reading.tape < 2 ^ 31) }
     ensures depth { IfOk result (λ reading. HasDepth looks.old.0 reading.depth) }
-    ensures numbers { IfOk result (λ reading. reading.has_long ≡ false → AreShort reading.tape) }
+    ensures numbers { IfOk result (λ reading. reading.may_exceed ≡ false → AreWithinLimits looks.old.0 reading.tape) }
     // Unless memory runs out, a text is refused only where it spells no tree.
     ensures refused { IsErrOf result BuildFault.NotJson → IsNoJson looks.old.0 }
     ensures looked { IfOk result (λ reading. IsBounded looks.old.0 looks.old.1 looks.new.1) }
@@ -327,7 +343,7 @@ fn walk(alloc: Global, index: &Index, looks: &mut Looks<'_>) -> Result<Reading, 
     }
     let places = index.places.as_slice();
     let mut builder = Builder::new(alloc, places.len() / 2 + 1)?;
-    let mut has_long = false;
+    let mut may_exceed = false;
     for k in 0..places.len() {
         let i = places[k] as usize;
         let next = place_behind(places, k, looks.length());
@@ -337,7 +353,7 @@ fn walk(alloc: Global, index: &Index, looks: &mut Looks<'_>) -> Result<Reading, 
             next,
             index.has_backslash,
             &mut builder,
-            &mut has_long,
+            &mut may_exceed,
         ) {
             Ok(_) => {}
             Err(fault) => return Err(fault),
@@ -348,7 +364,7 @@ fn walk(alloc: Global, index: &Index, looks: &mut Looks<'_>) -> Result<Reading, 
         Ok(Reading {
             tape: builder.into_tape(),
             depth,
-            has_long,
+            may_exceed,
         })
     } else {
         Err(BuildFault::NotJson)
@@ -388,7 +404,7 @@ pub fn read(alloc: Global, text: &[u8]) -> Result<Reading, BuildFault>
     ensures stands { IfOk result (λ reading. StandsForAll text.now reading.tape) }
     ensures short { IfOk result (λ reading. length reading.tape < 2 ^ 31) }
     ensures depth { IfOk result (λ reading. HasDepth text.now reading.depth) }
-    ensures numbers { IfOk result (λ reading. reading.has_long ≡ false → AreShort reading.tape) }
+    ensures numbers { IfOk result (λ reading. reading.may_exceed ≡ false → AreWithinLimits text.now reading.tape) }
     // Unless memory runs out, a text is refused only where it spells no tree.
     ensures refused { IsErrOf result BuildFault.NotJson → IsNoJson text.now }
 {

@@ -1,7 +1,7 @@
 use Rattle.json_tape.proofs.Limits.{bad_none}
-use Rattle.json_tape.proofs.Marks.{short_good}
+use Rattle.json_tape.proofs.Marks.{none_beyond}
 use Rattle.json_tape.proofs.judge.breaks_limit.Goals as goal
 
 pub returns-else-reading : goal.returns-else-reading
 returns-else-reading c =
-    ((λ x. cc), (λ (t, part, h, p, q). absurd (bad_none c.args.text.now c.args.reading.now.tape t h (c.requires.stands t h) (short_good c.late_exponents_keep_limits.ensures c.args.text.now c.args.reading.now.tape t h (c.requires.stands t h) (c.requires.numbers c.if-reading.false)) (part, p, q))))
+    ((λ x. cc), (λ (t, part, h, p, q). absurd (bad_none c.args.text.now c.args.reading.now.tape t h (c.requires.stands t h) (none_beyond c.args.text.now c.args.reading.now.tape t h (c.requires.stands t h) (c.requires.numbers c.if-reading.false)) (part, p, q))))

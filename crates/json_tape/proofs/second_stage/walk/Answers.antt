@@ -25,7 +25,7 @@ loop-k-init c =
     record {
       same = refl;
       walks = subst (Walks bytes 0 (get_or (places bytes) 0 (length bytes)) c.args.looks.now.1 c.args.looks.now.1) (sym c.in_ok-builder.ensures) (walks_start bytes c.args.looks.now.1);
-      kept = subst (Kept false) (sym c.in_ok-builder.ensures) kept_start;
+      kept = subst (Kept bytes false) (sym c.in_ok-builder.ensures) (kept_start bytes);
     }
 
 pub token-requires-clause-near : goal.token-requires-clause-near
@@ -126,12 +126,12 @@ loop-k-preserved c =
     let here = walks_here bytes items k i c.place_behind-next.result c.args.looks.now.1 c.loop-k.looks.1 c.loop-k.builder listed c.loop-k.invariant.walks in
     let inside = walks_inside bytes items k i c.place_behind-next.result c.args.looks.now.1 c.loop-k.looks.1 c.loop-k.builder listed here in
     let taken = subst (λ b. Taken b i c.in-Ok.field-0 c.loop-k.builder c.token.new.builder) same c.in-Ok.ensures.stepped in
-    let marked = subst (λ b. Marked b i c.loop-k.has_long (Ok c.in-Ok.field-0) c.token.new.has_long) same c.in-Ok.ensures.marked in
+    let marked = subst (λ b. Marked b i c.loop-k.may_exceed (Ok c.in-Ok.field-0) c.token.new.may_exceed) same c.in-Ok.ensures.marked in
     let looked = c.in-Ok.ensures.looked in
     record {
       same = c.in-Ok.ensures.same ∙ same;
       walks = walks_on bytes k i c.in-Ok.field-0 c.args.looks.now.1 c.loop-k.looks.1 c.token.new.looks.1 c.loop-k.builder c.token.new.builder here inside taken (omega (arith, looked));
-      kept = kept_token bytes i c.in-Ok.field-0 c.loop-k.has_long c.token.new.has_long c.loop-k.builder c.token.new.builder inside taken marked c.loop-k.invariant.kept;
+      kept = kept_token bytes i c.in-Ok.field-0 c.loop-k.may_exceed c.token.new.may_exceed c.loop-k.builder c.token.new.builder inside taken marked c.loop-k.invariant.kept;
     }
 
 pub returns-then-is_done-clause-spelt : goal.returns-then-is_done-clause-spelt

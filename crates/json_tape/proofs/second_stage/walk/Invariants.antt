@@ -8,5 +8,5 @@ abbrev pub invariant-loop-k : goal.invariant-loop-k
 invariant-loop-k l = record {
   same : l.looks.0 ≡ l.fn.looks.0;
   walks : Walks l.fn.looks.0 l.k (get_or (places l.fn.looks.0) l.k (length l.fn.looks.0)) l.fn.looks.1 l.looks.1 l.builder;
-  kept : Kept l.has_long l.builder;
+  kept : Kept l.fn.looks.0 l.may_exceed l.builder;
 }
