@@ -19,16 +19,21 @@ use Rattle.tape_select.specs.Evaluation.{evaluated, selected, selected_by, holds
 use Rattle.tape_select.specs.Nodelists.{nodes_of}
 use Rattle.tape_select.specs.Charge.{total_of, charge_from, charge_in, charge_by, charge_expr, charge_exprs, charge_side, charge_nested}
 use Rattle.tape_select.specs.Extra.{count_of, extra_by, extra_in, nodes_from, charge_at, nodes_after, charge_after}
-use Rattle.tape_select.specs.Planned.{Claims, both, With, trees, all_claims, query_of, claims_of, as_argument, calling, condition_view, selection_view, stage_view, condition_step, operand_step, selection_step, nested_step, stage_step}
+use Rattle.tape_select.specs.Planned.{Claims, both, With, trees, all_claims, query_of, claims_of, as_argument, calling, link_selector, link_view, condition_view, selection_view, stage_view, condition_step, operand_step, selection_step, nested_step, stage_step}
 use Rattle.tape_select.specs.Slots.{AreClaimed}
 use Rattle.tape_select.specs.declared.plan.Condition.TheFolds.{fold_out-Stage}
 use Rattle.tape_select.specs.declared.plan.Condition.{Condition}
 use Rattle.tape_select.specs.declared.plan.Selection.{Selection}
 use Rattle.tape_select.specs.declared.plan.Stage.{Stage}
+use Rattle.tape_select.specs.declared.plan.Link.{Link}
+use Rattle.tape_select.specs.declared.plan.Link.TheVariants.{Key, Place}
 use Rattle.tape_select.proofs.Adding.{append_nil, add_more, has_none, flat_more, sum_more}
-use Rattle.tape_select.specs.Paying.{Adds, Holds, Inside}
+use Rattle.tape_select.specs.Paying.{Adds, Holds, Inside, FindsList}
+use Rattle.std.specs.declared.vec.Vec.{Vec}
+use Rattle.std.specs.declared.alloc.Global.{Global}
 use Rattle.tape_select.specs.declared.fault.SelectFault.{SelectFault}
-use Rattle.tape_select.proofs.Following.{refuses_from}
+use Rattle.tape_select.proofs.Following.{refuses_from, one_unit}
+use Rattle.tape_select.proofs.Totals.{length_nodes}
 
 -- ---- Filters
 
@@ -181,6 +186,43 @@ staying_charge root n s e =
     let p = in_parts root (selectors_of (trees (map selection_view s.selections.items))) n in
     let q = count_is s.selections.items in
     rw (stage_is s, e) (omega (arith, p, q))
+
+-- ---- A segment that is a lone name or index
+
+pub linked : (s : Stage) (l : Link) → s.descend ≡ false → trees (map selection_view s.selections.items) ≡ link_selector l ∷ [] → (stage_view s).tree ≡ link_view l
+linked s l e f = rw (stage_is s, e, f) refl
+
+module _ (root : Node) (l : Link) where
+  nodes_linked : (ns : List Node) → nodes_after root (link_view l) ns ≡ flat_map (selected_by root (link_selector l)) ns
+  nodes_linked [] = refl
+  nodes_linked (n ∷ ns) =
+      let found = selected_by root (link_selector l) n in
+      ap (λ xs. xs ++ nodes_after root (link_view l) ns) (append_nil (found ++ []) ∙ append_nil found) ∙ ap (λ ys. found ++ ys) (nodes_linked ns)
+
+  charge_linked : (ns : List Node) → charge_after root (link_view l) ns ≡ length ns
+  charge_linked [] = refl
+  charge_linked (n ∷ ns) = let h = charge_linked ns in let unit = one_unit root n l in omega (arith, h, unit)
+
+  pub extra_linked : (n : Node) → extra_by root (link_selector l) n ≡ 0
+  extra_linked n = go l
+    where
+      go : (x : Link) → extra_by root (link_selector x) n ≡ 0
+      go (Key name) = refl
+      go (Place i) = refl
+
+pub finds_linked : (d : Doc) (r : Result (Vec NodeId Global) SelectFault) (root : Node) (s : OneSegment) (l : Link) (ids : List NodeId) (old new : ℕ) → s ≡ link_view l
+    → FindsList d r (flat_map (selected_by root (link_selector l)) (nodes_of d ids)) (length ids) old new
+    → FindsList d r (nodes_after root s (nodes_of d ids)) (charge_after root s (nodes_of d ids)) old new
+finds_linked d (Ok v) root s l ids old new e h =
+    let same : nodes_after root s (nodes_of d ids) ≡ flat_map (selected_by root (link_selector l)) (nodes_of d ids) = rw e (nodes_linked root l (nodes_of d ids)) in
+    let units : charge_after root s (nodes_of d ids) ≡ length ids = rw e (charge_linked root l (nodes_of d ids) ∙ length_nodes d ids) in
+    let paid = h.1 in
+    (rw same h.0, omega (arith, units, paid))
+finds_linked d (Err f) root s l ids old new e h =
+    let units : charge_after root s (nodes_of d ids) ≡ length ids = rw e (charge_linked root l (nodes_of d ids) ∙ length_nodes d ids) in
+    refuses_from (length ids) old (charge_after root s (nodes_of d ids)) old f (λ lt. omega (arith, units, lt)) h
+
+pub ruleset selecting = (filter_charge, extra_linked)
 
 -- what is paid in front, and then the rest
 pub adds_paid : {A : Type 0} (d : Doc) (r : Result A SelectFault) (ids : List NodeId) (xs ys : List Node) (rest charge between old new units : ℕ)

@@ -28,7 +28,7 @@ module _ (root n : Node) where
   one_more l others found e =
       ap (λ ns. evaluated root others ns) (append_nil ((selected_by root (link_selector l) n ++ []) ++ []) ∙ append_nil (selected_by root (link_selector l) n ++ []) ∙ append_nil (selected_by root (link_selector l) n) ∙ sym e)
 
-  one_unit : (l : Link) → charge_by root (link_selector l) n ≡ 1
+  pub one_unit : (l : Link) → charge_by root (link_selector l) n ≡ 1
   one_unit (Key name) = refl
   one_unit (Place i) = refl
 

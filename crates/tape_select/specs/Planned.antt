@@ -93,9 +93,8 @@ module _ where
   operand_step (Operand-F.Value q) = record { tree = calling (codes "value") (tree.nodes_argument q.tree); claims = q.claims }
 
   abbrev pub selection_step : Layer Selection-F → With tree.Selector
-  selection_step (Selection-F.Named n) = record { tree = tree.name n.scalars.items; claims = no_claims }
+  selection_step (Selection-F.One l) = record { tree = link_selector l; claims = no_claims }
   selection_step Selection-F.Wild = record { tree = tree.wild; claims = no_claims }
-  selection_step (Selection-F.At i) = record { tree = tree.index i; claims = no_claims }
   selection_step (Selection-F.Sliced start stop step) = record { tree = tree.slice start stop step; claims = no_claims }
   selection_step (Selection-F.Where b) = record { tree = tree.filter b.value.tree; claims = b.value.claims }
 

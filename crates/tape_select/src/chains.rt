@@ -13,8 +13,8 @@ use crate::plan::Link;
 use json_tape::{Document, NodeId};
 use tape_values::element;
 
-// The node that a name or an index selects.
-fn step(doc: &Document, link: &Link, n: NodeId) -> Option<NodeId>
+/// The node that a name or an index selects.
+pub fn step(doc: &Document, link: &Link, n: NodeId) -> Option<NodeId>
     requires inside { n.0 < count doc.now }
     ensures node { single doc.now result ≡ selected_by (node_at doc.now 0) (link_selector link.now) (node_at doc.now n.0) }
     ensures inside { IsIn doc.now result }

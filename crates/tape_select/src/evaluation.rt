@@ -13,6 +13,7 @@ ghost use Rattle.tape_select.specs.Planned.{trees, query_of, claims_of, all_clai
 ghost use Rattle.tape_select.specs.Slots.{AreClaimed};
 ghost use Rattle.tape_select.specs.Memo.{FindsNodes, FindsFor, FindsSide, Keeps};
 
+use crate::chains::step;
 use crate::fault::SelectFault;
 use crate::names::{lone_name, named};
 use crate::nodes::{child_total, lone, push, push_some, wild};
@@ -21,9 +22,10 @@ use crate::plan::{Condition, Nested, Operand, Parts, Selection, Stage};
 use crate::sides::{compare, length_of, side_found};
 use crate::slices::sliced;
 use crate::state::{Found, State, chain_found, found_in, keep, recall};
+use crate::steps::{lone_link, stepped};
 use json_tape::{Document, NodeId};
 use std::alloc::Global;
-use tape_values::{Side, element};
+use tape_values::Side;
 
 // The children for which a condition holds.
 #[cycle(evaluation)]
@@ -303,9 +305,32 @@ pub fn all_selected(
     Ok(nodes)
 }
 
+// What a segment selects from several nodes. A lone name or index takes a loop of its own.
+#[cycle(evaluation)]
+fn after_stage(
+    alloc: Global,
+    doc: &Document,
+    plan: &Parts,
+    stage: &Stage,
+    input: &[NodeId],
+    state: &mut State,
+) -> Result<Vec<NodeId>, SelectFault>
+    requires from { Inside doc.now input.now }
+    requires claimed { AreClaimed (claims_of plan.now.stages.items) (stage_view stage.now).claims }
+    requires kept { Keeps doc.now (claims_of plan.now.stages.items) state.old }
+    ensures found { FindsList doc.now result (nodes_after (node_at doc.now 0) (stage_view stage.now).tree (nodes_of doc.now input.now)) (charge_after (node_at doc.now 0) (stage_view stage.now).tree (nodes_of doc.now input.now)) state.old.meter.left state.new.meter.left }
+    ensures kept { Keeps doc.now (claims_of plan.now.stages.items) state.new }
+{
+    match lone_link(stage) {
+        Some(link) => stepped(alloc, doc, link, input, &mut state.meter),
+        None => after_each(alloc, doc, plan, stage, input, state),
+    }
+}
+
+// The same, whatever the segment is.
 #[cycle(evaluation)]
 #[tactic(auto, using(crate::proofs::Filtering::each_input))]
-fn after_stage(
+fn after_each(
     alloc: Global,
     doc: &Document,
     plan: &Parts,
@@ -469,7 +494,7 @@ fn selected_from(
 }
 
 #[cycle(evaluation)]
-#[tactic(auto, using(crate::proofs::Filtering::filter_charge))]
+#[tactic(auto, using(crate::proofs::Filtering::selecting))]
 fn selected_by(
     alloc: Global,
     doc: &Document,
@@ -487,9 +512,8 @@ fn selected_by(
     ensures kept { Keeps doc.now (claims_of plan.now.stages.items) state.new }
 {
     match selection {
-        Selection::Named(name) => push_some(doc, out, doc.member(n, &name.scalars)),
+        Selection::One(link) => push_some(doc, out, step(doc, link, n)),
         Selection::Wild => wild(doc, n, &mut state.meter, out),
-        Selection::At(i) => push_some(doc, out, element(doc, n, *i)),
         Selection::Sliced { start, stop, step } => {
             sliced(doc, n, *start, *stop, *step, &mut state.meter, out)
         }

@@ -21,6 +21,7 @@ mod selecting;
 mod sides;
 mod slices;
 mod state;
+mod steps;
 
 pub use fault::SelectFault;
 pub use planning::{BUDGET, Plan, select};

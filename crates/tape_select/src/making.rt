@@ -114,9 +114,9 @@ fn selection(alloc: Global, selector: &Selector, next: &mut u32) -> Result<Selec
     ensures numbered { IfOk result (λ made. numbered (selection_view made).claims next.old ≡ Some next.new) }
 {
     match selector {
-        Selector::Name(scalars) => Ok(Selection::Named(name(alloc, scalars)?)),
+        Selector::Name(scalars) => Ok(Selection::One(Link::Key(name(alloc, scalars)?))),
         Selector::Wild => Ok(Selection::Wild),
-        Selector::Index(i) => Ok(Selection::At(*i)),
+        Selector::Index(i) => Ok(Selection::One(Link::Place(*i))),
         Selector::Slice { start, stop, step } => Ok(Selection::Sliced {
             start: *start,
             stop: *stop,

@@ -11,7 +11,7 @@ ghost use Rattle.tape_select.specs.Planned.{trees, selection_view};
 
 use crate::fault::SelectFault;
 use crate::nodes::push_some;
-use crate::plan::{Name, Selection};
+use crate::plan::{Link, Name, Selection};
 use json_tape::{Document, NodeId};
 
 /// The name, where there is no other selector.
@@ -19,7 +19,7 @@ pub fn lone_name(selections: &[Selection]) -> Option<&Name>
     ensures { IfSome result (λ found. trees (map selection_view selections.now) ≡ name found.now.scalars.items ∷ []) }
 {
     match selections {
-        [Selection::Named(name)] => Some(name),
+        [Selection::One(Link::Key(name))] => Some(name),
         _ => None,
     }
 }

@@ -19,7 +19,7 @@ pub struct Constant {
     ghost valid: { IsTrue (is_literal (literal_view literal)) },
 }
 
-/// A segment of a singular query (RFC 9535, section 2.3.5.1).
+/// A selector that selects one node at most: a segment of a singular query (RFC 9535, section 2.3.5.1), or one of a bracket.
 #[derive(Drop)]
 pub enum Link {
     Key(Name),
@@ -47,9 +47,8 @@ pub struct Stage {
 #[derive(Drop)]
 #[cycle(plan)]
 pub enum Selection {
-    Named(Name),
+    One(Link),
     Wild,
-    At(IntLit),
     Sliced {
         start: Option<IntLit>,
         stop: Option<IntLit>,

@@ -11,7 +11,7 @@ use Rattle.tape_select.specs.Charge.{total_of, charge_from, charge_expr}
 use Rattle.tape_select.specs.Extra.{extra_in, nodes_from, charge_at}
 use Rattle.tape_select.specs.Planned.{claims_of, query_of, trees, condition_view, selection_view, stage_view, With, condition_step, operand_step, selection_step, nested_step, stage_step}
 use Rattle.tape_select.specs.declared.plan.Condition.TheFolds.{fold_out-Selection}
-use Rattle.tape_select.proofs.Filtering.{stage_claimed, evaluated_step, charge_step, adds_paid, more_of, staying, staying_charge, descending, descending_charge, filter_charge, leaf_holds, leaf_costs}
+use Rattle.tape_select.proofs.Filtering.{stage_claimed, evaluated_step, charge_step, adds_paid, more_of, staying, staying_charge, descending, descending_charge, filter_charge, leaf_holds, leaf_costs, finds_linked}
 use Rattle.tape_select.proofs.Following.{refuses_from}
 use Rattle.tape_select.proofs.Naming.{adds_named}
 use Rattle.tape_select.proofs.evaluation.+evaluation.Goals as goal
@@ -53,7 +53,7 @@ unfolding Rattle.tape_select.specs.declared.plan.Condition.TheViews.out-Selectio
 selected_by-returns-in-Where-clause-added t c =
     let f = charge_expr (node_at c.args.doc.now 0) (condition_view c.in-Where.condition.value).tree in
     let same = filter_charge f (children (node_at c.args.doc.now c.args.n.0)) in
-    let ran = rw (← same) at (rw c.deref-in-Where.ensures at c.filtered.ensures.added) in
+    let ran = rw (← same) at (rw c.deref.ensures at c.filtered.ensures.added) in
     let o = fold_out-Selection (With tree.Expr) (With tree.Comparable) (With tree.Selector) (With tree.Nested) (With OneSegment) condition_step operand_step selection_step nested_step stage_step c.args.selection.now in
     let e : (selection_view c.args.selection.now).tree ≡ filter (condition_view c.in-Where.condition.value).tree = ap (λ x. x.tree) o ∙ rw c.in-Where.is refl in
     rw e ran
@@ -128,3 +128,9 @@ visited-returns-in-Some-clause-added t c =
     let d = c.args.doc.now in
     adds_named d c.named.result c.named.new.out.items (node_at d 0) (node_at d c.args.n.0) (nodes_of d c.args.out.now.items) (trees (map selection_view c.args.selections.now)) c.in-Some.name.now.scalars.items
     c.args.state.now.meter.left c.in-Some.ensures c.named.ensures
+
+pub after_stage-returns-in-Some-clause-found : goal.after_stage-returns-in-Some-clause-found
+after_stage-returns-in-Some-clause-found t c =
+    let d = c.args.doc.now in
+    finds_linked d c.stepped.result (node_at d 0) (stage_view c.args.stage.now).tree c.in-Some.link.now c.args.input.now c.args.state.now.meter.left c.stepped.new.meter.left
+    c.in-Some.ensures c.stepped.ensures

@@ -68,8 +68,8 @@ invariant-visited_each-loop-k l = record {
   sound : Inside l.doc l.out.items;
 }
 
-abbrev pub invariant-after_stage-loop-n : goal.invariant-after_stage-loop-n
-invariant-after_stage-loop-n l = record {
+abbrev pub invariant-after_each-loop-n : goal.invariant-after_each-loop-n
+invariant-after_each-loop-n l = record {
   same : nodes_of l.doc l.out.items ++ nodes_after (node_at l.doc 0) (stage_view l.stage).tree (nodes_of l.doc (drop l.n-index l.input))
       ≡ nodes_after (node_at l.doc 0) (stage_view l.stage).tree (nodes_of l.doc l.input);
   paid : l.state.meter.left + charge_after (node_at l.doc 0) (stage_view l.stage).tree (nodes_of l.doc l.input)
