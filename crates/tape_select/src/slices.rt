@@ -1,6 +1,6 @@
 //! The selector of a slice (RFC 9535, section 2.3.4).
 
-ghost use Rattle.std.specs.Prelude.{◌≡◌, ◌<◌, ◌≤◌, ◌++◌, ◌^◌, length, take, drop, reverse, unsigned_abs};
+ghost use Rattle.std.specs.Prelude.{◌≡◌, ◌<◌, ◌≤◌, ◌++◌, ◌^◌, [], ◌∷◌, length, take, drop, reverse, unsigned_abs};
 ghost use Rattle.json_tape.specs.Document.{count, node_at, following, IsIn};
 ghost use Rattle.json_tape.specs.Nodes.{elements};
 ghost use Rattle.tape_select.specs.Nodelists.{nodes_of};
@@ -13,7 +13,10 @@ use crate::meter::Meter;
 use crate::nodes::push;
 use json_tape::{Document, NodeId};
 use path_grammar::IntLit;
-use tape_values::{Places, element_total, elements_from, slice_places};
+use tape_values::{Places, element, element_total, elements_from, slice_places};
+
+// The step from which an element is found sooner by its place than by a walk.
+const FAR: u64 = 8;
 
 // The element at the first place, and those behind it.
 #[tactic(auto, using(crate::proofs::Picking::beginning))]
@@ -30,9 +33,25 @@ fn first_picked(doc: &Document, n: NodeId, places: Places) -> Option<NodeId>
     }
 }
 
-// The elements at these places, in document order.
+// Adds an element, for one unit.
+#[inline(always)]
+fn add(
+    doc: &Document,
+    element: NodeId,
+    meter: &mut Meter,
+    out: &mut Vec<NodeId>,
+) -> Result<(), SelectFault>
+    requires inside { element.0 < count doc.now }
+    requires sound { Inside doc.now out.old.items }
+    ensures { Adds doc.now result out.new.items (nodes_of doc.now out.old.items ++ node_at doc.now element.0 ∷ []) 1 meter.old.left meter.new.left }
+{
+    meter.spend(1)?;
+    push(doc, out, element)
+}
+
+// The elements at these places, each from the one before it.
 #[tactic(auto, using(crate::proofs::Picking::picking))]
-fn picked(
+fn picked_by_walking(
     doc: &Document,
     n: NodeId,
     places: Places,
@@ -54,14 +73,69 @@ fn picked(
             break;
         };
         if i == wanted {
-            meter.spend(1)?;
-            push(doc, out, c)?;
+            add(doc, c, meter, out)?;
             wanted += places.step;
         }
         child = doc.next_sibling(c);
         i += 1;
     }
     Ok(())
+}
+
+// The elements at these places, each by its place.
+#[tactic(auto, using(crate::proofs::Picking::striding))]
+fn picked_by_place(
+    doc: &Document,
+    n: NodeId,
+    places: Places,
+    meter: &mut Meter,
+    out: &mut Vec<NodeId>,
+) -> Result<(), SelectFault>
+    requires step { 0 < places.step }
+    requires step_fits { places.step ≤ 2 ^ 63 }
+    requires end_fits { places.end ≤ 2 ^ 32 }
+    requires inside { n.0 < count doc.now }
+    requires sound { Inside doc.now out.old.items }
+    ensures { Adds doc.now result out.new.items (nodes_of doc.now out.old.items ++ picked (is_place places.first places.end places.step) 0 (elements (node_at doc.now n.0))) (length (picked (is_place places.first places.end places.step) 0 (elements (node_at doc.now n.0)))) meter.old.left meter.new.left }
+{
+    let mut wanted = places.first;
+    while wanted < places.end {
+        let Some(found) = element(doc, n, IntLit::Within(wanted as i64)) else {
+            break;
+        };
+        add(doc, found, meter, out)?;
+        wanted += places.step;
+    }
+    Ok(())
+}
+
+// Whether the elements of an array have numbers that follow one another, as those of which none has anything in it do.
+fn stand_in_line(doc: &Document, n: NodeId) -> bool
+    requires { n.0 < count doc.now }
+{
+    doc.after(n) - n.0 - 1 == element_total(doc, n)
+}
+
+// The elements at these places, in document order.
+fn picked(
+    doc: &Document,
+    n: NodeId,
+    places: Places,
+    meter: &mut Meter,
+    out: &mut Vec<NodeId>,
+) -> Result<(), SelectFault>
+    requires step { 0 < places.step }
+    requires step_fits { places.step ≤ 2 ^ 63 }
+    requires end_fits { places.end ≤ 2 ^ 32 }
+    requires inside { n.0 < count doc.now }
+    requires sound { Inside doc.now out.old.items }
+    ensures { Adds doc.now result out.new.items (nodes_of doc.now out.old.items ++ picked (is_place places.first places.end places.step) 0 (elements (node_at doc.now n.0))) (length (picked (is_place places.first places.end places.step) 0 (elements (node_at doc.now n.0)))) meter.old.left meter.new.left }
+{
+    if FAR <= places.step && stand_in_line(doc, n) {
+        picked_by_place(doc, n, places, meter, out)
+    } else {
+        picked_by_walking(doc, n, places, meter, out)
+    }
 }
 
 // Turns the end of a list round.

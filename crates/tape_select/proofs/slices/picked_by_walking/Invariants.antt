@@ -4,7 +4,7 @@ use Rattle.tape_values.specs.Selection.{picked}
 use Rattle.tape_values.specs.Places.{is_place}
 use Rattle.tape_select.specs.Nodelists.{nodes_of}
 use Rattle.tape_select.specs.Paying.{Inside}
-use Rattle.tape_select.proofs.slices.picked.Given as goal
+use Rattle.tape_select.proofs.slices.picked_by_walking.Given as goal
 
 abbrev pub invariant-loop-wanted : goal.invariant-loop-wanted
 invariant-loop-wanted l = record {
