@@ -1,7 +1,7 @@
 -- How many children a value has.
 use Rattle.std.proofs.Common.{◌≡◌, ◌≢◌, ℕ, suc, ◌+◌, ◌≤◌, List, [], ◌∷◌, length, Some, None, refl, sym, ap, arith}
 use Rattle.json_tape.specs.Tree.{Null, True, False, Num, Str, Tree, Leaf, Arr, Obj, Elements, NoElement, Element, Members, NoMember, Member}
-use Rattle.json_tape.specs.Nodes.{Node, Step, size, elements_from, members_from, elements_of, children_of, children, elements}
+use Rattle.json_tape.specs.Nodes.{Node, Step, size, elements_from, members_from, children_of, children}
 use Rattle.json_tape.specs.Document.{Doc, kind_of, length_of}
 use Rattle.json_tape.specs.Tape.{element_count, member_count}
 use Rattle.json_tape.specs.declared.tape.NodeId.{NodeId}

@@ -7,7 +7,7 @@ ghost use Rattle.json_tape.specs.Nodes.{Node, children};
 ghost use Rattle.path_grammar.specs.Tree.{exprs_of};
 ghost use Rattle.path_grammar.specs.View.{literal_view};
 ghost use Rattle.tape_values.specs.Comparison.{compared, literal_value};
-ghost use Rattle.tape_values.specs.Functions.{only_value};
+ghost use Rattle.tape_values.specs.Functions.{length_value, only_value};
 ghost use Rattle.tape_values.specs.Sides.{side_value, IsSide};
 ghost use Rattle.tape_select.specs.Answered.{AreRight};
 ghost use Rattle.tape_select.specs.Evaluation.{nodes, holds, some_hold, all_hold, result as side_result};
@@ -26,7 +26,7 @@ use crate::sides::{compare, length_of, side_found};
 use json_tape::{Document, NodeId};
 use path_grammar::Op;
 use std::slice::from_ref;
-use tape_values::{Side, compare_found};
+use tape_values::{Side, compare_found, compare_sides, compare_whole};
 
 // What a singular query is charged, where it is from `@` and of one segment at most.
 fn units_of_chain(chain: &Chain) -> Option<u32>
@@ -155,6 +155,25 @@ fn compare_constant(
     compare_found(doc, found_plainly(doc, chain, child), op, &constant.literal)
 }
 
+// Whether a comparison of a length with a literal holds.
+#[inline(always)]
+fn compare_length(
+    doc: &Document,
+    operand: &Operand,
+    op: &Op,
+    constant: &Constant,
+    child: NodeId,
+) -> bool
+    requires inside { child.0 < count doc.now }
+    requires plain { IsTrue (is_plain_side operand.now) }
+    ensures { result ≡ compared op.now (length_value (side_result (node_at doc.now 0) (operand_view operand.now).tree (node_at doc.now child.0))) (Some (literal_value (literal_view constant.now.literal))) }
+{
+    match length_of(doc, side_plainly(doc, operand, child)) {
+        Side::Whole(total) => compare_whole(doc, total, op, &constant.literal),
+        side => compare_sides(doc, *op, &side, &Side::Literal(&constant.literal)),
+    }
+}
+
 // Whether a condition holds for a child. A comparison with a literal, as most are, takes no call.
 #[cycle(plain)]
 #[inline(always)]
@@ -197,6 +216,9 @@ fn holds_by_kind(
         Condition::Any(operands) => some_plainly(doc, operands, child, answers),
         Condition::Each(operands) => all_plainly(doc, operands, child, answers),
         Condition::Not(operand) => !holds_plainly(doc, operand, child, answers),
+        Condition::Compare(Operand::Length(operand), op, Operand::Constant(constant)) => {
+            compare_length(doc, operand, op, constant, child)
+        }
         Condition::Compare(left, op, right) => {
             compare_plainly(doc, left, *op, right, child, answers)
         }

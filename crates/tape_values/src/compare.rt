@@ -6,7 +6,7 @@ ghost use Rattle.path_types.specs.Validity.{is_literal};
 ghost use Rattle.json_tape.specs.Document.{single, IsIn};
 ghost use Rattle.tape_values.specs.Comparison.{a_number, literal_value, equal_results, less_results, compared};
 ghost use Rattle.tape_values.specs.Contents.{content_value, digits_text, AreDigits, IsContent};
-ghost use Rattle.tape_values.specs.Functions.{only_value};
+ghost use Rattle.tape_values.specs.Functions.{only_value, whole_number};
 ghost use Rattle.tape_values.specs.Sides.{side_value, side_number, IsSide, IsNumberSide, IsNumberFound};
 
 use crate::digits::{Digits, compare_digits};
@@ -159,6 +159,25 @@ pub fn compare_found(doc: &Document, found: Option<NodeId>, op: &Op, literal: &L
             compare_numbers(*op, Digits::Written(a), Digits::Written(b.as_slice()))
         }
         _ => compare_any(doc, found, *op, literal),
+    }
+}
+
+/// Whether a comparison of a length or a count with a literal holds. Most are of numbers.
+#[inline(always)]
+pub fn compare_whole(doc: &Document, total: usize, op: &Op, literal: &Literal) -> bool
+    requires literal { IsTrue (is_literal (literal_view literal.now)) }
+    ensures { result ≡ compared op.now (Some (whole_number total)) (Some (literal_value (literal_view literal.now))) }
+{
+    judges_numbers();
+    match literal {
+        Literal::Number(digits) => {
+            compare_numbers(
+                *op,
+                Digits::Whole(total),
+                Digits::Written(digits.as_slice()),
+            )
+        }
+        _ => compare_contents(doc, *op, Side::Whole(total), Side::Literal(literal)),
     }
 }
 

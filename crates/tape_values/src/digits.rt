@@ -50,6 +50,15 @@ fn compare_texts(a: Digits<'_>, b: Digits<'_>) -> Ordering
     compare(text_of(&mut left, a), text_of(&mut right, b))
 }
 
+// How a whole number compares with a written one.
+#[inline(never)]
+fn compare_whole(n: usize, text: &[u8]) -> Ordering
+    requires { IsNumberText text.now }
+    ensures { result ≡ number_cmp (decimal n) text.now }
+{
+    compare(whole_text(&mut Buffer::new(), n), text)
+}
+
 /// How two numbers compare. Most are written.
 #[inline(always)]
 pub fn compare_digits(a: Digits<'_>, b: Digits<'_>) -> Ordering
@@ -59,6 +68,7 @@ pub fn compare_digits(a: Digits<'_>, b: Digits<'_>) -> Ordering
 {
     match (a, b) {
         (Digits::Written(a), Digits::Written(b)) => compare(a, b),
+        (Digits::Whole(n), Digits::Written(b)) => compare_whole(n, b),
         _ => compare_texts(a, b),
     }
 }

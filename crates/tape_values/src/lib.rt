@@ -17,7 +17,7 @@ mod sides;
 mod slices;
 mod values;
 
-pub use compare::{compare as compare_sides, compare_found};
+pub use compare::{compare as compare_sides, compare_found, compare_whole};
 pub use indexes::{element, element_total, elements_from};
 pub use sides::Side;
 pub use slices::{Places, slice_places};
