@@ -22,7 +22,7 @@ use crate::fault::SelectFault;
 use crate::meter::Meter;
 use crate::nodes::{child_total, push};
 use crate::plan::{Chain, Condition, Constant, Operand};
-use crate::sides::{compare, length_of, side_found};
+use crate::sides::{compare, length_of, one_missing, side_found};
 use json_tape::{Document, NodeId};
 use path_grammar::Op;
 use std::slice::from_ref;
@@ -170,6 +170,7 @@ fn compare_length(
 {
     match length_of(doc, side_plainly(doc, operand, child)) {
         Side::Whole(total) => compare_whole(doc, total, op, &constant.literal),
+        Side::Nothing => one_missing(*op),
         side => compare_sides(doc, *op, &side, &Side::Literal(&constant.literal)),
     }
 }

@@ -93,8 +93,8 @@ fn both_missing(op: Op) -> bool
     }
 }
 
-// Whether a comparison of a value with Nothing holds, on whichever side that is.
-fn one_missing(op: Op) -> bool
+/// Whether a comparison of a value with Nothing holds, on whichever side that is.
+pub fn one_missing(op: Op) -> bool
     ensures right { (v : Value) → result ≡ compared op (Some v) None }
     ensures left { (v : Value) → result ≡ compared op None (Some v) }
 {
