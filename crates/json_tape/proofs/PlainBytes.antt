@@ -1,12 +1,14 @@
 -- Bytes that are characters by themselves and stand for themselves.
-use Rattle.std.proofs.Common.{◌≡◌, ◌≢◌, ℕ, zero, suc, ◌+◌, ◌*◌, ◌%◌, ◌<◌, ◌≤◌, Bool, true, false, ◌&&◌, cond, None, List, [], ◌∷◌, length, get_or, drop, refl, ap, ◌∙◌, arith, sym, subst}
+use Rattle.std.proofs.Common.{◌≡◌, ◌≢◌, ℕ, zero, suc, ◌+◌, ◌-◌, ◌*◌, ◌%◌, ◌<◌, ◌≤◌, Bool, true, false, ◌&&◌, cond, None, List, [], ◌∷◌, length, get_or, drop, refl, ap, ◌∙◌, arith, sym, subst}
 use Rattle.std.specs.Prelude.{bytes_eq, eqb, IsUtf8}
 use Rattle.std.specs.Str.{chars}
-use Rattle.std.proofs.lemmas.List.{drop_more, drop_all}
+use Rattle.std.proofs.lemmas.List.{drop_more, drop_all, get_or-take, get_or-drop, length-take-le, length-drop}
 use Rattle.std.proofs.lemmas.Str.{chars-nil, chars-append, chars-IsAscii, IsUtf8-from_ascii, length-le-encodes, encodes-chars}
 use Rattle.std.proofs.lemmas.Bool.Decides.{nat_tests}
 use Rattle.json_tape.specs.Tree.{Spelt, Plain, Short}
-use Rattle.json_tape.specs.Spelling.{hex_value, spelt_from, scalars_in, SpellPlainly}
+use Rattle.json_tape.specs.Spelling.{hex_value, spelt_from, scalars_in, unquoted, IsQuoted, SpellPlainly}
+use Rattle.json_tape.specs.Limits.{bytes_at}
+use Rattle.json_tape.specs.declared.tape.Extent.{Extent}
 use Rattle.json_tape.specs.declared.scan.Mode.{Mode}
 use Rattle.json_tape.specs.declared.scan.Mode.TheVariants.{Between, Escape, Hex}
 use Rattle.json_tape.specs.Repeats.{next_hash, hash_from}
@@ -97,11 +99,33 @@ fewer_left (x ∷ xs) (y ∷ ys) h = go (eqb x y) (fewer_left xs ys (omega arith
 pub fewer : (name inside : List ℕ) → IsUtf8 inside → length inside < length name → bytes_eq name (scalars_in (chars inside)) ≡ false
 fewer name inside u h = fewer_left name (scalars_in (chars inside)) (let a = inside_short inside u in omega arith)
 
-pub first_other : (name inside : List ℕ) → 0 < length name → 0 < length inside → get_or inside 0 0 < 128 → get_or inside 0 0 ≢ 92 → get_or name 0 0 ≢ get_or inside 0 0
+first_other : (name inside : List ℕ) → 0 < length name → 0 < length inside → get_or inside 0 0 < 128 → get_or inside 0 0 ≢ 92 → get_or name 0 0 ≢ get_or inside 0 0
     → bytes_eq name (scalars_in (chars inside)) ≡ false
 first_other name inside k l h n e = plain_other name inside 0 k l h n e
 
-pub ruleset other_beginning = (fewer, first_other)
+-- the byte behind a string's opening quote tells, also where it is the closing one
+pub begins_other : (text : List ℕ) (string : Extent) (name : List ℕ) → IsQuoted text string → 0 < length name → get_or text (string.start + 1) 0 < 128 → get_or text (string.start + 1) 0 ≢ 92
+    → get_or name 0 0 ≢ get_or text (string.start + 1) 0 → bytes_eq name (scalars_in (chars (unquoted (bytes_at text string)))) ≡ false
+begins_other text string name q some ascii plain other = by_length (length bs - 2) refl
+  where
+    bs : List ℕ
+    bs = bytes_at text string
+
+    long : length bs ≡ string.len
+    long = length-take-le string.len (drop string.start text) (let d = length-drop string.start text in let f = q.1 in omega (arith, d, f))
+
+    first : (n : ℕ) → length bs - 2 ≡ suc n → get_or (unquoted bs) 0 0 ≡ get_or text (string.start + 1) 0
+    first n e =
+        get_or-take (length bs - 2) (drop 1 bs) 0 0 (omega (arith, e)) ∙ get_or-drop 1 bs 0 0
+        ∙ get_or-take string.len (drop string.start text) (1 + 0) 0 (omega (arith, e, long)) ∙ get_or-drop string.start text (1 + 0) 0
+        ∙ ap (λ i. get_or text i 0) (let z : string.start + (1 + 0) ≡ string.start + 1 = omega arith in z)
+
+    by_length : (n : ℕ) → length bs - 2 ≡ n → bytes_eq name (scalars_in (chars (unquoted bs))) ≡ false
+    by_length zero e = fewer_left name (scalars_in (chars (unquoted bs))) (rw e (rw chars-nil some))
+    by_length (suc n) e =
+        let f = first n e in
+        let size : length (unquoted bs) ≡ length bs - 2 = length-take-le (length bs - 2) (drop 1 bs) (let d = length-drop 1 bs in omega (arith, d)) in
+        first_other name (unquoted bs) some (omega (arith, size, e)) (subst (λ x. x < 128) (sym f) ascii) (λ x. plain (sym f ∙ x)) (λ x. other (x ∙ f))
 
 -- ---- The hash of what the bytes from a place on mean
 

@@ -1,9 +1,9 @@
 -- The members of wide objects, kept one object after the other.
-use Rattle.std.proofs.Common.{◌≡◌, ℕ, zero, suc, ◌+◌, ◌-◌, ◌<◌, ◌≤◌, true, false, Bool, inl, inr, List, [], ◌∷◌, ◌++◌, length, map, take, drop, get_or, refl, sym, ap, ◌∙◌, subst, arith, length-append}
+use Rattle.std.proofs.Common.{◌≡◌, ℕ, zero, suc, ◌+◌, ◌-◌, ◌<◌, ◌≤◌, false, Bool, inl, inr, List, [], ◌∷◌, ◌++◌, length, map, take, drop, get_or, refl, sym, ap, ◌∙◌, subst, arith, length-append}
 use Rattle.std.specs.Prelude.{nat_eq}
 use Rattle.std.proofs.lemmas.Bool.{cases_lt}
 use Rattle.std.proofs.lemmas.List.{length-map, get_or_append_left, get_or_at, take-append-le, drop-append-le, drop_at, take_all, length-drop, get_or_read}
-use Rattle.std.specs.List.{All, AllByRecursion}
+use Rattle.std.specs.List.{All}
 use Rattle.std.proofs.lemmas.List.Elements.{All-from_recursion}
 use Rattle.std.specs.List.Sorted.{IsPermutation, IsSorted, IsStrictlySortedBy}
 use Rattle.std.specs.declared.result.Result.TheVariants.{Ok, Err}
@@ -15,10 +15,10 @@ use Rattle.std.specs.Ordering.{on}
 use Rattle.std.specs.Cmp.Lexicographic.{pointwise}
 use Rattle.std.specs.declared.cmp.Ordering.{Ordering}
 use Rattle.std.specs.declared.cmp.Ordering.TheVariants.{Less}
-use Rattle.json_tape.specs.Tree.{Members, Obj}
+use Rattle.json_tape.specs.Tree.{Members}
 use Rattle.json_tape.specs.Spelling.{IsQuoted}
 use Rattle.json_tape.specs.Repeats.{IsObject, repeats, meanings, repeats_by, repeats_next_by}
-use Rattle.json_tape.specs.Ordered.{Keyed, keyed, key_name, key_number, key_hash, name_cmp, name_hash, name_at, entry_in, nothing_there, AreNamed, IsOrderOf, AreKept, IsWide, part}
+use Rattle.json_tape.specs.Ordered.{Keyed, keyed, key_name, key_number, key_hash, name_cmp, name_hash, name_at, entry_in, nothing_there, IsOrderOf, AreKept, IsWide, part}
 use Rattle.json_tape.specs.KeyOrder.{keys_equiv, keys_total, keys_tie}
 use Rattle.json_tape.specs.declared.tape.Entry.{Entry}
 use Rattle.json_tape.specs.declared.tape.Kind.TheVariants as kinds

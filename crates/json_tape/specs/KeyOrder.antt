@@ -1,7 +1,7 @@
 -- The laws of the order of names.
 use Rattle.std.proofs.Common.{sym, ap, ◌∙◌}
 use Rattle.std.specs.Prelude.{◌≡◌, ℕ, List, Bool, true, false, refl, nat_eq, Some}
-use Rattle.std.specs.Ordering.{nat_cmp, on, then_cmp, ordering_then, eq_by_cmp, is_eq}
+use Rattle.std.specs.Ordering.{nat_cmp, on, ordering_then, eq_by_cmp, is_eq}
 use Rattle.std.specs.declared.cmp.Ordering.{Ordering}
 use Rattle.std.specs.declared.cmp.Ordering.TheVariants.{Less, Equal, Greater}
 use Rattle.std.specs.Cmp.{IsEquivalence, IsTotalOrder, IsPartialOrder, po, on_equiv, on_total, then_total, nat_cmp_total, tied_itself}

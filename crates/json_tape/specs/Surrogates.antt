@@ -47,6 +47,10 @@ lone bs = lone_from (standing Between 0 false) bs
 abbrev pub AreSlashless : List ℕ → (from to : ℕ) → Type 0
 AreSlashless bs from to = (k : ℕ) → from ≤ k → k < to → get_or bs k 0 ≢ 92
 
+-- no backslash stands before a u, as in each escape of a unit
+abbrev pub HasNoUnits : List ℕ → Type 0
+HasNoUnits bs = (k : ℕ) → get_or bs k 0 ≡ 92 → get_or bs (suc k) 0 ≢ 117
+
 -- the entry is that of a string with one
 abbrev pub IsLoneValue : List ℕ → Entry → Type 0
 IsLoneValue text e = (e.kind ≡ kinds.Text) × (lone (bytes_at text e.source) ≡ true)

@@ -88,8 +88,11 @@ pub fn count_of(mut scalars: Scalars<'_>) -> u32
     ensures { result ≡ length scalars.entry }
 {
     let mut count = scalars.pass_plain();
-    while scalars.next().is_some() {
-        count += 1 + scalars.pass_plain();
+    while let Some(scalar) = scalars.next() {
+        count += 1;
+        if scalar.is_ascii() {
+            count += scalars.pass_plain();
+        }
     }
     count as u32
 }

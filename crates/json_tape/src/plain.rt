@@ -23,22 +23,21 @@ fn is_meant(mut scalars: Scalars<'_>, name: &[char]) -> bool
     scalars.next().is_none()
 }
 
-// Whether their number and the first of them let these characters of a string mean these scalar values.
+// Whether the first character of a string that stands there tells that it does not mean these scalar values.
 #[inline(always)]
-#[tactic(auto, using(crate::proofs::PlainBytes::other_beginning))]
-fn may_spell(inside: &str, name: &[char]) -> bool
-    ensures other { result ≡ false → bytes_eq name.now (scalars_in (chars inside.now)) ≡ false }
-    ensures long { IsTrue result → length name.now ≤ length inside.now }
+#[tactic(auto, using(crate::proofs::PlainBytes::begins_other))]
+fn begins_otherwise(text: &str, string: Extent, name: &[char]) -> bool
+    requires { IsQuoted text.now string }
+    ensures { IsTrue result → bytes_eq name.now (scalars_in (chars (inside (bytes_at text.now string)))) ≡ false }
 {
-    let bytes = inside.as_bytes();
-    if bytes.len() < name.len() {
+    if name.is_empty() {
         return false;
     }
-    if name.is_empty() {
-        return true;
+    let byte = text.as_bytes()[string.start as usize + 1];
+    if byte >= 128 || byte == b'\\' {
+        return false;
     }
-    let byte = bytes[0];
-    u32::from(name[0]) == u32::from(byte) || byte >= 128 || byte == b'\\'
+    u32::from(name[0]) != u32::from(byte)
 }
 
 // So many characters are compared at once.
@@ -113,11 +112,11 @@ fn ends_plainly(inside: &str, name: &[char]) -> Option<bool>
 // The characters are compared as far as each byte is ASCII and no backslash, those that four at a time tell first. `None` where
 // one is not.
 #[inline(always)]
-#[tactic(auto, using(crate::proofs::PlainBytes::plain_run, crate::proofs::PlainBytes::comparing))]
+#[tactic(auto, using(crate::proofs::PlainBytes::fewer, crate::proofs::PlainBytes::plain_run, crate::proofs::PlainBytes::comparing))]
 fn spells_plainly(inside: &str, name: &[char]) -> Option<bool>
     ensures { IfSome result (λ same. same ≡ bytes_eq name.now (scalars_in (chars inside.now))) }
 {
-    if !may_spell(inside, name) {
+    if inside.len() < name.len() {
         return Some(false);
     }
     let bytes = inside.as_bytes();
@@ -238,6 +237,9 @@ pub fn is_meant_plainly(
     requires words { IfSome words (λ words. AreWordsOf words name.now) }
     ensures { IfSome result (λ same. same ≡ bytes_eq name.now (scalars_in (chars (inside (bytes_at text.now string))))) }
 {
+    if begins_otherwise(text, string, name) {
+        return Some(false);
+    }
     let characters = unquoted(text, string);
     match words {
         Some(words) => spells_words(characters, name, words),

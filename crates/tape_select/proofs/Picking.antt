@@ -105,10 +105,7 @@ picked_stride first end step n ns at below fits some =
 pub picked_past : (first end step : ℕ) (ns : List Node) → [] ≡ at_index (Within (to_z w64 first)) ns → first < end → end ≤ 2 ^ 32 → picked (is_place first end step) first (drop first ns) ≡ []
 picked_past first end step ns at below fits = rw (drop_past first ns (at ∙ at_signed first ns (omega (arith, below, fits)))) refl
 
-pub picked_whole : (first end step : ℕ) (ns : List Node) → picked (is_place first end step) first (drop first ns) ≡ picked (is_place first end step) 0 ns
-picked_whole first end step ns = picked_on first end step 0 first ns (omega arith)
-
-pub ruleset striding = (picked_stride, picked_past, picked_none, picked_whole, add_more, has_none, append_nil)
+pub ruleset striding = (picked_stride, picked_past, picked_none, picked_from, add_more, has_none, append_nil)
 
 pub ruleset beginning = (picked_from, picked_none)
 

@@ -16,6 +16,9 @@ use tape_values::{Side, compare_sides};
 // The most bytes of a string that is compared each time.
 const SHORT: usize = 64;
 
+// The most bytes of a number that is compared each time, whatever it says.
+const SHORT_NUMBER: usize = 6;
+
 /// The value of a node, or Nothing.
 pub fn side_found<'a>(doc: &Document, found: Option<NodeId>) -> Side<'a>
     requires { IsIn doc.now found }
@@ -45,14 +48,20 @@ pub fn length_of<'a>(doc: &Document, side: Side<'_>) -> Side<'a>
     }
 }
 
-// Whether a comparison with this value may take long: an array, an object or a long string.
+// Whether a number has an exponent of several digits: such numbers are taken apart to be compared.
+fn has_long_exponent(number: &[u8]) -> bool {
+    number.len() > SHORT_NUMBER && (number.contains(&b'e') || number.contains(&b'E'))
+}
+
+// Whether a comparison with this value may take long: an array, an object, a long string or a number with a long exponent.
 fn is_costly(doc: &Document, n: NodeId) -> bool
     requires { n.0 < count doc.now }
 {
     match doc.kind(n) {
         Kind::Array | Kind::Object => true,
         Kind::Text => doc.text(n).len() > SHORT,
-        Kind::Null | Kind::Bool(_) | Kind::Number => false,
+        Kind::Number => has_long_exponent(doc.text(n)),
+        Kind::Null | Kind::Bool(_) => false,
     }
 }
 
@@ -104,7 +113,8 @@ pub fn one_missing(op: Op) -> bool
     }
 }
 
-/// Whether a comparison holds. Those of two arrays, objects or long strings are made once, while they are kept.
+/// Whether a comparison holds. Those of two arrays, objects, long strings or numbers with long exponents are
+/// made once, while they are kept.
 pub fn compare(
     doc: &Document,
     op: Op,

@@ -3,7 +3,7 @@ use Rattle.json_tape.specs.declared.tape.Entry.{Entry}
 use Rattle.json_tape.specs.declared.tape.Kind.TheVariants as kinds
 use Rattle.json_tape.specs.Repeats.{repeats, meanings}
 use Rattle.json_tape.proofs.TwinNames.{object_at, too_few, duplicate_found, duplicate_none, one_more}
-use Rattle.json_tape.proofs.Runs.{kept_none, kept_same, not_wide}
+use Rattle.json_tape.proofs.Runs.{kept_same, not_wide}
 use Rattle.json_tape.proofs.duplicates.order_names.Goals.{then-may_repeat+in_ok-found+else-found, else-may_repeat}
 use Rattle.json_tape.proofs.duplicates.order_names.Goals as goal
 

@@ -1,4 +1,4 @@
-use Rattle.std.proofs.Common.{◌≡◌, ◌<◌, length, arith, refl, ap, sym, subst, ◌∙◌}
+use Rattle.std.proofs.Common.{◌≡◌, ◌<◌, length, arith, refl, ap, sym, ◌∙◌}
 use Rattle.std.specs.Str.{chars}
 use Rattle.json_tape.specs.Spelling.{scalars_in}
 use Rattle.json_tape.specs.Meaning.{meaning}

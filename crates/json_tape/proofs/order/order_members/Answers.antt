@@ -1,4 +1,4 @@
-use Rattle.std.proofs.Common.{◌≡◌, ◌+◌, ◌∙◌, ◌++◌, ◌∷◌, [], sym, ap, arith, length, map, false}
+use Rattle.std.proofs.Common.{◌≡◌, ◌+◌, ◌∙◌, ◌++◌, ◌∷◌, [], sym, ap, arith, map, false}
 use Rattle.std.proofs.lemmas.List.{take_at}
 use Rattle.json_tape.specs.Tree.{Members}
 use Rattle.json_tape.specs.Ordered.{keyed, key_hash, key_number}

@@ -1,9 +1,9 @@
-use Rattle.std.proofs.Common.{◌∙◌, ◌≤◌, ◌+◌, length, get_or, refl, arith, rules, ap}
+use Rattle.std.proofs.Common.{refl, arith, ap}
 use Rattle.std.proofs.lemmas.List.{get_or_read}
 use Rattle.json_tape.specs.Ordered.{nothing_there}
 use Rattle.json_tape.specs.declared.tape.Entry.{Entry}
 use Rattle.json_tape.proofs.Readers.{told, within}
-use Rattle.json_tape.proofs.Runs.{kept_in, lost, place_of, run_room, run_is, narrow_there}
+use Rattle.json_tape.proofs.Runs.{kept_in, lost, place_of, run_is}
 use Rattle.json_tape.proofs.document.Document.run.Goals as goal
 
 pub returns-in_default : goal.returns-in_default

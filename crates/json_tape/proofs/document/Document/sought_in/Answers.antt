@@ -1,6 +1,5 @@
-use Rattle.std.proofs.Common.{◌∙◌, sym, ap, refl}
-use Rattle.json_tape.specs.Document.{Doc, count}
-use Rattle.json_tape.specs.Ordered.{sought_name, AreNamed}
+use Rattle.std.proofs.Common.{◌∙◌, sym, refl}
+use Rattle.json_tape.specs.Ordered.{sought_name}
 use Rattle.json_tape.proofs.WideNodes.{found_first, found_none, object_in, found_in, same_name}
 use Rattle.json_tape.proofs.document.Document.sought_in.Goals as goal
 

@@ -1,4 +1,4 @@
-use Rattle.std.proofs.Common.{◌≡◌, ◌+◌, ◌∙◌, length, sym, ap}
+use Rattle.std.proofs.Common.{◌+◌, ◌∙◌, length, sym, ap}
 use Rattle.std.specs.Str.{chars}
 use Rattle.json_tape.specs.Spelling.{scalars_in}
 use Rattle.json_tape.proofs.CountedStrings.{boundary_at, count_at}
