@@ -36,6 +36,7 @@ pub mod Repeats
 pub mod MembersLeft
 pub mod MembersSeen
 pub mod TwinNames
+pub mod Unique
 pub mod Utf8Order
 pub mod PlainNames
 pub mod Meanings

@@ -56,7 +56,7 @@ at_meant (Member m v ms) x (suc k) n e f = or_right (is_same (meaning m.characte
 abbrev AreTwins : Members → Type 0
 AreTwins ms = (j k : ℕ) × (m n : Name) × (means : List ℕ) × (j < k) × (slice_get (names ms) j ≡ Some m) × (slice_get (names ms) k ≡ Some n) × Means m.characters means × Means n.characters means
 
-twins_of : (ms : Members) → ((n : Name) → IsNameOf ms n → HasLone n.characters → ⊥) → repeats (meanings ms) ≡ true → AreTwins ms
+pub twins_of : (ms : Members) → ((n : Name) → IsNameOf ms n → HasLone n.characters → ⊥) → repeats (meanings ms) ≡ true → AreTwins ms
 twins_of NoMember all h = absurd (cc)
 twins_of (Member m v ms) all h = go (list_any (λ y. is_same y (meaning m.characters)) (meanings ms)) refl h (λ k. twins_of ms (λ n i. all n (later_name i)) k)
   where

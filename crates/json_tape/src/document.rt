@@ -1,6 +1,6 @@
 //! A text that was read, and the readers of its values.
 
-ghost use Rattle.std.specs.Prelude.{IfSome, ◌≡◌, ℕ, List, ◌^◌, ◌<◌, ◌≤◌, ◌-◌, ◌↔◌, length, MatchResult, MatchOption, IsTrue, slice_index_or};
+ghost use Rattle.std.specs.Prelude.{IfSome, ◌≡◌, ◌∷◌, [], ℕ, List, ◌^◌, ◌<◌, ◌≤◌, ◌-◌, ◌↔◌, length, MatchResult, MatchOption, IsTrue, slice_index_or};
 ghost use Rattle.std.specs.List.{Contains};
 ghost use Rattle.std.specs.Str.{chars};
 ghost use Rattle.json_tape.specs.Spelling.{scalars_in, AreWordsOf};
@@ -310,6 +310,38 @@ impl Document {
                 }
             }
             Kind::Null | Kind::Bool(_) | Kind::Number | Kind::Text | Kind::Array => None,
+        }
+    }
+
+    /// The same as [`Document::member`], where the value so many numbers behind the object is tried first: objects that are
+    /// made alike have a name at one distance.
+    #[inline(always)]
+    pub fn member_near(&self, n: NodeId, name: &[char], distance: u32) -> Option<NodeId>
+        requires { n.0 < count self.now }
+        ensures node { single self.now result ≡ first_where (is_named name.now) (children (node_at self.now n.0)) }
+        ensures inside { IsIn self.now result }
+    {
+        match self.member_at(n, name, distance) {
+            Some(found) => Some(found),
+            None => self.member(n, name),
+        }
+    }
+
+    // The member of this name, if it stands so many numbers behind the object.
+    #[inline(always)]
+    fn member_at(&self, n: NodeId, name: &[char], distance: u32) -> Option<NodeId>
+        requires { n.0 < count self.now }
+        ensures node { IfSome result (λ m. node_at self.now m.0 ∷ [] ≡ first_where (is_named name.now) (children (node_at self.now n.0))) }
+        ensures inside { IsIn self.now result }
+    {
+        if distance >= self.node_count() - n.0 {
+            return None;
+        }
+        let near = NodeId(n.0 + distance);
+        if self.entry(near).up == n.0 && self.name_is(near, name) {
+            Some(near)
+        } else {
+            None
         }
     }
 

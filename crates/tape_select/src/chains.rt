@@ -2,6 +2,7 @@
 
 ghost use Rattle.std.specs.Prelude.{◌≡◌, ◌<◌, ◌∷◌, []};
 ghost use Rattle.json_tape.specs.Document.{count, node_at, single, IsIn};
+ghost use Rattle.json_tape.specs.Nodes.{children, is_named, first_where};
 ghost use Rattle.tape_select.specs.Evaluation.{evaluated, selected_by};
 ghost use Rattle.tape_select.specs.Charge.{charge_from};
 ghost use Rattle.tape_select.specs.Paying.{FindsOne};
@@ -9,9 +10,23 @@ ghost use Rattle.tape_select.specs.Planned.{link_selector, links_view};
 
 use crate::fault::SelectFault;
 use crate::meter::Meter;
-use crate::plan::Link;
+use crate::plan::{Link, Name};
 use json_tape::{Document, NodeId};
 use tape_values::element;
+
+// The member of this name. Objects that are made alike have it at one distance, so that it is looked for first where the last one was.
+#[inline(always)]
+fn member(doc: &Document, name: &Name, n: NodeId) -> Option<NodeId>
+    requires inside { n.0 < count doc.now }
+    ensures node { single doc.now result ≡ first_where (is_named name.now.scalars.items) (children (node_at doc.now n.0)) }
+    ensures inside { IsIn doc.now result }
+{
+    let found = doc.member_near(n, &name.scalars, name.distance.get());
+    if let Some(member) = found {
+        name.distance.set(member.0.wrapping_sub(n.0));
+    }
+    found
+}
 
 /// The node that a name or an index selects.
 pub fn step(doc: &Document, link: &Link, n: NodeId) -> Option<NodeId>
@@ -20,7 +35,7 @@ pub fn step(doc: &Document, link: &Link, n: NodeId) -> Option<NodeId>
     ensures inside { IsIn doc.now result }
 {
     match link {
-        Link::Key(name) => doc.member(n, &name.scalars),
+        Link::Key(name) => member(doc, name, n),
         Link::Place(i) => element(doc, n, *i),
     }
 }

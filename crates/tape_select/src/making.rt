@@ -17,12 +17,16 @@ use path_grammar::{
 };
 use path_types::ValidQuery;
 use std::alloc::{AllocError, Global};
+use std::cell::Cell;
 
 fn name(alloc: Global, name: &[char]) -> Result<Name, AllocError>
     ensures { IfOk result (λ made. made.scalars.items ≡ name.now) }
 {
     let scalars = name.to_vec(alloc)?;
-    Ok(Name { scalars })
+    Ok(Name {
+        scalars,
+        distance: Cell::new(1),
+    })
 }
 
 fn literal(alloc: Global, literal: &Literal) -> Result<Literal, AllocError>

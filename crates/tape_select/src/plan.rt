@@ -5,11 +5,14 @@ ghost use Rattle.path_grammar.specs.View.{literal_view};
 ghost use Rattle.path_types.specs.Validity.{is_literal};
 
 use path_grammar::{IntLit, Literal, Op};
+use std::cell::Cell;
 
 /// A name of a member, ready to be looked up.
 #[derive(Drop)]
 pub struct Name {
     pub scalars: Vec<char>,
+    /// How many numbers behind its object the member stood that was found last.
+    pub distance: Cell<u32>,
 }
 
 /// A literal (RFC 9535, section 2.3.5.1). Where it is a number, that is within the limits.
