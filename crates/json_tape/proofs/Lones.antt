@@ -6,7 +6,9 @@ use Rattle.json_tape.specs.Tape.{Label, Top, Index, Named, Stands, IsAt, in_obje
 use Rattle.json_tape.specs.Limits.{bytes_at}
 use Rattle.json_tape.specs.Verdict.{SpellsLone}
 use Rattle.json_tape.specs.Parts.{HasPart}
-use Rattle.std.specs.Prelude.{eqb}
+use Rattle.std.specs.Prelude.{eqb, nat_eq}
+use Rattle.json_tape.specs.Spelling.{has_backslash}
+use Rattle.json_tape.proofs.Repeats.{neither}
 use Rattle.std.specs.Option.{is_some}
 use Rattle.std.proofs.lemmas.List.{get_or_past}
 use Rattle.std.proofs.lemmas.Bool.{cases_lt}
@@ -105,6 +107,12 @@ none_found text needle None e f n k slash u = absurd ((subst (λ l. FindsNeedle 
 
     here : OccursAt text escape k
     here = record { fits = omega (arith, within); reads = reads }
+
+-- nor does one where no byte is a backslash
+pub slashless_unitless : (bs : List ℕ) → has_backslash bs ≡ false → HasNoUnits bs
+slashless_unitless [] h k e u = absurd (cc)
+slashless_unitless (b ∷ bs) h zero e u = let n = neither (nat_eq b 92) (has_backslash bs) h in let no = n.0 in let z : nat_eq b 92 ≡ true = rw e refl in absurd (cc)
+slashless_unitless (b ∷ bs) h (suc k) e u = slashless_unitless bs (neither (nat_eq b 92) (has_backslash bs) h).1 k e u
 
 -- where no escape of a unit begins, no surrogate is spelt, nor behind a backslash where no u follows
 lone_unitless : (bs : List ℕ) → HasNoUnits bs → (lone bs ≡ false) × (get_or bs 0 0 ≢ 117 → lone_from (standing Escape 0 false) bs ≡ false)
