@@ -1,12 +1,14 @@
 -- What a token costs and shows at its place: strings by the byte before the next place, words by their run.
 use Rattle.std.proofs.Common.{◌≡◌, ℕ, zero, suc, ◌+◌, ◌-◌, ◌<◌, ◌≤◌, inl, inr, Bool, true, false, cond, List, [], ◌∷◌, ◌++◌, length, take, drop, get_or, filter, Option, Some, None, refl, sym, ap, subst, ◌∙◌, arith, append_assoc, length-append}
 use Rattle.std.specs.List.{range_with_len}
-use Rattle.std.specs.Prelude.{Ok, Err, IsUtf8}
+use Rattle.std.specs.Prelude.{Result, Ok, Err, IsUtf8}
 use Rattle.std.proofs.lemmas.Bool.{cases_lt}
+use Rattle.std.proofs.lemmas.Bool.Decides.{nat_tests}
 use Rattle.std.proofs.lemmas.List.{get_or_default, take-append-drop, drop_more, length-take-le, length-drop}
 use Rattle.structural_index.specs.Places.{byte, is_place, places, IsUnclosed}
 use Rattle.structural_index.specs.Seams.{IsSpan, IsAtomRun, is_plain_atom, next_place}
-use Rattle.json_tape.specs.Placing.{IsIndexed, ClosesBefore, StringEnds}
+use Rattle.json_tape.specs.Placing.{IsIndexed, ClosesBefore, StringEnds, Passes, nothing, a_sign, Passed}
+use Rattle.json_tape.specs.Answer.{IsNoJson}
 use Rattle.json_tape.specs.Scanning.{string_end, turn, next_of}
 use Rattle.json_tape.specs.declared.scan.Mode.{Mode}
 use Rattle.json_tape.specs.declared.scan.Mode.TheVariants.{Between}
@@ -15,15 +17,16 @@ use Rattle.json_tape.specs.declared.scan.Turn.TheVariants.{Stop, Fail, Go}
 use Rattle.json_tape.specs.declared.tape.BuildFault.{BuildFault}
 use Rattle.json_tape.specs.declared.tape.Kind.{Kind}
 use Rattle.json_tape.specs.declared.tape.BuildFault.TheVariants.{NotJson, Memory}
-use Rattle.json_tape.specs.Lexing.{quote_end, atom_end, is_blank, is_atom, IsToken, sign, text, word, Taken, Stepped, Refused, WordIs, IsWord}
+use Rattle.json_tape.specs.Lexing.{quote_end, atom_end, is_blank, is_atom, is_sign, sign_at, ended, IsToken, sign, text, word, Taken, Stepped, Refused, WordIs, IsWord}
 use Rattle.json_tape.specs.Machine.{Token, Text, Word, State, run_at, step, Took}
 use Rattle.json_tape.specs.Walking.{weight}
 use Rattle.json_tape.proofs.Bridge.{plain_spells, scan_ends, same_classes}
 use Rattle.json_tape.proofs.Walking.{look_back, place_number, stands_value}
-use Rattle.json_tape.proofs.Calls.{behind, word_none, word_ok, word_err}
+use Rattle.json_tape.proofs.Calls.{behind, word_none, word_ok, word_err, sign_stepped}
+use Rattle.json_tape.proofs.Marks.{Kept, kept_token}
 use Rattle.json_tape.proofs.Tokens.{quote_found, refused_all}
 use Rattle.json_tape.proofs.Steps.{atom_step, atom_over}
-use Rattle.json_tape.proofs.PlaceWalk.{Walks, walks_token, plain_taken, same_default}
+use Rattle.json_tape.proofs.PlaceWalk.{Walks, walks_token, walks_refused, plain_taken, same_default}
 
 -- ---- A scan of a part and of all
 
@@ -174,13 +177,22 @@ run_ends bytes i n r = sym (atom_run bytes n i r.to r.each r.over)
 
 -- ---- The price of a token
 
-pub token_weighs : {p : ℕ} {vs rest : List ℕ} {tok : Token} → IsToken p vs tok rest → length vs ≤ weight tok + 1
-token_weighs (sign h) = omega arith
-token_weighs (text cs h) = omega arith
-token_weighs (word a n k) = omega arith
+sign_is : (p b : ℕ) (tok : Token) → sign_at p b ≡ Some tok → is_sign b ≡ true
+sign_is p b tok h = grind (arith, nat_tests)
 
-pub taken_weighs : (bytes : List ℕ) (i j now later : ℕ) (s new : State) → (taken : Taken bytes i j s new) → later + i ≤ now + j + 2 → later ≤ now + 3 + weight taken.tok
-taken_weighs bytes i j now later s new taken h = let w = token_weighs taken.is_token in let e = taken.end in omega arith
+-- one look is left for the byte behind it
+token_weighs : {p : ℕ} {vs rest : List ℕ} {tok : Token} → IsToken p vs tok rest → (b : ℕ) (cs : List ℕ) → b ∷ cs ≡ vs ++ rest → (now later : ℕ) → later ≤ now + length vs + 2 → (is_sign b ≡ true → later ≤ now + 1)
+    → later + 1 ≤ now + 3 + weight tok
+token_weighs (sign {p = p} {b = b'} {tok = tok} h) b cs e now later l once =
+    let f : b ≡ b' = cc in
+    let few = once (ap is_sign f ∙ sign_is p b' tok h) in omega (arith, few)
+token_weighs (text cs' h) b cs e now later l once = omega arith
+token_weighs (word a n k) b cs e now later l once = omega arith
+
+pub taken_weighs : (bytes : List ℕ) (i j now later : ℕ) (s new : State) → i < length bytes → (taken : Taken bytes i j s new) → later + i ≤ now + j + 2 → (is_sign (get_or bytes i 0) ≡ true → later ≤ now + 1) → later + 1 ≤ now + 3 + weight taken.tok
+taken_weighs bytes i j now later s new h taken l once =
+    let e = taken.end in
+    token_weighs taken.is_token (get_or bytes i 0) (drop (i + 1) bytes) (sym (drop_more bytes i 0 h) ∙ taken.stands) now later (omega arith) once
 
 -- ---- The places
 
@@ -253,12 +265,63 @@ walks_over bytes k i before now s w l = elim (cases_lt i (length bytes)) [
   | inr a ↦ a
 ]
 
-pub walks_on : (bytes : List ℕ) (k i j before now later : ℕ) (s new : State) → Walks bytes k i before now s → i < length bytes → Taken bytes i j s new → later + i ≤ now + j + 2 → Walks bytes (k + 1) (get_or (places bytes) (k + 1) (length bytes)) before later new
-walks_on bytes k i j before now later s new w l taken p =
-    let on = walks_token bytes k i j before now later s new w l taken (taken_weighs bytes i j now later s new taken p) in
+walks_next : (bytes : List ℕ) (k i j before now later : ℕ) (s new : State) → Walks bytes k i before now s → i < length bytes → (taken : Taken bytes i j s new) → later ≤ now + 3 + weight taken.tok → Walks bytes (k + 1) (get_or (places bytes) (k + 1) (length bytes)) before later new
+walks_next bytes k i j before now later s new w l taken p =
+    let on = walks_token bytes k i j before now later s new w l taken p in
     let at : next_place bytes j ≡ get_or (places bytes) (suc k) (length bytes) = stands_value bytes (suc k) (next_place bytes j) on.here in
     let f : suc k ≡ k + 1 = omega arith in
     subst (λ n. Walks bytes n (get_or (places bytes) n (length bytes)) before later new) f (subst (λ x. Walks bytes (suc k) x before later new) at on)
+
+-- behind a token, with one look more
+pub walks_on : (bytes : List ℕ) (k i j before now later : ℕ) (s new : State) → Walks bytes k i before now s → i < length bytes → Taken bytes i j s new → later + i ≤ now + j + 2 → (is_sign (get_or bytes i 0) ≡ true → later ≤ now + 1) → Walks bytes (k + 1) (get_or (places bytes) (k + 1) (length bytes)) before (later + 1) new
+walks_on bytes k i j before now later s new w l taken p once = walks_next bytes k i j before now (later + 1) s new w l taken (taken_weighs bytes i j now later s new l taken p once)
+
+-- ---- A colon or a comma, right behind what it belongs to
+
+pub passed_sign : (bytes items : List ℕ) (k b : ℕ) (tok : Token) (s new : State) (r : Result (Unit {0}) BuildFault) (e : Result ℕ BuildFault) → k < length items → get_or items k 0 < length bytes → get_or bytes (get_or items k 0) 0 ≡ b → sign_at (get_or items k 0) b ≡ Some tok → is_atom b ≡ false
+    → Took (step tok s) r new → e ≡ ended (k + 1) r → Passed bytes items k s e new
+passed_sign bytes items k b tok s new r e l h here shown no_atom t q = subst (λ x. Passed bytes items k s x new) (sym q) (go r t)
+  where
+    there : sign_at (get_or items k 0) (get_or bytes (get_or items k 0) 0) ≡ Some tok
+    there = ap (sign_at (get_or items k 0)) here ∙ shown
+
+    go : (r : Result (Unit {0}) BuildFault) → Took (step tok s) r new → Passed bytes items k s (ended (k + 1) r) new
+    go (Ok x) t = a_sign refl l (ap is_atom here ∙ no_atom) (sign_stepped bytes (get_or items k 0) tok s new (Ok x) (Ok (get_or items k 0 + 1)) h there t refl)
+    go (Err NotJson) t = (l, sign_stepped bytes (get_or items k 0) tok s new (Err NotJson) (Err NotJson) h there t refl)
+    go (Err Memory) t = tt
+
+pub passes_on : {bytes items : List ℕ} {k m : ℕ} {s new : State} → Passes bytes items k m s new → k ≤ m
+passes_on (nothing e f) = omega arith
+passes_on (a_sign e l n t) = omega arith
+
+module _ (bytes items : List ℕ) (k : ℕ) (list : items ≡ places bytes) where
+  number_here : k < length items → get_or (places bytes) k (length bytes) ≡ get_or items k 0
+  number_here l = ap (λ (l : List ℕ). get_or l k (length bytes)) (sym list) ∙ get_or_default items k (length bytes) 0 l
+
+  at_number : (before now : ℕ) (s : State) → k < length items → Walks bytes k (get_or (places bytes) k (length bytes)) before now s → Walks bytes k (get_or items k 0) before now s
+  at_number before now s l w = subst (λ x. Walks bytes k x before now s) (number_here l) w
+
+  pub number_inside : (before now : ℕ) (s : State) → Walks bytes k (get_or (places bytes) k (length bytes)) before now s → k < length items → get_or items k 0 < length bytes
+  number_inside before now s w l = let number = place_number bytes k (get_or items k 0) (at_number before now s l w).here in number.over (let e = ap length list in omega arith)
+
+  pub walks_passed : (m before now later : ℕ) (s new : State) → Walks bytes k (get_or (places bytes) k (length bytes)) before (now + 1) s → Passes bytes items k m s new → later ≤ now + 1 → Walks bytes m (get_or (places bytes) m (length bytes)) before later new
+  walks_passed m before now later s new w (nothing e f) l =
+      let paid = w.paid in
+      let less : Walks bytes k (get_or (places bytes) k (length bytes)) before later s = record { knows = w.knows; here = w.here; paid = omega arith; few = w.few } in
+      subst (λ n. Walks bytes n (get_or (places bytes) n (length bytes)) before later new) (sym e) (subst (Walks bytes k (get_or (places bytes) k (length bytes)) before later) (sym f) less)
+  walks_passed m before now later s new w (a_sign e number no_atom taken) l =
+      let i = get_or items k 0 in
+      let next = walks_next bytes k i (i + 1) before (now + 1) later s new (at_number before (now + 1) s number w) (number_inside before (now + 1) s w number) taken (omega arith) in
+      subst (λ n. Walks bytes n (get_or (places bytes) n (length bytes)) before later new) (sym e) next
+
+  pub kept_passed : (m : ℕ) (mark : Bool) (s new : State) → (k < length items → get_or items k 0 < length bytes) → Passes bytes items k m s new → Kept bytes mark s → Kept bytes mark new
+  kept_passed m mark s new inside (nothing e f) kept = subst (Kept bytes mark) (sym f) kept
+  kept_passed m mark s new inside (a_sign e number no_atom taken) kept =
+      kept_token bytes (get_or items k 0) (get_or items k 0 + 1) mark mark s new (inside number) taken (λ n. (n, λ a. absurd (cc))) kept
+
+  pub passed_none : (before now : ℕ) (s new : State) (f : BuildFault) → Walks bytes k (get_or (places bytes) k (length bytes)) before now s → Passed bytes items k s (Err f) new → f ≡ NotJson → IsNoJson bytes
+  passed_none before now s new NotJson w (l, r) e = walks_refused bytes k (get_or items k 0) before now s (at_number before now s l w) (number_inside before now s w l) r
+  passed_none before now s new Memory w r e = absurd (cc)
 
 -- what the scan of a lent part says
 pub scanned_part : (bytes other part : List ℕ) (i next : ℕ) (r : Option ℕ) → other ≡ bytes → part ≡ take (next - (i + 1)) (drop (i + 1) other) → r ≡ string_end Between 0 part → string_end Between 0 (part_of bytes i next) ≡ r

@@ -11,7 +11,8 @@ use Rattle.json_tape.specs.Limits.{bytes_at}
 use Rattle.json_tape.specs.declared.tape.Extent.{Extent}
 use Rattle.json_tape.specs.declared.scan.Mode.{Mode}
 use Rattle.json_tape.specs.declared.scan.Mode.TheVariants.{Between, Escape, Hex}
-use Rattle.json_tape.specs.Repeats.{next_hash, hash_from}
+use Rattle.json_tape.specs.Repeats.{more, finished, hash_from}
+use Rattle.json_tape.specs.declared.hashes.Hashing.{Hashing}
 use Rattle.json_tape.proofs.Spelled.{ascii_nil, ascii_more, meaning_short}
 
 chars_first : (b : ℕ) (bs : List ℕ) → b < 128 → chars (b ∷ bs) ≡ b ∷ chars bs
@@ -129,15 +130,15 @@ begins_other text string name q some ascii plain other = by_length (length bs - 
 
 -- ---- The hash of what the bytes from a place on mean
 
-hash_plain : (inside : List ℕ) (i h : ℕ) → i < length inside → get_or inside i 0 < 128 → get_or inside i 0 ≢ 92
-    → hash_from (next_hash h (get_or inside i 0)) (scalars_in (chars (drop (i + 1) inside))) ≡ hash_from h (scalars_in (chars (drop i inside)))
+hash_plain : (inside : List ℕ) (i : ℕ) (h : Hashing) → i < length inside → get_or inside i 0 < 128 → get_or inside i 0 ≢ 92
+    → hash_from (more h (get_or inside i 0)) (scalars_in (chars (drop (i + 1) inside))) ≡ hash_from h (scalars_in (chars (drop i inside)))
 hash_plain inside i h l k n = sym (ap (hash_from h) (plain_at inside i l k n))
 
-pub hash_over : (inside bytes : List ℕ) (i h u v : ℕ) → bytes ≡ inside → i < length bytes → get_or bytes i 0 < 128 → get_or bytes i 0 ≢ 92 → u ≡ get_or bytes i 0 → v ≡ next_hash h u
+pub hash_over : (inside bytes : List ℕ) (i u : ℕ) (h v : Hashing) → bytes ≡ inside → i < length bytes → get_or bytes i 0 < 128 → get_or bytes i 0 ≢ 92 → u ≡ get_or bytes i 0 → v ≡ more h u
     → hash_from v (scalars_in (chars (drop (i + 1) inside))) ≡ hash_from h (scalars_in (chars (drop i inside)))
-hash_over inside bytes i h u v e l k n f g =
+hash_over inside bytes i u h v e l k n f g =
     subst (λ bs. hash_from v (scalars_in (chars (drop (i + 1) bs))) ≡ hash_from h (scalars_in (chars (drop i bs)))) e
-    (ap (λ w. hash_from w (scalars_in (chars (drop (i + 1) bytes)))) (g ∙ ap (next_hash h) f) ∙ hash_plain bytes i h l k n)
+    (ap (λ w. hash_from w (scalars_in (chars (drop (i + 1) bytes)))) (g ∙ ap (more h) f) ∙ hash_plain bytes i h l k n)
 
-pub hash_end : (inside : List ℕ) (i h : ℕ) → length inside ≤ i → hash_from h (scalars_in (chars (drop i inside))) ≡ h
+pub hash_end : (inside : List ℕ) (i : ℕ) (h : Hashing) → length inside ≤ i → hash_from h (scalars_in (chars (drop i inside))) ≡ finished h
 hash_end inside i h l = ap (hash_from h) (nothing inside i l)

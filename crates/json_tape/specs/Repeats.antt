@@ -1,5 +1,5 @@
 -- What the names of an object mean, and whether one of them comes again.
-use Rattle.std.specs.Prelude.{ℕ, ◌+◌, ◌*◌, ◌%◌, ◌^◌, Bool, false, cond, ltb, ◌||◌, List, [], ◌∷◌, nat_eq}
+use Rattle.std.specs.Prelude.{◌≡◌, ◌≢◌, ℕ, ◌+◌, ◌*◌, ◌%◌, ◌^◌, ◌<◌, ◌≤◌, Bool, false, cond, ltb, eqb, ◌||◌, List, [], ◌∷◌, take, drop, get_or, nat_eq}
 use Rattle.std.specs.List.{list_any}
 use Rattle.std.specs.Cmp.Lexicographic.{pointwise}
 use Rattle.json_tape.specs.Tree.{Source, Tree, Obj, Members, NoMember, Member}
@@ -7,6 +7,7 @@ use Rattle.json_tape.specs.Meaning.{meaning}
 use Rattle.json_tape.specs.Grammar.{IsText}
 use Rattle.json_tape.specs.Tape.{Label, Top, Stands, IsAt}
 use Rattle.json_tape.specs.declared.tape.Entry.{Entry}
+use Rattle.json_tape.specs.declared.hashes.Hashing.{Hashing}
 
 -- what the names mean, in order
 abbrev pub meanings : Members → List (List ℕ)
@@ -36,17 +37,46 @@ repeats xs = repeats_by is_same xs
 abbrev pub hashes_repeat : List ℕ → Bool
 hashes_repeat xs = repeats_by nat_eq xs
 
--- A hash of scalar values: those of up to eight bytes, one behind the other, and with more of them mixed. No fact of a text
--- rests on which hash it is; only steps speak of it.
-unfoldable pub next_hash : ℕ → ℕ → ℕ
-next_hash h c = ((h * cond (ltb h 0x100000000000000) 256 0x9E3779B97F4A7C15) % (2 ^ 64) + c) % (2 ^ 64)
+-- A hash of scalar values: eight of them at a time are a word, their number with the first as the highest digit of 256, and words
+-- are mixed. No fact of a text rests on which hash it is; only steps speak of it.
+unfoldable pub joined : ℕ → ℕ → ℕ
+joined hash word = ((hash * 0x9E3779B97F4A7C15) % (2 ^ 64) + word) % (2 ^ 64)
 
-abbrev pub hash_from : ℕ → List ℕ → ℕ
-hash_from h [] = h
-hash_from h (c ∷ cs) = hash_from (next_hash h c) cs
+unfoldable pub lengthened : ℕ → ℕ → ℕ
+lengthened word c = ((word * 256) % (2 ^ 64) + c) % (2 ^ 64)
+
+-- with room in its word
+abbrev pub roomy : Hashing → Hashing
+roomy s = cond (ltb s.count 8) s (record { hash = joined s.hash s.word; word = 0; count = 0 })
+
+-- with one more scalar value
+abbrev pub more : Hashing → ℕ → Hashing
+more s c = record { hash = (roomy s).hash; word = lengthened (roomy s).word c; count = (roomy s).count + 1 }
+
+abbrev pub finished : Hashing → ℕ
+finished s = cond (eqb s.count 0) s.hash (joined s.hash s.word)
+
+abbrev pub hash_from : Hashing → List ℕ → ℕ
+hash_from s [] = finished s
+hash_from s (c ∷ cs) = hash_from (more s c) cs
+
+-- of whole words with this hash
+abbrev pub after_words : ℕ → Hashing
+after_words hash = record { hash = hash; word = 0; count = 0 }
 
 abbrev pub hash_of : List ℕ → ℕ
-hash_of cs = hash_from 0 cs
+hash_of cs = hash_from (after_words 0) cs
+
+-- the number of these digits of 256 behind those of w
+abbrev pub digits : ℕ → List ℕ → ℕ
+digits w [] = w
+digits w (b ∷ bs) = digits (w * 256 + b) bs
+
+-- so many bytes from a place on stand for themselves, and this is their word
+pub record IsPlainWord (text : List ℕ) (at len word : ℕ) : Type 0 where
+  pub value : word ≡ digits 0 (take len (drop at text))
+  pub fits : digits 0 (take len (drop at text)) < 2 ^ 64
+  pub plain : (k : ℕ) → at ≤ k → k < at + len → (get_or text k 0 < 128) × (get_or text k 0 ≢ 92)
 
 -- the entry with the number n is that of an object with these members
 pub record IsObject (text : List ℕ) (tape : List Entry) (n : ℕ) (ms : Members) : Type 0 where

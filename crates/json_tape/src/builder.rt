@@ -216,6 +216,14 @@ impl Builder {
         }
     }
 
+    /// What may come next.
+    #[inline(always)]
+    pub fn want(&self) -> Want
+        ensures { result ≡ self.now.want }
+    {
+        self.want
+    }
+
     /// Whether a whole text has been read.
     pub fn is_done(&self) -> bool
         ensures { IsTrue result ↔ ((level_of self.now.opens ≡ Level.Root) × (self.now.want ≡ Want.Next)) }

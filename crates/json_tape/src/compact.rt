@@ -58,33 +58,20 @@ impl Tape {
     {
         let cell = self.cells[n as usize];
         let start = cell.start();
-        if cell.holds() {
+        let (len, children, after) = if cell.holds() {
             let side = self.sides[cell.span() as usize];
-            Entry {
-                kind: cell.kind(),
-                role: cell.role(),
-                label: cell.label(),
-                source: Extent {
-                    start,
-                    len: side.end.saturating_sub(start),
-                },
-                up: cell.up(),
-                children: side.children,
-                after: side.after,
-            }
+            (side.end.saturating_sub(start), side.children, side.after)
         } else {
-            Entry {
-                kind: cell.kind(),
-                role: cell.role(),
-                label: cell.label(),
-                source: Extent {
-                    start,
-                    len: cell.span(),
-                },
-                up: cell.up(),
-                children: 0,
-                after: n + 1,
-            }
+            (cell.span(), 0, n + 1)
+        };
+        Entry {
+            kind: cell.kind(),
+            role: cell.role(),
+            label: cell.label(),
+            source: Extent { start, len },
+            up: cell.up(),
+            children,
+            after,
         }
     }
 
@@ -104,6 +91,7 @@ impl Tape {
     }
 
     /// One more container, which begins here and is not closed yet.
+    #[inline(always)]
     pub fn open(&mut self, kind: Kind, seat: Seat, place: u32) -> Result<(), AllocError>
         requires container { is_container kind ≡ true }
         requires seat { IsNear seat }

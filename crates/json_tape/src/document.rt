@@ -293,6 +293,7 @@ impl Document {
 
     /// The value of the object's member whose name means these scalar values; `None` where there is none or the value is
     /// no object.
+    #[inline(always)]
     pub fn member(&self, n: NodeId, name: &[char]) -> Option<NodeId>
         requires { n.0 < count self.now }
         ensures node { single self.now result ≡ first_where (is_named name.now) (children (node_at self.now n.0)) }
@@ -323,8 +324,18 @@ impl Document {
     {
         match self.member_at(n, name, distance) {
             Some(found) => Some(found),
-            None => self.member(n, name),
+            None => self.member_elsewhere(n, name),
         }
+    }
+
+    // The same as `member`, by a call of its own, since it is taken where the place that was tried first is another's.
+    #[inline(never)]
+    fn member_elsewhere(&self, n: NodeId, name: &[char]) -> Option<NodeId>
+        requires { n.0 < count self.now }
+        ensures node { single self.now result ≡ first_where (is_named name.now) (children (node_at self.now n.0)) }
+        ensures inside { IsIn self.now result }
+    {
+        self.member(n, name)
     }
 
     // The member of this name, if it stands so many numbers behind the object.

@@ -19,6 +19,7 @@ use std::alloc::{AllocError, Global};
 
 /// The order of the members of wide objects; `None` where two names of one object mean the same. Of a text without lone
 /// surrogates.
+#[inline(never)]
 pub fn order_names(alloc: Global, text: &str, tape: &Tape) -> Result<Option<NameOrder>, AllocError>
     requires spelt { IsJson text.now }
     requires stands { StandsForAll text.now tape.now }

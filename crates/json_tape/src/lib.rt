@@ -4,11 +4,12 @@
 //! object has two names that mean the same. It keeps their bytes, and has one entry for each value: 16 bytes, and 12 more for an
 //! array or an object. The readers of `Document` tell each value's kind, bytes, length, children and name, each in constant time but
 //! for those that go over the characters of a string or a name, for `length` of a long string, which looks it up by halving, and for
-//! `member` and `twin`, which halve in an object of more than 16 members and go over those of another.
+//! `member`, `member_near` and `twin`, which halve in an object of more than 16 members and go over those of another.
 //!
 //! The places where a text's structure shows are found first (`structural_index`), then walked once, a token at each, and the entries
-//! are then judged. Open containers stand in a list, so that depth costs no stack. Nothing is parsed into numbers or strings: those are cut from the text where they are asked for. The
-//! names of an object are told apart by hashes of what they mean, and compared by what they mean where a hash comes again.
+//! are then judged. Open containers stand in a list, so that depth costs no stack. Nothing is parsed into numbers or strings: those are
+//! cut from the text where they are asked for. The names of an object are told apart by hashes of what they mean, and compared by what
+//! they mean where a hash comes again.
 #![tactic(auto)]
 
 mod again;

@@ -4,22 +4,23 @@
 ghost use Rattle.std.specs.Prelude.{◌≡◌, ◌+◌, ◌-◌, ◌^◌, ◌<◌, ◌≤◌, length, get_or, slice_index, IfOk, IfSome, IsUtf8, IsErrOf, IsTrue, true, false};
 ghost use Rattle.structural_index.specs.Answer.{IsIndexOf};
 ghost use Rattle.json_tape.specs.Machine.{IsSmall};
-ghost use Rattle.json_tape.specs.Lexing.{is_blank as blank, is_atom as atom, WordIs, Stepped, ended, Marked, DigitsStand, IsFraction, HasNoExponent};
+ghost use Rattle.json_tape.specs.Lexing.{is_blank as blank, is_atom as atom, is_sign, WordIs, Stepped, ended, Marked, DigitsStand, IsFraction, HasNoExponent};
 ghost use Rattle.json_tape.specs.Limits.{AreWithinLimits};
 ghost use Rattle.decimal_order.specs.Number.{IsNumber};
 ghost use Rattle.decimal_order.specs.Limits.{IsWithinLimits};
 ghost use Rattle.json_tape.specs.Answer.{IsJson, StandsForAll, HasDepth, IsNoJson};
 ghost use Rattle.json_tape.specs.Building.{IsBounded};
 ghost use Rattle.json_tape.specs.Verdict.{text_limit};
-ghost use Rattle.json_tape.specs.Placing.{IsIndexed, ClosesBefore, StringEnds};
+ghost use Rattle.json_tape.specs.Placing.{IsIndexed, ClosesBefore, StringEnds, Passed};
 
 use crate::builder::Builder;
 use crate::compact::Tape;
 use crate::scan::{quote_end, quote_past};
-use crate::tape::{BuildFault, Extent, Kind, Shape};
+use crate::tape::{BuildFault, Extent, Kind, Shape, Want};
 use decimal_order::{MAX_LENGTH, SHORT_LENGTH, late_exponents_keep_limits, scan};
 use std::alloc::Global;
-use structural_index::{Index, Looks, index};
+use std::simd::prelude::*;
+use structural_index::{Index, Looks, index, lanes_before};
 
 // The place past the digits that stand here.
 #[inline(always)]
@@ -62,6 +63,40 @@ fn has_no_leading_zero(bytes: &[u8], start: usize, end: usize) -> bool
     bytes[start] != b'0' || end - start == 1
 }
 
+// So many bytes are compared at once.
+const EIGHT: usize = 8;
+
+// Whether the eight bytes from a place on are digits.
+#[inline(always)]
+fn are_digits(bytes: &[u8], at: usize) -> bool
+    requires { at + EIGHT ≤ length bytes.now }
+    ensures { IsTrue result → DigitsStand bytes.now at (at + EIGHT) }
+{
+    let lanes = u8x8::from_slice(&bytes[at..]);
+    let stops = lanes.simd_lt(u8x8::splat(b'0')) | lanes.simd_ge(u8x8::splat(b':'));
+    lanes_before(stops.to_bitmask(), EIGHT) == EIGHT
+}
+
+// Whether the bytes from a place on are digits: where they are many, eight at a time, the last eight over some that were seen.
+#[inline(always)]
+fn ends_in_digits(bytes: &[u8], start: usize) -> bool
+    requires { start ≤ length bytes.now }
+    ensures { IsTrue result → DigitsStand bytes.now start (length bytes.now) }
+{
+    if bytes.len() - start < EIGHT {
+        return digits_end(bytes, start) == bytes.len();
+    }
+    let last = bytes.len() - EIGHT;
+    let mut k = start;
+    while k < last {
+        if !are_digits(bytes, k) {
+            return false;
+        }
+        k += EIGHT;
+    }
+    are_digits(bytes, last)
+}
+
 // Whether the bytes from a point on are one and digits.
 #[inline(always)]
 fn is_fraction(bytes: &[u8], point: usize) -> bool
@@ -71,7 +106,7 @@ fn is_fraction(bytes: &[u8], point: usize) -> bool
     if bytes[point] != b'.' || point + 1 >= bytes.len() {
         return false;
     }
-    digits_end(bytes, point + 1) == bytes.len()
+    ends_in_digits(bytes, point + 1)
 }
 
 // Whether the bytes are a number without an exponent.
@@ -154,10 +189,10 @@ fn place_behind(places: &[u32], k: usize, end: usize) -> usize
     }
 }
 
-// Where the token of one byte at i ends, if the builder took it.
+// The next number, if the builder took a token of one byte: where the one at i ends, or the place behind the one at place number i.
 #[inline(always)]
 fn past_sign(taken: Result<(), BuildFault>, i: usize) -> Result<usize, BuildFault>
-    requires { i < 2 ^ 31 }
+    requires { i < 2 ^ 63 }
     ensures { result ≡ ended (i + 1) taken }
 {
     match taken {
@@ -208,7 +243,7 @@ fn string_end(looks: &mut Looks<'_>, i: usize, next: usize, escapes: bool) -> Op
     }
 }
 
-// A string.
+// A string. Says what is wanted behind it.
 #[inline(always)]
 fn string(
     looks: &mut Looks<'_>,
@@ -216,6 +251,7 @@ fn string(
     next: usize,
     escapes: bool,
     builder: &mut Builder,
+    want: &mut Want,
 ) -> Result<usize, BuildFault>
     requires in_text { i < length looks.old.0 }
     requires near { next ≤ length looks.old.0 }
@@ -236,7 +272,10 @@ fn string(
                 len: (end - i) as u32,
             };
             match builder.text(source) {
-                Ok(()) => Ok(end),
+                Ok(()) => {
+                    *want = builder.want();
+                    Ok(end)
+                }
                 Err(fault) => Err(fault),
             }
         }
@@ -278,7 +317,8 @@ fn word(
     }
 }
 
-// The token at i, where the place behind it is this one. Marks where a number may be beyond the limits.
+// The token at i, where the place behind it is this one. Marks where a number may be beyond the limits, and says what is wanted behind
+// a name or a value. Each kind of token says so for itself, which lets the compiler lead it straight to the test of that one sign.
 #[inline(always)]
 fn token(
     looks: &mut Looks<'_>,
@@ -287,6 +327,7 @@ fn token(
     escapes: bool,
     builder: &mut Builder,
     may_exceed: &mut bool,
+    want: &mut Want,
 ) -> Result<usize, BuildFault>
     requires in_text { i < length looks.old.0 }
     requires near { next ≤ length looks.old.0 }
@@ -299,16 +340,61 @@ fn token(
     ensures marked { Marked looks.old.0 i may_exceed.old result may_exceed.new }
     ensures same { looks.new.0 ≡ looks.old.0 }
     ensures looked { IfOk result (λ end. looks.new.1 + i ≤ looks.old.1 + end + 2) }
+    ensures once { is_sign (slice_index looks.old.0 i) ≡ true → looks.new.1 ≤ looks.old.1 + 1 }
 {
+    *want = Want::Value;
     match looks.at(i) {
-        b'"' => string(looks, i, next, escapes, builder),
+        b'"' => string(looks, i, next, escapes, builder, want),
         b'[' => past_sign(builder.open(Shape::Array, i as u32), i),
-        b']' => past_sign(builder.close(Shape::Array, i as u32), i),
+        b']' => {
+            *want = Want::Next;
+            past_sign(builder.close(Shape::Array, i as u32), i)
+        }
         b'{' => past_sign(builder.open(Shape::Object, i as u32), i),
-        b'}' => past_sign(builder.close(Shape::Object, i as u32), i),
+        b'}' => {
+            *want = Want::Next;
+            past_sign(builder.close(Shape::Object, i as u32), i)
+        }
         b',' => past_sign(builder.comma(), i),
         b':' => past_sign(builder.colon(), i),
-        _ => word(looks, i, builder, may_exceed),
+        _ => {
+            *want = Want::Next;
+            word(looks, i, builder, may_exceed)
+        }
+    }
+}
+
+// Whether place number k is there and this byte stands at it.
+#[inline(always)]
+fn stands(looks: &mut Looks<'_>, places: &[u32], k: usize, byte: u8) -> bool
+    requires in_text { k < length places.now → get_or places.now k 0 < length looks.old.0 }
+    ensures inside { IsTrue result → k < length places.now }
+    ensures here { IsTrue result → get_or looks.old.0 (get_or places.now k 0) 0 ≡ byte }
+    ensures same { looks.new.0 ≡ looks.old.0 }
+    ensures looked { looks.new.1 ≤ looks.old.1 + 1 }
+{
+    k < places.len() && looks.at(places[k] as usize) == byte
+}
+
+// The number of the place behind the colon or the comma at place number k, if the one that is wanted stands there, and otherwise k: a
+// name and its colon, and a value and its comma, are one step of the walk. Where nothing is known to be wanted, nothing is passed.
+#[inline(always)]
+fn pass_sign(
+    looks: &mut Looks<'_>,
+    places: &[u32],
+    k: usize,
+    want: Want,
+    builder: &mut Builder,
+) -> Result<usize, BuildFault>
+    requires in_text { k < length places.now → get_or places.now k 0 < length looks.old.0 }
+    ensures passed { Passed looks.old.0 places.now k builder.old result builder.new }
+    ensures same { looks.new.0 ≡ looks.old.0 }
+    ensures looked { looks.new.1 ≤ looks.old.1 + 1 }
+{
+    match want {
+        Want::Colon if stands(looks, places, k, b':') => past_sign(builder.colon(), k),
+        Want::Next if stands(looks, places, k, b',') => past_sign(builder.comma(), k),
+        _ => Ok(k),
     }
 }
 
@@ -344,7 +430,9 @@ fn walk(alloc: Global, index: &Index, looks: &mut Looks<'_>) -> Result<Reading, 
     let places = index.places.as_slice();
     let mut builder = Builder::new(alloc, places.len() / 2 + 1)?;
     let mut may_exceed = false;
-    for k in 0..places.len() {
+    let mut want = Want::Value;
+    let mut k = 0;
+    while k < places.len() {
         let i = places[k] as usize;
         let next = place_behind(places, k, looks.length());
         match token(
@@ -354,8 +442,13 @@ fn walk(alloc: Global, index: &Index, looks: &mut Looks<'_>) -> Result<Reading, 
             index.has_backslash,
             &mut builder,
             &mut may_exceed,
+            &mut want,
         ) {
             Ok(_) => {}
+            Err(fault) => return Err(fault),
+        }
+        match pass_sign(looks, places, k + 1, want, &mut builder) {
+            Ok(next) => k = next,
             Err(fault) => return Err(fault),
         }
     }
@@ -395,6 +488,7 @@ pub fn build(alloc: Global, index: &Index, looks: &mut Looks<'_>) -> Result<Tape
 }
 
 /// The tape of a text, by its index, or why there is none.
+#[inline(never)]
 pub fn read(alloc: Global, text: &[u8]) -> Result<Reading, BuildFault>
     requires long { length text.now ≤ text_limit }
     requires utf8 { IsUtf8 text.now }

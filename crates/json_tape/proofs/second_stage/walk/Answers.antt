@@ -1,13 +1,13 @@
-use Rattle.std.proofs.Common.{◌≡◌, ◌+◌, ◌∙◌, ℕ, List, length, get_or, refl, sym, ap, subst, arith, rules, false}
+use Rattle.std.proofs.Common.{◌≡◌, ◌+◌, ◌≤◌, ◌<◌, ◌∙◌, ℕ, List, length, get_or, refl, sym, ap, subst, arith, rules, true, false}
 use Rattle.structural_index.specs.Places.{places}
 use Rattle.std.specs.Prelude.{Ok, Err}
-use Rattle.json_tape.specs.Lexing.{is_blank, Stepped, Taken, Marked}
-use Rattle.json_tape.specs.Placing.{ClosesBefore}
+use Rattle.json_tape.specs.Lexing.{is_blank, is_sign, Stepped, Taken, Marked}
+use Rattle.json_tape.specs.Placing.{ClosesBefore, Passes, Passed}
 use Rattle.json_tape.specs.Verdict.{text_limit}
 use Rattle.json_tape.specs.declared.tape.BuildFault.TheVariants.{NotJson}
 use Rattle.json_tape.proofs.Marks.{Kept, kept_start, kept_token}
 use Rattle.json_tape.proofs.PlaceWalk.{Walks, walks_start, walks_end}
-use Rattle.json_tape.proofs.Placing.{IsListed, walks_here, walks_inside, walks_solid, walks_closes, walks_on, walks_over, next_in}
+use Rattle.json_tape.proofs.Placing.{IsListed, walks_here, walks_inside, walks_solid, walks_closes, walks_on, walks_over, next_in, number_inside, walks_passed, kept_passed, passed_none, passes_on}
 use Rattle.json_tape.proofs.Walking.{unclosed_none, control_none}
 use Rattle.json_tape.proofs.WalkEnds.{reads_small, reads_err, reads_depth, reads_none}
 use Rattle.json_tape.proofs.second_stage.walk.Goals.{then-index-via-then-index, then-index-via-else-index+then-index-2}
@@ -110,6 +110,59 @@ returns-in-Err-clause-refused c =
     λ e. reads_err bytes i c.loop-k.builder c.token.new.builder c.in-Err.fault here.knows inside solid
     (subst (λ b. Stepped b i c.loop-k.builder (Err c.in-Err.fault) c.token.new.builder) same c.in-Err.ensures.stepped) (let f : c.in-Err.fault ≡ NotJson = cc in f)
 
+pub pass_sign-requires : goal.pass_sign-requires
+pass_sign-requires c =
+    let bytes = c.args.looks.now.0 in
+    let items = c.as_slice-places.result.now in
+    let k = c.loop-k.k in
+    let i = get_or items k 0 in
+    let same = c.loop-k.invariant.same in
+    let listed : IsListed bytes items k i c.place_behind-next.result = record {
+      list = c.as_slice-places.ensures.value ∙ c.requires.index.places_are;
+      number = c.loop-k-test.true;
+      here = refl;
+      behind = c.place_behind-next.ensures ∙ ap (λ n. get_or items (k + 1) n) (c.length.ensures ∙ ap length same);
+    } in
+    let here = walks_here bytes items k i c.place_behind-next.result c.args.looks.now.1 c.loop-k.looks.1 c.loop-k.builder listed c.loop-k.invariant.walks in
+    let inside = walks_inside bytes items k i c.place_behind-next.result c.args.looks.now.1 c.loop-k.looks.1 c.loop-k.builder listed here in
+    let taken = subst (λ b. Taken b i c.in-Ok.field-0 c.loop-k.builder c.token.new.builder) same c.in-Ok.ensures.stepped in
+    let looked = c.in-Ok.ensures.looked in
+    let sign = c.in-Ok.ensures.once in
+    let walks = walks_on bytes k i c.in-Ok.field-0 c.args.looks.now.1 c.loop-k.looks.1 c.token.new.looks.1 c.loop-k.builder c.token.new.builder here inside taken (omega (arith, looked)) (subst (λ (b : List ℕ). is_sign (get_or b i 0) ≡ true → c.token.new.looks.1 ≤ c.loop-k.looks.1 + 1) same sign) in
+    let list = c.as_slice-places.ensures.value ∙ c.requires.index.places_are in
+    let now_same = c.in-Ok.ensures.same ∙ same in
+    record { in_text = subst (λ (b : List ℕ). k + 1 < length items → get_or items (k + 1) 0 < length b) (sym now_same) (number_inside bytes items (k + 1) list c.args.looks.now.1 (c.token.new.looks.1 + 1) c.token.new.builder walks) }
+
+pub returns-in-Err-pass_sign-clause-refused : goal.returns-in-Err-pass_sign-clause-refused
+returns-in-Err-pass_sign-clause-refused c =
+    let bytes = c.args.looks.now.0 in
+    let items = c.as_slice-places.result.now in
+    let k = c.loop-k.k in
+    let i = get_or items k 0 in
+    let same = c.loop-k.invariant.same in
+    let listed : IsListed bytes items k i c.place_behind-next.result = record {
+      list = c.as_slice-places.ensures.value ∙ c.requires.index.places_are;
+      number = c.loop-k-test.true;
+      here = refl;
+      behind = c.place_behind-next.ensures ∙ ap (λ n. get_or items (k + 1) n) (c.length.ensures ∙ ap length same);
+    } in
+    let here = walks_here bytes items k i c.place_behind-next.result c.args.looks.now.1 c.loop-k.looks.1 c.loop-k.builder listed c.loop-k.invariant.walks in
+    let inside = walks_inside bytes items k i c.place_behind-next.result c.args.looks.now.1 c.loop-k.looks.1 c.loop-k.builder listed here in
+    let taken = subst (λ b. Taken b i c.in-Ok.field-0 c.loop-k.builder c.token.new.builder) same c.in-Ok.ensures.stepped in
+    let looked = c.in-Ok.ensures.looked in
+    let sign = c.in-Ok.ensures.once in
+    let walks = walks_on bytes k i c.in-Ok.field-0 c.args.looks.now.1 c.loop-k.looks.1 c.token.new.looks.1 c.loop-k.builder c.token.new.builder here inside taken (omega (arith, looked)) (subst (λ (b : List ℕ). is_sign (get_or b i 0) ≡ true → c.token.new.looks.1 ≤ c.loop-k.looks.1 + 1) same sign) in
+    let list = c.as_slice-places.ensures.value ∙ c.requires.index.places_are in
+    let now_same = c.in-Ok.ensures.same ∙ same in
+    λ e. passed_none bytes items (k + 1) list c.args.looks.now.1 (c.token.new.looks.1 + 1) c.token.new.builder c.pass_sign.new.builder c.in-Err-pass_sign.fault walks
+    (subst (λ b. Passed b items (k + 1) c.token.new.builder (Err c.in-Err-pass_sign.fault) c.pass_sign.new.builder) now_same c.in-Err-pass_sign.ensures.passed) (let f : c.in-Err-pass_sign.fault ≡ NotJson = cc in f)
+
+pub loop-k-smaller : goal.loop-k-smaller
+loop-k-smaller c =
+    let on = passes_on c.in-Ok-pass_sign.ensures.passed in
+    let test = c.loop-k-test.true in
+    omega (arith, on, test)
+
 pub loop-k-preserved : goal.loop-k-preserved
 loop-k-preserved c =
     let bytes = c.args.looks.now.0 in
@@ -128,10 +181,16 @@ loop-k-preserved c =
     let taken = subst (λ b. Taken b i c.in-Ok.field-0 c.loop-k.builder c.token.new.builder) same c.in-Ok.ensures.stepped in
     let marked = subst (λ b. Marked b i c.loop-k.may_exceed (Ok c.in-Ok.field-0) c.token.new.may_exceed) same c.in-Ok.ensures.marked in
     let looked = c.in-Ok.ensures.looked in
+    let sign = c.in-Ok.ensures.once in
+    let walks = walks_on bytes k i c.in-Ok.field-0 c.args.looks.now.1 c.loop-k.looks.1 c.token.new.looks.1 c.loop-k.builder c.token.new.builder here inside taken (omega (arith, looked)) (subst (λ (b : List ℕ). is_sign (get_or b i 0) ≡ true → c.token.new.looks.1 ≤ c.loop-k.looks.1 + 1) same sign) in
+    let kept = kept_token bytes i c.in-Ok.field-0 c.loop-k.may_exceed c.token.new.may_exceed c.loop-k.builder c.token.new.builder inside taken marked c.loop-k.invariant.kept in
+    let list = c.as_slice-places.ensures.value ∙ c.requires.index.places_are in
+    let now_same = c.in-Ok.ensures.same ∙ same in
+    let passes = subst (λ b. Passes b items (k + 1) c.in-Ok-pass_sign.next c.token.new.builder c.pass_sign.new.builder) now_same c.in-Ok-pass_sign.ensures.passed in
     record {
-      same = c.in-Ok.ensures.same ∙ same;
-      walks = walks_on bytes k i c.in-Ok.field-0 c.args.looks.now.1 c.loop-k.looks.1 c.token.new.looks.1 c.loop-k.builder c.token.new.builder here inside taken (omega (arith, looked));
-      kept = kept_token bytes i c.in-Ok.field-0 c.loop-k.may_exceed c.token.new.may_exceed c.loop-k.builder c.token.new.builder inside taken marked c.loop-k.invariant.kept;
+      same = c.in-Ok-pass_sign.ensures.same ∙ now_same;
+      walks = walks_passed bytes items (k + 1) list c.in-Ok-pass_sign.next c.args.looks.now.1 c.token.new.looks.1 c.pass_sign.new.looks.1 c.token.new.builder c.pass_sign.new.builder walks passes c.in-Ok-pass_sign.ensures.looked;
+      kept = kept_passed bytes items (k + 1) list c.in-Ok-pass_sign.next c.token.new.may_exceed c.token.new.builder c.pass_sign.new.builder (number_inside bytes items (k + 1) list c.args.looks.now.1 (c.token.new.looks.1 + 1) c.token.new.builder walks) passes kept;
     }
 
 pub returns-then-is_done-clause-spelt : goal.returns-then-is_done-clause-spelt

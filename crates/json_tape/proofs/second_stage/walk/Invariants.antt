@@ -1,4 +1,4 @@
-use Rattle.std.proofs.Common.{◌≡◌, length, get_or}
+use Rattle.std.proofs.Common.{◌≡◌, ◌-◌, length, get_or}
 use Rattle.structural_index.specs.Places.{places}
 use Rattle.json_tape.proofs.Marks.{Kept}
 use Rattle.json_tape.proofs.PlaceWalk.{Walks}
@@ -10,3 +10,6 @@ invariant-loop-k l = record {
   walks : Walks l.fn.looks.0 l.k (get_or (places l.fn.looks.0) l.k (length l.fn.looks.0)) l.fn.looks.1 l.looks.1 l.builder;
   kept : Kept l.fn.looks.0 l.may_exceed l.builder;
 }
+
+abbrev pub decreases-loop-k : goal.decreases-loop-k
+decreases-loop-k l = length l.places - l.k

@@ -1,6 +1,7 @@
 use Rattle.std.proofs.Common.{◌<◌, length, sym, ap, ◌∙◌, arith, slice_index_or}
 use Rattle.json_tape.proofs.Sides.{entries_many, side_inside, leaf_shown, container_shown}
 use Rattle.json_tape.proofs.compact.Tape.entry.Goals as goal
+use Rattle.json_tape.proofs.compact.Tape.entry.Goals.{then-holds, else-holds}
 
 pub index-cell-requires : goal.index-cell-requires
 index-cell-requires c = let m = entries_many _ _ _ c.self.view_is in omega (arith, m, c.requires, c.self.inside.cells.ok.0)
@@ -12,22 +13,22 @@ index-side-requires c =
     let l = side_inside c.self.inside.cells.items c.self.inside.sides.items c.args.n c.index-cell.result.now c.self.invariant (omega (arith, m, c.requires)) c.index-cell.ensures h in
     omega (arith, l, c.span.ensures, c.self.inside.sides.ok.0)
 
-pub overflow_add-result : goal.overflow_add-result
-overflow_add-result c = let m = entries_many _ _ _ c.self.view_is in let f = c.self.invariant.few in omega (arith, m, f, c.requires)
+pub overflow_add-len : goal.overflow_add-len
+overflow_add-len c = let m = entries_many _ _ _ c.self.view_is in let f = c.self.invariant.few in omega (arith, m, f, c.requires)
 
-pub returns-then-holds : goal.returns-then-holds
-returns-then-holds c =
+pub returns : goal.returns
+returns c =
     let m = entries_many _ _ _ c.self.view_is in
-    let h = sym c.holds.ensures ∙ c.if-holds.true in
     let inside : c.args.n < length c.self.inside.cells.items = omega (arith, m, c.requires) in
-    let l = side_inside c.self.inside.cells.items c.self.inside.sides.items c.args.n c.index-cell.result.now c.self.invariant inside c.index-cell.ensures h in
-    rw (c.kind.ensures, c.role.ensures, c.label.ensures, c.saturating_sub.ensures, c.up.ensures, c.start-start.ensures)
-    (container_shown c.self.inside.cells.items c.self.inside.sides.items c.args.self.now c.args.n c.index-cell.result.now c.index-side.result.now _ c.self.view_is inside c.index-cell.ensures h l
-    (c.index-side.ensures ∙ ap (λ i. slice_index_or c.self.inside.sides.items i c.index-side.result.now) c.span.ensures))
-
-pub returns-else-holds : goal.returns-else-holds
-returns-else-holds c =
-    let m = entries_many _ _ _ c.self.view_is in
-    let h = sym c.holds.ensures ∙ c.if-holds.false in
-    rw (c.kind-else-holds.ensures, c.role-else-holds.ensures, c.label-else-holds.ensures, c.span-else-holds.ensures, c.up-else-holds.ensures, c.start-start.ensures)
-    (leaf_shown c.self.inside.cells.items c.self.inside.sides.items c.args.self.now c.args.n c.index-cell.result.now _ c.self.view_is (omega (arith, m, c.requires)) c.index-cell.ensures h)
+    elim c.if-holds.branch [
+      | then-holds w ↦
+          let h = sym c.holds.ensures ∙ w.if-holds.true in
+          let l = side_inside c.self.inside.cells.items c.self.inside.sides.items c.args.n c.index-cell.result.now c.self.invariant inside c.index-cell.ensures h in
+          rw (w.len-is, c.kind.ensures, c.role.ensures, c.label.ensures, w.saturating_sub.ensures, c.up.ensures, c.start-start.ensures)
+          (container_shown c.self.inside.cells.items c.self.inside.sides.items c.args.self.now c.args.n c.index-cell.result.now w.index-side.result.now _ c.self.view_is inside c.index-cell.ensures h l
+          (w.index-side.ensures ∙ ap (λ i. slice_index_or c.self.inside.sides.items i w.index-side.result.now) w.span.ensures))
+      | else-holds w ↦
+          let h = sym c.holds.ensures ∙ w.if-holds.false in
+          rw (w.len-is, c.kind.ensures, c.role.ensures, c.label.ensures, w.span-else-holds.ensures, c.up.ensures, c.start-start.ensures)
+          (leaf_shown c.self.inside.cells.items c.self.inside.sides.items c.args.self.now c.args.n c.index-cell.result.now _ c.self.view_is inside c.index-cell.ensures h)
+    ]
