@@ -165,9 +165,6 @@ visit_length d k m ns e = rw (← e) (seen_length d (counting k m) ∙ counting_
 stage_is : (s : Stage) → stage_view s ≡ record { tree = record { descend = s.descend; selectors = selectors_of (trees (map selection_view s.selections.items)) }; claims = all_claims (map selection_view s.selections.items) }
 stage_is s = fold_out-Stage (With tree.Expr) (With tree.Comparable) (With tree.Selector) (With tree.Nested) (With OneSegment) condition_step operand_step selection_step nested_step stage_step s
 
-pub stage_claims : (t : Claims) (s : Stage) → AreClaimed t (stage_view s).claims → AreClaimed t (all_claims (map selection_view s.selections.items))
-stage_claims t s h = rw (stage_is s) at h
-
 -- from a node and all its descendants
 pub descending : (root n : Node) (s : Stage) → s.descend ≡ true → nodes_from root (stage_view s).tree n ≡ flat_map (selected root (selectors_of (trees (map selection_view s.selections.items)))) (visit n)
 descending root n s e = rw (stage_is s, e) refl

@@ -1,4 +1,4 @@
-pub mod Singular
+pub mod Links
 pub mod Figures
 pub mod Claims
 pub mod Makings

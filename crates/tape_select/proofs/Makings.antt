@@ -1,12 +1,8 @@
 -- Lists that are made part by part: what is made and what is left are what there was.
 use Rattle.std.proofs.Common.{◌≡◌, ℕ, ◌+◌, ◌<◌, ◌≤◌, Bool, true, false, ◌&&◌, List, [], ◌∷◌, ◌++◌, map, length, drop, get_or, refl, sym, ap, ◌∙◌}
 use Rattle.std.specs.Prelude.{IsTrue}
-use Rattle.std.proofs.lemmas.List.{drop_more, drop_all}
+use Rattle.std.proofs.lemmas.List.{drop_more}
 use Rattle.tape_select.specs.Planned.{With, trees}
-
-push : {A B : Type 0} (f : A → B) (xs : List A) (one : A) (ys : List B) → map f (xs ++ one ∷ []) ++ ys ≡ map f xs ++ f one ∷ ys
-push f [] one ys = refl
-push f (x ∷ xs) one ys = ap (λ zs. f x ∷ zs) (push f xs one ys)
 
 push_tree : {A B : Type 0} (f : A → With B) (xs : List A) (one : A) (ys : List B) → trees (map f (xs ++ one ∷ [])) ++ ys ≡ trees (map f xs) ++ (f one).tree ∷ ys
 push_tree f [] one ys = refl
@@ -19,21 +15,6 @@ made_more f g made one ss i item lt e h =
     push_tree f made one (map g (drop (i + 1) ss))
     ∙ ap (λ t. trees (map f made) ++ t ∷ map g (drop (i + 1) ss)) (h ∙ ap (λ x. g x) e)
     ∙ ap (λ xs. trees (map f made) ++ map g xs) (sym (drop_more ss i item lt))
-
-pub link_made : {A B C : Type 0} (f : A → B) (g : C → B) (made : List A) (one : A) (ss : List C) (i : ℕ) (item : C) → i < length ss → item ≡ get_or ss i item → f one ≡ g item
-    → map f (made ++ one ∷ []) ++ map g (drop (i + 1) ss) ≡ map f made ++ map g (drop i ss)
-link_made f g made one ss i item lt e h =
-    push f made one (map g (drop (i + 1) ss))
-    ∙ ap (λ t. map f made ++ t ∷ map g (drop (i + 1) ss)) (h ∙ ap (λ x. g x) e)
-    ∙ ap (λ xs. map f made ++ map g xs) (sym (drop_more ss i item lt))
-
-append_nil : {A : Type 0} (xs : List A) → xs ++ [] ≡ xs
-append_nil [] = refl
-append_nil (x ∷ xs) = ap (λ ys. x ∷ ys) (append_nil xs)
-
--- nothing is left
-pub all_made : {B C : Type 0} (g : C → B) (made : List B) (ss : List C) (i : ℕ) (x : List B) → length ss ≤ i → made ++ map g (drop i ss) ≡ x → made ≡ x
-all_made g made ss i x h e = sym (append_nil made) ∙ sym (ap (λ xs. made ++ map g xs) (drop_all i ss h)) ∙ e
 
 pub both_true : (a b : Bool) → IsTrue (a && b) → IsTrue a × IsTrue b
 both_true true true h = (refl, refl)

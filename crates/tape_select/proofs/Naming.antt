@@ -1,10 +1,12 @@
 -- A name that is looked for at all depths.
-use Rattle.std.proofs.Common.{◌≡◌, ℕ, ◌+◌, List, [], ◌∷◌, ◌++◌, Result, Ok, Err, refl, ◌∙◌, arith, append_assoc}
+use Rattle.std.proofs.Common.{◌≡◌, ◌≢◌, ℕ, suc, ◌+◌, List, [], ◌∷◌, ◌++◌, Result, Ok, Err, refl, ◌∙◌, arith, append_assoc}
 use Rattle.std.specs.Prelude.{MatchResult, flat_map}
 use Rattle.tape_select.specs.Evaluation.{selected}
 use Rattle.path_grammar.specs.Tree.{Selector, selector, no_selectors, name, selectors_of}
-use Rattle.json_tape.specs.Nodes.{Node, visit}
-use Rattle.json_tape.specs.Document.{Doc}
+use Rattle.json_tape.specs.Tree.{Tree, Leaf, Arr, Obj, Elements, NoElement, Element}
+use Rattle.json_tape.specs.Nodes.{Node, Step, size, children, children_of, elements_from, visit, is_named, first_where}
+use Rattle.json_tape.specs.Document.{Doc, kind_of}
+use Rattle.json_tape.specs.declared.tape.Kind.TheVariants as kinds
 use Rattle.json_tape.specs.declared.tape.NodeId.{NodeId}
 use Rattle.tape_select.specs.Charge.{total_of}
 use Rattle.tape_select.specs.Extra.{extra_in}
@@ -14,7 +16,20 @@ use Rattle.tape_select.specs.declared.fault.SelectFault.TheVariants.{Memory}
 use Rattle.tape_select.proofs.Adding.{append_nil, has_none}
 use Rattle.tape_select.proofs.Filtering.{visit_more}
 
-pub ruleset looking = (visit_more, append_assoc, append_nil, has_none)
+no_element_named : (scalars : List ℕ) (up : List Step) (i k : ℕ) (es : Elements) → first_where (is_named scalars) (elements_from up i k es) ≡ []
+no_element_named scalars up i k NoElement = refl
+no_element_named scalars up i k (Element t es) = no_element_named scalars up (suc i) (k + size t) es
+
+none_named : (scalars : List ℕ) (up : List Step) (k : ℕ) (t : Tree) → kind_of t ≢ kinds.Object → first_where (is_named scalars) (children_of up k t) ≡ []
+none_named scalars up k (Leaf s c) h = refl
+none_named scalars up k (Arr s es) h = no_element_named scalars up 0 (suc k) es
+none_named scalars up k (Obj s ms) h = absurd (h refl)
+
+-- what is no object has no member
+pub no_members : (root : Node) (scalars : List ℕ) (n : Node) → kind_of n.tree ≢ kinds.Object → selected root (selector (name scalars) no_selectors) n ≡ []
+no_members root scalars n h = append_nil (first_where (is_named scalars) (children n)) ∙ none_named scalars n.way_up n.number n.tree h
+
+pub ruleset looking = (visit_more, no_members, append_assoc, append_nil, has_none)
 
 pub names_free : (root : Node) (scalars : List ℕ) (ns : List Node) → total_of (extra_in root (selector (name scalars) no_selectors)) ns ≡ 0
 names_free root scalars [] = refl

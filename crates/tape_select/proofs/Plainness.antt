@@ -1,13 +1,11 @@
 -- Conditions that are charged the same for each child.
-use Rattle.std.proofs.Common.{◌≡◌, ℕ, ◌+◌, ◌*◌, ◌<◌, ◌≤◌, Bool, true, false, ◌&&◌, List, [], ◌∷◌, map, length, drop, get_or, Option, Some, None, Result, Ok, Err, refl, ap, arith}
+use Rattle.std.proofs.Common.{◌≡◌, ℕ, ◌+◌, ◌*◌, ◌<◌, Bool, true, false, ◌&&◌, List, [], ◌∷◌, map, length, drop, get_or, Option, Some, None, Result, Ok, Err, refl, ap, arith}
 use Rattle.std.proofs.lemmas.List.{drop_more}
 use Rattle.path_grammar.specs.Tree.{exprs_of, no_segments, segment, Selectors, no_selectors, selector, name, wild, index, filter, slice, Expr, any, each, not, compare, test, test_call, Exprs, no_exprs, expr, Nested, nested, Comparable, lit, single, func, Call, call, no_arguments, argument, Argument, lit_argument, nodes_argument, func_argument, logical_argument}
 use Rattle.json_tape.specs.Nodes.{Node}
 use Rattle.tape_select.specs.Evaluation.{start}
-use Rattle.tape_select.specs.Plain.{is_plain, all_true, plus, units_of, units_of_all, units_of_short, units_of_one, units_of_query, units_of_call, units_of_argument, units_of_side, is_free}
-use Rattle.tape_select.specs.Planned.{trees, condition_view, links_view, is_rooted}
-use Rattle.tape_select.specs.declared.plan.Link.{Link}
-use Rattle.tape_select.specs.declared.plan.Link.TheVariants.{Key, Place}
+use Rattle.tape_select.specs.Plain.{is_plain, all_true, plus, units_of, units_of_all, units_of_one, units_of_query, units_of_call, units_of_argument, units_of_side, is_free}
+use Rattle.tape_select.specs.Planned.{trees, condition_view, is_rooted}
 use Rattle.tape_select.specs.declared.plan.Condition.{Condition}
 use Rattle.tape_select.proofs.Filtering.{some_more, all_more}
 use Rattle.std.specs.Prelude.{IsTrue, MatchResult}
@@ -40,15 +38,6 @@ pub plus_zero : (j : ℕ) → plus (Some j) (Some 0) ≡ Some j
 plus_zero j = ap Some (omega arith)
 
 pub ruleset units = (all_plain, all_units, plus_assoc, plus_none, plus_zero)
-
-one_unit : (l : Link) → units_of_short (links_view (l ∷ [])) ≡ Some 1
-one_unit (Key n) = refl
-one_unit (Place i) = refl
-
-pub one_link : (ls : List Link) → 1 ≤ length ls → length ls < 2 → units_of_short (links_view ls) ≡ Some 1
-one_link [] h l = absurd (omega arith)
-one_link (x ∷ []) h l = one_unit x
-one_link (x ∷ y ∷ ls) h l = absurd (omega arith)
 
 -- ---- Queries from `@`
 

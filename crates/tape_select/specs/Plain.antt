@@ -4,7 +4,8 @@ use Rattle.path_grammar.specs.Tree.{Segments, no_segments, segment, Selectors, n
 use Rattle.tape_select.specs.declared.plan.Condition.TheOpen.{Condition-F, Operand-F, Selection-F, Nested-F, Stage-F}
 use Rattle.tape_select.specs.declared.plan.Condition.{Condition, fold-Condition}
 use Rattle.tape_select.specs.declared.plan.Operand.{Operand, fold-Operand}
-use Rattle.tape_select.specs.declared.plan.Chain.{Chain}
+use Rattle.tape_select.specs.declared.plan.Nested as plan
+use Rattle.tape_select.specs.declared.plan.Nested.{fold-Nested}
 
 -- ---- Conditions of literals, and of singular queries from `@`
 
@@ -12,8 +13,9 @@ abbrev pub is_free : Option ℕ → Bool
 is_free None = true
 is_free (Some slot) = false
 
-abbrev pub is_relative : Chain → Bool
-is_relative c = is_free c.slot
+abbrev pub has_none : {A : Type 0} → List A → Bool
+has_none [] = true
+has_none (x ∷ xs) = false
 
 abbrev pub all_true : List Bool → Bool
 all_true [] = true
@@ -25,12 +27,11 @@ module _ where
   plain_condition (Condition-F.Each v) = all_true v.items
   plain_condition (Condition-F.Not b) = b.value
   plain_condition (Condition-F.Compare a op b) = a && b
-  plain_condition (Condition-F.Leads c) = is_relative c
-  plain_condition (Condition-F.Exists q) = false
+  plain_condition (Condition-F.Exists q) = q
 
   abbrev pub plain_operand : Operand-F Bool Bool Bool Bool Bool → Bool
   plain_operand (Operand-F.Constant l) = true
-  plain_operand (Operand-F.Single c) = is_relative c
+  plain_operand (Operand-F.Single q) = q
   plain_operand (Operand-F.Length b) = b.value
   plain_operand (Operand-F.Count q) = false
   plain_operand (Operand-F.Value q) = false
@@ -39,7 +40,7 @@ module _ where
   plain_selection s = false
 
   abbrev pub plain_nested : Nested-F Bool Bool Bool Bool Bool → Bool
-  plain_nested q = false
+  plain_nested q = is_free q.slot && has_none q.stages.items
 
   abbrev pub plain_stage : Stage-F Bool Bool Bool Bool Bool → Bool
   plain_stage s = false
@@ -49,6 +50,9 @@ is_plain = fold-Condition Bool Bool Bool Bool Bool plain_condition plain_operand
 
 abbrev pub is_plain_side : Operand → Bool
 is_plain_side = fold-Operand Bool Bool Bool Bool Bool plain_condition plain_operand plain_selection plain_nested plain_stage
+
+abbrev pub is_plain_query : plan.Nested → Bool
+is_plain_query = fold-Nested Bool Bool Bool Bool Bool plain_condition plain_operand plain_selection plain_nested plain_stage
 
 -- ---- The charge of one child
 

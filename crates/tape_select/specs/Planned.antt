@@ -1,5 +1,5 @@
 -- The query that a plan stands for, and which of its queries have which slots: each level once, with what is inside already seen.
-use Rattle.std.specs.Prelude.{ℕ, ◌+◌, List, [], ◌∷◌, map, Bool, true, false, Option, Some, None, nat_eq, if◌then◌else◌, codes}
+use Rattle.std.specs.Prelude.{ℕ, ◌+◌, List, [], ◌∷◌, ◌++◌, map, Bool, true, false, Option, Some, None, nat_eq, if◌then◌else◌, codes}
 use Rattle.path_grammar.specs.Tree as tree
 use Rattle.path_grammar.specs.Tree.{OneSegment, Segments, segments_of, selectors_of, exprs_of}
 use Rattle.path_grammar.specs.View.{literal_view}
@@ -12,7 +12,6 @@ use Rattle.tape_select.specs.declared.plan.Stage.{Stage, fold-Stage}
 use Rattle.tape_select.specs.declared.plan.Constant.{Constant}
 use Rattle.tape_select.specs.declared.plan.Link.{Link}
 use Rattle.tape_select.specs.declared.plan.Link.TheVariants.{Key, Place}
-use Rattle.tape_select.specs.declared.plan.Chain.{Chain}
 
 -- ---- Slots
 
@@ -58,9 +57,6 @@ link_view l = record { descend = false; selectors = tree.selector (link_selector
 abbrev pub links_view : List Link → Segments
 links_view ls = segments_of (map link_view ls)
 
-abbrev pub chain_view : Chain → With tree.Nested
-chain_view c = record { tree = tree.nested (is_rooted c.slot) (links_view c.links.items); claims = own_claim c.slot (links_view c.links.items) }
-
 -- ---- The levels
 
 -- a side of a comparison as an argument
@@ -82,12 +78,11 @@ module _ where
   condition_step (Condition-F.Each v) = record { tree = tree.each (exprs_of (map tree_in v.items)); claims = all_claims v.items }
   condition_step (Condition-F.Not b) = record { tree = tree.not b.value.tree; claims = b.value.claims }
   condition_step (Condition-F.Compare a op b) = record { tree = tree.compare a.tree op b.tree; claims = both a.claims b.claims }
-  condition_step (Condition-F.Leads c) = record { tree = tree.test (chain_view c).tree; claims = (chain_view c).claims }
   condition_step (Condition-F.Exists q) = record { tree = tree.test q.tree; claims = q.claims }
 
   abbrev pub operand_step : Layer Operand-F → With tree.Comparable
   operand_step (Operand-F.Constant l) = record { tree = tree.lit (constant_view l); claims = no_claims }
-  operand_step (Operand-F.Single c) = record { tree = tree.single (chain_view c).tree; claims = (chain_view c).claims }
+  operand_step (Operand-F.Single q) = record { tree = tree.single q.tree; claims = q.claims }
   operand_step (Operand-F.Length b) = record { tree = calling (codes "length") (as_argument b.value.tree); claims = b.value.claims }
   operand_step (Operand-F.Count q) = record { tree = calling (codes "count") (tree.nodes_argument q.tree); claims = q.claims }
   operand_step (Operand-F.Value q) = record { tree = calling (codes "value") (tree.nodes_argument q.tree); claims = q.claims }
@@ -100,8 +95,8 @@ module _ where
 
   abbrev pub nested_step : Layer Nested-F → With tree.Nested
   nested_step q = record {
-    tree = tree.nested (is_rooted q.slot) (segments_of (map tree_in q.stages.items));
-    claims = both (own_claim q.slot (segments_of (map tree_in q.stages.items))) (all_claims q.stages.items);
+    tree = tree.nested (is_rooted q.slot) (segments_of (map link_view q.links.items ++ map tree_in q.stages.items));
+    claims = both (own_claim q.slot (segments_of (map link_view q.links.items ++ map tree_in q.stages.items))) (all_claims q.stages.items);
   }
 
   abbrev pub stage_step : Layer Stage-F → With OneSegment
@@ -130,6 +125,10 @@ trees parts = map tree_in parts
 -- the query of these stages
 abbrev pub query_of : List Stage → Segments
 query_of ss = segments_of (trees (map stage_view ss))
+
+-- the query of these links, and the stages behind them
+abbrev pub path_of : List Link → List Stage → Segments
+path_of ls ss = segments_of (map link_view ls ++ trees (map stage_view ss))
 
 abbrev pub claims_of : List Stage → Claims
 claims_of ss = all_claims (map stage_view ss)

@@ -1,6 +1,6 @@
 //! Comparisons that were made: a table of a fixed size, which answers or does not.
 
-ghost use Rattle.std.specs.Prelude.{◌<◌, IfSome, Some, length};
+ghost use Rattle.std.specs.Prelude.{◌<◌, IfSome, Some};
 ghost use Rattle.json_tape.specs.Document.{count};
 ghost use Rattle.tape_select.specs.Answered.{AreRight, IsRight, Answers};
 
@@ -38,12 +38,9 @@ pub fn make_room(doc: &Document, table: &mut Vec<Option<Answer>>)
 }
 
 // The place of a pair.
-fn place(a: NodeId, b: NodeId, places: usize) -> usize
-    requires { 0 < places }
-    ensures { result < places }
-{
+fn place(a: NodeId, b: NodeId) -> usize {
     let mixed = u64::from(a.0).wrapping_mul(0x9E37_79B9_7F4A_7C15) ^ u64::from(b.0);
-    (mixed as usize) % places
+    (mixed as usize) % PLACES
 }
 
 // What is known of two nodes.
@@ -53,10 +50,11 @@ fn known(doc: &Document, table: &[Option<Answer>], a: NodeId, b: NodeId) -> Opti
     ensures { IfSome result (λ answer. Answers doc.now a b answer) }
 {
     let _ = doc;
-    if table.is_empty() {
+    let at = place(a, b);
+    if at >= table.len() {
         return None;
     }
-    let answer = table[place(a, b, table.len())]?;
+    let answer = table[at]?;
     if answer.left.0 == a.0 && answer.right.0 == b.0 {
         Some(answer)
     } else {
@@ -92,8 +90,8 @@ pub fn compare_once(doc: &Document, table: &mut [Option<Answer>], a: NodeId, b: 
         return answer;
     }
     let answer = found(doc, a, b);
-    if !table.is_empty() {
-        let at = place(a, b, table.len());
+    let at = place(a, b);
+    if at < table.len() {
         table[at] = Some(answer);
     }
     answer

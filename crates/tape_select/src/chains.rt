@@ -41,6 +41,7 @@ pub fn step(doc: &Document, link: &Link, n: NodeId) -> Option<NodeId>
 }
 
 /// The node that a singular query selects from a node, one unit for each segment that has a node to select from.
+#[inline(always)]
 pub fn followed(
     doc: &Document,
     links: &[Link],

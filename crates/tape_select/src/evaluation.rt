@@ -9,29 +9,27 @@ ghost use Rattle.tape_select.specs.Nodelists.{nodes_of};
 ghost use Rattle.tape_select.specs.Charge.{total_of, charge_from, charge_expr, charge_exprs, charge_side};
 ghost use Rattle.tape_select.specs.Extra.{extra_in, extra_by, nodes_from, charge_at, nodes_after, charge_after};
 ghost use Rattle.tape_select.specs.Paying.{Inside, Adds, Finds, FindsList};
-ghost use Rattle.tape_select.specs.Planned.{trees, query_of, claims_of, all_claims, look, condition_view, operand_view, selection_view, nested_view, stage_view};
+ghost use Rattle.tape_select.specs.Planned.{trees, query_of, path_of, claims_of, all_claims, look, condition_view, operand_view, selection_view, nested_view, stage_view};
 ghost use Rattle.tape_select.specs.Slots.{AreClaimed};
 ghost use Rattle.tape_select.specs.Memo.{FindsNodes, FindsFor, FindsSide, Keeps};
 
-use crate::chains::step;
+use crate::chains::{followed, step};
 use crate::fault::SelectFault;
-use crate::names::{lone_name, named};
+use crate::names::named;
 use crate::nodes::{child_total, lone, push, push_some, wild};
 use crate::plain::{filtered_plainly, units_of};
-use crate::plan::{Condition, Nested, Operand, Parts, Selection, Stage};
+use crate::plan::{Condition, Link, Nested, Operand, Parts, Selection, Stage};
 use crate::sides::{compare, length_of, side_found};
 use crate::slices::sliced;
-use crate::state::{Found, State, chain_found, found_in, keep, recall};
-use crate::steps::{lone_link, stepped};
+use crate::state::{Found, State, found_by_links, found_in, keep, recall};
+use crate::steps::{lone_link, only_link, stepped};
 use json_tape::{Document, NodeId};
-use std::alloc::Global;
 use tape_values::Side;
 
 // The children for which a condition holds.
 #[cycle(evaluation)]
 #[tactic(auto, using(crate::proofs::Plainness::all_charged))]
 fn filtered(
-    alloc: Global,
     doc: &Document,
     plan: &Parts,
     condition: &Condition,
@@ -51,7 +49,7 @@ fn filtered(
             let State { meter, answers, .. } = state;
             filtered_plainly(doc, condition, units, n, meter, answers, out)
         }
-        None => filtered_each(alloc, doc, plan, condition, n, state, out),
+        None => filtered_each(doc, plan, condition, n, state, out),
     }
 }
 
@@ -59,7 +57,6 @@ fn filtered(
 #[cycle(evaluation)]
 #[tactic(auto, using(crate::proofs::Filtering::filtering))]
 fn filtered_each(
-    alloc: Global,
     doc: &Document,
     plan: &Parts,
     condition: &Condition,
@@ -78,7 +75,7 @@ fn filtered_each(
     state.meter.spend_each(2, u64::from(total))?;
     let mut child = doc.first_child(n);
     while let Some(c) = child {
-        if does_hold(alloc, doc, plan, condition, c, state)? {
+        if does_hold(doc, plan, condition, c, state)? {
             push(doc, out, c)?;
         }
         child = doc.next_sibling(c);
@@ -89,7 +86,6 @@ fn filtered_each(
 #[cycle(evaluation)]
 #[tactic(auto, using(crate::proofs::Filtering::holding))]
 fn does_hold(
-    alloc: Global,
     doc: &Document,
     plan: &Parts,
     condition: &Condition,
@@ -103,23 +99,19 @@ fn does_hold(
     ensures kept { Keeps doc.now (claims_of plan.now.stages.items) state.new }
 {
     match condition {
-        Condition::Any(operands) => some_hold(alloc, doc, plan, operands, child, state),
-        Condition::Each(operands) => all_hold(alloc, doc, plan, operands, child, state),
+        Condition::Any(operands) => some_hold(doc, plan, operands, child, state),
+        Condition::Each(operands) => all_hold(doc, plan, operands, child, state),
         Condition::Not(operand) => {
-            let held = does_hold(alloc, doc, plan, operand, child, state)?;
+            let held = does_hold(doc, plan, operand, child, state)?;
             Ok(!held)
         }
         Condition::Compare(left, op, right) => {
-            let left = side_of(alloc, doc, plan, left, child, state)?;
-            let right = side_of(alloc, doc, plan, right, child, state)?;
+            let left = side_of(doc, plan, left, child, state)?;
+            let right = side_of(doc, plan, right, child, state)?;
             Ok(compare(doc, *op, &left, &right, &mut state.answers))
         }
-        Condition::Leads(chain) => {
-            let found = chain_found(doc, plan, chain, child, state)?;
-            Ok(found.total != 0)
-        }
         Condition::Exists(query) => {
-            let found = found(alloc, doc, plan, query, child, state)?;
+            let found = found(doc, plan, query, child, state)?;
             Ok(found.total != 0)
         }
     }
@@ -129,7 +121,6 @@ fn does_hold(
 #[cycle(evaluation)]
 #[tactic(auto, using(crate::proofs::Filtering::somes))]
 fn some_hold(
-    alloc: Global,
     doc: &Document,
     plan: &Parts,
     operands: &[Condition],
@@ -144,7 +135,7 @@ fn some_hold(
 {
     let mut some = false;
     for operand in operands {
-        let held = does_hold(alloc, doc, plan, operand, child, state)?;
+        let held = does_hold(doc, plan, operand, child, state)?;
         some |= held;
     }
     Ok(some)
@@ -153,7 +144,6 @@ fn some_hold(
 #[cycle(evaluation)]
 #[tactic(auto, using(crate::proofs::Filtering::alls))]
 fn all_hold(
-    alloc: Global,
     doc: &Document,
     plan: &Parts,
     operands: &[Condition],
@@ -168,17 +158,42 @@ fn all_hold(
 {
     let mut all = true;
     for operand in operands {
-        let held = does_hold(alloc, doc, plan, operand, child, state)?;
+        let held = does_hold(doc, plan, operand, child, state)?;
         all &= held;
     }
     Ok(all)
 }
 
-// A side of a comparison.
+// A side of a comparison. A singular query, as most are, takes no call.
 #[cycle(evaluation)]
-#[tactic(auto, using(crate::proofs::Filtering::siding))]
+#[inline(always)]
 fn side_of<'a>(
-    alloc: Global,
+    doc: &Document,
+    plan: &Parts,
+    operand: &'a Operand,
+    child: NodeId,
+    state: &mut State,
+) -> Result<Side<'a>, SelectFault>
+    requires inside { child.0 < count doc.now }
+    requires claimed { AreClaimed (claims_of plan.now.stages.items) (operand_view operand.now).claims }
+    requires kept { Keeps doc.now (claims_of plan.now.stages.items) state.old }
+    ensures found { FindsSide doc.now result (side_result (node_at doc.now 0) (operand_view operand.now).tree (node_at doc.now child.0)) (charge_side (node_at doc.now 0) (operand_view operand.now).tree (node_at doc.now child.0)) state.old.meter.left state.new.meter.left }
+    ensures kept { Keeps doc.now (claims_of plan.now.stages.items) state.new }
+{
+    match operand {
+        Operand::Single(query) => {
+            let found = found(doc, plan, query, child, state)?;
+            Ok(side_found(doc, found.only))
+        }
+        _ => side_by_kind(doc, plan, operand, child, state),
+    }
+}
+
+// The same, whatever the side is.
+#[cycle(evaluation)]
+#[inline(never)]
+#[tactic(auto, using(crate::proofs::Filtering::siding))]
+fn side_by_kind<'a>(
     doc: &Document,
     plan: &Parts,
     operand: &'a Operand,
@@ -193,20 +208,16 @@ fn side_of<'a>(
 {
     match operand {
         Operand::Constant(constant) => Ok(Side::Literal(&constant.literal)),
-        Operand::Single(chain) => {
-            let found = chain_found(doc, plan, chain, child, state)?;
-            Ok(side_found(doc, found.only))
-        }
         Operand::Length(operand) => {
-            let side = side_of(alloc, doc, plan, operand, child, state)?;
+            let side = side_of(doc, plan, operand, child, state)?;
             Ok(length_of(doc, side))
         }
         Operand::Count(query) => {
-            let found = found(alloc, doc, plan, query, child, state)?;
+            let found = found(doc, plan, query, child, state)?;
             Ok(Side::Whole(found.total))
         }
-        Operand::Value(query) => {
-            let found = found(alloc, doc, plan, query, child, state)?;
+        Operand::Single(query) | Operand::Value(query) => {
+            let found = found(doc, plan, query, child, state)?;
             Ok(side_found(doc, found.only))
         }
     }
@@ -214,8 +225,8 @@ fn side_of<'a>(
 
 // What is asked of a query in a filter. From the root it is found once.
 #[cycle(evaluation)]
+#[inline(always)]
 fn found(
-    alloc: Global,
     doc: &Document,
     plan: &Parts,
     query: &Nested,
@@ -229,24 +240,25 @@ fn found(
     ensures kept { Keeps doc.now (claims_of plan.now.stages.items) state.new }
 {
     match query.slot {
-        None => found_from(alloc, doc, plan, &query.stages, child, state),
-        Some(slot) => found_once(alloc, doc, plan, &query.stages, slot, state),
+        None => found_from(doc, plan, &query.links, &query.stages, child, state),
+        Some(slot) => found_once(doc, plan, &query.links, &query.stages, slot, state),
     }
 }
 
 #[cycle(evaluation)]
+#[inline(always)]
 fn found_once(
-    alloc: Global,
     doc: &Document,
     plan: &Parts,
+    links: &[Link],
     stages: &[Stage],
     slot: u32,
     state: &mut State,
 ) -> Result<Found, SelectFault>
-    requires mine { look (claims_of plan.now.stages.items) slot ≡ Some (query_of stages.now) }
+    requires mine { look (claims_of plan.now.stages.items) slot ≡ Some (path_of links.now stages.now) }
     requires claimed { AreClaimed (claims_of plan.now.stages.items) (claims_of stages.now) }
     requires kept { Keeps doc.now (claims_of plan.now.stages.items) state.old }
-    ensures found { FindsNodes doc.now result (query_of stages.now) (node_at doc.now 0) state.old.meter.left state.new.meter.left }
+    ensures found { FindsNodes doc.now result (path_of links.now stages.now) (node_at doc.now 0) state.old.meter.left state.new.meter.left }
     ensures kept { Keeps doc.now (claims_of plan.now.stages.items) state.new }
 {
     match recall(doc, plan, &state.slots, slot) {
@@ -255,7 +267,7 @@ fn found_once(
             Ok(found)
         }
         None => {
-            let found = found_from(alloc, doc, plan, stages, doc.root(), state)?;
+            let found = found_from(doc, plan, links, stages, doc.root(), state)?;
             keep(doc, plan, &mut state.slots, slot, found);
             Ok(found)
         }
@@ -263,10 +275,11 @@ fn found_once(
 }
 
 #[cycle(evaluation)]
+#[inline(always)]
 fn found_from(
-    alloc: Global,
     doc: &Document,
     plan: &Parts,
+    links: &[Link],
     stages: &[Stage],
     n: NodeId,
     state: &mut State,
@@ -274,18 +287,44 @@ fn found_from(
     requires inside { n.0 < count doc.now }
     requires claimed { AreClaimed (claims_of plan.now.stages.items) (claims_of stages.now) }
     requires kept { Keeps doc.now (claims_of plan.now.stages.items) state.old }
-    ensures found { FindsNodes doc.now result (query_of stages.now) (node_at doc.now n.0) state.old.meter.left state.new.meter.left }
+    ensures found { FindsNodes doc.now result (path_of links.now stages.now) (node_at doc.now n.0) state.old.meter.left state.new.meter.left }
+    ensures kept { Keeps doc.now (claims_of plan.now.stages.items) state.new }
+{
+    if stages.is_empty() {
+        found_by_links(doc, links, n, &mut state.meter)
+    } else {
+        found_behind(doc, plan, links, stages, n, state)
+    }
+}
+
+// The same where segments stand behind the names and indexes.
+#[cycle(evaluation)]
+#[inline(never)]
+fn found_behind(
+    doc: &Document,
+    plan: &Parts,
+    links: &[Link],
+    stages: &[Stage],
+    n: NodeId,
+    state: &mut State,
+) -> Result<Found, SelectFault>
+    requires inside { n.0 < count doc.now }
+    requires claimed { AreClaimed (claims_of plan.now.stages.items) (claims_of stages.now) }
+    requires kept { Keeps doc.now (claims_of plan.now.stages.items) state.old }
+    ensures found { FindsNodes doc.now result (path_of links.now stages.now) (node_at doc.now n.0) state.old.meter.left state.new.meter.left }
     ensures kept { Keeps doc.now (claims_of plan.now.stages.items) state.new }
 {
     let units = state.meter.left;
-    let nodes = all_selected(alloc, doc, plan, stages, n, state)?;
+    let Some(first) = followed(doc, links, n, &mut state.meter)? else {
+        return Ok(found_in(doc, &[], units - state.meter.left));
+    };
+    let nodes = all_selected(doc, plan, stages, first, state)?;
     Ok(found_in(doc, &nodes, units - state.meter.left))
 }
 
 /// The nodes that the stages select from a node.
 #[cycle(evaluation)]
 pub fn all_selected(
-    alloc: Global,
     doc: &Document,
     plan: &Parts,
     stages: &[Stage],
@@ -298,9 +337,9 @@ pub fn all_selected(
     ensures found { FindsList doc.now result (evaluated (node_at doc.now 0) (query_of stages.now) (node_at doc.now n.0 ∷ [])) (charge_from (node_at doc.now 0) (query_of stages.now) (node_at doc.now n.0 ∷ [])) state.old.meter.left state.new.meter.left }
     ensures kept { Keeps doc.now (claims_of plan.now.stages.items) state.new }
 {
-    let mut nodes = lone(alloc, doc, n)?;
+    let mut nodes = lone(state.alloc, doc, n)?;
     for stage in stages {
-        nodes = after_stage(alloc, doc, plan, stage, &nodes, state)?;
+        nodes = after_stage(doc, plan, stage, &nodes, state)?;
     }
     Ok(nodes)
 }
@@ -308,7 +347,6 @@ pub fn all_selected(
 // What a segment selects from several nodes. A lone name or index takes a loop of its own.
 #[cycle(evaluation)]
 fn after_stage(
-    alloc: Global,
     doc: &Document,
     plan: &Parts,
     stage: &Stage,
@@ -322,8 +360,8 @@ fn after_stage(
     ensures kept { Keeps doc.now (claims_of plan.now.stages.items) state.new }
 {
     match lone_link(stage) {
-        Some(link) => stepped(alloc, doc, link, input, &mut state.meter),
-        None => after_each(alloc, doc, plan, stage, input, state),
+        Some(link) => stepped(state.alloc, doc, link, input, &mut state.meter),
+        None => after_each(doc, plan, stage, input, state),
     }
 }
 
@@ -331,7 +369,6 @@ fn after_stage(
 #[cycle(evaluation)]
 #[tactic(auto, using(crate::proofs::Filtering::each_input))]
 fn after_each(
-    alloc: Global,
     doc: &Document,
     plan: &Parts,
     stage: &Stage,
@@ -344,9 +381,9 @@ fn after_each(
     ensures found { FindsList doc.now result (nodes_after (node_at doc.now 0) (stage_view stage.now).tree (nodes_of doc.now input.now)) (charge_after (node_at doc.now 0) (stage_view stage.now).tree (nodes_of doc.now input.now)) state.old.meter.left state.new.meter.left }
     ensures kept { Keeps doc.now (claims_of plan.now.stages.items) state.new }
 {
-    let mut out = Vec::new(alloc);
+    let mut out = Vec::new(state.alloc);
     for n in input {
-        from_node(alloc, doc, plan, stage, *n, state, &mut out)?;
+        from_node(doc, plan, stage, *n, state, &mut out)?;
     }
     Ok(out)
 }
@@ -369,7 +406,6 @@ fn visit_total(doc: &Document, n: NodeId) -> u64
 // What a segment selects from one node. Each selector's unit is paid here, for all nodes at once.
 #[cycle(evaluation)]
 fn from_node(
-    alloc: Global,
     doc: &Document,
     plan: &Parts,
     stage: &Stage,
@@ -387,17 +423,16 @@ fn from_node(
     let selectors = selector_total(stage);
     if stage.descend {
         state.meter.spend_each(visit_total(doc, n), selectors)?;
-        visited(alloc, doc, plan, &stage.selections, n, state, out)
+        visited(doc, plan, &stage.selections, n, state, out)
     } else {
         state.meter.spend(selectors)?;
-        selected_from(alloc, doc, plan, &stage.selections, n, state, out)
+        selected_from(doc, plan, &stage.selections, n, state, out)
     }
 }
 
 // What the selectors select from a node and all its descendants. A lone name takes a loop of its own.
 #[cycle(evaluation)]
 fn visited(
-    alloc: Global,
     doc: &Document,
     plan: &Parts,
     selections: &[Selection],
@@ -412,9 +447,9 @@ fn visited(
     ensures added { Adds doc.now result out.new.items (nodes_of doc.now out.old.items ++ flat_map (selected (node_at doc.now 0) (selectors_of (trees (map selection_view selections.now)))) (visit (node_at doc.now n.0))) (total_of (extra_in (node_at doc.now 0) (selectors_of (trees (map selection_view selections.now)))) (visit (node_at doc.now n.0))) state.old.meter.left state.new.meter.left }
     ensures kept { Keeps doc.now (claims_of plan.now.stages.items) state.new }
 {
-    match lone_name(selections) {
-        Some(name) => named(doc, name, n, out),
-        None => visited_each(alloc, doc, plan, selections, n, state, out),
+    match only_link(selections) {
+        Some(Link::Key(name)) => named(doc, name, n, out),
+        _ => visited_each(doc, plan, selections, n, state, out),
     }
 }
 
@@ -422,7 +457,6 @@ fn visited(
 #[cycle(evaluation)]
 #[tactic(auto, using(crate::proofs::Filtering::visiting))]
 fn visited_each(
-    alloc: Global,
     doc: &Document,
     plan: &Parts,
     selections: &[Selection],
@@ -439,7 +473,7 @@ fn visited_each(
 {
     let end = doc.after(n);
     for k in n.0..end {
-        selected_within(alloc, doc, plan, selections, NodeId(k), state, out)?;
+        selected_within(doc, plan, selections, NodeId(k), state, out)?;
     }
     Ok(())
 }
@@ -447,7 +481,6 @@ fn visited_each(
 // What the selectors select from one node. From one without children they select nothing.
 #[cycle(evaluation)]
 fn selected_within(
-    alloc: Global,
     doc: &Document,
     plan: &Parts,
     selections: &[Selection],
@@ -464,7 +497,7 @@ fn selected_within(
 {
     match doc.first_child(n) {
         None => Ok(()),
-        Some(_) => selected_from(alloc, doc, plan, selections, n, state, out),
+        Some(_) => selected_from(doc, plan, selections, n, state, out),
     }
 }
 
@@ -472,7 +505,6 @@ fn selected_within(
 #[cycle(evaluation)]
 #[tactic(auto, using(crate::proofs::Filtering::selections))]
 fn selected_from(
-    alloc: Global,
     doc: &Document,
     plan: &Parts,
     selections: &[Selection],
@@ -488,7 +520,7 @@ fn selected_from(
     ensures kept { Keeps doc.now (claims_of plan.now.stages.items) state.new }
 {
     for selection in selections {
-        selected_by(alloc, doc, plan, selection, n, state, out)?;
+        selected_by(doc, plan, selection, n, state, out)?;
     }
     Ok(())
 }
@@ -496,7 +528,6 @@ fn selected_from(
 #[cycle(evaluation)]
 #[tactic(auto, using(crate::proofs::Filtering::selecting))]
 fn selected_by(
-    alloc: Global,
     doc: &Document,
     plan: &Parts,
     selection: &Selection,
@@ -517,6 +548,6 @@ fn selected_by(
         Selection::Sliced { start, stop, step } => {
             sliced(doc, n, *start, *stop, *step, &mut state.meter, out)
         }
-        Selection::Where(condition) => filtered(alloc, doc, plan, condition, n, state, out),
+        Selection::Where(condition) => filtered(doc, plan, condition, n, state, out),
     }
 }

@@ -1,20 +1,15 @@
 //! A plan made of a query.
 
-ghost use Rattle.std.specs.Prelude.{◌≡◌, map, Some, IfOk, IsTrue, false, codes};
+ghost use Rattle.std.specs.Prelude.{◌≡◌, ◌≤◌, ◌++◌, length, drop, map, Some, IfOk, IfSome, IsTrue, codes};
 ghost use Rattle.path_grammar.specs.Tree as tree;
-ghost use Rattle.path_grammar.specs.Tree.{Segments, exprs_of, selector, no_selectors};
+ghost use Rattle.path_grammar.specs.Tree.{Segments, exprs_of};
 ghost use Rattle.path_grammar.specs.View.{segments_view, selectors_view, segment_view, selector_view, expr_view, nested_view as query_tree, comparable_view, call_view, argument_view, literal_view, query_view};
-ghost use Rattle.path_grammar.specs.Singular.{is_singular, is_singular_query, is_one};
 ghost use Rattle.path_types.specs.Validity.{is_literal, is_valid, are_valid, is_valid_selector, is_valid_expr, are_valid_exprs, is_valid_nested, is_valid_comparable, is_valid_call, is_valid_argument};
-ghost use Rattle.tape_select.specs.Planned.{trees, all_claims, query_of, claims_of, is_rooted, own_claim, as_argument, calling, constant_view, link_selector, link_view, chain_view, condition_view, operand_view, selection_view, nested_view, stage_view, numbered};
+ghost use Rattle.tape_select.specs.Planned.{trees, all_claims, query_of, claims_of, is_rooted, own_claim, as_argument, calling, constant_view, link_view, condition_view, operand_view, selection_view, nested_view, stage_view, numbered};
 ghost use Rattle.tape_select.specs.Making.{is_valid_nodes};
 
-use crate::plan::{
-    Chain, Condition, Constant, Link, Name, Nested, Operand, Parts, Selection, Stage,
-};
-use path_grammar::{
-    Argument, Call, Comparable, Expr, Literal, Segment, Selector, SubQuery, is_singular,
-};
+use crate::plan::{Condition, Constant, Link, Name, Nested, Operand, Parts, Selection, Stage};
+use path_grammar::{Argument, Call, Comparable, Expr, Literal, Segment, Selector, SubQuery};
 use path_types::ValidQuery;
 use std::alloc::{AllocError, Global};
 use std::cell::Cell;
@@ -66,49 +61,33 @@ fn slot(from_root: bool, next: &mut u32) -> Result<Option<u32>, AllocError>
     }
 }
 
-// The segment of a singular query with this selector.
-fn link(alloc: Global, only: &Selector) -> Result<Link, AllocError>
-    requires one { IsTrue (is_one (selector (selector_view only.now) no_selectors)) }
-    ensures { IfOk result (λ made. link_selector made ≡ selector_view only.now) }
+// The name or the index that a segment selects by alone.
+fn link(alloc: Global, segment: &Segment) -> Result<Option<Link>, AllocError>
+    ensures { IfOk result (λ made. IfSome made (λ link. link_view link ≡ segment_view segment.now)) }
 {
-    match only {
-        Selector::Name(scalars) => Ok(Link::Key(name(alloc, scalars)?)),
-        Selector::Index(i) => Ok(Link::Place(*i)),
-        Selector::Wild | Selector::Filter(_) | Selector::Slice { .. } => unreachable!(),
+    if segment.descend {
+        return Ok(None);
     }
-}
-
-fn link_of(alloc: Global, segment: &Segment) -> Result<Link, AllocError>
-    requires child { (segment_view segment.now).descend ≡ false }
-    requires one { IsTrue (is_one (segment_view segment.now).selectors) }
-    ensures { IfOk result (λ made. link_view made ≡ segment_view segment.now) }
-{
     match segment.selectors.as_slice() {
-        [only] => link(alloc, only),
-        _ => unreachable!(),
+        [Selector::Name(scalars)] => Ok(Some(Link::Key(name(alloc, scalars)?))),
+        [Selector::Index(i)] => Ok(Some(Link::Place(*i))),
+        _ => Ok(None),
     }
 }
 
+// The names and indexes that segments begin with.
 fn links(alloc: Global, segments: &[Segment]) -> Result<Vec<Link>, AllocError>
-    requires singular { IsTrue (is_singular (segments_view segments.now)) }
-    ensures { IfOk result (λ made. map link_view made.items ≡ map segment_view segments.now) }
+    ensures few { IfOk result (λ made. length made.items ≤ length segments.now) }
+    ensures same { IfOk result (λ made. map link_view made.items ++ map segment_view (drop (length made.items) segments.now) ≡ map segment_view segments.now) }
 {
     let mut made = Vec::new(alloc);
     for segment in segments {
-        let one = link_of(alloc, segment)?;
-        made.push(one)?;
+        match link(alloc, segment)? {
+            None => return Ok(made),
+            Some(link) => made.push(link)?,
+        }
     }
     Ok(made)
-}
-
-fn chain(alloc: Global, query: &SubQuery, next: &mut u32) -> Result<Chain, AllocError>
-    requires singular { IsTrue (is_singular_query (query_tree query.now)) }
-    ensures same { IfOk result (λ made. (chain_view made).tree ≡ query_tree query.now) }
-    ensures numbered { IfOk result (λ made. numbered (chain_view made).claims next.old ≡ Some next.new) }
-{
-    let slot = slot(query.from_root, next)?;
-    let links = links(alloc, &query.segments)?;
-    Ok(Chain { slot, links })
 }
 
 #[cycle(making)]
@@ -164,29 +143,43 @@ fn stage(alloc: Global, segment: &Segment, next: &mut u32) -> Result<Stage, Allo
     })
 }
 
+// The segments from this one on.
 #[cycle(making)]
-fn stages(alloc: Global, segments: &[Segment], next: &mut u32) -> Result<Vec<Stage>, AllocError>
+#[tactic(auto, using(crate::proofs::Links::valid_behind))]
+fn stages(
+    alloc: Global,
+    segments: &[Segment],
+    from: usize,
+    next: &mut u32,
+) -> Result<Vec<Stage>, AllocError>
+    requires inside { from ≤ length segments.now }
     requires valid { IsTrue (is_valid (segments_view segments.now)) }
-    ensures same { IfOk result (λ made. trees (map stage_view made.items) ≡ map segment_view segments.now) }
+    ensures same { IfOk result (λ made. trees (map stage_view made.items) ≡ map segment_view (drop from segments.now)) }
     ensures numbered { IfOk result (λ made. numbered (claims_of made.items) next.old ≡ Some next.new) }
 {
     let mut made = Vec::new(alloc);
-    for segment in segments {
-        let one = stage(alloc, segment, next)?;
+    for i in from..segments.len() {
+        let one = stage(alloc, &segments[i], next)?;
         made.push(one)?;
     }
     Ok(made)
 }
 
 #[cycle(making)]
+#[tactic(auto, using(crate::proofs::Links::behind))]
 fn nested(alloc: Global, query: &SubQuery, next: &mut u32) -> Result<Nested, AllocError>
     requires valid { IsTrue (is_valid_nested (query_tree query.now)) }
     ensures same { IfOk result (λ made. (nested_view made).tree ≡ query_tree query.now) }
     ensures numbered { IfOk result (λ made. numbered (nested_view made).claims next.old ≡ Some next.new) }
 {
     let slot = slot(query.from_root, next)?;
-    let stages = stages(alloc, &query.segments, next)?;
-    Ok(Nested { slot, stages })
+    let links = links(alloc, &query.segments)?;
+    let stages = stages(alloc, &query.segments, links.len(), next)?;
+    Ok(Nested {
+        slot,
+        links,
+        stages,
+    })
 }
 
 #[cycle(making)]
@@ -207,7 +200,7 @@ fn condition(alloc: Global, expr: &Expr, next: &mut u32) -> Result<Condition, Al
             let right = operand(alloc, right, next)?;
             Ok(Condition::Compare(left, *op, right))
         }
-        Expr::Test(query) => test(alloc, query, next),
+        Expr::Test(query) => Ok(Condition::Exists(nested(alloc, query, next)?)),
         Expr::TestCall(_) => unreachable!(),
     }
 }
@@ -231,19 +224,6 @@ fn conditions(
 }
 
 #[cycle(making)]
-fn test(alloc: Global, query: &SubQuery, next: &mut u32) -> Result<Condition, AllocError>
-    requires valid { IsTrue (is_valid_nested (query_tree query.now)) }
-    ensures same { IfOk result (λ made. (condition_view made).tree ≡ tree.test (query_tree query.now)) }
-    ensures numbered { IfOk result (λ made. numbered (condition_view made).claims next.old ≡ Some next.new) }
-{
-    if is_singular(&query.segments) {
-        Ok(Condition::Leads(chain(alloc, query, next)?))
-    } else {
-        Ok(Condition::Exists(nested(alloc, query, next)?))
-    }
-}
-
-#[cycle(making)]
 fn operand(alloc: Global, side: &Comparable, next: &mut u32) -> Result<Operand, AllocError>
     requires valid { IsTrue (is_valid_comparable (comparable_view side.now)) }
     ensures same { IfOk result (λ made. (operand_view made).tree ≡ comparable_view side.now) }
@@ -251,7 +231,7 @@ fn operand(alloc: Global, side: &Comparable, next: &mut u32) -> Result<Operand, 
 {
     match side {
         Comparable::Lit(literal) => Ok(Operand::Constant(constant(alloc, literal)?)),
-        Comparable::Single(query) => Ok(Operand::Single(chain(alloc, query, next)?)),
+        Comparable::Single(query) => Ok(Operand::Single(nested(alloc, query, next)?)),
         Comparable::Func(call) => function(alloc, call, next),
     }
 }
@@ -299,7 +279,7 @@ fn value(alloc: Global, argument: &Argument, next: &mut u32) -> Result<Operand, 
 {
     match argument {
         Argument::Lit(literal) => Ok(Operand::Constant(constant(alloc, literal)?)),
-        Argument::Nodes(query) => Ok(Operand::Single(chain(alloc, query, next)?)),
+        Argument::Nodes(query) => Ok(Operand::Single(nested(alloc, query, next)?)),
         Argument::Func(call) => function(alloc, call, next),
         Argument::Logical(_) => unreachable!(),
     }
@@ -324,6 +304,6 @@ pub fn parts_of(alloc: Global, query: &ValidQuery) -> Result<Parts, AllocError>
     ensures numbered { IfOk result (λ made. numbered (claims_of made.stages.items) 0 ≡ Some made.slots) }
 {
     let mut slots = 0;
-    let stages = stages(alloc, query.segments(), &mut slots)?;
+    let stages = stages(alloc, query.segments(), 0, &mut slots)?;
     Ok(Parts { stages, slots })
 }

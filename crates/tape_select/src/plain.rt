@@ -13,34 +13,41 @@ ghost use Rattle.tape_select.specs.Answered.{AreRight};
 ghost use Rattle.tape_select.specs.Evaluation.{nodes, holds, some_hold, all_hold, result as side_result};
 ghost use Rattle.tape_select.specs.Nodelists.{nodes_of};
 ghost use Rattle.tape_select.specs.Paying.{Inside, Adds, Holds};
-ghost use Rattle.tape_select.specs.Plain.{is_relative, is_plain, is_plain_side, all_true, units_of, units_of_all, units_of_side, units_of_query};
-ghost use Rattle.tape_select.specs.Planned.{trees, chain_view, condition_view, operand_view};
+ghost use Rattle.tape_select.specs.Plain.{is_plain, is_plain_query, is_plain_side, all_true, units_of, units_of_all, units_of_side, units_of_query, units_of_short};
+ghost use Rattle.tape_select.specs.Planned.{trees, links_view, condition_view, nested_view, operand_view};
 
 use crate::answers::Answer;
 use crate::chains::reached;
 use crate::fault::SelectFault;
 use crate::meter::Meter;
 use crate::nodes::{child_total, push};
-use crate::plan::{Chain, Condition, Constant, Operand};
+use crate::plan::{Condition, Constant, Link, Nested, Operand};
 use crate::sides::{compare, length_of, one_missing, side_found};
 use json_tape::{Document, NodeId};
 use path_grammar::Op;
 use std::slice::from_ref;
 use tape_values::{Side, compare_found, compare_sides, compare_whole};
 
-// What a singular query is charged, where it is from `@` and of one segment at most.
-fn units_of_chain(chain: &Chain) -> Option<u32>
-    ensures relative { IfSome result (λ _. IsTrue (is_relative chain.now)) }
-    ensures units { IfSome result (λ units. units_of_query (chain_view chain.now).tree ≡ Some units) }
+// What names and indexes are charged, where there is one at most.
+fn units_of_links(links: &[Link]) -> Option<u32>
+    ensures { IfSome result (λ units. units_of_short (links_view links.now) ≡ Some units) }
 {
-    match chain.slot {
-        Some(_) => None,
-        None => match chain.links.as_slice() {
-            [] => Some(0),
-            [_] => Some(1),
-            _ => None,
-        },
+    match links {
+        [] => Some(0),
+        [_] => Some(1),
+        _ => None,
     }
+}
+
+// What a query is charged, where it is from `@` and a name or an index at most.
+fn units_of_query(query: &Nested) -> Option<u32>
+    ensures plain { IfSome result (λ _. IsTrue (is_plain_query query.now)) }
+    ensures units { IfSome result (λ units. units_of_query (nested_view query.now).tree ≡ Some units) }
+{
+    if query.slot.is_some() || !query.stages.is_empty() {
+        return None;
+    }
+    units_of_links(&query.links)
 }
 
 #[cycle(side_units)]
@@ -50,7 +57,7 @@ fn units_of_side(operand: &Operand) -> Option<u32>
 {
     match operand {
         Operand::Constant(_) => Some(0),
-        Operand::Single(chain) => units_of_chain(chain),
+        Operand::Single(query) => units_of_query(query),
         Operand::Length(operand) => units_of_side(operand),
         Operand::Count(_) | Operand::Value(_) => None,
     }
@@ -71,8 +78,7 @@ pub fn units_of(condition: &Condition) -> Option<u32>
             let right = units_of_side(right)?;
             left.checked_add(right)
         }
-        Condition::Leads(chain) => units_of_chain(chain),
-        Condition::Exists(_) => None,
+        Condition::Exists(query) => units_of_query(query),
     }
 }
 
@@ -92,13 +98,13 @@ fn units_of_all(operands: &[Condition]) -> Option<u32>
 
 // What a singular query finds for a child.
 #[tactic(auto, using(crate::proofs::Plainness::starting))]
-fn found_plainly(doc: &Document, chain: &Chain, child: NodeId) -> Option<NodeId>
+fn found_plainly(doc: &Document, query: &Nested, child: NodeId) -> Option<NodeId>
     requires inside { child.0 < count doc.now }
-    requires relative { IsTrue (is_relative chain.now) }
-    ensures node { single doc.now result ≡ nodes (node_at doc.now 0) (chain_view chain.now).tree (node_at doc.now child.0) }
+    requires plain { IsTrue (is_plain_query query.now) }
+    ensures node { single doc.now result ≡ nodes (node_at doc.now 0) (nested_view query.now).tree (node_at doc.now child.0) }
     ensures inside { IsIn doc.now result }
 {
-    reached(doc, &chain.links, child)
+    reached(doc, &query.links, child)
 }
 
 // A side of a comparison.
@@ -111,7 +117,7 @@ fn side_plainly<'a>(doc: &Document, operand: &'a Operand, child: NodeId) -> Side
 {
     match operand {
         Operand::Constant(constant) => Side::Literal(&constant.literal),
-        Operand::Single(chain) => side_found(doc, found_plainly(doc, chain, child)),
+        Operand::Single(query) => side_found(doc, found_plainly(doc, query, child)),
         Operand::Length(operand) => length_of(doc, side_plainly(doc, operand, child)),
         Operand::Count(_) | Operand::Value(_) => unreachable!(),
     }
@@ -143,16 +149,16 @@ fn compare_plainly(
 #[inline(always)]
 fn compare_constant(
     doc: &Document,
-    chain: &Chain,
+    query: &Nested,
     op: &Op,
     constant: &Constant,
     child: NodeId,
 ) -> bool
     requires inside { child.0 < count doc.now }
-    requires relative { IsTrue (is_relative chain.now) }
-    ensures { result ≡ compared op.now (only_value (nodes (node_at doc.now 0) (chain_view chain.now).tree (node_at doc.now child.0))) (Some (literal_value (literal_view constant.now.literal))) }
+    requires plain { IsTrue (is_plain_query query.now) }
+    ensures { result ≡ compared op.now (only_value (nodes (node_at doc.now 0) (nested_view query.now).tree (node_at doc.now child.0))) (Some (literal_value (literal_view constant.now.literal))) }
 {
-    compare_found(doc, found_plainly(doc, chain, child), op, &constant.literal)
+    compare_found(doc, found_plainly(doc, query, child), op, &constant.literal)
 }
 
 // Whether a comparison of a length with a literal holds.
@@ -191,8 +197,8 @@ fn holds_plainly(
     ensures after { AreRight doc.now answers.new.items }
 {
     match condition {
-        Condition::Compare(Operand::Single(chain), op, Operand::Constant(constant)) => {
-            compare_constant(doc, chain, op, constant, child)
+        Condition::Compare(Operand::Single(query), op, Operand::Constant(constant)) => {
+            compare_constant(doc, query, op, constant, child)
         }
         _ => holds_by_kind(doc, condition, child, answers),
     }
@@ -223,8 +229,7 @@ fn holds_by_kind(
         Condition::Compare(left, op, right) => {
             compare_plainly(doc, left, *op, right, child, answers)
         }
-        Condition::Leads(chain) => found_plainly(doc, chain, child).is_some(),
-        Condition::Exists(_) => unreachable!(),
+        Condition::Exists(query) => found_plainly(doc, query, child).is_some(),
     }
 }
 

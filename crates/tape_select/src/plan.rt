@@ -29,14 +29,6 @@ pub enum Link {
     Place(IntLit),
 }
 
-/// A singular query in a filter: it selects one node at most.
-#[derive(Drop)]
-pub struct Chain {
-    /// For a query from the root the number of its slot.
-    pub slot: Option<u32>,
-    pub links: Vec<Link>,
-}
-
 /// A segment (RFC 9535, section 2.5).
 #[derive(Drop)]
 #[cycle(plan)]
@@ -68,8 +60,6 @@ pub enum Condition {
     Each(Vec<Condition>),
     Not(Box<Condition>),
     Compare(Operand, Op, Operand),
-    /// A singular query selects a node.
-    Leads(Chain),
     /// A query selects some node.
     Exists(Nested),
 }
@@ -79,18 +69,19 @@ pub enum Condition {
 #[cycle(plan)]
 pub enum Operand {
     Constant(Constant),
-    Single(Chain),
+    Single(Nested),
     Length(Box<Operand>),
     Count(Nested),
     Value(Nested),
 }
 
-/// A query in a filter.
+/// A query in a filter: the names and indexes that it begins with, and the segments behind them. A singular query has none behind.
 #[derive(Drop)]
 #[cycle(plan)]
 pub struct Nested {
     /// For a query from the root the number of its slot.
     pub slot: Option<u32>,
+    pub links: Vec<Link>,
     pub stages: Vec<Stage>,
 }
 

@@ -54,11 +54,12 @@ pub fn select_all(
 {
     let slots = empty_slots(alloc, doc, plan)?;
     let mut state = State {
+        alloc,
         meter: Meter { left: units },
         slots,
         answers: Vec::new(alloc),
     };
-    let nodes = all_selected(alloc, doc, plan, &plan.stages, doc.root(), &mut state)?;
+    let nodes = all_selected(doc, plan, &plan.stages, doc.root(), &mut state)?;
     Ok(Selected {
         nodes,
         charge: units - state.meter.left,

@@ -16,8 +16,8 @@ use tape_values::{Side, compare_sides};
 // The most bytes of a string that is compared each time.
 const SHORT: usize = 64;
 
-// The most bytes of a number that is compared each time, whatever it says.
-const SHORT_NUMBER: usize = 6;
+// The most bytes of a value that is compared each time, whatever it is.
+const SHORTEST: usize = 6;
 
 /// The value of a node, or Nothing.
 pub fn side_found<'a>(doc: &Document, found: Option<NodeId>) -> Side<'a>
@@ -48,24 +48,30 @@ pub fn length_of<'a>(doc: &Document, side: Side<'_>) -> Side<'a>
     }
 }
 
-// Whether a number has an exponent of several digits: such numbers are taken apart to be compared.
-fn has_long_exponent(number: &[u8]) -> bool {
-    number.len() > SHORT_NUMBER && (number.contains(&b'e') || number.contains(&b'E'))
+// Whether a number has an exponent: such numbers are taken apart to be compared.
+fn has_exponent(number: &[u8]) -> bool {
+    number.contains(&b'e') || number.contains(&b'E')
 }
 
-// Whether a comparison with this value may take long: an array, an object, a long string or a number with a long exponent.
+// Whether a comparison with this value may take long: an array, an object, a long string or a number with an exponent.
+#[inline(always)]
 fn is_costly(doc: &Document, n: NodeId) -> bool
     requires { n.0 < count doc.now }
 {
+    let text = doc.text(n);
+    if text.len() <= SHORTEST {
+        return false;
+    }
     match doc.kind(n) {
         Kind::Array | Kind::Object => true,
-        Kind::Text => doc.text(n).len() > SHORT,
-        Kind::Number => has_long_exponent(doc.text(n)),
+        Kind::Text => text.len() > SHORT,
+        Kind::Number => has_exponent(text),
         Kind::Null | Kind::Bool(_) => false,
     }
 }
 
 // Whether a comparison of two nodes' values holds, by what is kept of them.
+#[inline(never)]
 fn compare_kept(
     doc: &Document,
     op: Op,
@@ -113,8 +119,9 @@ pub fn one_missing(op: Op) -> bool
     }
 }
 
-/// Whether a comparison holds. Those of two arrays, objects, long strings or numbers with long exponents are
+/// Whether a comparison holds. Those of two arrays, objects, long strings or numbers with exponents are
 /// made once, while they are kept.
+#[inline(always)]
 pub fn compare(
     doc: &Document,
     op: Op,

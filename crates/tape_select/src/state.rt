@@ -1,20 +1,20 @@
 //! What an evaluation keeps: what was found for the queries from the root.
 
-ghost use Rattle.std.specs.Prelude.{◌≡◌, ◌<◌, length, Some, IfSome};
+ghost use Rattle.std.specs.Prelude.{◌≡◌, ◌<◌, length, IfSome};
 ghost use Rattle.json_tape.specs.Document.{count, node_at, IsIn};
 ghost use Rattle.tape_values.specs.Functions.{only_value};
 ghost use Rattle.tape_select.specs.Nodelists.{nodes_of};
 ghost use Rattle.tape_select.specs.Paying.{Inside};
-ghost use Rattle.tape_select.specs.Memo.{Right, IsFoundAt, value_found, FindsNodes, FindsFor};
-ghost use Rattle.tape_select.specs.Planned.{claims_of, look, chain_view, links_view};
-ghost use Rattle.tape_select.specs.Slots.{AreClaimed};
+ghost use Rattle.tape_select.specs.Memo.{Right, IsFoundAt, value_found, FindsNodes};
+ghost use Rattle.tape_select.specs.Planned.{claims_of, look, links_view};
 
 use crate::answers::Answer;
 use crate::chains::followed;
 use crate::fault::SelectFault;
 use crate::meter::Meter;
-use crate::plan::{Chain, Link, Parts};
+use crate::plan::{Link, Parts};
 use json_tape::{Document, NodeId};
+use std::alloc::Global;
 
 /// What is asked of a query's nodelist, and what finding it is charged.
 #[derive(Clone, Copy)]
@@ -29,6 +29,7 @@ pub struct Found {
 /// The units that are left, a slot for each query from the root, and comparisons that were made.
 #[derive(Drop)]
 pub struct State {
+    pub alloc: Global,
     pub meter: Meter,
     pub slots: Vec<Option<Found>>,
     pub answers: Vec<Option<Answer>>,
@@ -84,8 +85,9 @@ pub fn found_in(doc: &Document, nodes: &[NodeId], charge: u64) -> Found
     }
 }
 
-// What a singular query finds from a node.
-fn chain_from(
+/// What names and indexes find from a node.
+#[inline(always)]
+pub fn found_by_links(
     doc: &Document,
     links: &[Link],
     n: NodeId,
@@ -102,52 +104,4 @@ fn chain_from(
         total,
         charge: units - meter.left,
     })
-}
-
-// The same from the root, found once.
-fn chain_once(
-    doc: &Document,
-    plan: &Parts,
-    links: &[Link],
-    slot: u32,
-    state: &mut State,
-) -> Result<Found, SelectFault>
-    requires mine { look (claims_of plan.now.stages.items) slot ≡ Some (links_view links.now) }
-    requires right { Right doc.now (claims_of plan.now.stages.items) state.old.slots.items }
-    ensures found { FindsNodes doc.now result (links_view links.now) (node_at doc.now 0) state.old.meter.left state.new.meter.left }
-    ensures right { Right doc.now (claims_of plan.now.stages.items) state.new.slots.items }
-    ensures answers { state.new.answers ≡ state.old.answers }
-{
-    match recall(doc, plan, &state.slots, slot) {
-        Some(found) => {
-            state.meter.spend(found.charge)?;
-            Ok(found)
-        }
-        None => {
-            let found = chain_from(doc, links, doc.root(), &mut state.meter)?;
-            keep(doc, plan, &mut state.slots, slot, found);
-            Ok(found)
-        }
-    }
-}
-
-/// What a singular query finds for a child.
-pub fn chain_found(
-    doc: &Document,
-    plan: &Parts,
-    chain: &Chain,
-    child: NodeId,
-    state: &mut State,
-) -> Result<Found, SelectFault>
-    requires inside { child.0 < count doc.now }
-    requires claimed { AreClaimed (claims_of plan.now.stages.items) (chain_view chain.now).claims }
-    requires right { Right doc.now (claims_of plan.now.stages.items) state.old.slots.items }
-    ensures found { FindsFor doc.now result (chain_view chain.now).tree (node_at doc.now child.0) state.old.meter.left state.new.meter.left }
-    ensures right { Right doc.now (claims_of plan.now.stages.items) state.new.slots.items }
-    ensures answers { state.new.answers ≡ state.old.answers }
-{
-    match chain.slot {
-        None => chain_from(doc, &chain.links, child, &mut state.meter),
-        Some(slot) => chain_once(doc, plan, &chain.links, slot, state),
-    }
 }

@@ -15,8 +15,8 @@ use crate::plan::{Link, Selection, Stage};
 use json_tape::{Document, NodeId};
 use std::alloc::Global;
 
-// The name or the index, where there is no other selector.
-fn lone(selections: &[Selection]) -> Option<&Link>
+/// The name or the index, where there is no other selector.
+pub fn only_link(selections: &[Selection]) -> Option<&Link>
     ensures { IfSome result (λ link. trees (map selection_view selections.now) ≡ link_selector link.now ∷ []) }
 {
     match selections {
@@ -33,7 +33,7 @@ pub fn lone_link(stage: &Stage) -> Option<&Link>
     if stage.descend {
         None
     } else {
-        lone(&stage.selections)
+        only_link(&stage.selections)
     }
 }
 

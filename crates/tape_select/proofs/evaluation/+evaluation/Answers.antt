@@ -9,10 +9,11 @@ use Rattle.tape_select.specs.Evaluation.{selected}
 use Rattle.tape_select.specs.Nodelists.{nodes_of}
 use Rattle.tape_select.specs.Charge.{total_of, charge_from, charge_expr}
 use Rattle.tape_select.specs.Extra.{extra_in, nodes_from, charge_at}
-use Rattle.tape_select.specs.Planned.{claims_of, query_of, trees, condition_view, selection_view, stage_view, With, condition_step, operand_step, selection_step, nested_step, stage_step}
+use Rattle.tape_select.specs.Planned.{claims_of, query_of, path_of, links_view, trees, condition_view, selection_view, stage_view, With, condition_step, operand_step, selection_step, nested_step, stage_step}
 use Rattle.tape_select.specs.declared.plan.Condition.TheFolds.{fold_out-Selection}
 use Rattle.tape_select.proofs.Filtering.{stage_claimed, evaluated_step, charge_step, adds_paid, more_of, staying, staying_charge, descending, descending_charge, filter_charge, leaf_holds, leaf_costs, finds_linked}
-use Rattle.tape_select.proofs.Following.{refuses_from}
+use Rattle.tape_select.proofs.Following.{refuses_from, nothing_from_nothing, nothing_for_nothing}
+use Rattle.tape_select.proofs.Links.{links_charged, links_charged_first, found_through}
 use Rattle.tape_select.proofs.Naming.{adds_named}
 use Rattle.tape_select.proofs.evaluation.+evaluation.Goals as goal
 
@@ -123,14 +124,66 @@ selected_within-returns-in-None-clause-added t c =
     let costs = leaf_costs r ss n c.in-None.ensures.nodes in
     (leaf_holds r ss d c.args.out.now.items n c.requires.sound c.in-None.ensures.nodes, omega (arith, costs))
 
-pub visited-returns-in-Some-clause-added : goal.visited-returns-in-Some-clause-added
-visited-returns-in-Some-clause-added t c =
+pub visited-returns-in-Some-Key-clause-added : goal.visited-returns-in-Some-Key-clause-added
+visited-returns-in-Some-Key-clause-added t c =
     let d = c.args.doc.now in
-    adds_named d c.named.result c.named.new.out.items (node_at d 0) (node_at d c.args.n.0) (nodes_of d c.args.out.now.items) (trees (map selection_view c.args.selections.now)) c.in-Some.name.now.scalars.items
-    c.args.state.now.meter.left c.in-Some.ensures c.named.ensures
+    adds_named d c.named.result c.named.new.out.items (node_at d 0) (node_at d c.args.n.0) (nodes_of d c.args.out.now.items) (trees (map selection_view c.args.selections.now)) c.in-Some-Key.name.scalars.items
+    c.args.state.now.meter.left (rw c.in-Some-Key.field-0-is at c.in-Some-Key.ensures) c.named.ensures
 
 pub after_stage-returns-in-Some-clause-found : goal.after_stage-returns-in-Some-clause-found
 after_stage-returns-in-Some-clause-found t c =
     let d = c.args.doc.now in
     finds_linked d c.stepped.result (node_at d 0) (stage_view c.args.stage.now).tree c.in-Some.link.now c.args.input.now c.args.state.now.meter.left c.stepped.new.meter.left
     c.in-Some.ensures c.stepped.ensures
+
+pub found_behind-returns-in_err-first-clause-found : goal.found_behind-returns-in_err-first-clause-found
+found_behind-returns-in_err-first-clause-found t c =
+    let r = node_at c.args.doc.now 0 in
+    let n = node_at c.args.doc.now c.args.n.0 ∷ [] in
+    let all = links_charged r c.args.stages.now c.args.links.now n in
+    let p = err_from_is_err_and c.from_residual.result c.from_residual.ensures.1 in
+    rw (p.1, p.2)
+    (refuses_from (charge_from r (links_view c.args.links.now) n) c.args.state.now.meter.left (charge_from r (path_of c.args.links.now c.args.stages.now) n) c.args.state.now.meter.left c.in_err-first.field-0.0
+    (λ h. omega (arith, all, h)) c.in_err-first.ensures)
+
+pub found_behind-returns-in_default-clause-found : goal.found_behind-returns-in_default-clause-found
+found_behind-returns-in_default-clause-found t c =
+    let d = c.args.doc.now in
+    let r = node_at d 0 in
+    let got = rw c.in_default.is at c.in_ok-first.ensures in
+    let all = links_charged_first r c.args.stages.now c.args.links.now (node_at d c.args.n.0) [] got.0 in
+    let free = nothing_for_nothing r (query_of c.args.stages.now) in
+    let paid = got.2 in
+    let left = c.found_in.ensures.charge in (
+      found_through d c.args.links.now c.args.stages.now (node_at d c.args.n.0) [] [] c.found_in.result got.0 (sym (nothing_from_nothing r (query_of c.args.stages.now)))
+          c.found_in.ensures.value c.found_in.ensures.inside c.found_in.ensures.total (omega (arith, all, free, paid, left)),
+      omega (arith, all, free, paid),
+    )
+
+pub found_behind-returns-in_err-nodes-clause-found : goal.found_behind-returns-in_err-nodes-clause-found
+found_behind-returns-in_err-nodes-clause-found t c =
+    let d = c.args.doc.now in
+    let r = node_at d 0 in
+    let got = rw c.in-Some.is at c.in_ok-first.ensures in
+    let all = links_charged_first r c.args.stages.now c.args.links.now (node_at d c.args.n.0) (node_at d c.in-Some.first.0 ∷ []) got.0 in
+    let paid = got.2 in
+    let p = err_from_is_err_and c.from_residual-in_err-nodes.result c.from_residual-in_err-nodes.ensures.1 in
+    rw (p.1, p.2)
+    (refuses_from (charge_from r (query_of c.args.stages.now) (node_at d c.in-Some.first.0 ∷ [])) c.followed.new.meter.left (charge_from r (path_of c.args.links.now c.args.stages.now) (node_at d c.args.n.0 ∷ []))
+    c.args.state.now.meter.left c.in_err-nodes.field-0.0 (λ h. omega (arith, all, paid, h)) (c.in_err-nodes.ensures).found)
+
+pub found_behind-returns-clause-found : goal.found_behind-returns-clause-found
+found_behind-returns-clause-found t c =
+    let d = c.args.doc.now in
+    let r = node_at d 0 in
+    let got = rw c.in-Some.is at c.in_ok-first.ensures in
+    let first = node_at d c.in-Some.first.0 ∷ [] in
+    let all = links_charged_first r c.args.stages.now c.args.links.now (node_at d c.args.n.0) first got.0 in
+    let paid = got.2 in
+    let found = rw (← c.deref.ensures.value) at (c.in_ok-nodes.ensures).found in
+    let spent = found.1 in
+    let left = c.found_in-2.ensures.charge in (
+      found_through d c.args.links.now c.args.stages.now (node_at d c.args.n.0) first c.deref.result.now c.found_in-2.result got.0 found.0.same
+          c.found_in-2.ensures.value c.found_in-2.ensures.inside c.found_in-2.ensures.total (omega (arith, all, paid, spent, left)),
+      omega (arith, all, paid, spent),
+    )

@@ -29,12 +29,12 @@ selections-loop-selector-preserved t c =
       valid = v.1;
     }
 
-pub stages-loop-segment-preserved : goal.stages-loop-segment-preserved
-stages-loop-segment-preserved t c =
-    let v = valid_more (λ xs. is_valid (segments_view xs)) (λ x. are_valid (segment_view x).selectors) c.args.segments.now c.loop-segment.segment-index c.segment-item.result (λ x xs. refl) c.loop-segment-test.true c.segment-item.is c.loop-segment.invariant.valid in
+pub stages-loop-i-preserved : goal.stages-loop-i-preserved
+stages-loop-i-preserved t c =
+    let v = valid_more (λ xs. is_valid (segments_view xs)) (λ x. are_valid (segment_view x).selectors) c.args.segments.now c.loop-i.i c.index-segments-i.result (λ x xs. refl) c.loop-i-test.true c.index-segments-i.is c.loop-i.invariant.valid in
     record {
-      same = rw c.in_ok-push.ensures.items (made_more stage_view segment_view c.loop-segment.made.items c.in_ok-one.one c.args.segments.now c.loop-segment.segment-index c.segment-item.result c.loop-segment-test.true c.segment-item.is c.in_ok-one.ensures.same ∙ c.loop-segment.invariant.same);
-      numbered = rw c.in_ok-push.ensures.items (numbered_push stage_view c.loop-segment.made.items c.in_ok-one.one c.args.next.now c.loop-segment.next c.stage.new.next c.loop-segment.invariant.numbered c.in_ok-one.ensures.numbered);
+      same = rw c.in_ok-push.ensures.items (made_more stage_view segment_view c.loop-i.made.items c.in_ok-one.one c.args.segments.now c.loop-i.i c.index-segments-i.result c.loop-i-test.true c.index-segments-i.is c.in_ok-one.ensures.same ∙ c.loop-i.invariant.same);
+      numbered = rw c.in_ok-push.ensures.items (numbered_push stage_view c.loop-i.made.items c.in_ok-one.one c.args.next.now c.loop-i.next c.stage.new.next c.loop-i.invariant.numbered c.in_ok-one.ensures.numbered);
       valid = v.1;
     }
 

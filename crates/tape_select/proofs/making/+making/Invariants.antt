@@ -13,11 +13,11 @@ invariant-selections-loop-selector l = record {
   valid : IsTrue (are_valid (selectors_view (drop l.selector-index l.selectors)));
 }
 
-abbrev pub invariant-stages-loop-segment : goal.invariant-stages-loop-segment
-invariant-stages-loop-segment l = record {
-  same : trees (map stage_view l.made.items) ++ map segment_view (drop l.segment-index l.segments) ≡ map segment_view l.segments;
+abbrev pub invariant-stages-loop-i : goal.invariant-stages-loop-i
+invariant-stages-loop-i l = record {
+  same : trees (map stage_view l.made.items) ++ map segment_view (drop l.i l.segments) ≡ map segment_view (drop l.fn.from l.segments);
   numbered : numbered (claims_of l.made.items) l.initial.next ≡ Some l.next;
-  valid : IsTrue (is_valid (segments_view (drop l.segment-index l.segments)));
+  valid : IsTrue (is_valid (segments_view (drop l.i l.segments)));
 }
 
 abbrev pub invariant-conditions-loop-operand : goal.invariant-conditions-loop-operand
