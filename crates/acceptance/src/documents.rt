@@ -174,3 +174,77 @@ fn finds_members(rt: HostRuntime) -> Result<(), Fail> {
     }
     Ok(())
 }
+
+/// The member of this name of an entry, looked for so many numbers behind it first.
+fn found_near(document: &Document, n: u32, name: &[char], distance: u32) -> Option<NodeId> {
+    if n < document.node_count() {
+        document.member_near(NodeId(n), name, distance)
+    } else {
+        None
+    }
+}
+
+#[test]
+fn finds_members_near(rt: HostRuntime) -> Result<(), Fail> {
+    let text = b"{\"a\":{\"b\":0},\"b\":[1],\"\\u0063\":3}";
+    let document = Document::read(rt.alloc(), text)?;
+    assert!(rt; document.node_count() == 6);
+    for distance in [0, 1, 2, 3, 4, 5, 6, u32::MAX] {
+        assert!(rt;
+            found_near(&document, 0, &['a'], distance) == some(1),
+            "{distance}"
+        );
+        assert!(rt;
+            found_near(&document, 0, &['b'], distance) == some(3),
+            "{distance}"
+        );
+        assert!(rt;
+            found_near(&document, 0, &['c'], distance) == some(5),
+            "{distance}"
+        );
+        assert!(rt;
+            found_near(&document, 0, &['d'], distance).is_none(),
+            "{distance}"
+        );
+        assert!(rt;
+            found_near(&document, 1, &['b'], distance) == some(2),
+            "{distance}"
+        );
+        assert!(rt;
+            found_near(&document, 1, &['c'], distance).is_none(),
+            "{distance}"
+        );
+        assert!(rt;
+            found_near(&document, 3, &['b'], distance).is_none(),
+            "{distance}"
+        );
+        assert!(rt;
+            found_near(&document, 5, &['c'], distance).is_none(),
+            "{distance}"
+        );
+    }
+    Ok(())
+}
+
+#[test]
+fn finds_members_near_in_wide_objects(rt: HostRuntime) -> Result<(), Fail> {
+    let text =
+        b"{\"a\":0,\"b\":0,\"c\":0,\"d\":0,\"e\":0,\"f\":0,\"g\":0,\"h\":0,\"i\":0,\"j\":0,\"k\":0,\"l\":0,\"m\":0,\"n\":0,\"o\":0,\"p\":0,\"q\":0,\"r\":0}";
+    let document = Document::read(rt.alloc(), text)?;
+    assert!(rt; document.node_count() == 19);
+    for distance in [0, 1, 17, 18, 19] {
+        assert!(rt;
+            found_near(&document, 0, &['a'], distance) == some(1),
+            "{distance}"
+        );
+        assert!(rt;
+            found_near(&document, 0, &['r'], distance) == some(18),
+            "{distance}"
+        );
+        assert!(rt;
+            found_near(&document, 0, &['s'], distance).is_none(),
+            "{distance}"
+        );
+    }
+    Ok(())
+}
