@@ -31,6 +31,7 @@ pub mod Spelled
 pub mod Told
 pub mod Spots
 pub mod Readers
+pub mod Siblings
 pub mod Comparing
 pub mod Repeats
 pub mod MembersLeft

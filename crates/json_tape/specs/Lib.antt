@@ -10,6 +10,7 @@ pub mod Verdict
 pub mod Spelling
 pub mod Reading
 pub mod Document
+pub mod Siblings
 pub mod Answer
 pub mod Machine
 pub mod Opened

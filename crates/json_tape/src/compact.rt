@@ -75,6 +75,20 @@ impl Tape {
         }
     }
 
+    /// The number of the first entry past this one's and all that is in it.
+    #[inline(always)]
+    pub fn after(&self, n: u32) -> u32
+        requires { n < length self.now }
+        ensures { (e : Entry) → e ≡ slice_index_or self.now n e → result ≡ e.after }
+    {
+        let cell = self.cells[n as usize];
+        if cell.holds() {
+            self.sides[cell.span() as usize].after
+        } else {
+            n + 1
+        }
+    }
+
     /// One more value that holds no other.
     pub fn leaf(&mut self, kind: Kind, seat: Seat, source: Extent) -> Result<(), AllocError>
         requires scalar { is_container kind ≡ false }

@@ -1,7 +1,7 @@
 //! A text that was read, and the readers of its values.
 
-ghost use Rattle.std.specs.Prelude.{IfSome, ◌≡◌, ◌∷◌, [], ℕ, List, ◌^◌, ◌<◌, ◌≤◌, ◌-◌, ◌↔◌, length, MatchResult, MatchOption, IsTrue, slice_index_or};
-ghost use Rattle.std.specs.List.{Contains};
+ghost use Rattle.std.specs.Prelude.{IfSome, ◌≡◌, ◌∷◌, [], ℕ, List, ◌^◌, ◌<◌, ◌≤◌, ◌+◌, ◌-◌, ◌↔◌, length, MatchResult, MatchOption, IsTrue, slice_index_or};
+ghost use Rattle.std.specs.List.{Contains, All};
 ghost use Rattle.std.specs.Str.{chars};
 ghost use Rattle.json_tape.specs.Spelling.{scalars_in, AreWordsOf};
 ghost use Rattle.decimal_order.specs.Number.{IsNumber};
@@ -11,9 +11,11 @@ ghost use Rattle.json_tape.specs.Tree.{source_of};
 ghost use Rattle.json_tape.specs.Verdict.{text_limit, IsAccepted};
 ghost use Rattle.json_tape.specs.Nodes.{size, children, visit, is_named, first_where};
 ghost use Rattle.json_tape.specs.Tape.{Top, tape_of};
+ghost use Rattle.json_tape.specs.Siblings.{numbered};
 ghost use Rattle.json_tape.specs.Ordered.{IsOrderOf, IsWide, entry_in, sought_name};
 ghost use Rattle.json_tape.specs.Document.{tree_of, count, node_at, later, seen, following, single, root_of, counting, IsIn, IsDocument, IsMember, HasName, LeadIs, ParentIs, StandsIn, kind_of, length_of, string_meaning};
 
+use crate::children::Children;
 use crate::compact::Tape;
 use crate::judge::{judge_tape, part_at};
 use crate::lengths::{Lengths, count_of, count_strings, is_long};
@@ -134,6 +136,17 @@ impl Document {
         self.tape.entry(n.0)
     }
 
+    /// The number of the first value past this one and all that is in it, by what its entry says.
+    #[inline(always)]
+    pub(crate) fn end_of(&self, n: NodeId) -> u32
+        requires { n.0 < count self.now }
+        ensures document { IsDocument self.now }
+        ensures value { result ≡ n.0 + size (node_at self.now n.0).tree }
+        ensures inside { result ≤ count self.now }
+    {
+        self.tape.after(n.0)
+    }
+
     // The order of a wide object's members; `None` of any other value.
     fn run(&self, n: NodeId) -> Option<Run<'_>>
         requires { n.0 < count self.now }
@@ -202,6 +215,16 @@ impl Document {
         count_of(self.string_scalars(n))
     }
 
+    /// The elements of an array or the values of an object's members, in document order; nothing of any other value.
+    #[inline(always)]
+    pub fn children(&self, n: NodeId) -> Children<'_>
+        requires { n.0 < count self.now }
+        ensures nodes { numbered self.now result ≡ children (node_at self.now n.0) }
+        ensures inside { All (λ id. id.0 < count self.now) result }
+    {
+        Children::new(self, n)
+    }
+
     /// The first element or the first member's value.
     pub fn first_child(&self, n: NodeId) -> Option<NodeId>
         requires { n.0 < count self.now }
@@ -237,7 +260,7 @@ impl Document {
         ensures past { n.0 < result }
         ensures inside { result ≤ count self.now }
     {
-        self.entry(n).after
+        self.end_of(n)
     }
 
     /// What leads to the value from the one that it lies in.

@@ -15,6 +15,7 @@
 mod again;
 mod builder;
 mod cells;
+mod children;
 mod compact;
 mod document;
 mod duplicates;
@@ -32,6 +33,7 @@ mod second_stage;
 mod sought;
 mod tape;
 
+pub use children::Children;
 pub use compact::Tape;
 pub use document::{Document, TEXT_LIMIT};
 pub use judge::DEPTH_LIMIT;

@@ -1,9 +1,13 @@
-use Rattle.json_tape.proofs.Readers.{visit_of, past_is, after_in}
+use Rattle.std.proofs.Common.{◌+◌, ◌∙◌, ap, arith}
+use Rattle.json_tape.specs.Nodes.{size}
+use Rattle.json_tape.specs.Document.{node_at}
+use Rattle.json_tape.proofs.Entries.{size_positive}
+use Rattle.json_tape.proofs.Siblings.{visit_to}
 use Rattle.json_tape.proofs.document.Document.after.Goals as goal
 
 pub returns : goal.returns
 returns c = record {
-  nodes = visit_of c.args.self.now c.entry.ensures.document c.args.n.0 c.requires c.entry.result c.entry.ensures.value;
-  past = past_is c.args.self.now c.entry.ensures.document c.args.n.0 c.requires c.entry.result c.entry.ensures.value;
-  inside = after_in c.args.self.now c.entry.ensures.document c.args.n.0 c.requires c.entry.result c.entry.ensures.value;
+  nodes = visit_to c.args.self.now c.end_of.ensures.document c.args.n.0 c.requires c.end_of.result c.end_of.ensures.value;
+  past = (let z = size_positive (node_at c.args.self.now c.args.n.0).tree in let v = c.end_of.ensures.value in omega (arith, z, v));
+  inside = c.end_of.ensures.inside;
 }
