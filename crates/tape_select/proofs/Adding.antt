@@ -1,9 +1,10 @@
 -- Adding nodes one by one.
-use Rattle.std.proofs.Common.{◌≡◌, ℕ, ◌+◌, ◌<◌, List, [], ◌∷◌, ◌++◌, map, length, drop, get_or, refl, sym, ap, ◌∙◌, arith, append_assoc}
+use Rattle.std.proofs.Common.{◌≡◌, ℕ, ◌+◌, ◌<◌, List, [], ◌∷◌, ◌++◌, map, length, drop, get_or, refl, sym, ap, ◌∙◌, subst, arith, append_assoc}
 use Rattle.std.specs.Prelude.{flat_map}
 use Rattle.tape_select.specs.Charge.{total_of}
 use Rattle.std.proofs.lemmas.Grind.{common_steps}
 use Rattle.std.proofs.lemmas.List.{drop_more}
+use Rattle.std.proofs.lemmas.List.Elements.{All-head, All-rest}
 use Rattle.json_tape.specs.Nodes.{Node}
 use Rattle.json_tape.specs.Document.{Doc, node_at, count}
 use Rattle.json_tape.specs.declared.tape.NodeId.{NodeId}
@@ -30,6 +31,13 @@ add_more out n ns = append_assoc out (n ∷ []) ns
 
 pub has_none : (d : Doc) (ks : List NodeId) → Inside d ks → Holds d ks (nodes_of d ks ++ [])
 has_none d ks a = record { same = sym (append_nil (nodes_of d ks)); inside = a }
+
+-- the first of an iterator's nodes, and those that it has left
+pub drawn : (d : Doc) (ids : List NodeId) (k : NodeId) (rest : List NodeId) → ids ≡ k ∷ rest → nodes_of d ids ≡ node_at d k.0 ∷ nodes_of d rest
+drawn d ids k rest e = ap (nodes_of d) e
+
+pub drawn_inside : (d : Doc) (ids : List NodeId) (k : NodeId) (rest : List NodeId) → ids ≡ k ∷ rest → Inside d ids → (k.0 < count d) × Inside d rest
+drawn_inside d ids k rest e a = (All-head (λ id. id.0 < count d) k rest (subst (Inside d) e a), All-rest (λ id. id.0 < count d) k rest ids e a)
 
 pub ruleset adding = (add_more, has_none, has_push, append_nil)
 

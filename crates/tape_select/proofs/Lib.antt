@@ -11,5 +11,4 @@ pub mod Following
 pub mod Learnt
 pub mod Slots
 pub mod Filtering
-pub mod Plainness
 pub mod Naming

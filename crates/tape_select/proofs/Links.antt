@@ -14,7 +14,6 @@ use Rattle.tape_select.specs.Charge.{charge_from}
 use Rattle.tape_select.specs.Memo.{IsFound, value_found}
 use Rattle.tape_select.specs.Nodelists.{nodes_of}
 use Rattle.tape_select.specs.Planned.{path_of, query_of, link_selector, link_view, links_view}
-use Rattle.tape_select.specs.Plain.{units_of_short}
 use Rattle.tape_select.specs.declared.plan.Link.{Link}
 use Rattle.tape_select.specs.declared.plan.Link.TheVariants.{Key, Place}
 use Rattle.tape_select.specs.declared.plan.Stage.{Stage}
@@ -36,11 +35,11 @@ pub ruleset behind = (behind_links)
 
 -- ---- Of one name or index
 
-pub one_link : (ls : List Link) → 1 ≤ length ls → length ls < 2 → units_of_short (links_view ls) ≡ Some 1
-one_link [] h l = absurd (omega arith)
-one_link (Key n ∷ []) h l = refl
-one_link (Place i ∷ []) h l = refl
-one_link (x ∷ y ∷ ls) h l = absurd (omega arith)
+pub one_link : (root n : Node) (ls : List Link) → 1 ≤ length ls → length ls < 2 → charge_from root (links_view ls) (n ∷ []) ≡ 1
+one_link root n [] h l = absurd (omega arith)
+one_link root n (Key name ∷ []) h l = refl
+one_link root n (Place i ∷ []) h l = refl
+one_link root n (x ∷ y ∷ ls) h l = absurd (omega arith)
 
 -- ---- Followed first
 

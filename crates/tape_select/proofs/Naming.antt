@@ -1,20 +1,22 @@
--- A name that is looked for at all depths.
-use Rattle.std.proofs.Common.{◌≡◌, ◌≢◌, ℕ, suc, ◌+◌, List, [], ◌∷◌, ◌++◌, Result, Ok, Err, refl, ◌∙◌, arith, append_assoc}
+-- A name that is looked for at all depths, and a wildcard.
+use Rattle.std.proofs.Common.{◌≡◌, ◌≢◌, ℕ, suc, ◌+◌, ◌-◌, ◌≤◌, List, [], ◌∷◌, ◌++◌, length, Result, Ok, Err, refl, sym, ap, ◌∙◌, arith, append_assoc, length-append}
 use Rattle.std.specs.Prelude.{MatchResult, flat_map}
 use Rattle.tape_select.specs.Evaluation.{selected}
-use Rattle.path_grammar.specs.Tree.{Selector, selector, no_selectors, name, selectors_of}
+use Rattle.path_grammar.specs.Tree.{Selector, selector, no_selectors, name, wild, selectors_of}
 use Rattle.json_tape.specs.Tree.{Tree, Leaf, Arr, Obj, Elements, NoElement, Element}
 use Rattle.json_tape.specs.Nodes.{Node, Step, size, children, children_of, elements_from, visit, is_named, first_where}
-use Rattle.json_tape.specs.Document.{Doc, kind_of}
+use Rattle.json_tape.specs.Document.{Doc, kind_of, node_at, seen, counting}
 use Rattle.json_tape.specs.declared.tape.Kind.TheVariants as kinds
 use Rattle.json_tape.specs.declared.tape.NodeId.{NodeId}
 use Rattle.tape_select.specs.Charge.{total_of}
 use Rattle.tape_select.specs.Extra.{extra_in}
-use Rattle.tape_select.specs.Paying.{Adds, Holds}
+use Rattle.tape_select.specs.Paying.{Adds, Holds, Pays}
 use Rattle.tape_select.specs.declared.fault.SelectFault.{SelectFault}
 use Rattle.tape_select.specs.declared.fault.SelectFault.TheVariants.{Memory}
 use Rattle.tape_select.proofs.Adding.{append_nil, has_none}
+use Rattle.tape_select.specs.Nodelists.{nodes_of}
 use Rattle.tape_select.proofs.Filtering.{visit_more}
+use Rattle.tape_select.proofs.Totals.{length_nodes}
 
 no_element_named : (scalars : List ℕ) (up : List Step) (i k : ℕ) (es : Elements) → first_where (is_named scalars) (elements_from up i k es) ≡ []
 no_element_named scalars up i k NoElement = refl
@@ -47,3 +49,35 @@ pub adds_named : {A : Type 0} (d : Doc) (r : Result A SelectFault) (ids : List N
 adds_named d r ids root n out ss scalars left e h =
     let free = names_free root scalars (visit n) in
     rw e (adds_free d r ids (out ++ flat_map (selected root (selector (name scalars) no_selectors)) (visit n)) (total_of (extra_in root (selector (name scalars) no_selectors)) (visit n)) left h free)
+
+-- ---- A wildcard
+
+-- so many nodes are there as were added
+pub added_total : (d : Doc) (old new : List NodeId) (ns : List Node) → nodes_of d new ≡ nodes_of d old ++ ns → length new ≡ length old + length ns
+added_total d old new ns e = sym (length_nodes d new) ∙ ap length e ∙ length-append (nodes_of d old) ns ∙ ap (λ k. k + length ns) (length_nodes d old)
+
+pub adds_after : {A : Type 0} (d : Doc) (r : Result A SelectFault) (ids : List NodeId) (xs : List Node) (charge units old new : ℕ)
+    → Holds d ids xs → units ≡ charge → Pays r units old new → Adds d r ids xs charge old new
+adds_after d (Ok a) ids xs charge units old new h e p = (h, rw e at p)
+adds_after d (Err f) ids xs charge units old new h e p = rw e at p
+
+pub all_below : (d : Doc) (out old : List NodeId) (n k end : ℕ) → end ≤ k → seen d (counting n (end - n)) ≡ visit (node_at d n)
+    → nodes_of d out ++ flat_map children (seen d (counting k (end - k))) ≡ nodes_of d old ++ flat_map children (seen d (counting n (end - n)))
+    → nodes_of d out ≡ nodes_of d old ++ flat_map children (visit (node_at d n))
+all_below d out old n k end t v e =
+    let none : end - k ≡ 0 = omega arith in
+    sym (append_nil (nodes_of d out)) ∙ ap (λ m. nodes_of d out ++ flat_map children (seen d (counting k m))) (sym none) ∙ e ∙ ap (λ ns. nodes_of d old ++ flat_map children ns) v
+
+wild_selected : (root : Node) (ns : List Node) → flat_map (selected root (selector wild no_selectors)) ns ≡ flat_map children ns
+wild_selected root [] = refl
+wild_selected root (n ∷ ns) = rw (append_nil (children n), wild_selected root ns) refl
+
+wild_charged : (root : Node) (ns : List Node) → total_of (extra_in root (selector wild no_selectors)) ns ≡ length (flat_map children ns)
+wild_charged root [] = refl
+wild_charged root (n ∷ ns) = let h = wild_charged root ns in let l = length-append (children n) (flat_map children ns) in omega (arith, h, l)
+
+pub adds_wild : {A : Type 0} (d : Doc) (r : Result A SelectFault) (ids : List NodeId) (root n : Node) (out : List Node) (ss : List Selector) (old new : ℕ)
+    → ss ≡ wild ∷ []
+    → Adds d r ids (out ++ flat_map children (visit n)) (length (flat_map children (visit n))) old new
+    → Adds d r ids (out ++ flat_map (selected root (selectors_of ss)) (visit n)) (total_of (extra_in root (selectors_of ss)) (visit n)) old new
+adds_wild d r ids root n out ss old new e h = rw (e, wild_selected root (visit n), wild_charged root (visit n)) h

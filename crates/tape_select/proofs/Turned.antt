@@ -9,6 +9,7 @@ use Rattle.json_tape.specs.Document.{Doc, node_at, count}
 use Rattle.json_tape.specs.declared.tape.NodeId.{NodeId}
 use Rattle.tape_select.specs.Nodelists.{nodes_of}
 use Rattle.tape_select.specs.Paying.{Inside, Holds}
+use Rattle.tape_select.proofs.Totals.{length_nodes}
 
 nodes_take : (d : Doc) (ks : List NodeId) (a b : List Node) → nodes_of d ks ≡ a ++ b → (nodes_of d (take (length a) ks) ≡ a) × (nodes_of d (drop (length a) ks) ≡ b)
 nodes_take d ks [] b e = (refl, e)
@@ -27,10 +28,6 @@ nodes_append d (k ∷ ks) js = ap (λ ns. node_at d k.0 ∷ ns) (nodes_append d 
 all_onto : (P : NodeId → Type 0) (ks js : List NodeId) → All P ks → All P js → All P (reverse_aux ks js)
 all_onto P [] js a b = b
 all_onto P (k ∷ ks) js a b = all_onto P ks (k ∷ js) (All-tail P k ks a) (All-cons P k js (All-head P k ks a) b)
-
-length_nodes : (d : Doc) (ks : List NodeId) → length (nodes_of d ks) ≡ length ks
-length_nodes d [] = refl
-length_nodes d (k ∷ ks) = ap suc (length_nodes d ks)
 
 inside_turned : (d : Doc) (n : ℕ) (ks : List NodeId) → Inside d ks → Inside d (take n ks ++ reverse (drop n ks))
 inside_turned d n ks s =

@@ -9,4 +9,3 @@ pub mod Making
 pub mod Slots
 pub mod Answered
 pub mod Memo
-pub mod Plain

@@ -61,19 +61,3 @@ pub fn followed(
     }
     Ok(Some(node))
 }
-
-/// The same where nothing is to be paid.
-pub fn reached(doc: &Document, links: &[Link], n: NodeId) -> Option<NodeId>
-    requires inside { n.0 < count doc.now }
-    ensures node { single doc.now result ≡ evaluated (node_at doc.now 0) (links_view links.now) (node_at doc.now n.0 ∷ []) }
-    ensures inside { IsIn doc.now result }
-{
-    let mut node = n;
-    for link in links {
-        match step(doc, link, node) {
-            None => return None,
-            Some(found) => node = found,
-        }
-    }
-    Some(node)
-}

@@ -8,27 +8,27 @@ ghost use Rattle.tape_select.specs.Evaluation.{evaluated, selected, selected_by,
 ghost use Rattle.tape_select.specs.Nodelists.{nodes_of};
 ghost use Rattle.tape_select.specs.Charge.{total_of, charge_from, charge_expr, charge_exprs, charge_side};
 ghost use Rattle.tape_select.specs.Extra.{extra_in, extra_by, nodes_from, charge_at, nodes_after, charge_after};
-ghost use Rattle.tape_select.specs.Paying.{Inside, Adds, Finds, FindsList};
+ghost use Rattle.tape_select.specs.Paying.{Inside, Pays, Adds, Finds, FindsList};
 ghost use Rattle.tape_select.specs.Planned.{trees, query_of, path_of, claims_of, all_claims, look, condition_view, operand_view, selection_view, nested_view, stage_view};
 ghost use Rattle.tape_select.specs.Slots.{AreClaimed};
 ghost use Rattle.tape_select.specs.Memo.{FindsNodes, FindsFor, FindsSide, Keeps};
 
 use crate::chains::{followed, step};
+use crate::descendants::{children_below, named};
 use crate::fault::SelectFault;
-use crate::names::named;
 use crate::nodes::{child_total, lone, push, push_some, wild};
-use crate::plain::{filtered_plainly, units_of};
 use crate::plan::{Condition, Link, Nested, Operand, Parts, Selection, Stage};
-use crate::sides::{compare, length_of, side_found};
+use crate::sides::{compare, compare_length, length_of, side_found};
 use crate::slices::sliced;
 use crate::state::{Found, State, found_by_links, found_in, keep, recall};
-use crate::steps::{lone_link, only_link, stepped};
+use crate::steps::{is_wild, lone_link, only_link, stepped};
+use crate::units::units_of;
 use json_tape::{Document, NodeId};
-use tape_values::Side;
+use tape_values::{Side, compare_found};
 
 // The children for which a condition holds.
 #[cycle(evaluation)]
-#[tactic(auto, using(crate::proofs::Plainness::all_charged))]
+#[tactic(auto, using(crate::proofs::Filtering::filtering))]
 fn filtered(
     doc: &Document,
     plan: &Parts,
@@ -44,48 +44,45 @@ fn filtered(
     ensures added { Adds doc.now result out.new.items (nodes_of doc.now out.old.items ++ filter (holds (node_at doc.now 0) (condition_view condition.now).tree) (children (node_at doc.now n.0))) (2 * length (children (node_at doc.now n.0)) + total_of (charge_expr (node_at doc.now 0) (condition_view condition.now).tree) (children (node_at doc.now n.0))) state.old.meter.left state.new.meter.left }
     ensures kept { Keeps doc.now (claims_of plan.now.stages.items) state.new }
 {
-    match units_of(condition) {
-        Some(units) => {
-            let State { meter, answers, .. } = state;
-            filtered_plainly(doc, condition, units, n, meter, answers, out)
+    state.meter.spend_each(2, u64::from(child_total(doc, n)))?;
+    for child in doc.children(n) {
+        if does_hold(doc, plan, condition, child, state)? {
+            push(doc, out, child)?;
         }
-        None => filtered_each(doc, plan, condition, n, state, out),
-    }
-}
-
-// The same, paid child by child.
-#[cycle(evaluation)]
-#[tactic(auto, using(crate::proofs::Filtering::filtering))]
-fn filtered_each(
-    doc: &Document,
-    plan: &Parts,
-    condition: &Condition,
-    n: NodeId,
-    state: &mut State,
-    out: &mut Vec<NodeId>,
-) -> Result<(), SelectFault>
-    requires inside { n.0 < count doc.now }
-    requires claimed { AreClaimed (claims_of plan.now.stages.items) (condition_view condition.now).claims }
-    requires kept { Keeps doc.now (claims_of plan.now.stages.items) state.old }
-    requires sound { Inside doc.now out.old.items }
-    ensures added { Adds doc.now result out.new.items (nodes_of doc.now out.old.items ++ filter (holds (node_at doc.now 0) (condition_view condition.now).tree) (children (node_at doc.now n.0))) (2 * length (children (node_at doc.now n.0)) + total_of (charge_expr (node_at doc.now 0) (condition_view condition.now).tree) (children (node_at doc.now n.0))) state.old.meter.left state.new.meter.left }
-    ensures kept { Keeps doc.now (claims_of plan.now.stages.items) state.new }
-{
-    let total = child_total(doc, n);
-    state.meter.spend_each(2, u64::from(total))?;
-    let mut child = doc.first_child(n);
-    while let Some(c) = child {
-        if does_hold(doc, plan, condition, c, state)? {
-            push(doc, out, c)?;
-        }
-        child = doc.next_sibling(c);
     }
     Ok(())
 }
 
+// Whether a condition holds for a child. A comparison with a literal, as most are, takes no call.
 #[cycle(evaluation)]
-#[tactic(auto, using(crate::proofs::Filtering::holding))]
+#[inline(always)]
 fn does_hold(
+    doc: &Document,
+    plan: &Parts,
+    condition: &Condition,
+    child: NodeId,
+    state: &mut State,
+) -> Result<bool, SelectFault>
+    requires inside { child.0 < count doc.now }
+    requires claimed { AreClaimed (claims_of plan.now.stages.items) (condition_view condition.now).claims }
+    requires kept { Keeps doc.now (claims_of plan.now.stages.items) state.old }
+    ensures found { Finds result (holds (node_at doc.now 0) (condition_view condition.now).tree (node_at doc.now child.0)) (charge_expr (node_at doc.now 0) (condition_view condition.now).tree (node_at doc.now child.0)) state.old.meter.left state.new.meter.left }
+    ensures kept { Keeps doc.now (claims_of plan.now.stages.items) state.new }
+{
+    match condition {
+        Condition::Compare(Operand::Single(query), op, Operand::Constant(constant)) => {
+            let found = found(doc, plan, query, child, state)?;
+            Ok(compare_found(doc, found.only, op, &constant.literal))
+        }
+        _ => holds_by_kind(doc, plan, condition, child, state),
+    }
+}
+
+// The same, whatever the condition is.
+#[cycle(evaluation)]
+#[inline(never)]
+#[tactic(auto, using(crate::proofs::Filtering::holding))]
+fn holds_by_kind(
     doc: &Document,
     plan: &Parts,
     condition: &Condition,
@@ -105,6 +102,10 @@ fn does_hold(
             let held = does_hold(doc, plan, operand, child, state)?;
             Ok(!held)
         }
+        Condition::Compare(Operand::Length(operand), op, Operand::Constant(constant)) => {
+            let side = side_of(doc, plan, operand, child, state)?;
+            Ok(compare_length(doc, side, op, constant))
+        }
         Condition::Compare(left, op, right) => {
             let left = side_of(doc, plan, left, child, state)?;
             let right = side_of(doc, plan, right, child, state)?;
@@ -117,8 +118,34 @@ fn does_hold(
     }
 }
 
-// All operands are tried, since each is charged.
+// Pays what a condition is charged that cannot change the answer: without a look at the child where that is the same for all.
 #[cycle(evaluation)]
+#[inline(always)]
+fn pass_by(
+    doc: &Document,
+    plan: &Parts,
+    condition: &Condition,
+    child: NodeId,
+    state: &mut State,
+) -> Result<(), SelectFault>
+    requires inside { child.0 < count doc.now }
+    requires claimed { AreClaimed (claims_of plan.now.stages.items) (condition_view condition.now).claims }
+    requires kept { Keeps doc.now (claims_of plan.now.stages.items) state.old }
+    ensures paid { Pays result (charge_expr (node_at doc.now 0) (condition_view condition.now).tree (node_at doc.now child.0)) state.old.meter.left state.new.meter.left }
+    ensures kept { Keeps doc.now (claims_of plan.now.stages.items) state.new }
+{
+    match units_of(doc, condition, child) {
+        Some(units) => state.meter.spend(u64::from(units)),
+        None => {
+            holds_by_kind(doc, plan, condition, child, state)?;
+            Ok(())
+        }
+    }
+}
+
+// Each operand is charged, the ones behind one that holds too.
+#[cycle(evaluation)]
+#[inline(never)]
 #[tactic(auto, using(crate::proofs::Filtering::somes))]
 fn some_hold(
     doc: &Document,
@@ -135,13 +162,17 @@ fn some_hold(
 {
     let mut some = false;
     for operand in operands {
-        let held = does_hold(doc, plan, operand, child, state)?;
-        some |= held;
+        if some {
+            pass_by(doc, plan, operand, child, state)?;
+        } else {
+            some = does_hold(doc, plan, operand, child, state)?;
+        }
     }
     Ok(some)
 }
 
 #[cycle(evaluation)]
+#[inline(always)]
 #[tactic(auto, using(crate::proofs::Filtering::alls))]
 fn all_hold(
     doc: &Document,
@@ -158,8 +189,11 @@ fn all_hold(
 {
     let mut all = true;
     for operand in operands {
-        let held = does_hold(doc, plan, operand, child, state)?;
-        all &= held;
+        if all {
+            all = does_hold(doc, plan, operand, child, state)?;
+        } else {
+            pass_by(doc, plan, operand, child, state)?;
+        }
     }
     Ok(all)
 }
@@ -430,7 +464,7 @@ fn from_node(
     }
 }
 
-// What the selectors select from a node and all its descendants. A lone name takes a loop of its own.
+// What the selectors select from a node and all its descendants. A lone name or wildcard takes a loop of its own.
 #[cycle(evaluation)]
 fn visited(
     doc: &Document,
@@ -447,6 +481,9 @@ fn visited(
     ensures added { Adds doc.now result out.new.items (nodes_of doc.now out.old.items ++ flat_map (selected (node_at doc.now 0) (selectors_of (trees (map selection_view selections.now)))) (visit (node_at doc.now n.0))) (total_of (extra_in (node_at doc.now 0) (selectors_of (trees (map selection_view selections.now)))) (visit (node_at doc.now n.0))) state.old.meter.left state.new.meter.left }
     ensures kept { Keeps doc.now (claims_of plan.now.stages.items) state.new }
 {
+    if is_wild(selections) {
+        return children_below(doc, n, &mut state.meter, out);
+    }
     match only_link(selections) {
         Some(Link::Key(name)) => named(doc, name, n, out),
         _ => visited_each(doc, plan, selections, n, state, out),

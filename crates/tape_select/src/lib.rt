@@ -8,13 +8,12 @@
 
 mod answers;
 mod chains;
+mod descendants;
 mod evaluation;
 mod fault;
 mod making;
 mod meter;
-mod names;
 mod nodes;
-mod plain;
 mod plan;
 mod planning;
 mod selecting;
@@ -22,6 +21,7 @@ mod sides;
 mod slices;
 mod state;
 mod steps;
+mod units;
 
 pub use fault::SelectFault;
 pub use planning::{BUDGET, Plan, select};

@@ -1,7 +1,7 @@
 //! Steps that add nodes. They pay what they are charged beyond the unit that each selector costs, which is paid in front of them.
 
 ghost use Rattle.std.specs.Prelude.{◌≡◌, ◌<◌, ◌∷◌, [], ◌++◌, length, MatchResult};
-ghost use Rattle.json_tape.specs.Document.{count, node_at, following, single, IsIn};
+ghost use Rattle.json_tape.specs.Document.{count, node_at, single, IsIn};
 ghost use Rattle.json_tape.specs.Nodes.{children};
 ghost use Rattle.tape_select.specs.Nodelists.{nodes_of};
 ghost use Rattle.tape_select.specs.Paying.{Inside, Holds, Adds};
@@ -68,6 +68,20 @@ pub fn child_total(doc: &Document, n: NodeId) -> u32
     }
 }
 
+/// The children of a node.
+#[inline(always)]
+#[tactic(auto, using(crate::proofs::Adding::adding))]
+pub fn add_children(doc: &Document, n: NodeId, out: &mut Vec<NodeId>) -> Result<(), SelectFault>
+    requires inside { n.0 < count doc.now }
+    requires sound { Inside doc.now out.old.items }
+    ensures { MatchResult result (λ _. Holds doc.now out.new.items (nodes_of doc.now out.old.items ++ children (node_at doc.now n.0))) (λ e. e ≡ SelectFault.Memory) }
+{
+    for child in doc.children(n) {
+        push(doc, out, child)?;
+    }
+    Ok(())
+}
+
 /// All children.
 #[tactic(auto, using(crate::proofs::Adding::adding))]
 pub fn wild(
@@ -80,11 +94,7 @@ pub fn wild(
     requires sound { Inside doc.now out.old.items }
     ensures { Adds doc.now result out.new.items (nodes_of doc.now out.old.items ++ children (node_at doc.now n.0)) (length (children (node_at doc.now n.0))) meter.old.left meter.new.left }
 {
-    meter.spend(u64::from(child_total(doc, n)))?;
-    let mut child = doc.first_child(n);
-    while let Some(c) = child {
-        push(doc, out, c)?;
-        child = doc.next_sibling(c);
-    }
-    Ok(())
+    let before = out.len();
+    add_children(doc, n, out)?;
+    meter.spend((out.len() - before) as u64)
 }

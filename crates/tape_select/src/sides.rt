@@ -1,17 +1,19 @@
 //! The sides of a comparison, found and compared.
 
-ghost use Rattle.std.specs.Prelude.{◌≡◌, ◌<◌, Some, None};
+ghost use Rattle.std.specs.Prelude.{◌≡◌, ◌<◌, Some, None, option_map};
 ghost use Rattle.json_tape.specs.Document.{count, node_at, IsIn};
-ghost use Rattle.tape_values.specs.Comparison.{Value, compared, value_of};
-ghost use Rattle.tape_values.specs.Functions.{length_value};
+ghost use Rattle.path_grammar.specs.View.{literal_view};
+ghost use Rattle.tape_values.specs.Comparison.{Value, compared, value_of, literal_value};
+ghost use Rattle.tape_values.specs.Functions.{length_value, whole_number};
 ghost use Rattle.tape_values.specs.Sides.{side_value, IsSide};
 ghost use Rattle.tape_select.specs.Answered.{AreRight};
 ghost use Rattle.tape_select.specs.Memo.{value_found};
 
 use crate::answers::{Answer, compare_once, make_room};
+use crate::plan::Constant;
 use json_tape::{Document, Kind, NodeId};
 use path_grammar::{Literal, Op};
-use tape_values::{Side, compare_sides};
+use tape_values::{Side, compare_sides, compare_whole};
 
 // The most bytes of a string that is compared each time.
 const SHORT: usize = 64;
@@ -32,19 +34,39 @@ pub fn side_found<'a>(doc: &Document, found: Option<NodeId>) -> Side<'a>
     }
 }
 
+// How many scalar values, elements or members there are.
+fn total_of(doc: &Document, side: Side<'_>) -> Option<usize>
+    requires { IsSide doc.now side }
+    ensures { length_value (side_value doc.now side.entry) ≡ option_map whole_number result }
+{
+    match side {
+        Side::Node(n) => Some(doc.length(n)? as usize),
+        Side::Literal(Literal::Text(scalars)) => Some(scalars.len()),
+        _ => None,
+    }
+}
+
 /// How many scalar values, elements or members there are.
 pub fn length_of<'a>(doc: &Document, side: Side<'_>) -> Side<'a>
     requires { IsSide doc.now side }
     ensures value { side_value doc.now result ≡ length_value (side_value doc.now side.entry) }
     ensures side { IsSide doc.now result }
 {
-    match side {
-        Side::Node(n) => match doc.length(n) {
-            None => Side::Nothing,
-            Some(total) => Side::Whole(total as usize),
-        },
-        Side::Literal(Literal::Text(scalars)) => Side::Whole(scalars.len()),
-        _ => Side::Nothing,
+    match total_of(doc, side) {
+        None => Side::Nothing,
+        Some(total) => Side::Whole(total),
+    }
+}
+
+/// Whether a comparison of a length with a literal holds.
+#[inline(always)]
+pub fn compare_length(doc: &Document, side: Side<'_>, op: &Op, constant: &Constant) -> bool
+    requires { IsSide doc.now side }
+    ensures { result ≡ compared op.now (length_value (side_value doc.now side.entry)) (Some (literal_value (literal_view constant.now.literal))) }
+{
+    match total_of(doc, side) {
+        None => one_missing(*op),
+        Some(total) => compare_whole(doc, total, op, &constant.literal),
     }
 }
 
@@ -108,8 +130,8 @@ fn both_missing(op: Op) -> bool
     }
 }
 
-/// Whether a comparison of a value with Nothing holds, on whichever side that is.
-pub fn one_missing(op: Op) -> bool
+// Whether a comparison of a value with Nothing holds, on whichever side that is.
+fn one_missing(op: Op) -> bool
     ensures right { (v : Value) → result ≡ compared op (Some v) None }
     ensures left { (v : Value) → result ≡ compared op None (Some v) }
 {

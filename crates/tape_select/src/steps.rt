@@ -1,7 +1,8 @@
 //! Segments that select one node at most from each: a lone name or index.
 
-ghost use Rattle.std.specs.Prelude.{◌≡◌, ◌∷◌, [], length, map, flat_map, IfSome};
+ghost use Rattle.std.specs.Prelude.{◌≡◌, ◌∷◌, [], length, map, flat_map, IfSome, IsTrue};
 ghost use Rattle.json_tape.specs.Document.{node_at};
+ghost use Rattle.path_grammar.specs.Tree.{wild};
 ghost use Rattle.tape_select.specs.Evaluation.{selected_by};
 ghost use Rattle.tape_select.specs.Nodelists.{nodes_of};
 ghost use Rattle.tape_select.specs.Paying.{Inside, FindsList};
@@ -23,6 +24,13 @@ pub fn only_link(selections: &[Selection]) -> Option<&Link>
         [Selection::One(link)] => Some(link),
         _ => None,
     }
+}
+
+/// Whether a wildcard is the only selector.
+pub fn is_wild(selections: &[Selection]) -> bool
+    ensures { IsTrue result → trees (map selection_view selections.now) ≡ wild ∷ [] }
+{
+    matches!(selections, [Selection::Wild])
 }
 
 /// The name or the index of a segment that selects by it alone.

@@ -1,20 +1,22 @@
 use Rattle.std.proofs.Common.{sym, ◌∙◌, ◌++◌, ◌*◌, ◌≡◌, [], ◌∷◌, arith, ap, refl, length, map}
 use Rattle.std.specs.Prelude.{flat_map}
+use Rattle.std.specs.Prelude.{filter as keep}
 use Rattle.std.proofs.lemmas.Result.{err_from_is_err_and}
 use Rattle.json_tape.specs.Document.{node_at}
 use Rattle.json_tape.specs.Nodes.{children, visit}
 use Rattle.path_grammar.specs.Tree as tree
 use Rattle.path_grammar.specs.Tree.{OneSegment, selectors_of, filter}
-use Rattle.tape_select.specs.Evaluation.{selected}
+use Rattle.tape_select.specs.Evaluation.{selected, holds}
 use Rattle.tape_select.specs.Nodelists.{nodes_of}
 use Rattle.tape_select.specs.Charge.{total_of, charge_from, charge_expr}
 use Rattle.tape_select.specs.Extra.{extra_in, nodes_from, charge_at}
 use Rattle.tape_select.specs.Planned.{claims_of, query_of, path_of, links_view, trees, condition_view, selection_view, stage_view, With, condition_step, operand_step, selection_step, nested_step, stage_step}
 use Rattle.tape_select.specs.declared.plan.Condition.TheFolds.{fold_out-Selection}
-use Rattle.tape_select.proofs.Filtering.{stage_claimed, evaluated_step, charge_step, adds_paid, more_of, staying, staying_charge, descending, descending_charge, filter_charge, leaf_holds, leaf_costs, finds_linked}
+use Rattle.tape_select.proofs.Filtering.{stage_claimed, evaluated_step, charge_step, adds_paid, more_of, staying, staying_charge, descending, descending_charge, filter_charge, keep_more, keep_not, leaf_holds, leaf_costs, finds_linked}
 use Rattle.tape_select.proofs.Following.{refuses_from, nothing_from_nothing, nothing_for_nothing}
 use Rattle.tape_select.proofs.Links.{links_charged, links_charged_first, found_through}
-use Rattle.tape_select.proofs.Naming.{adds_named}
+use Rattle.tape_select.proofs.Adding.{drawn, drawn_inside}
+use Rattle.tape_select.proofs.Naming.{adds_named, adds_wild}
 use Rattle.tape_select.proofs.evaluation.+evaluation.Goals as goal
 
 pub all_selected-loop-stage-preserved : goal.all_selected-loop-stage-preserved
@@ -123,6 +125,52 @@ selected_within-returns-in-None-clause-added t c =
     let ss = selectors_of (trees (map selection_view c.args.selections.now)) in
     let costs = leaf_costs r ss n c.in-None.ensures.nodes in
     (leaf_holds r ss d c.args.out.now.items n c.requires.sound c.in-None.ensures.nodes, omega (arith, costs))
+
+pub filtered-loop-child-preserved-in-Continue-branch-3 : goal.filtered-loop-child-preserved-in-Continue-branch-3
+filtered-loop-child-preserved-in-Continue-branch-3 t c =
+    let d = c.args.doc.now in
+    let i = c.loop-child.invariant in
+    let out = nodes_of d c.loop-child.out.items in
+    let x = (condition_view c.args.condition.now).tree in
+    let p = holds (node_at d 0) x in
+    let next = drawn d c.loop-child.child-iterator c.in-Some.child c.next.new.self c.in-Some.ensures.steps in
+    let found = c.in_ok-does_hold.ensures.found in
+    let charged = ap (total_of (charge_expr (node_at d 0) x)) next in
+    let before = i.paid in
+    let now_paid = found.1 in
+    record {
+      same = rw c.in_ok-push.ensures.same (keep_more p out (node_at d c.in-Some.child.0) (nodes_of d c.next.new.self) (sym found.0 ∙ c.if-branch.true) ∙ ap (λ ns. out ++ keep p ns) (sym next) ∙ i.same);
+      paid = omega (arith, charged, before, now_paid);
+      kept = c.in_ok-does_hold.ensures.kept;
+      ahead = (drawn_inside d c.loop-child.child-iterator c.in-Some.child c.next.new.self c.in-Some.ensures.steps i.ahead).1;
+      sound = c.in_ok-push.ensures.inside;
+    }
+
+pub filtered-loop-child-preserved : goal.filtered-loop-child-preserved
+filtered-loop-child-preserved t c =
+    let d = c.args.doc.now in
+    let i = c.loop-child.invariant in
+    let out = nodes_of d c.loop-child.out.items in
+    let x = (condition_view c.args.condition.now).tree in
+    let p = holds (node_at d 0) x in
+    let next = drawn d c.loop-child.child-iterator c.in-Some.child c.next.new.self c.in-Some.ensures.steps in
+    let found = c.in_ok-does_hold.ensures.found in
+    let charged = ap (total_of (charge_expr (node_at d 0) x)) next in
+    let before = i.paid in
+    let now_paid = found.1 in
+    record {
+      same = ap (λ ns. out ++ ns) (sym (ap (keep p) next ∙ keep_not p (node_at d c.in-Some.child.0) (nodes_of d c.next.new.self) (sym found.0 ∙ c.if-branch.false))) ∙ i.same;
+      paid = omega (arith, charged, before, now_paid);
+      kept = c.in_ok-does_hold.ensures.kept;
+      ahead = (drawn_inside d c.loop-child.child-iterator c.in-Some.child c.next.new.self c.in-Some.ensures.steps i.ahead).1;
+      sound = i.sound;
+    }
+
+pub visited-returns-then-is_wild-clause-added : goal.visited-returns-then-is_wild-clause-added
+visited-returns-then-is_wild-clause-added t c =
+    let d = c.args.doc.now in
+    adds_wild d c.children_below.result c.children_below.new.out.items (node_at d 0) (node_at d c.args.n.0) (nodes_of d c.args.out.now.items) (trees (map selection_view c.args.selections.now))
+    c.args.state.now.meter.left c.children_below.new.meter.left (c.is_wild.ensures c.if-is_wild.true) c.children_below.ensures
 
 pub visited-returns-in-Some-Key-clause-added : goal.visited-returns-in-Some-Key-clause-added
 visited-returns-in-Some-Key-clause-added t c =

@@ -2,7 +2,8 @@ use Rattle.std.proofs.Common.{◌≡◌, ◌+◌, ◌-◌, ◌++◌, ◌∷◌, 
 use Rattle.std.specs.Prelude.{flat_map}
 use Rattle.std.specs.Prelude.{filter as keep}
 use Rattle.path_grammar.specs.Tree.{exprs_of, selectors_of}
-use Rattle.json_tape.specs.Document.{following, IsIn, node_at, seen, counting}
+use Rattle.json_tape.specs.Document.{node_at, seen, counting}
+use Rattle.json_tape.specs.Nodes.{children}
 use Rattle.tape_select.specs.Evaluation.{evaluated, selected, holds, some_hold, all_hold}
 use Rattle.tape_select.specs.Nodelists.{nodes_of}
 use Rattle.tape_select.specs.Charge.{total_of, charge_from, charge_expr, charge_exprs}
@@ -13,19 +14,16 @@ use Rattle.tape_select.specs.Planned.{claims_of, query_of, trees, all_claims, co
 use Rattle.tape_select.specs.Slots.{AreClaimed}
 use Rattle.tape_select.proofs.evaluation.+evaluation.Given as goal
 
-abbrev pub invariant-filtered_each-loop-child : goal.invariant-filtered_each-loop-child
-invariant-filtered_each-loop-child l = record {
-  same : nodes_of l.doc l.out.items ++ keep (holds (node_at l.doc 0) (condition_view l.condition).tree) (following l.doc l.child)
-      ≡ nodes_of l.doc l.initial.out.items ++ keep (holds (node_at l.doc 0) (condition_view l.condition).tree) (following l.doc l.initial.child);
-  paid : l.state.meter.left + total_of (charge_expr (node_at l.doc 0) (condition_view l.condition).tree) (following l.doc l.initial.child)
-      ≡ l.initial.state.meter.left + total_of (charge_expr (node_at l.doc 0) (condition_view l.condition).tree) (following l.doc l.child);
+abbrev pub invariant-filtered-loop-child : goal.invariant-filtered-loop-child
+invariant-filtered-loop-child l = record {
+  same : nodes_of l.doc l.out.items ++ keep (holds (node_at l.doc 0) (condition_view l.condition).tree) (nodes_of l.doc l.child-iterator)
+      ≡ nodes_of l.doc l.initial.out.items ++ keep (holds (node_at l.doc 0) (condition_view l.condition).tree) (children (node_at l.doc l.fn.n.0));
+  paid : l.state.meter.left + total_of (charge_expr (node_at l.doc 0) (condition_view l.condition).tree) (children (node_at l.doc l.fn.n.0))
+      ≡ l.initial.state.meter.left + total_of (charge_expr (node_at l.doc 0) (condition_view l.condition).tree) (nodes_of l.doc l.child-iterator);
   kept : Keeps l.doc (claims_of l.plan.stages.items) l.state;
-  inside : IsIn l.doc l.child;
+  ahead : Inside l.doc l.child-iterator;
   sound : Inside l.doc l.out.items;
 }
-
-abbrev pub decreases-filtered_each-loop-child : goal.decreases-filtered_each-loop-child
-decreases-filtered_each-loop-child l = length (following l.doc l.child)
 
 abbrev pub invariant-some_hold-loop-operand : goal.invariant-some_hold-loop-operand
 invariant-some_hold-loop-operand l = record {

@@ -5,7 +5,7 @@ use Rattle.path_grammar.specs.Tree.{selector, no_selectors, name}
 use Rattle.tape_select.specs.Evaluation.{selected}
 use Rattle.tape_select.specs.Nodelists.{nodes_of}
 use Rattle.tape_select.specs.Paying.{Inside}
-use Rattle.tape_select.proofs.names.named.Given as goal
+use Rattle.tape_select.proofs.descendants.named.Given as goal
 
 abbrev pub invariant-loop-k : goal.invariant-loop-k
 invariant-loop-k l = record {

@@ -1,15 +1,16 @@
-//! A name that is looked for at all depths.
+//! Segments that select by a lone name or wildcard from a node and all its descendants (RFC 9535, section 2.5.2).
 
-ghost use Rattle.std.specs.Prelude.{◌≡◌, ◌<◌, ◌++◌, flat_map, MatchResult};
+ghost use Rattle.std.specs.Prelude.{◌≡◌, ◌<◌, ◌++◌, length, flat_map, MatchResult};
 ghost use Rattle.json_tape.specs.Document.{count, node_at};
-ghost use Rattle.json_tape.specs.Nodes.{visit};
+ghost use Rattle.json_tape.specs.Nodes.{children, visit};
 ghost use Rattle.path_grammar.specs.Tree.{selector, no_selectors, name};
 ghost use Rattle.tape_select.specs.Evaluation.{selected};
 ghost use Rattle.tape_select.specs.Nodelists.{nodes_of};
-ghost use Rattle.tape_select.specs.Paying.{Inside, Holds};
+ghost use Rattle.tape_select.specs.Paying.{Inside, Holds, Adds};
 
 use crate::fault::SelectFault;
-use crate::nodes::push_some;
+use crate::meter::Meter;
+use crate::nodes::{add_children, push_some};
 use crate::plan::Name;
 use json_tape::{Document, Kind, NodeId};
 
@@ -33,4 +34,24 @@ pub fn named(
         }
     }
     Ok(())
+}
+
+/// The children of a node and of all its descendants.
+#[tactic(auto, using(crate::proofs::Naming::looking))]
+pub fn children_below(
+    doc: &Document,
+    n: NodeId,
+    meter: &mut Meter,
+    out: &mut Vec<NodeId>,
+) -> Result<(), SelectFault>
+    requires inside { n.0 < count doc.now }
+    requires sound { Inside doc.now out.old.items }
+    ensures { Adds doc.now result out.new.items (nodes_of doc.now out.old.items ++ flat_map children (visit (node_at doc.now n.0))) (length (flat_map children (visit (node_at doc.now n.0)))) meter.old.left meter.new.left }
+{
+    let before = out.len();
+    let end = doc.after(n);
+    for k in n.0..end {
+        add_children(doc, NodeId(k), out)?;
+    }
+    meter.spend((out.len() - before) as u64)
 }

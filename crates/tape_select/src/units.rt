@@ -1,0 +1,81 @@
+//! What a condition is charged for a child, where that is known without a look at the child.
+
+ghost use Rattle.std.specs.Prelude.{◌≡◌, ◌∷◌, [], map, IfSome};
+ghost use Rattle.json_tape.specs.Document.{node_at};
+ghost use Rattle.json_tape.specs.Nodes.{Node};
+ghost use Rattle.path_grammar.specs.Tree.{exprs_of};
+ghost use Rattle.tape_select.specs.Charge.{charge_from, charge_nested, charge_side, charge_expr, charge_exprs};
+ghost use Rattle.tape_select.specs.Planned.{trees, links_view, condition_view, nested_view, operand_view};
+
+use crate::plan::{Condition, Link, Nested, Operand};
+use json_tape::{Document, NodeId};
+use std::slice::from_ref;
+
+// Names and indexes, where there is one at most.
+#[inline(always)]
+fn units_of_links(links: &[Link]) -> Option<u32>
+    ensures { IfSome result (λ units. (root n : Node) → charge_from root (links_view links.now) (n ∷ []) ≡ units) }
+{
+    match links {
+        [] => Some(0),
+        [_] => Some(1),
+        _ => None,
+    }
+}
+
+#[inline(always)]
+fn units_of_query(doc: &Document, query: &Nested, child: NodeId) -> Option<u32>
+    ensures { IfSome result (λ units. charge_nested (node_at doc.now 0) (nested_view query.now).tree (node_at doc.now child.0) ≡ units) }
+{
+    let _ = doc;
+    let _ = child;
+    if query.stages.is_empty() {
+        units_of_links(&query.links)
+    } else {
+        None
+    }
+}
+
+#[inline(always)]
+fn units_of_side(doc: &Document, operand: &Operand, child: NodeId) -> Option<u32>
+    ensures { IfSome result (λ units. charge_side (node_at doc.now 0) (operand_view operand.now).tree (node_at doc.now child.0) ≡ units) }
+{
+    match operand {
+        Operand::Constant(_) => Some(0),
+        Operand::Single(query) => units_of_query(doc, query, child),
+        Operand::Length(_) | Operand::Count(_) | Operand::Value(_) => None,
+    }
+}
+
+/// What a condition is charged for a child, if that is known without a look at it. It calls itself by the one behind it alone, and is put in line.
+#[cycle(units)]
+#[inline(always)]
+pub fn units_of(doc: &Document, condition: &Condition, child: NodeId) -> Option<u32>
+    ensures { IfSome result (λ units. charge_expr (node_at doc.now 0) (condition_view condition.now).tree (node_at doc.now child.0) ≡ units) }
+{
+    match condition {
+        Condition::Any(operands) => units_of_all(doc, operands, child),
+        Condition::Each(operands) => units_of_all(doc, operands, child),
+        Condition::Not(operand) => units_of_all(doc, from_ref(operand), child),
+        Condition::Compare(left, _, right) => {
+            let left = units_of_side(doc, left, child)?;
+            let right = units_of_side(doc, right, child)?;
+            left.checked_add(right)
+        }
+        Condition::Exists(query) => units_of_query(doc, query, child),
+    }
+}
+
+#[cycle(units)]
+#[inline(never)]
+#[tactic(auto, using(crate::proofs::Filtering::operand_charges))]
+fn units_of_all(doc: &Document, operands: &[Condition], child: NodeId) -> Option<u32>
+    ensures { IfSome result (λ units. charge_exprs (node_at doc.now 0) (exprs_of (trees (map condition_view operands.now))) (node_at doc.now child.0) ≡ units) }
+{
+    let mut sum: u32 = 0;
+    for operand in operands {
+        let units = units_of(doc, operand, child)?;
+        sum = sum.checked_add(units)?;
+    }
+    Some(sum)
+}
