@@ -99,6 +99,33 @@ fn entries_end_behind_their_parts(rt: HostRuntime) -> Result<(), Fail> {
     Ok(())
 }
 
+/// Whether an entry has these children.
+fn has_children(document: &Document, n: u32, wanted: &[u32]) -> bool {
+    if n >= document.node_count() {
+        return false;
+    }
+    let mut left = wanted;
+    for child in document.children(NodeId(n)) {
+        match left.split_first() {
+            Some((first, rest)) if *first == child.0 => left = rest,
+            _ => return false,
+        }
+    }
+    left.is_empty()
+}
+
+#[test]
+fn goes_over_children(rt: HostRuntime) -> Result<(), Fail> {
+    let document = Document::read(rt.alloc(), b"[1,[2,[]],{\"a\":{},\"b\":3},4]")?;
+    assert!(rt; has_children(&document, 0, &[1, 2, 5, 8]));
+    assert!(rt; has_children(&document, 1, &[]));
+    assert!(rt; has_children(&document, 2, &[3, 4]));
+    assert!(rt; has_children(&document, 4, &[]));
+    assert!(rt; has_children(&document, 5, &[6, 7]));
+    assert!(rt; has_children(&document, 8, &[]));
+    Ok(())
+}
+
 /// Whether these are the characters that come.
 fn are(scalars: Scalars<'_>, wanted: &[char]) -> bool {
     let mut left = wanted;
