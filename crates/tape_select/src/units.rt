@@ -36,6 +36,8 @@ fn units_of_query(doc: &Document, query: &Nested, child: NodeId) -> Option<u32>
     }
 }
 
+// A side of a comparison. What is no call, as most are, takes none.
+#[cycle(side_units)]
 #[inline(always)]
 fn units_of_side(doc: &Document, operand: &Operand, child: NodeId) -> Option<u32>
     ensures { IfSome result (λ units. charge_side (node_at doc.now 0) (operand_view operand.now).tree (node_at doc.now child.0) ≡ units) }
@@ -43,7 +45,19 @@ fn units_of_side(doc: &Document, operand: &Operand, child: NodeId) -> Option<u32
     match operand {
         Operand::Constant(_) => Some(0),
         Operand::Single(query) => units_of_query(doc, query, child),
-        Operand::Length(_) | Operand::Count(_) | Operand::Value(_) => None,
+        _ => units_of_call(doc, operand, child),
+    }
+}
+
+#[cycle(side_units)]
+#[inline(never)]
+#[tactic(auto, using(crate::proofs::Filtering::siding))]
+fn units_of_call(doc: &Document, operand: &Operand, child: NodeId) -> Option<u32>
+    ensures { IfSome result (λ units. charge_side (node_at doc.now 0) (operand_view operand.now).tree (node_at doc.now child.0) ≡ units) }
+{
+    match operand {
+        Operand::Length(operand) => units_of_side(doc, operand, child),
+        _ => None,
     }
 }
 
