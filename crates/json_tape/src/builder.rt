@@ -8,6 +8,7 @@ ghost use Rattle.json_tape.specs.Opened.{HasRoom};
 ghost use Rattle.json_tape.specs.Verdict.{text_limit};
 
 use crate::compact::Tape;
+use crate::growth::push;
 use crate::tape::{BuildFault, Extent, Kind, Level, Open, Role, Seat, Shape, Want};
 use std::alloc::Global;
 use std::marker::Model;
@@ -180,7 +181,7 @@ impl Builder {
             entry: self.top.entry,
             children: self.top.children + 1,
         };
-        if self.outer.push(outer).is_err() {
+        if push(&mut self.outer, outer).is_err() {
             return Err(BuildFault::Memory);
         }
         self.deepest = self.deepest.max(self.outer.len());

@@ -5,6 +5,7 @@ ghost use Rattle.json_tape.specs.Machine.{change_at, closed};
 ghost use Rattle.json_tape.specs.Cells.{IsNear, is_container, container_at, leaf_entry, open_entry};
 
 use crate::cells::{Cell, Side};
+use crate::growth::push;
 use crate::tape::{Entry, Extent, Kind, Seat, Shape};
 use std::alloc::{AllocError, Global};
 use std::marker::Model;
@@ -99,8 +100,10 @@ impl Tape {
         ensures added { OnOk result (self.new ≡ self.old ++ leaf_entry kind seat source (length self.old) ∷ []) }
         ensures kept { OnErr result (self.new ≡ self.old) }
     {
-        self.cells
-            .push(Cell::new(kind, seat, source.start, source.len))?;
+        push(
+            &mut self.cells,
+            Cell::new(kind, seat, source.start, source.len),
+        )?;
         Ok(())
     }
 
@@ -115,12 +118,13 @@ impl Tape {
         ensures kept { OnErr result (self.new ≡ self.old) }
     {
         let number = self.sides.len() as u32;
-        self.sides.push(Side {
+        let side = Side {
             end: 0,
             children: 0,
             after: 0,
-        })?;
-        match self.cells.push(Cell::new(kind, seat, place, number)) {
+        };
+        push(&mut self.sides, side)?;
+        match push(&mut self.cells, Cell::new(kind, seat, place, number)) {
             Ok(()) => Ok(()),
             Err(_) => {
                 self.sides.pop();

@@ -7,7 +7,7 @@ use Rattle.json_tape.proofs.builder.Builder.open.Goals as goal
 
 pub invariant_of-self-then-is_err-2 : goal.invariant_of-self-then-is_err-2
 invariant_of-self-then-is_err-2 c =
-    let same = not_pushed c.push.result c.push.new.self.items c.self.inside.outer.items _ c.if-is_err-2.ensures.value c.push.ensures.items in
+    let same = not_pushed c.push.result c.push.new.list.items c.self.inside.outer.items _ c.if-is_err-2.ensures.value c.push.ensures.items in
     let os = c.self.inside.top ∷ reverse c.self.inside.outer.items in
     let grown = opened_more c.self.inside.tape (open_entry c.kind_of.result c.seat_in-seat.result c.args.place ∷ []) os c.self.invariant.opened in
     let m = subst (λ es. AreOpened es os) (sym (unless_err c.open.result c.if-is_err.ensures.value c.open.ensures.added)) grown in
@@ -16,7 +16,7 @@ invariant_of-self-then-is_err-2 c =
 pub invariant_of-self-2 : goal.invariant_of-self-2
 invariant_of-self-2 c =
     let e = open_entry c.kind_of.result c.seat_in-seat.result c.args.place in
-    let r = pushed c.push.result c.push.new.self.items c.self.inside.outer.items _ c.if-is_err-2.ensures.value c.push.ensures.items in
+    let r = pushed c.push.result c.push.new.list.items c.self.inside.outer.items _ c.if-is_err-2.ensures.value c.push.ensures.items in
     let os = c.self.inside.top ∷ reverse c.self.inside.outer.items in
     let added = sym (unless_err c.open.result c.if-is_err.ensures.value c.open.ensures.added) in
     let grown = opened_more c.self.inside.tape (e ∷ []) os c.self.invariant.opened in
