@@ -1,5 +1,5 @@
 -- What a cell of 16 bytes tells, and with the sides of the containers, which entries a list of cells stands for.
-use Rattle.std.specs.Prelude.{◌≡◌, ℕ, zero, suc, ◌+◌, ◌*◌, ◌/◌, ◌%◌, ◌^◌, ◌-◌, ◌<◌, ◌≤◌, Bool, true, false, cond, eqb, List, [], ◌∷◌, length, get_or}
+use Rattle.std.specs.Prelude.{◌≡◌, ℕ, zero, suc, ◌+◌, ◌*◌, ◌/◌, ◌%◌, ◌^◌, ◌-◌, ◌<◌, ◌≤◌, Bool, true, false, cond, eqb, ltb, List, [], ◌∷◌, length, get_or}
 use Rattle.json_tape.specs.declared.tape.Kind.{Kind}
 use Rattle.json_tape.specs.declared.tape.Kind.TheVariants as kinds
 use Rattle.json_tape.specs.declared.tape.Role.{Role}
@@ -20,12 +20,12 @@ high word = word / 16777216
 -- the kind of each code
 abbrev pub kind_coded : ℕ → Kind
 kind_coded code =
-    cond (eqb code 0) kinds.Null
+    cond (ltb code 8)
+    (cond (eqb code 0) kinds.Null
     (cond (eqb code 1) (kinds.Bool false)
     (cond (eqb code 2) (kinds.Bool true)
-    (cond (eqb code 3) kinds.Number
-    (cond (eqb code 4) kinds.Text
-    (cond (eqb code 5) kinds.Array kinds.Object)))))
+    (cond (eqb code 3) kinds.Number kinds.Text))))
+    (cond (eqb code 8) kinds.Array kinds.Object)
 
 abbrev pub role_coded : ℕ → Role
 role_coded code = cond (eqb code 0) roles.Whole (cond (eqb code 1) roles.Element roles.Member)
@@ -45,10 +45,10 @@ container_at (e ∷ es) (suc n) = container_at es n
 -- ---- What a cell tells
 
 abbrev pub cell_kind : Cell → Kind
-cell_kind c = kind_coded (high c.start % 8)
+cell_kind c = kind_coded (high c.start % 16)
 
 abbrev pub cell_role : Cell → Role
-cell_role c = role_coded (high c.start / 8)
+cell_role c = role_coded (high c.start / 16)
 
 abbrev pub cell_label : Cell → Extent
 cell_label c = record { start = low c.label; len = high c.up * 65536 + high c.label * 256 + high c.span }

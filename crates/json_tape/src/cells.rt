@@ -5,6 +5,9 @@ ghost use Rattle.json_tape.specs.Cells.{low as low_of, high as high_of, kind_cod
 
 use crate::tape::{Entry, Extent, Kind, Role, Seat};
 
+// The first kind code of values that hold others: one bit tells them.
+const CONTAINER: u32 = 8;
+
 /// No place, length, index or number of a tape reaches this.
 pub const WORD_LIMIT: u32 = 16_777_216;
 
@@ -62,7 +65,7 @@ fn high(word: u32) -> u32
 #[inline(always)]
 fn kind_code(kind: Kind) -> u32
     ensures value { coded result ≡ kind }
-    ensures small { result < 8 }
+    ensures small { result < 16 }
 {
     match kind {
         Kind::Null => 0,
@@ -70,8 +73,8 @@ fn kind_code(kind: Kind) -> u32
         Kind::Bool(true) => 2,
         Kind::Number => 3,
         Kind::Text => 4,
-        Kind::Array => 5,
-        Kind::Object => 6,
+        Kind::Array => CONTAINER,
+        Kind::Object => CONTAINER + 1,
     }
 }
 
@@ -79,14 +82,19 @@ fn kind_code(kind: Kind) -> u32
 fn kind_coded(code: u32) -> Kind
     ensures { result ≡ coded code }
 {
+    if code >= CONTAINER {
+        return if code == CONTAINER {
+            Kind::Array
+        } else {
+            Kind::Object
+        };
+    }
     match code {
         0 => Kind::Null,
         1 => Kind::Bool(false),
         2 => Kind::Bool(true),
         3 => Kind::Number,
-        4 => Kind::Text,
-        5 => Kind::Array,
-        _ => Kind::Object,
+        _ => Kind::Text,
     }
 }
 
@@ -129,7 +137,7 @@ impl Cell {
     {
         let name = seat.label.len;
         Cell {
-            start: join(start, role_code(seat.role) * 8 + kind_code(kind)),
+            start: join(start, role_code(seat.role) * 16 + kind_code(kind)),
             span: join(span, name % 256),
             label: join(seat.label.start, name / 256 % 256),
             up: join(seat.up, name / 65_536),
@@ -140,14 +148,14 @@ impl Cell {
     pub fn kind(self) -> Kind
         ensures { result ≡ cell_kind self }
     {
-        kind_coded(high(self.start) % 8)
+        kind_coded(high(self.start) % 16)
     }
 
     #[inline(always)]
     pub fn role(self) -> Role
         ensures { result ≡ cell_role self }
     {
-        role_coded(high(self.start) / 8)
+        role_coded(high(self.start) / 16)
     }
 
     /// A member's name, or a start that is an element's index.
@@ -188,6 +196,6 @@ impl Cell {
     pub fn holds(self) -> bool
         ensures { result ≡ is_container self }
     {
-        high(self.start) % 8 > 4
+        high(self.start) % 16 >= CONTAINER
     }
 }

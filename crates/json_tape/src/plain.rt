@@ -252,8 +252,9 @@ pub fn is_meant_by(text: &str, string: Extent, name: &[char]) -> bool
     requires { IsQuoted text.now string }
     ensures { result ≡ bytes_eq name.now (scalars_in (chars (inside (bytes_at text.now string)))) }
 {
-    match is_meant_plainly(text, string, name, None) {
+    let characters = unquoted(text, string);
+    match spells_plainly(characters, name) {
         Some(same) => same,
-        None => is_meant(Scalars::new(unquoted(text, string)), name),
+        None => is_meant(Scalars::new(characters), name),
     }
 }
