@@ -35,7 +35,7 @@ own_characters (c ∷ cs) h =
     let e : scalars_in (c ∷ cs) ≡ c ∷ scalars_in cs = rw t refl in
     e ∙ ap (λ l. c ∷ l) (own_characters cs (any_back (encode c) (encodes cs) h))
 
-plain_means : (bs : List ℕ) → IsUtf8 bs → has_backslash bs ≡ false → scalars_in (chars bs) ≡ chars bs
+pub plain_means : (bs : List ℕ) → IsUtf8 bs → has_backslash bs ≡ false → scalars_in (chars bs) ≡ chars bs
 plain_means bs u h = own_characters (chars bs) (ap has_backslash (encodes-chars bs u) ∙ h)
 
 module _ (a b x y : List ℕ) (p q : Bool) (is_x : scalars_in (chars a) ≡ x) (is_y : scalars_in (chars b) ≡ y)

@@ -1,6 +1,7 @@
 // How many scalar values long strings mean, so that they are counted once.
 
 ghost use Rattle.std.specs.Prelude.{◌≡◌, ◌+◌, ◌<◌, ◌≤◌, ◌^◌, [], length, OnOk, IfOk, IfSome, IsTrue};
+ghost use Rattle.std.specs.Str.{chars};
 ghost use Rattle.json_tape.specs.Verdict.{text_limit};
 ghost use Rattle.json_tape.specs.Document.{IsDocument};
 ghost use Rattle.json_tape.specs.Counted.{AreCounted, BeginPlainly};
@@ -82,12 +83,29 @@ pub fn plain_beginning(bytes: &[u8]) -> usize
     plain_beginning_slowly(bytes, k)
 }
 
+/// How many characters there are: as many as bytes that are none of 80 to BF (hexadecimal), by which no character begins (RFC 3629,
+/// section 3).
+pub fn characters(text: &str) -> usize
+    ensures { result ≡ length (chars text.now) }
+{
+    let mut count = 0;
+    for byte in text.as_bytes() {
+        if *byte < 0x80 || *byte >= 0xC0 {
+            count += 1;
+        }
+    }
+    count
+}
+
 /// How many scalar values are left.
 pub fn count_of(mut scalars: Scalars<'_>) -> u32
     requires { length scalars ≤ text_limit }
     ensures { result ≡ length scalars.entry }
 {
     let mut count = scalars.pass_plain();
+    if let Some(rest) = scalars.plain_count() {
+        return (count + rest) as u32;
+    }
     while let Some(scalar) = scalars.next() {
         count += 1;
         if scalar.is_ascii() {

@@ -7,7 +7,7 @@ ghost use Rattle.json_tape.specs.Limits.{bytes_at};
 ghost use Rattle.json_tape.specs.Spelling.{hex_value as value_of_hex, unquoted as inside, IsQuoted};
 ghost use Rattle.json_tape.specs.Reading.{Reads, ReadsUnit};
 
-use crate::lengths::plain_beginning;
+use crate::lengths::{characters, plain_beginning};
 use crate::scan::Mode;
 use crate::tape::Extent;
 use std::marker::Model;
@@ -178,6 +178,18 @@ impl<'a> Scalars<'a> {
         let run = plain_beginning(rest.as_bytes());
         self.rest = rest[run..].chars();
         run
+    }
+
+    /// How many are left, where no backslash is.
+    pub(crate) fn plain_count(&self) -> Option<usize>
+        ensures { IfSome result (λ count. count ≡ length self.now) }
+    {
+        let rest = self.rest.as_str();
+        if rest.as_bytes().contains(&b'\\') {
+            None
+        } else {
+            Some(characters(rest))
+        }
     }
 }
 
