@@ -25,6 +25,7 @@ pub mod ShortNumbers
 pub mod LoneLaw
 pub mod Holders
 pub mod Lones
+pub mod Surrogateless
 pub mod Entries
 pub mod Parts
 pub mod Spelled
@@ -50,6 +51,7 @@ pub mod StopBits
 pub mod Joined
 pub mod Sides
 pub mod Keeping
+mod Beginnings
 pub mod Bridge
 pub mod Counting
 pub mod Walking

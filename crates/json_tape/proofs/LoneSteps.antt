@@ -1,6 +1,7 @@
 -- Many bytes that are no backslash.
 use Rattle.std.proofs.Common.{◌≡◌, ℕ, zero, suc, ◌+◌, ◌≤◌, List, length, drop, ap, ◌∙◌, arith}
-use Rattle.json_tape.specs.Surrogates.{lone, AreSlashless}
+use Rattle.structural_index.specs.Seams.{AreSlashless}
+use Rattle.json_tape.specs.Surrogates.{lone}
 use Rattle.json_tape.proofs.Steps.{lone_plain}
 
 pub lone_plains : (bytes : List ℕ) (k r : ℕ) → k + r ≤ length bytes → AreSlashless bytes k (k + r) → lone (drop (k + r) bytes) ≡ lone (drop k bytes)

@@ -1,22 +1,12 @@
 -- Entries with a lone surrogate, and the parts of the tree.
-use Rattle.std.proofs.Common.{◌≡◌, ◌≢◌, ℕ, Bool, Option, Some, None, arith, zero, suc, ◌+◌, ◌<◌, inl, inr, true, false, List, [], ◌∷◌, length, take, drop, get_or, refl, sym, ap, ◌∙◌, subst}
+use Rattle.std.proofs.Common.{◌≡◌, ℕ, ◌+◌, ◌<◌, inl, inr, true, List, length, get_or, refl, sym, ap, ◌∙◌, subst}
 use Rattle.json_tape.specs.Tree.{Null, True, False, Num, Str, Tree, Leaf, Arr, Obj}
 use Rattle.json_tape.specs.Grammar.{IsText}
 use Rattle.json_tape.specs.Tape.{Label, Top, Index, Named, Stands, IsAt, in_object, entry_of, extent, role_of}
 use Rattle.json_tape.specs.Limits.{bytes_at}
 use Rattle.json_tape.specs.Verdict.{SpellsLone}
 use Rattle.json_tape.specs.Parts.{HasPart}
-use Rattle.std.specs.Prelude.{eqb, nat_eq}
-use Rattle.json_tape.specs.Spelling.{has_backslash}
-use Rattle.json_tape.proofs.Repeats.{neither}
-use Rattle.std.specs.Option.{is_some}
-use Rattle.std.proofs.lemmas.List.{get_or_past}
-use Rattle.std.proofs.lemmas.Bool.{cases_lt}
-use Rattle.memchr.specs.Find.{OccursAt, FindsNeedle}
-use Rattle.std.proofs.lemmas.Bool.Decides.{nat_tests}
-use Rattle.json_tape.specs.declared.scan.Mode.TheVariants.{Escape}
-use Rattle.json_tape.specs.declared.tape.Extent.{Extent}
-use Rattle.json_tape.specs.Surrogates.{standing, lone_from, lone, HasNoUnits, IsLoneValue, IsLoneName}
+use Rattle.json_tape.specs.Surrogates.{lone, IsLoneValue, IsLoneName}
 use Rattle.json_tape.specs.declared.tape.Entry.{Entry}
 use Rattle.json_tape.specs.declared.tape.Role.TheVariants as roles
 use Rattle.json_tape.proofs.Parts.{part_of_at, placed}
@@ -84,65 +74,3 @@ lone_none text tape t h e none (part, h', q) = let p = placed h' in by_part part
     by_part (Leaf s False) n up label a q = absurd q
     by_part (Leaf s Num) n up label a q = absurd q
     by_part (Arr s es) n up label a q = absurd q
-
--- the bytes that begin the escape of a unit
-abbrev escape : List ℕ
-escape = 92 ∷ 117 ∷ []
-
--- where a search for them finds nothing, no escape of a unit begins
-pub none_found : (text needle : List ℕ) (r : Option ℕ) → needle ≡ escape → FindsNeedle text needle 0 r → is_some r ≡ false → HasNoUnits text
-none_found text needle (Some i) e f n k slash u = absurd (cc)
-none_found text needle None e f n k slash u = absurd ((subst (λ l. FindsNeedle text l 0 None) e f) k (omega arith) (omega (arith, within)) here)
-  where
-    within : suc k < length text
-    within = elim (cases_lt (suc k) (length text)) [
-      | inl below ↦ below
-      | inr above ↦ absurd (let z = get_or_past text (suc k) 0 above in cc)
-    ]
-
-    reads : (j : ℕ) → j < length escape → get_or text (k + j) 0 ≡ get_or escape j 0
-    reads zero h = let z : k + zero ≡ k = omega arith in ap (λ i. get_or text i 0) z ∙ slash
-    reads (suc zero) h = let z : k + suc zero ≡ suc k = omega arith in ap (λ i. get_or text i 0) z ∙ u
-    reads (suc (suc j)) h = absurd (omega (arith, h))
-
-    here : OccursAt text escape k
-    here = record { fits = omega (arith, within); reads = reads }
-
--- nor does one where no byte is a backslash
-pub slashless_unitless : (bs : List ℕ) → has_backslash bs ≡ false → HasNoUnits bs
-slashless_unitless [] h k e u = absurd (cc)
-slashless_unitless (b ∷ bs) h zero e u = let n = neither (nat_eq b 92) (has_backslash bs) h in let no = n.0 in let z : nat_eq b 92 ≡ true = rw e refl in absurd (cc)
-slashless_unitless (b ∷ bs) h (suc k) e u = slashless_unitless bs (neither (nat_eq b 92) (has_backslash bs) h).1 k e u
-
--- where no escape of a unit begins, no surrogate is spelt, nor behind a backslash where no u follows
-lone_unitless : (bs : List ℕ) → HasNoUnits bs → (lone bs ≡ false) × (get_or bs 0 0 ≢ 117 → lone_from (standing Escape 0 false) bs ≡ false)
-lone_unitless [] h = (refl, λ n. refl)
-lone_unitless (b ∷ bs) h =
-    let r = lone_unitless bs (λ k. h (suc k)) in
-    (between (eqb b 92) refl r, λ n. let no : eqb b 117 ≡ false = grind (arith, nat_tests) in rw no r.0)
-  where
-    between : (t : Bool) → eqb b 92 ≡ t → (lone bs ≡ false) × (get_or bs 0 0 ≢ 117 → lone_from (standing Escape 0 false) bs ≡ false) → lone (b ∷ bs) ≡ false
-    between true e r = let slash : b ≡ 92 = grind (arith, nat_tests) in rw e (r.1 (h zero slash))
-    between false e r = rw e r.0
-
-drop_unitless : (n : ℕ) (bs : List ℕ) → HasNoUnits bs → HasNoUnits (drop n bs)
-drop_unitless zero bs h = h
-drop_unitless (suc n) [] h = h
-drop_unitless (suc n) (b ∷ bs) h = drop_unitless n bs (λ k. h (suc k))
-
-first_taken : (n : ℕ) (bs : List ℕ) → get_or (take n bs) 0 0 ≡ 117 → get_or bs 0 0 ≡ 117
-first_taken zero bs e = absurd (cc)
-first_taken (suc n) [] e = e
-first_taken (suc n) (b ∷ bs) e = e
-
-take_unitless : (n : ℕ) (bs : List ℕ) → HasNoUnits bs → HasNoUnits (take n bs)
-take_unitless zero bs h k e u = absurd (cc)
-take_unitless (suc n) [] h k e u = h k e u
-take_unitless (suc n) (b ∷ bs) h zero e u = h zero e (first_taken n bs u)
-take_unitless (suc n) (b ∷ bs) h (suc k) e u = take_unitless n bs (λ j. h (suc j)) k e u
-
-pub unitless_none : (text : List ℕ) → HasNoUnits text → (e : Entry) → (IsLoneValue text e → ⊥) × (IsLoneName text e → ⊥)
-unitless_none text h e = ((λ b. let x = b.1 in let y = none e.source in absurd (cc)), (λ b. let x = b.1 in let y = none e.label in absurd (cc)))
-  where
-    none : (x : Extent) → lone (bytes_at text x) ≡ false
-    none x = (lone_unitless (bytes_at text x) (take_unitless x.len (drop x.start text) (drop_unitless x.start text h))).0

@@ -169,11 +169,19 @@ module _ (bytes : List ℕ) (exceeds : Bool) where
   word_fits (word {b = b'} {vs = vs} at over k) b cs e f = λ m. f m (atom_of b (let g : b ≡ b' = cc in ap class g ∙ at.0))
 
 -- a word leaves the mark as it is only where it is within the limits
-pub word_marked : (bytes bs : List ℕ) (i : ℕ) (old keeps new : Bool) → bs ≡ take (length bs) (drop i bytes) → (keeps ≡ true → IsWithinLimits bs) → new ≡ (old || not keeps) → Marked bytes i old (Ok (i + length bs)) new
-word_marked bytes bs i old true new e h m = λ n.
-    let size : length bs ≡ i + length bs - i = omega arith in
-    ((neither old false (sym m ∙ n)).0, λ a. subst IsWithinLimits (e ∙ ap (λ n. take n (drop i bytes)) size) (h refl))
-word_marked bytes bs i old false new e h m = λ n. let k = (neither old true (sym m ∙ n)).1 in absurd (cc)
+pub unmarked : (old : Bool) → old ≡ (old || not true)
+unmarked true = refl
+unmarked false = refl
+
+pub word_marked : (bytes bs : List ℕ) (i : ℕ) (old keeps new : Bool) (taken : Result (Unit {0}) BuildFault) (r : Result ℕ BuildFault) → bs ≡ take (length bs) (drop i bytes) → (keeps ≡ true → IsWithinLimits bs) → new ≡ (old || not keeps) → r ≡ ended (i + length bs) taken → Marked bytes i old r new
+word_marked bytes bs i old keeps new taken r e h m is = subst (λ x. Marked bytes i old x new) (sym is) (go taken keeps h m)
+  where
+    go : (taken : Result (Unit {0}) BuildFault) (keeps : Bool) → (keeps ≡ true → IsWithinLimits bs) → new ≡ (old || not keeps) → Marked bytes i old (ended (i + length bs) taken) new
+    go (Err f) keeps h m = tt
+    go (Ok x) true h m = λ n.
+        let size : length bs ≡ i + length bs - i = omega arith in
+        ((neither old false (sym m ∙ n)).0, λ a. subst IsWithinLimits (e ∙ ap (λ n. take n (drop i bytes)) size) (h refl))
+    go (Ok x) false h m = λ n. let k = (neither old true (sym m ∙ n)).1 in absurd (cc)
 
 -- a token that is no word leaves it
 pub sign_marked : (bytes : List ℕ) (i b : ℕ) (mark : Bool) (taken : Result (Unit {0}) BuildFault) (r : Result ℕ BuildFault) → get_or bytes i 0 ≡ b → is_atom b ≡ false → r ≡ ended (i + 1) taken → Marked bytes i mark r mark

@@ -5,9 +5,9 @@ use Rattle.std.specs.Prelude.{Result, Ok, Err, IsUtf8}
 use Rattle.std.proofs.lemmas.Bool.{cases_lt}
 use Rattle.std.proofs.lemmas.Bool.Decides.{nat_tests}
 use Rattle.std.proofs.lemmas.List.{get_or_default, take-append-drop, drop_more, length-take-le, length-drop}
-use Rattle.structural_index.specs.Places.{byte, is_place, places, IsUnclosed}
-use Rattle.structural_index.specs.Seams.{IsSpan, IsAtomRun, is_plain_atom, next_place}
-use Rattle.json_tape.specs.Placing.{IsIndexed, ClosesBefore, StringEnds, Passes, nothing, a_sign, Passed}
+use Rattle.structural_index.specs.Places.{byte, is_place, places, IsUnclosed, HasControlInside, HasBackslash}
+use Rattle.structural_index.specs.Seams.{AreSlashless, IsSpan, IsAtomRun, is_plain_atom, next_place}
+use Rattle.json_tape.specs.Placing.{ClosesBefore, StringEnds, Passes, nothing, a_sign, Passed}
 use Rattle.json_tape.specs.Answer.{IsNoJson}
 use Rattle.json_tape.specs.Scanning.{string_end, turn, next_of}
 use Rattle.json_tape.specs.declared.scan.Mode.{Mode}
@@ -88,10 +88,14 @@ scanned_string bytes i None u h q e = sym e
 scanned_string bytes i (Some end) u h q e = found_string bytes i end u h q (sym e)
 
 -- found between the opening quote and the quote before the next place
-pub plain_string : (bytes : List ℕ) (i m : ℕ) → IsIndexed bytes false → IsSpan bytes i m → StringEnds bytes i (Some (suc m))
-plain_string bytes i m x span =
+plain_string : (bytes : List ℕ) (i m : ℕ) → IsUtf8 bytes → (HasControlInside bytes → ⊥) → AreSlashless bytes (i + 1) (suc m) → IsSpan bytes i m → StringEnds bytes i (Some (suc m))
+plain_string bytes i m u x none span =
     let within = span.within in
-    (m, refl, plain_spells bytes i m x.utf8 x.controls span (λ k a b e. x.backslashes refl (k, omega arith, e)))
+    (m, refl, plain_spells bytes i m u x span (λ k a b e. none k (omega arith) (omega arith) (same_default bytes k (omega arith) ∙ e)))
+
+-- a text without a backslash
+pub none_escapes : (bytes : List ℕ) (i j : ℕ) → (HasBackslash bytes → ⊥) → j ≤ length bytes → AreSlashless bytes i j
+none_escapes bytes i j none l k a b e = none (k, omega arith, sym (same_default bytes k (omega arith)) ∙ e)
 
 abbrev pub part_of : List ℕ → (i next : ℕ) → List ℕ
 part_of bytes i next = take (next - (i + 1)) (drop (i + 1) bytes)
@@ -130,10 +134,10 @@ span_before bytes i next c l q (a, b) =
     let e : next ≡ suc (next - 1) = omega arith in
     (next - 1, e, c (next - 1) e (omega arith) (sym (same_default bytes i (omega arith)) ∙ q) (sym (same_default bytes (next - 1) (omega arith)) ∙ b))
 
-pub plain_before : (bytes : List ℕ) (i next : ℕ) → IsIndexed bytes false → ClosesBefore bytes i next → next ≤ length bytes → get_or bytes i 0 ≡ 34 → HasQuoteBefore bytes i next → StringEnds bytes i (Some next)
-plain_before bytes i next x c l q h =
+pub plain_before : (bytes : List ℕ) (i next : ℕ) → IsUtf8 bytes → (HasControlInside bytes → ⊥) → AreSlashless bytes (i + 1) next → ClosesBefore bytes i next → next ≤ length bytes → get_or bytes i 0 ≡ 34 → HasQuoteBefore bytes i next → StringEnds bytes i (Some next)
+plain_before bytes i next u x none c l q h =
     let (m, e, span) = span_before bytes i next c l q h in
-    subst (λ n. StringEnds bytes i (Some n)) (sym e) (plain_string bytes i m x span)
+    subst (λ n. StringEnds bytes i (Some n)) (sym e) (plain_string bytes i m u x (subst (AreSlashless bytes (i + 1)) e none) span)
 
 pub part_before : (bytes : List ℕ) (i next end : ℕ) → IsUtf8 bytes → ClosesBefore bytes i next → next ≤ length bytes → get_or bytes i 0 ≡ 34 → HasQuoteBefore bytes i next → string_end Between 0 (part_of bytes i next) ≡ Some end → StringEnds bytes i (Some next)
 part_before bytes i next end u c l q h found =
@@ -219,13 +223,18 @@ run_bytes bytes bs i e = e ∙ ap (λ n. take n (drop i bytes)) (sym (size_back 
 pub word_absent : (bytes bs : List ℕ) (i : ℕ) (s : State) → i < length bytes → is_atom (get_or bytes i 0) ≡ true → bs ≡ take (length bs) (drop i bytes) → IsAtomRun bytes i (i + length bs) → WordIs bs None → Refused bytes i s
 word_absent bytes bs i s h q e r w = word_none bytes i (i + length bs) s h q (run_ends bytes i (length bs) r) (subst (λ l. WordIs l None) (run_bytes bytes bs i e) w)
 
-pub word_taken : (bytes bs : List ℕ) (i : ℕ) (k : Kind) (s new : State) (x : Unit {0}) → i < length bytes → is_atom (get_or bytes i 0) ≡ true → bs ≡ take (length bs) (drop i bytes) → IsAtomRun bytes i (i + length bs) → IsWord bs k → Took (step (Word (run_at i (length bs)) k) s) (Ok x) new → Taken bytes i (i + length bs) s new
+word_taken : (bytes bs : List ℕ) (i : ℕ) (k : Kind) (s new : State) (x : Unit {0}) → i < length bytes → is_atom (get_or bytes i 0) ≡ true → bs ≡ take (length bs) (drop i bytes) → IsAtomRun bytes i (i + length bs) → IsWord bs k → Took (step (Word (run_at i (length bs)) k) s) (Ok x) new → Taken bytes i (i + length bs) s new
 word_taken bytes bs i k s new x h q e r w t =
     word_ok bytes i (i + length bs) k s new x h q (run_ends bytes i (length bs) r) (subst (λ l. IsWord l k) (run_bytes bytes bs i e) w) (ap (λ n. step (Word (run_at i n) k) s) (size_back i (length bs)) ∙ t)
 
-pub word_fails : (bytes bs : List ℕ) (i : ℕ) (k : Kind) (s new : State) (f : BuildFault) → i < length bytes → is_atom (get_or bytes i 0) ≡ true → bs ≡ take (length bs) (drop i bytes) → IsAtomRun bytes i (i + length bs) → IsWord bs k → Took {A = Unit {0}} (step (Word (run_at i (length bs)) k) s) (Err f) new → Stepped bytes i s (Err f) new
+word_fails : (bytes bs : List ℕ) (i : ℕ) (k : Kind) (s new : State) (f : BuildFault) → i < length bytes → is_atom (get_or bytes i 0) ≡ true → bs ≡ take (length bs) (drop i bytes) → IsAtomRun bytes i (i + length bs) → IsWord bs k → Took {A = Unit {0}} (step (Word (run_at i (length bs)) k) s) (Err f) new → Stepped bytes i s (Err f) new
 word_fails bytes bs i k s new f h q e r w t =
     word_err bytes i (i + length bs) k s new f h q (run_ends bytes i (length bs) r) (subst (λ l. IsWord l k) (run_bytes bytes bs i e) w) (subst (λ n. Took {A = Unit {0}} (step (Word (run_at i n) k) s) (Err f) new) (sym (size_back i (length bs))) t)
+
+pub word_stepped : (bytes bs : List ℕ) (i : ℕ) (k : Kind) (s new : State) (taken : Result (Unit {0}) BuildFault) (r : Result ℕ BuildFault) → i < length bytes → is_atom (get_or bytes i 0) ≡ true → bs ≡ take (length bs) (drop i bytes) → IsAtomRun bytes i (i + length bs) → IsWord bs k
+    → Took (step (Word (run_at i (length bs)) k) s) taken new → r ≡ ended (i + length bs) taken → Stepped bytes i s r new
+word_stepped bytes bs i k s new (Ok x) r h q e a w t is = subst (λ x. Stepped bytes i s x new) (sym is) (word_taken bytes bs i k s new x h q e a w t)
+word_stepped bytes bs i k s new (Err f) r h q e a w t is = subst (λ x. Stepped bytes i s x new) (sym is) (word_fails bytes bs i k s new f h q e a w t)
 
 -- ---- By the list of places
 

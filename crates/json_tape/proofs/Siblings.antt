@@ -1,15 +1,13 @@
 -- The children of a node lie side by side, from the number behind its own to its end.
-use Rattle.std.proofs.Common.{◌≡◌, ℕ, zero, suc, ◌+◌, ◌-◌, ◌<◌, ◌≤◌, ◌⊎◌, inl, inr, ltb, true, false, List, [], ◌∷◌, length, map, get_or, refl, sym, ap, ◌∙◌, subst, arith}
+use Rattle.std.proofs.Common.{◌≡◌, ℕ, zero, suc, ◌+◌, ◌-◌, ◌<◌, ◌≤◌, ◌⊎◌, inl, inr, ltb, true, false, List, [], ◌∷◌, get_or, refl, sym, ap, ◌∙◌, subst, arith}
 use Rattle.std.specs.List.{All}
 use Rattle.std.proofs.lemmas.Bool.Decides.{nat_tests}
 use Rattle.std.proofs.lemmas.Grind.{common_steps}
 use Rattle.std.proofs.lemmas.List.{get_or_default}
 use Rattle.json_tape.specs.Tree.{Tree, Leaf, Arr, Obj, Elements, NoElement, Element, Members, NoMember, Member}
-use Rattle.json_tape.specs.Meaning.{meaning}
-use Rattle.json_tape.specs.Nodes.{Node, Step, key, place, size, size_of_elements, size_of_members, children, children_of, visit, elements_from, members_from}
+use Rattle.json_tape.specs.Nodes.{Node, Step, size, size_of_elements, size_of_members, children, children_of, visit, elements_from, members_from}
 use Rattle.json_tape.specs.Document.{Doc, Spot, IsDocument, count, node_at, later, seen, counting, spots, spot_at}
 use Rattle.json_tape.specs.Siblings.{AreBetween, siblings, numbers_of, numbered}
-use Rattle.json_tape.specs.declared.tape.NodeId.{NodeId}
 use Rattle.json_tape.specs.declared.tape.Entry.{Entry}
 use Rattle.json_tape.proofs.Entries.{size_positive}
 use Rattle.json_tape.proofs.MembersLeft.{no_entry}

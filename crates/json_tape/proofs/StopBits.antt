@@ -3,7 +3,7 @@ use Rattle.std.proofs.Common.{◌≡◌, ℕ, ◌%◌, ◌^◌, ◌<◌, ◌≤�
 use Rattle.std.specs.Int.{bit_at}
 use Rattle.std.proofs.lemmas.Bool.Decides.{nat_tests}
 use lib.Lanes.{zip2, mask_l, top}
-use Rattle.structural_index.proofs.Lanes.{HasLane, repeated, combined, off, neither, alone, none_of, equal, at_most, less}
+use Rattle.structural_index.proofs.Lanes.{HasLane, repeated, combined, off, neither, none_of, equal, at_most, less}
 use Rattle.json_tape.specs.declared.scan.Mode.TheVariants.{Between}
 use Rattle.json_tape.specs.declared.scan.Turn.TheVariants.{Go}
 use Rattle.json_tape.specs.Scanning.{turn}
@@ -32,13 +32,6 @@ stands_alone n i v x few inside lane clear =
     let both = combined bit_or n i _ _ _ _ inside backslash above in
     let t = neither (eqb x 92) (leb 128 x) (off 7 n i _ _ few inside both clear) in
     (let a = t.1 in grind (arith, nat_tests), let b = t.0 in λ e. grind (arith, nat_tests))
-
--- no backslash stands in the lane
-pub no_backslash : (n i : ℕ) (v : List ℕ) (x : ℕ) → n ≤ 64 → i < n → HasLane n i v x → bit_at (mask_l (map (top 7) (zip2 equal v (replicate n 92))) % 2 ^ 64) i ≡ 0 → x ≢ 92
-no_backslash n i v x few inside lane clear =
-    let backslash = combined equal n i v (replicate n 92) x 92 inside lane (repeated n i 92 inside) in
-    let t = alone (eqb x 92) (off 7 n i _ _ few inside backslash clear) in
-    λ e. grind (arith, nat_tests)
 
 -- a digit stands in the lane
 pub digit_lane : (n i : ℕ) (v : List ℕ) (x : ℕ) → n ≤ 64 → i < n → HasLane n i v x

@@ -1,5 +1,5 @@
 -- A lone surrogate of a string, byte by byte.
-use Rattle.std.specs.Prelude.{◌≡◌, ◌≢◌, ◌<◌, ◌≤◌, get_or, ℕ, zero, suc, ◌+◌, ◌-◌, ◌*◌, ◌%◌, Bool, true, false, cond, eqb, leb, List, [], ◌∷◌, Option, Some, None}
+use Rattle.std.specs.Prelude.{◌≡◌, ◌≢◌, get_or, ℕ, zero, suc, ◌+◌, ◌-◌, ◌*◌, ◌%◌, Bool, true, false, cond, eqb, leb, List, [], ◌∷◌, Option, Some, None}
 use Rattle.json_tape.specs.declared.scan.Mode.{Mode}
 use Rattle.json_tape.specs.declared.scan.Mode.TheVariants.{Between, Escape, Hex}
 use Rattle.json_tape.specs.declared.scan.Surrogates.{Surrogates}
@@ -43,13 +43,9 @@ lone_from s (b ∷ bs) = over (past_byte s.mode s.unit s.high b) (λ n. lone_fro
 abbrev pub lone : List ℕ → Bool
 lone bs = lone_from (standing Between 0 false) bs
 
--- no byte from the first place to before the second is a backslash
-abbrev pub AreSlashless : List ℕ → (from to : ℕ) → Type 0
-AreSlashless bs from to = (k : ℕ) → from ≤ k → k < to → get_or bs k 0 ≢ 92
-
--- no backslash stands before a u, as in each escape of a unit
-abbrev pub HasNoUnits : List ℕ → Type 0
-HasNoUnits bs = (k : ℕ) → get_or bs k 0 ≡ 92 → get_or bs (suc k) 0 ≢ 117
+-- no escape of a unit that is a surrogate begins: its first digit is a D, in either case
+abbrev pub HasNoSurrogates : List ℕ → Type 0
+HasNoSurrogates bs = (k : ℕ) → get_or bs k 0 ≡ 92 → get_or bs (suc k) 0 ≡ 117 → (get_or bs (suc (suc k)) 0 ≢ 68) × (get_or bs (suc (suc k)) 0 ≢ 100)
 
 -- the entry is that of a string with one
 abbrev pub IsLoneValue : List ℕ → Entry → Type 0

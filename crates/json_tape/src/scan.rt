@@ -2,10 +2,10 @@
 
 ghost use Rattle.std.specs.Prelude.{IsTrue, ◌≡◌, false, ◌+◌, ◌<◌, ◌≤◌, length, drop, IfSome};
 ghost use Rattle.json_tape.specs.Scanning.{turn as turn_of, is_short as short, is_hex as hex, string_end, ArePlain};
-ghost use Rattle.json_tape.specs.Surrogates.{number_of_hex, past_char, past_unit, past_byte, standing, lone_from, lone, AreSlashless};
+ghost use Rattle.json_tape.specs.Surrogates.{number_of_hex, past_char, past_unit, past_byte, standing, lone_from, lone};
 
 use std::simd::prelude::*;
-use structural_index::{Looks, lanes_before};
+use structural_index::{Looks, lanes_before, slashless_run};
 
 /// Where a scan of a string stands: between characters, behind a backslash, or before a hexadecimal digit after which this many must come.
 #[derive(Clone, Copy)]
@@ -296,17 +296,6 @@ fn after_byte(state: Surrogates, b: u8) -> Option<Surrogates>
             }
         }
     }
-}
-
-// How many bytes of a load, from its first, are no backslash.
-#[inline(always)]
-fn slashless_run(bytes: &[u8], at: usize) -> usize
-    requires { at + LANES ≤ length bytes.now }
-    ensures few { result ≤ LANES }
-    ensures none { AreSlashless bytes.now at (at + result) }
-{
-    let lanes = u8x16::from_slice(&bytes[at..]);
-    lanes_before(lanes.simd_eq(u8x16::splat(b'\\')).to_bitmask(), LANES)
 }
 
 // The place of the first backslash from here on, or the end.

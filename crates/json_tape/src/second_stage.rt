@@ -3,6 +3,7 @@
 
 ghost use Rattle.std.specs.Prelude.{◌≡◌, ◌+◌, ◌-◌, ◌^◌, ◌<◌, ◌≤◌, length, get_or, slice_index, IfOk, IfSome, IsUtf8, IsErrOf, IsTrue, true, false};
 ghost use Rattle.structural_index.specs.Answer.{IsIndexOf};
+ghost use Rattle.structural_index.specs.Seams.{AreDigitsBut};
 ghost use Rattle.json_tape.specs.Machine.{IsSmall};
 ghost use Rattle.json_tape.specs.Lexing.{is_blank as blank, is_atom as atom, is_sign, WordIs, Stepped, ended, Marked, DigitsStand, IsFraction, HasNoExponent};
 ghost use Rattle.json_tape.specs.Limits.{AreWithinLimits};
@@ -15,29 +16,24 @@ ghost use Rattle.json_tape.specs.Placing.{IsIndexed, ClosesBefore, StringEnds, P
 
 use crate::builder::Builder;
 use crate::compact::Tape;
+use crate::judge::has_short_exponent;
 use crate::scan::{quote_end, quote_past};
 use crate::tape::{BuildFault, Extent, Kind, Shape, Want};
-use decimal_order::{MAX_LENGTH, SHORT_LENGTH, late_exponents_keep_limits, scan};
+use decimal_order::{late_exponents_keep_limits, scan};
 use std::alloc::Global;
-use std::simd::prelude::*;
-use structural_index::{Index, Looks, index, lanes_before};
+use structural_index::{Atoms, Index, Looks, index, lanes_before};
 
-// The place past the digits that stand here.
+// The place past the digits that stand here, by the bits of the bytes that are none.
 #[inline(always)]
-fn digits_end(bytes: &[u8], start: usize) -> usize
-    requires { start ≤ length bytes.now }
+fn digits_end(bytes: &[u8], others: u64, start: usize) -> usize
+    requires start { start ≤ length bytes.now }
+    requires few { length bytes.now < 32 }
+    requires others { AreDigitsBut bytes.now 0 (length bytes.now) others }
     ensures lower_bound { start ≤ result }
     ensures upper_bound { result ≤ length bytes.now }
     ensures digits { DigitsStand bytes.now start result }
 {
-    let mut k = start;
-    while k < bytes.len() {
-        if !bytes[k].is_ascii_digit() {
-            return k;
-        }
-        k += 1;
-    }
-    k
+    start + lanes_before(others >> start, bytes.len() - start)
 }
 
 // How many bytes at the beginning are a minus sign.
@@ -63,55 +59,25 @@ fn has_no_leading_zero(bytes: &[u8], start: usize, end: usize) -> bool
     bytes[start] != b'0' || end - start == 1
 }
 
-// So many bytes are compared at once.
-const EIGHT: usize = 8;
-
-// Whether the eight bytes from a place on are digits.
-#[inline(always)]
-fn are_digits(bytes: &[u8], at: usize) -> bool
-    requires { at + EIGHT ≤ length bytes.now }
-    ensures { IsTrue result → DigitsStand bytes.now at (at + EIGHT) }
-{
-    let lanes = u8x8::from_slice(&bytes[at..]);
-    let stops = lanes.simd_lt(u8x8::splat(b'0')) | lanes.simd_ge(u8x8::splat(b':'));
-    lanes_before(stops.to_bitmask(), EIGHT) == EIGHT
-}
-
-// Whether the bytes from a place on are digits: where they are many, eight at a time, the last eight over some that were seen.
-#[inline(always)]
-fn ends_in_digits(bytes: &[u8], start: usize) -> bool
-    requires { start ≤ length bytes.now }
-    ensures { IsTrue result → DigitsStand bytes.now start (length bytes.now) }
-{
-    if bytes.len() - start < EIGHT {
-        return digits_end(bytes, start) == bytes.len();
-    }
-    let last = bytes.len() - EIGHT;
-    let mut k = start;
-    while k < last {
-        if !are_digits(bytes, k) {
-            return false;
-        }
-        k += EIGHT;
-    }
-    are_digits(bytes, last)
-}
-
 // Whether the bytes from a point on are one and digits.
 #[inline(always)]
-fn is_fraction(bytes: &[u8], point: usize) -> bool
-    requires { point < length bytes.now }
+fn is_fraction(bytes: &[u8], others: u64, point: usize) -> bool
+    requires inside { point < length bytes.now }
+    requires few { length bytes.now < 32 }
+    requires others { AreDigitsBut bytes.now 0 (length bytes.now) others }
     ensures { IsTrue result → IsFraction bytes.now point }
 {
     if bytes[point] != b'.' || point + 1 >= bytes.len() {
         return false;
     }
-    ends_in_digits(bytes, point + 1)
+    digits_end(bytes, others, point + 1) == bytes.len()
 }
 
-// Whether the bytes are a number without an exponent.
+// Whether the bytes, of which the bits tell those that are no digits, are a number without an exponent.
 #[inline(always)]
-fn is_plain_number(bytes: &[u8]) -> bool
+fn is_plain_number(bytes: &[u8], others: u64) -> bool
+    requires few { length bytes.now < 32 }
+    requires others { AreDigitsBut bytes.now 0 (length bytes.now) others }
     ensures number { IsTrue result → IsNumber bytes.now }
     ensures plain { IsTrue result → HasNoExponent bytes.now }
 {
@@ -119,14 +85,29 @@ fn is_plain_number(bytes: &[u8]) -> bool
         return false;
     }
     let start = sign_length(bytes);
-    let point = digits_end(bytes, start);
+    let point = digits_end(bytes, others, start);
     if !has_no_leading_zero(bytes, start, point) {
         return false;
     }
     if point < bytes.len() {
-        is_fraction(bytes, point)
+        is_fraction(bytes, others, point)
     } else {
         true
+    }
+}
+
+// Whether the bytes are known to be a number without an exponent, and few.
+#[inline(always)]
+fn is_short_number(bytes: &[u8], others: Option<u64>) -> bool
+    requires few { IfSome others (λ others. length bytes.now < 32) }
+    requires others { IfSome others (λ others. AreDigitsBut bytes.now 0 (length bytes.now) others) }
+    ensures number { IsTrue result → IsNumber bytes.now }
+    ensures limits { IsTrue result → IsWithinLimits bytes.now }
+{
+    late_exponents_keep_limits();
+    match others {
+        Some(others) => is_plain_number(bytes, others),
+        None => false,
     }
 }
 
@@ -147,33 +128,6 @@ fn word_kind(bytes: &[u8]) -> Option<Kind>
         return Some(Kind::Bool(false));
     }
     None
-}
-
-// The kind of a word or a number, where it is known whether it is a number without an exponent.
-#[inline(always)]
-fn kind_of(bytes: &[u8], is_plain: bool) -> Option<Kind>
-    requires { is_plain ≡ true → IsNumber bytes.now }
-    ensures { WordIs bytes.now result }
-{
-    if is_plain {
-        Some(Kind::Number)
-    } else {
-        word_kind(bytes)
-    }
-}
-
-// Whether the bytes are few enough for the limits of numbers, whatever else they say.
-#[inline(always)]
-fn keeps_limits(bytes: &[u8], is_plain: bool) -> bool
-    requires { is_plain ≡ true → HasNoExponent bytes.now }
-    ensures { IsTrue result → IsWithinLimits bytes.now }
-{
-    late_exponents_keep_limits();
-    if is_plain {
-        bytes.len() <= MAX_LENGTH
-    } else {
-        bytes.len() <= SHORT_LENGTH
-    }
 }
 
 // The place behind place number k, or the end of the text.
@@ -204,6 +158,7 @@ fn past_sign(taken: Result<(), BuildFault>, i: usize) -> Result<usize, BuildFaul
 // Whether a quote other than the one at i stands right before this place.
 #[inline(always)]
 fn has_quote_before(looks: &mut Looks<'_>, i: usize, next: usize) -> bool
+    requires in_text { i < length looks.old.0 }
     requires near { next ≤ length looks.old.0 }
     requires short { length looks.old.0 ≤ text_limit }
     ensures behind { IsTrue result → i + 1 < next }
@@ -211,7 +166,7 @@ fn has_quote_before(looks: &mut Looks<'_>, i: usize, next: usize) -> bool
     ensures same { looks.new.0 ≡ looks.old.0 }
     ensures looked { looks.new.1 ≤ looks.old.1 + 1 }
 {
-    if next < 2 || i >= next - 1 {
+    if i + 1 >= next {
         return false;
     }
     looks.at(next - 1) == b'"'
@@ -237,7 +192,10 @@ fn string_end(looks: &mut Looks<'_>, i: usize, next: usize, escapes: bool) -> Op
     if !escapes {
         return Some(next);
     }
-    match quote_end(looks.part(i + 1, next), 0) {
+    let Some(part) = looks.escaped_part(i + 1, next) else {
+        return Some(next);
+    };
+    match quote_end(part, 0) {
         Some(_) => Some(next),
         None => None,
     }
@@ -282,6 +240,18 @@ fn string(
     }
 }
 
+// The next number, if the builder took a word or a number of this length.
+#[inline(always)]
+fn past_word(taken: Result<(), BuildFault>, i: usize, len: usize) -> Result<usize, BuildFault>
+    requires { i + len < 2 ^ 64 }
+    ensures { result ≡ ended (i + len) taken }
+{
+    match taken {
+        Ok(()) => Ok(i + len),
+        Err(fault) => Err(fault),
+    }
+}
+
 // A word or a number. Marks where it may be beyond the limits of numbers.
 #[inline(always)]
 fn word(
@@ -299,21 +269,18 @@ fn word(
     ensures same { looks.new.0 ≡ looks.old.0 }
     ensures looked { IfOk result (λ end. looks.new.1 + i ≤ looks.old.1 + end + 1) }
 {
-    let bytes = looks.atoms(i);
-    let is_plain = is_plain_number(bytes);
-    *may_exceed |= !keeps_limits(bytes, is_plain);
-    match kind_of(bytes, is_plain) {
+    let Atoms { bytes, others } = looks.atoms(i);
+    let source = Extent {
+        start: i as u32,
+        len: bytes.len() as u32,
+    };
+    if is_short_number(bytes, others) {
+        return past_word(builder.leaf(source, Kind::Number), i, bytes.len());
+    }
+    *may_exceed |= !has_short_exponent(bytes);
+    match word_kind(bytes) {
         None => Err(BuildFault::NotJson),
-        Some(kind) => {
-            let source = Extent {
-                start: i as u32,
-                len: bytes.len() as u32,
-            };
-            match builder.leaf(source, kind) {
-                Ok(()) => Ok(i + bytes.len()),
-                Err(fault) => Err(fault),
-            }
-        }
+        Some(kind) => past_word(builder.leaf(source, kind), i, bytes.len()),
     }
 }
 

@@ -127,3 +127,23 @@ number_lane n i v x few inside lane clear =
     let both = combined bit_or n i _ _ _ _ inside below above in
     let t = neither (ltb x 45) (leb 58 x) (off 7 n i _ _ few inside both clear) in
     number_byte x t.0 t.1
+
+-- ---- No backslash
+
+pub slashless_lane : (n i : ℕ) (v : List ℕ) (x : ℕ) → n ≤ 64 → i < n → HasLane n i v x → bit_at (mask_l (map (top 7) (zip2 equal v (replicate n 92))) % 2 ^ 64) i ≡ 0 → x ≢ 92
+slashless_lane n i v x few inside lane clear =
+    let backslash = combined equal n i v (replicate n 92) x 92 inside lane (repeated n i 92 inside) in
+    let t = alone (eqb x 92) (off 7 n i _ _ few inside backslash clear) in
+    λ e. grind (arith, nat_tests)
+
+-- ---- A digit
+
+pub digit_lane : (n i : ℕ) (v : List ℕ) (x : ℕ) → n ≤ 64 → i < n → HasLane n i v x
+    → bit_at (mask_l (map (top 7) (zip2 bit_or (zip2 less v (replicate n 48)) (zip2 at_most (replicate n 58) v))) % 2 ^ 64) i ≡ 0
+    → (48 ≤ x) × (x ≤ 57)
+digit_lane n i v x few inside lane clear =
+    let below = combined less n i v (replicate n 48) x 48 inside lane (repeated n i 48 inside) in
+    let above = combined at_most n i (replicate n 58) v 58 x inside (repeated n i 58 inside) lane in
+    let both = combined bit_or n i _ _ _ _ inside below above in
+    let t = neither (ltb x 48) (leb 58 x) (off 7 n i _ _ few inside both clear) in
+    (let a = t.0 in grind (arith, nat_tests), let b = t.1 in grind (arith, nat_tests))

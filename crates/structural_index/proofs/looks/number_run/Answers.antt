@@ -1,18 +1,32 @@
-use Rattle.std.proofs.Common.{◌≡◌, ◌+◌, ◌-◌, ◌<◌, get_or, ap, sym, ◌∙◌, arith}
+use Rattle.std.proofs.Common.{◌≡◌, ◌+◌, ◌-◌, ◌<◌, ◌≤◌, get_or, length, ap, sym, ◌∙◌, arith, rules}
 use Rattle.std.proofs.lemmas.List.{get_or_default}
 use lib.Lanes.{chunk}
 use Rattle.structural_index.specs.Seams.{is_plain_atom}
-use Rattle.structural_index.proofs.Lanes.{loaded, number_lane}
+use Rattle.structural_index.proofs.Lanes.{loaded, number_lane, digit_lane}
 use Rattle.structural_index.proofs.looks.number_run.Goals as goal
 
-pub returns-clause-atoms : goal.returns-clause-atoms
-returns-clause-atoms c k from to =
+pub returns : goal.returns
+returns c =
     let text = c.args.bytes.now in
     let at = c.args.at in
-    let i = k - at in
-    let few = c.lanes_before.ensures.few in
-    let inside : i < 16 = omega arith in
-    let back : at + i ≡ k = omega arith in
-    let room = c.requires in
-    ap is_plain_atom (sym (get_or_default text k 0 32 (omega (arith, room, inside))) ∙ ap (λ j. get_or text j 0) (sym back))
-    ∙ number_lane 16 i (chunk at 16 text) (get_or text (at + i) 0) (omega arith) inside (loaded text at 16 i c.requires inside) (c.lanes_before.ensures.clear i (omega arith))
+    let run = c.lanes_before-run.result in
+    let most = c.lanes_before-run.ensures.few in
+    let not_all = c.if-run-eq-NUMBER_LANES.false in
+    let long = c.if-bytes-at-lt-NUMBER_LANES.false in
+    let here = c.requires in
+    let room : at + 32 ≤ length text = omega arith in
+    let few : run < 32 = search rules in (
+      few,
+      record {
+        from = omega arith;
+        to = omega arith;
+        each = λ k from to.
+            let i = k - at in
+            let inside : i < 32 = omega arith in
+            let back : at + i ≡ k = omega arith in
+            ap is_plain_atom (sym (get_or_default text k 0 32 (omega (arith, room, inside))) ∙ ap (λ j. get_or text j 0) (sym back))
+            ∙ number_lane 32 i (chunk at 32 text) (get_or text (at + i) 0) (omega arith) inside (loaded text at 32 i room inside) (c.lanes_before-run.ensures.clear i (omega arith));
+        over = λ l. ap is_plain_atom (sym (get_or_default text (at + run) 0 32 l)) ∙ c.often_ends_numbers.ensures c.if-not-often_ends_numbers.false;
+      },
+      λ k l clear. digit_lane 32 k (chunk at 32 text) (get_or text (at + k) 0) (omega arith) (omega arith) (loaded text at 32 k room (omega arith)) clear,
+    )

@@ -1,4 +1,4 @@
-use Rattle.std.proofs.Common.{◌<◌, ◌≡◌, ◌∙◌, sym, ap, arith, rules}
+use Rattle.std.proofs.Common.{◌∙◌, sym, arith, rules}
 use Rattle.json_tape.proofs.Siblings.{first_left}
 use Rattle.json_tape.proofs.children.ChildrenIterator.next.Goals as goal
 

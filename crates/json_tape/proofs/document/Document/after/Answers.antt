@@ -1,5 +1,4 @@
-use Rattle.std.proofs.Common.{◌+◌, ◌∙◌, ap, arith}
-use Rattle.json_tape.specs.Nodes.{size}
+use Rattle.std.proofs.Common.{arith}
 use Rattle.json_tape.specs.Document.{node_at}
 use Rattle.json_tape.proofs.Entries.{size_positive}
 use Rattle.json_tape.proofs.Siblings.{visit_to}

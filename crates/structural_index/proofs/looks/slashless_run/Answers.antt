@@ -1,8 +1,7 @@
 use Rattle.std.proofs.Common.{◌≡◌, ◌≢◌, ◌+◌, ◌-◌, ◌<◌, get_or, subst, arith}
 use lib.Lanes.{chunk}
-use Rattle.structural_index.proofs.Lanes.{loaded}
-use Rattle.json_tape.proofs.StopBits.{no_backslash}
-use Rattle.json_tape.proofs.scan.slashless_run.Goals as goal
+use Rattle.structural_index.proofs.Lanes.{loaded, slashless_lane}
+use Rattle.structural_index.proofs.looks.slashless_run.Goals as goal
 
 pub returns-clause-none : goal.returns-clause-none
 returns-clause-none c k from to =
@@ -13,4 +12,4 @@ returns-clause-none c k from to =
     let inside : i < 16 = omega arith in
     let back : at + i ≡ k = omega arith in
     subst (λ j. get_or text j 0 ≢ 92) back
-    (no_backslash 16 i (chunk at 16 text) (get_or text (at + i) 0) (omega arith) inside (loaded text at 16 i c.requires inside) (c.lanes_before.ensures.clear i (omega arith)))
+    (slashless_lane 16 i (chunk at 16 text) (get_or text (at + i) 0) (omega arith) inside (loaded text at 16 i c.requires inside) (c.lanes_before.ensures.clear i (omega arith)))

@@ -1,12 +1,12 @@
 use Rattle.std.proofs.Common.{◌-◌, ◌≤◌, length}
-use Rattle.structural_index.specs.Seams.{AreAtomsFrom}
-use Rattle.structural_index.proofs.looks.atoms_end_slowly.Given as goal
+use Rattle.structural_index.specs.Seams.{AreSlashless}
+use Rattle.structural_index.proofs.looks.may_escape.Given as goal
 
 abbrev pub invariant-loop-k : goal.invariant-loop-k
 invariant-loop-k l = record {
   from : l.from ≤ l.k;
   to : l.k ≤ length l.bytes;
-  each : AreAtomsFrom l.bytes l.from l.k;
+  each : AreSlashless l.bytes l.from l.k;
 }
 
 abbrev pub decreases-loop-k : goal.decreases-loop-k

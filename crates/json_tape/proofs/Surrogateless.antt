@@ -1,0 +1,159 @@
+-- A text in which no escape of a surrogate begins has no lone one.
+use Rattle.std.proofs.Common.{◌≡◌, ◌≢◌, ℕ, zero, suc, ◌+◌, ◌-◌, ◌*◌, ◌<◌, ◌≤◌, ◌⊎◌, inl, inr, true, false, Some, None, List, [], ◌∷◌, ◌++◌, length, take, drop, get_or, refl, sym, ap, subst, ◌∙◌, arith}
+use Rattle.std.specs.Prelude.{nat_eq}
+use Rattle.std.proofs.lemmas.Bool.{cases_lt}
+use Rattle.std.proofs.lemmas.List.{get_or_past, length-drop, get_or-drop}
+use Rattle.memchr.specs.Find.{OccursAt, FindsNeedle}
+use Rattle.json_tape.specs.Tree.{Spelt, Plain, Short, Unit4, Tree, Leaf, Arr, Obj, Null, True, False, Num, Str}
+use Rattle.json_tape.specs.Letters.{IsHexDigit, IsChar, AreChars, IsString}
+use Rattle.json_tape.specs.Meaning.{Means, nothing, plain, short, unit, HasLone}
+use Rattle.json_tape.specs.Grammar.{IsText}
+use Rattle.json_tape.specs.Tape.{extent}
+use Rattle.json_tape.specs.Limits.{bytes_at}
+use Rattle.json_tape.specs.Spelling.{has_backslash}
+use Rattle.json_tape.specs.Surrogates.{HasNoSurrogates}
+use Rattle.json_tape.specs.Verdict.{SpellsLone}
+use Rattle.json_tape.specs.declared.tape.Extent.{Extent}
+use Rattle.json_tape.proofs.Fits.{Fits, text_fits, part_fits}
+use Rattle.json_tape.proofs.Holders.{name_fits}
+use Rattle.json_tape.proofs.Lones.{HasLonePart}
+use Rattle.json_tape.proofs.Parts.{placed}
+use Rattle.json_tape.proofs.Repeats.{neither}
+
+-- ---- In parts of the bytes
+
+behind : (one others : List ℕ) → HasNoSurrogates (one ++ others) → HasNoSurrogates others
+behind [] others h = h
+behind (b ∷ one) others h = behind one others (λ k. h (suc k))
+
+in_front : (xs ys : List ℕ) (j v : ℕ) → get_or xs j 0 ≡ suc v → get_or (xs ++ ys) j 0 ≡ suc v
+in_front [] ys j v e = absurd (cc)
+in_front (x ∷ xs) ys zero v e = e
+in_front (x ∷ xs) ys (suc j) v e = in_front xs ys j v e
+
+front : (xs ys : List ℕ) → HasNoSurrogates (xs ++ ys) → HasNoSurrogates xs
+front xs ys h k e u = let r = h k (in_front xs ys k 91 e) (in_front xs ys (suc k) 116 u) in (λ d. r.0 (in_front xs ys (suc (suc k)) 67 d), λ d. r.1 (in_front xs ys (suc (suc k)) 99 d))
+
+taken : (n j v : ℕ) (bs : List ℕ) → get_or (take n bs) j 0 ≡ suc v → get_or bs j 0 ≡ suc v
+taken zero j v bs e = absurd (cc)
+taken (suc n) j v [] e = e
+taken (suc n) zero v (b ∷ bs) e = e
+taken (suc n) (suc j) v (b ∷ bs) e = taken n j v bs e
+
+taken_none : (n : ℕ) (bs : List ℕ) → HasNoSurrogates bs → HasNoSurrogates (take n bs)
+taken_none n bs h k e u = let r = h k (taken n k 91 bs e) (taken n (suc k) 116 bs u) in (λ d. r.0 (taken n (suc (suc k)) 67 bs d), λ d. r.1 (taken n (suc (suc k)) 99 bs d))
+
+dropped_none : (n : ℕ) (bs : List ℕ) → HasNoSurrogates bs → HasNoSurrogates (drop n bs)
+dropped_none zero bs h = h
+dropped_none (suc n) [] h = h
+dropped_none (suc n) (b ∷ bs) h = dropped_none n bs (λ k. h (suc k))
+
+part_none : (text : List ℕ) (x : Extent) → HasNoSurrogates text → HasNoSurrogates (bytes_at text x)
+part_none text x h = taken_none x.len (drop x.start text) (dropped_none x.start text h)
+
+-- ---- What the characters mean
+
+-- a unit whose first digit is no D is no surrogate
+no_surrogate : (a b c d k l m n u : ℕ) → IsHexDigit a k → IsHexDigit b l → IsHexDigit c m → IsHexDigit d n → u ≡ 4096 * k + 256 * l + 16 * m + n → a ≢ 68 → a ≢ 100 → (u < 0xD800) ⊎ (0xDFFF < u)
+no_surrogate a b c d k l m n u ha hb hc hd e small large = elim (cases_lt k 13) [
+  | inl below ↦ inl (let x : l < 16 = grind arith in let y : m < 16 = grind arith in let z : n < 16 = grind arith in omega arith)
+  | inr above ↦ inr (let far : 14 ≤ k = grind arith in omega arith)
+]
+
+means_some : (bytes : List ℕ) (cs : List Spelt) → AreChars bytes cs → HasNoSurrogates bytes → (vs : List ℕ) × Means cs vs
+means_some bytes [] h free = ([], nothing)
+means_some bytes (c ∷ cs) (one, others, h, more, e) free = by_kind c h (means_some others cs more (behind one others (subst HasNoSurrogates e free)))
+  where
+    by_kind : (c : Spelt) → IsChar one c → (vs : List ℕ) × Means cs vs → (vs : List ℕ) × Means (c ∷ cs) vs
+    by_kind (Plain c) h r = (c ∷ r.0, plain r.1)
+    by_kind (Short l) h r = (_, short r.1)
+    by_kind (Unit4 u) (a, b, c, d, k, l, m, n, ha, hb, hc, hd, is, spelt) r =
+        let first = subst HasNoSurrogates (e ∙ ap (λ x. x ++ others) spelt) free 0 refl refl in
+        (u ∷ r.0, unit (no_surrogate a b c d k l m n u ha hb hc hd is first.0 first.1) r.1)
+
+string_means : (bytes : List ℕ) (cs : List Spelt) → IsString bytes cs → HasNoSurrogates bytes → HasLone cs → ⊥
+string_means bytes cs (inside, are, e) free lone =
+    let some = means_some inside cs are (front inside (34 ∷ []) (λ k. subst HasNoSurrogates e free (suc k))) in
+    lone some.0 some.1
+
+-- ---- The text
+
+pub none_lone : (text : List ℕ) (t : Tree) → IsText text t → HasNoSurrogates text → HasLonePart t → ⊥
+none_lone text t h free (part, has, q) = go part (part_fits (placed has).is_at text (text_fits text t h)) q
+  where
+    go : (s : Tree) → Fits text s → SpellsLone s → ⊥
+    go (Leaf s (Str cs)) f q = string_means s.bytes cs f.1 (subst HasNoSurrogates (sym f.0) (part_none text (extent s) free)) q
+    go (Obj s ms) f (m, is, q) =
+        let g = name_fits is text f.1 in
+        string_means m.source.bytes m.characters g.1 (subst HasNoSurrogates (sym g.0) (part_none text (extent m.source) free)) q
+    go (Leaf s Null) f q = absurd q
+    go (Leaf s True) f q = absurd q
+    go (Leaf s False) f q = absurd q
+    go (Leaf s Num) f q = absurd q
+    go (Arr s es) f q = absurd q
+
+-- nor has one in which no byte is a backslash
+pub slashless_none : (bs : List ℕ) → has_backslash bs ≡ false → HasNoSurrogates bs
+slashless_none [] h k e u = absurd (cc)
+slashless_none (b ∷ bs) h zero e u = let n = neither (nat_eq b 92) (has_backslash bs) h in let no = n.0 in let z : nat_eq b 92 ≡ true = rw e refl in absurd (cc)
+slashless_none (b ∷ bs) h (suc k) e u = slashless_none bs (neither (nat_eq b 92) (has_backslash bs) h).1 k e u
+
+-- ---- The search for escapes of units
+
+abbrev pub escape : List ℕ
+escape = 92 ∷ 117 ∷ []
+
+-- no escape of a surrogate begins before this place
+abbrev pub NoneBefore : List ℕ → ℕ → Type 0
+NoneBefore bs n = (k : ℕ) → k < n → get_or bs k 0 ≡ 92 → get_or bs (suc k) 0 ≡ 117 → (get_or bs (suc (suc k)) 0 ≢ 68) × (get_or bs (suc (suc k)) 0 ≢ 100)
+
+within : (bs : List ℕ) (k v : ℕ) → get_or bs k 0 ≡ suc v → k < length bs
+within bs k v e = elim (cases_lt k (length bs)) [
+  | inl below ↦ below
+  | inr above ↦ absurd (let z = get_or_past bs k 0 above in cc)
+]
+
+-- an escape of a unit in the rest is an occurrence of its two bytes
+occurs : (text rest needle : List ℕ) (k m : ℕ) → rest ≡ drop k text → needle ≡ escape → get_or text (k + m) 0 ≡ 92 → get_or text (suc (k + m)) 0 ≡ 117 → OccursAt rest needle m
+occurs text rest needle k m r n slash u =
+    let inside = within text (suc (k + m)) 116 u in
+    let long = length-drop k text in
+    let same = ap length r in
+    subst (λ x. OccursAt rest x m) (sym n) (record { fits = omega (arith, inside, long, same); reads = reads })
+  where
+    reads : (j : ℕ) → j < length escape → get_or rest (m + j) 0 ≡ get_or escape j 0
+    reads zero h = ap (λ l. get_or l (m + 0) 0) r ∙ get_or-drop k text (m + 0) 0 ∙ (let z : k + (m + 0) ≡ k + m = omega arith in ap (λ i. get_or text i 0) z ∙ slash)
+    reads (suc zero) h = ap (λ l. get_or l (m + 1) 0) r ∙ get_or-drop k text (m + 1) 0 ∙ (let z : k + (m + 1) ≡ suc (k + m) = omega arith in ap (λ i. get_or text i 0) z ∙ u)
+    reads (suc (suc j)) h = absurd (omega (arith, h))
+
+-- one found, and no D behind it
+pub none_on : (text rest needle : List ℕ) (k m : ℕ) → rest ≡ drop k text → needle ≡ escape → k ≤ length text → FindsNeedle rest needle 0 (Some m) → NoneBefore text k
+    → (get_or text (k + (m + 2)) 0 ≢ 68) × (get_or text (k + (m + 2)) 0 ≢ 100) → (k + (m + 2) ≤ length text) × NoneBefore text (k + (m + 2))
+none_on text rest needle k m r n l found before past = (
+  omega (arith, found.1.fits, ap length n, ap length r, length-drop k text),
+  λ j h slash u. elim (cases_lt j k) [
+    | inl a ↦ before j a slash u
+    | inr a ↦ elim (cases_lt j (k + m)) [
+      | inl b ↦ absurd (let z : k + (j - k) ≡ j = omega arith in found.0.before (j - k) (omega arith) (omega arith) (occurs text rest needle k (j - k) r n (ap (λ i. get_or text i 0) z ∙ slash) (ap (λ i. get_or text (suc i) 0) z ∙ u)))
+      | inr b ↦ elim (cases_lt (k + m) j) [
+        | inl c ↦ absurd (let z : j ≡ k + (m + 1) = omega arith in let two : get_or text j 0 ≡ 117 = ap (λ i. get_or text i 0) z ∙ second in omega (arith, two, slash))
+        | inr c ↦ (let z : suc (suc j) ≡ k + (m + 2) = omega arith in rw z past)
+      ]
+    ]
+  ],
+)
+  where
+    second : get_or text (k + (m + 1)) 0 ≡ 117
+    second = sym (ap (λ l. get_or l (m + 1) 0) r ∙ get_or-drop k text (m + 1) 0) ∙ found.1.reads 1 (let long = ap length n in omega (arith, long)) ∙ ap (λ l. get_or l 1 0) n
+
+-- none is left
+pub none_left : (text rest needle : List ℕ) (k : ℕ) → rest ≡ drop k text → needle ≡ escape → k ≤ length text → FindsNeedle rest needle 0 None → NoneBefore text k → HasNoSurrogates text
+none_left text rest needle k r n l found before j slash u = elim (cases_lt j k) [
+  | inl a ↦ before j a slash u
+  | inr a ↦ absurd
+      (let z : k + (j - k) ≡ j = omega arith in
+      let inside = within text j 91 slash in
+      let long = length-drop k text in
+      let same = ap length r in
+      found (j - k) (omega arith) (omega (arith, inside, long, same)) (occurs text rest needle k (j - k) r n (ap (λ i. get_or text i 0) z ∙ slash) (ap (λ i. get_or text (suc i) 0) z ∙ u)))
+]
