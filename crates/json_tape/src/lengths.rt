@@ -75,10 +75,10 @@ pub fn plain_beginning(bytes: &[u8]) -> usize
     let mut k = 0;
     while bytes.len() - k >= LANES {
         let run = plain_run(bytes, k);
-        k += run;
         if run < LANES {
-            return k;
+            return k + run;
         }
+        k += LANES;
     }
     plain_beginning_slowly(bytes, k)
 }

@@ -142,10 +142,10 @@ fn plain_end(text: &[u8], start: usize) -> usize
     let mut k = start;
     while text.len() - k >= LANES {
         let run = plain_run(text, k);
-        k += run;
         if run < LANES {
-            return k;
+            return k + run;
         }
+        k += LANES;
     }
     plain_end_slowly(text, k)
 }
@@ -329,10 +329,10 @@ fn first_escape(bytes: &[u8], start: usize) -> usize
     let mut k = start;
     while bytes.len() - k >= LANES {
         let run = slashless_run(bytes, k);
-        k += run;
         if run < LANES {
-            return k;
+            return k + run;
         }
+        k += LANES;
     }
     first_escape_slowly(bytes, k)
 }
