@@ -1,5 +1,5 @@
 -- Adding nodes one by one.
-use Rattle.std.proofs.Common.{◌≡◌, ℕ, ◌+◌, ◌<◌, List, [], ◌∷◌, ◌++◌, map, length, drop, get_or, refl, sym, ap, ◌∙◌, subst, arith, append_assoc}
+use Rattle.std.proofs.Common.{◌≡◌, ℕ, ◌+◌, ◌<◌, ◌≤◌, List, [], ◌∷◌, ◌++◌, map, length, drop, get_or, refl, sym, ap, ◌∙◌, subst, arith, append_assoc}
 use Rattle.std.specs.Prelude.{flat_map}
 use Rattle.tape_select.specs.Charge.{total_of}
 use Rattle.std.proofs.lemmas.Grind.{common_steps}
@@ -38,6 +38,26 @@ drawn d ids k rest e = ap (nodes_of d) e
 
 pub drawn_inside : (d : Doc) (ids : List NodeId) (k : NodeId) (rest : List NodeId) → ids ≡ k ∷ rest → Inside d ids → (k.0 < count d) × Inside d rest
 drawn_inside d ids k rest e a = (All-head (λ id. id.0 < count d) k rest (subst (Inside d) e a), All-rest (λ id. id.0 < count d) k rest ids e a)
+
+-- Nodes are added from those that are left. Together they stay the same, and there is room for all.
+pub record Draws (d : Doc) (all : List Node) (out left : List NodeId) (len capacity : ℕ) : Type 0 where
+  pub same : nodes_of d out ++ nodes_of d left ≡ all
+  pub ahead : Inside d left
+  pub sound : Inside d out
+  pub room : len + length left ≤ capacity
+
+pub draws_one : (d : Doc) (all : List Node) (out left rest new : List NodeId) (k : NodeId) (len capacity : ℕ)
+    → Draws d all out left len capacity → left ≡ k ∷ rest → new ≡ out ++ k ∷ [] → Draws d all new rest (len + 1) capacity
+draws_one d all out left rest new k len capacity s e n =
+    let pushed = has_push d out k s.sound (drawn_inside d left k rest e s.ahead).0 in
+    let l = ap length e in
+    let room = s.room in
+    record {
+      same = rw n (rw pushed.same (add_more (nodes_of d out) (node_at d k.0) (nodes_of d rest)) ∙ ap (λ ns. nodes_of d out ++ ns) (sym (drawn d left k rest e)) ∙ s.same);
+      ahead = (drawn_inside d left k rest e s.ahead).1;
+      sound = rw n pushed.inside;
+      room = omega (arith, room, l);
+    }
 
 pub ruleset adding = (add_more, has_none, has_push, append_nil)
 

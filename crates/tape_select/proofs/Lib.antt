@@ -4,6 +4,7 @@ pub mod Claims
 pub mod Makings
 pub mod Calls
 pub mod Adding
+pub mod Below
 pub mod Totals
 pub mod Picking
 pub mod Turned

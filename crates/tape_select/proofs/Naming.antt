@@ -5,12 +5,12 @@ use Rattle.tape_select.specs.Evaluation.{selected}
 use Rattle.path_grammar.specs.Tree.{Selector, selector, no_selectors, name, wild, selectors_of}
 use Rattle.json_tape.specs.Tree.{Tree, Leaf, Arr, Obj, Elements, NoElement, Element}
 use Rattle.json_tape.specs.Nodes.{Node, Step, size, children, children_of, elements_from, visit, is_named, first_where}
-use Rattle.json_tape.specs.Document.{Doc, kind_of, node_at, seen, counting}
+use Rattle.json_tape.specs.Document.{Doc, kind_of}
 use Rattle.json_tape.specs.declared.tape.Kind.TheVariants as kinds
 use Rattle.json_tape.specs.declared.tape.NodeId.{NodeId}
 use Rattle.tape_select.specs.Charge.{total_of}
 use Rattle.tape_select.specs.Extra.{extra_in}
-use Rattle.tape_select.specs.Paying.{Adds, Holds, Pays}
+use Rattle.tape_select.specs.Paying.{Adds, Holds}
 use Rattle.tape_select.specs.declared.fault.SelectFault.{SelectFault}
 use Rattle.tape_select.specs.declared.fault.SelectFault.TheVariants.{Memory}
 use Rattle.tape_select.proofs.Adding.{append_nil, has_none}
@@ -55,18 +55,6 @@ adds_named d r ids root n out ss scalars left e h =
 -- so many nodes are there as were added
 pub added_total : (d : Doc) (old new : List NodeId) (ns : List Node) → nodes_of d new ≡ nodes_of d old ++ ns → length new ≡ length old + length ns
 added_total d old new ns e = sym (length_nodes d new) ∙ ap length e ∙ length-append (nodes_of d old) ns ∙ ap (λ k. k + length ns) (length_nodes d old)
-
-pub adds_after : {A : Type 0} (d : Doc) (r : Result A SelectFault) (ids : List NodeId) (xs : List Node) (charge units old new : ℕ)
-    → Holds d ids xs → units ≡ charge → Pays r units old new → Adds d r ids xs charge old new
-adds_after d (Ok a) ids xs charge units old new h e p = (h, rw e at p)
-adds_after d (Err f) ids xs charge units old new h e p = rw e at p
-
-pub all_below : (d : Doc) (out old : List NodeId) (n k end : ℕ) → end ≤ k → seen d (counting n (end - n)) ≡ visit (node_at d n)
-    → nodes_of d out ++ flat_map children (seen d (counting k (end - k))) ≡ nodes_of d old ++ flat_map children (seen d (counting n (end - n)))
-    → nodes_of d out ≡ nodes_of d old ++ flat_map children (visit (node_at d n))
-all_below d out old n k end t v e =
-    let none : end - k ≡ 0 = omega arith in
-    sym (append_nil (nodes_of d out)) ∙ ap (λ m. nodes_of d out ++ flat_map children (seen d (counting k m))) (sym none) ∙ e ∙ ap (λ ns. nodes_of d old ++ flat_map children ns) v
 
 wild_selected : (root : Node) (ns : List Node) → flat_map (selected root (selector wild no_selectors)) ns ≡ flat_map children ns
 wild_selected root [] = refl

@@ -1,6 +1,6 @@
 //! Segments that select by a lone name or wildcard from a node and all its descendants (RFC 9535, section 2.5.2).
 
-ghost use Rattle.std.specs.Prelude.{◌≡◌, ◌<◌, ◌++◌, length, flat_map, MatchResult};
+ghost use Rattle.std.specs.Prelude.{◌≡◌, ◌<◌, ◌≤◌, ◌+◌, ◌++◌, length, flat_map, vec_len, vec_capacity, MatchResult};
 ghost use Rattle.json_tape.specs.Document.{count, node_at};
 ghost use Rattle.json_tape.specs.Nodes.{children, visit};
 ghost use Rattle.path_grammar.specs.Tree.{selector, no_selectors, name};
@@ -10,7 +10,7 @@ ghost use Rattle.tape_select.specs.Paying.{Inside, Holds, Adds};
 
 use crate::fault::SelectFault;
 use crate::meter::Meter;
-use crate::nodes::{add_children, push_some};
+use crate::nodes::{push_children, push_some, reserve};
 use crate::plan::Name;
 use json_tape::{Document, Kind, NodeId};
 
@@ -36,8 +36,30 @@ pub fn named(
     Ok(())
 }
 
+// How many nodes there are below a node. Each is the child of one.
+#[tactic(auto, using(crate::proofs::Below::below_total))]
+fn below_total(doc: &Document, n: NodeId) -> u32
+    requires { n.0 < count doc.now }
+    ensures { result ≡ length (flat_map children (visit (node_at doc.now n.0))) }
+{
+    doc.after(n) - n.0 - 1
+}
+
+// The children of a node and of all its descendants, for which there is room. Those without children are passed by.
+fn push_below(doc: &Document, n: NodeId, out: &mut Vec<NodeId>)
+    requires inside { n.0 < count doc.now }
+    requires sound { Inside doc.now out.old.items }
+    requires room { vec_len out.old + length (flat_map children (visit (node_at doc.now n.0))) ≤ vec_capacity out.old }
+    ensures { Holds doc.now out.new.items (nodes_of doc.now out.old.items ++ flat_map children (visit (node_at doc.now n.0))) }
+{
+    let end = doc.after(n);
+    let mut k = n.0;
+    while k < end {
+        k = push_children(doc, NodeId(k), out);
+    }
+}
+
 /// The children of a node and of all its descendants.
-#[tactic(auto, using(crate::proofs::Naming::looking))]
 pub fn children_below(
     doc: &Document,
     n: NodeId,
@@ -48,10 +70,9 @@ pub fn children_below(
     requires sound { Inside doc.now out.old.items }
     ensures { Adds doc.now result out.new.items (nodes_of doc.now out.old.items ++ flat_map children (visit (node_at doc.now n.0))) (length (flat_map children (visit (node_at doc.now n.0)))) meter.old.left meter.new.left }
 {
-    let before = out.len();
-    let end = doc.after(n);
-    for k in n.0..end {
-        add_children(doc, NodeId(k), out)?;
-    }
-    meter.spend((out.len() - before) as u64)
+    let total = below_total(doc, n);
+    meter.spend(u64::from(total))?;
+    reserve(out, total)?;
+    push_below(doc, n, out);
+    Ok(())
 }

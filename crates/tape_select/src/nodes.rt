@@ -1,14 +1,14 @@
 //! Steps that add nodes. They pay what they are charged beyond the unit that each selector costs, which is paid in front of them.
 
-ghost use Rattle.std.specs.Prelude.{◌≡◌, ◌<◌, ◌∷◌, [], ◌++◌, length, MatchResult};
+ghost use Rattle.std.specs.Prelude.{◌≡◌, ◌<◌, ◌≤◌, ◌+◌, ◌∷◌, [], ◌++◌, length, vec_len, vec_capacity, MatchResult};
 ghost use Rattle.json_tape.specs.Document.{count, node_at, single, IsIn};
 ghost use Rattle.json_tape.specs.Nodes.{children};
-ghost use Rattle.tape_select.specs.Nodelists.{nodes_of};
+ghost use Rattle.tape_select.specs.Nodelists.{nodes_of, children_between};
 ghost use Rattle.tape_select.specs.Paying.{Inside, Holds, Adds};
 
 use crate::fault::SelectFault;
 use crate::meter::Meter;
-use json_tape::{Document, Kind, NodeId};
+use json_tape::{Children, Document, Kind, NodeId};
 use std::alloc::Global;
 
 /// One node more.
@@ -68,10 +68,10 @@ pub fn child_total(doc: &Document, n: NodeId) -> u32
     }
 }
 
-/// The children of a node.
+// The children of a node.
 #[inline(always)]
 #[tactic(auto, using(crate::proofs::Adding::adding))]
-pub fn add_children(doc: &Document, n: NodeId, out: &mut Vec<NodeId>) -> Result<(), SelectFault>
+fn add_children(doc: &Document, n: NodeId, out: &mut Vec<NodeId>) -> Result<(), SelectFault>
     requires inside { n.0 < count doc.now }
     requires sound { Inside doc.now out.old.items }
     ensures { MatchResult result (λ _. Holds doc.now out.new.items (nodes_of doc.now out.old.items ++ children (node_at doc.now n.0))) (λ e. e ≡ SelectFault.Memory) }
@@ -97,4 +97,63 @@ pub fn wild(
     let before = out.len();
     add_children(doc, n, out)?;
     meter.spend((out.len() - before) as u64)
+}
+
+/// Room for so many nodes more.
+pub fn reserve(out: &mut Vec<NodeId>, more: u32) -> Result<(), SelectFault>
+    ensures same { out.new.items ≡ out.old.items }
+    ensures room { MatchResult result (λ _. vec_len out.old + more ≤ vec_capacity out.new) (λ e. e ≡ SelectFault.Memory) }
+{
+    if out.reserve(more as usize).is_err() {
+        return Err(SelectFault::Memory);
+    }
+    Ok(())
+}
+
+// The first children, up to one that has others below it. Returns the number behind those before it.
+#[inline(always)]
+#[tactic(auto, using(crate::proofs::Adding::adding))]
+fn push_leaves(doc: &Document, left: &mut Children<'_>, from: u32, out: &mut Vec<NodeId>) -> u32
+    requires ahead { Inside doc.now left.old }
+    requires sound { Inside doc.now out.old.items }
+    requires room { vec_len out.old + length left.old ≤ vec_capacity out.old }
+    ensures added { nodes_of doc.now out.new.items ++ nodes_of doc.now left.new ≡ nodes_of doc.now out.old.items ++ nodes_of doc.now left.old }
+    ensures ahead { Inside doc.now left.new }
+    ensures sound { Inside doc.now out.new.items }
+    ensures room { vec_len out.new + length left.new ≤ vec_capacity out.new }
+    ensures capacity { vec_capacity out.new ≡ vec_capacity out.old }
+    ensures past { from ≤ result }
+    ensures childless { children_between doc.now from result ≡ [] }
+{
+    let mut next = from;
+    while let Some(child) = left.next() {
+        let after = doc.after(child);
+        out.push_reserved(child);
+        if child.0 != next || after - child.0 != 1 {
+            return next;
+        }
+        next = after;
+    }
+    next
+}
+
+/// The children of a node, for which there is room. Returns a number behind the node's: none in between has children.
+#[inline(always)]
+#[tactic(auto, using(crate::proofs::Adding::adding))]
+pub fn push_children(doc: &Document, n: NodeId, out: &mut Vec<NodeId>) -> u32
+    requires inside { n.0 < count doc.now }
+    requires sound { Inside doc.now out.old.items }
+    requires room { vec_len out.old + length (children (node_at doc.now n.0)) ≤ vec_capacity out.old }
+    ensures added { Holds doc.now out.new.items (nodes_of doc.now out.old.items ++ children (node_at doc.now n.0)) }
+    ensures capacity { vec_capacity out.new ≡ vec_capacity out.old }
+    ensures past { n.0 < result }
+    ensures childless { children_between doc.now (n.0 + 1) result ≡ [] }
+{
+    let _ = doc.root();
+    let mut left = doc.children(n);
+    let next = push_leaves(doc, &mut left, n.0 + 1, out);
+    for child in left {
+        out.push_reserved(child);
+    }
+    next
 }
