@@ -7,7 +7,8 @@ use Rattle.std.proofs.lemmas.Bool.Decides.{nat_tests}
 use Rattle.json_tape.specs.Tree.{Tree, Leaf, Arr, Obj, Elements, NoElement, Element, Members, NoMember, Member}
 use Rattle.json_tape.specs.Meaning.{meaning}
 use Rattle.json_tape.specs.Nodes.{Node, Step, key, place, size, children, elements_from, members_from, visit, visit_from, visit_elements, visit_members}
-use Rattle.json_tape.specs.Document.{Doc, node_at, seen, counting}
+use Rattle.json_tape.specs.Cells.{is_container}
+use Rattle.json_tape.specs.Document.{Doc, kind_of, node_at, seen, counting}
 use Rattle.tape_select.specs.Nodelists.{nodes_between, children_between}
 use Rattle.tape_select.proofs.Filtering.{visit_length, visit_more}
 
@@ -69,9 +70,14 @@ split d from mid to a b =
 pub none_passed : (d : Doc) (from to : ℕ) → to ≤ from → children_between d from to ≡ []
 none_passed d from to le = let none : to - from ≡ 0 = omega (arith, le) in rw none refl
 
--- a node without others below it
-pub one_passed : (d : Doc) (from to : ℕ) → to - from ≡ 1 → seen d (counting from (to - from)) ≡ visit (node_at d from) → children_between d from to ≡ []
-one_passed d from to one v = let t = below_total d from (to - from) v in rw v (empty (flat_map children (visit (node_at d from))) (omega (arith, t, one)))
+-- a node that is no container
+pub one_passed : (d : Doc) (from to : ℕ) → is_container (kind_of (node_at d from).tree) ≡ false → seen d (counting from (to - from)) ≡ visit (node_at d from) → children_between d from to ≡ []
+one_passed d from to leaf v = ap (flat_map children) v ∙ go (node_at d from).way_up (node_at d from).number (node_at d from).tree leaf
+  where
+    go : (up : List Step) (k : ℕ) (t : Tree) → is_container (kind_of t) ≡ false → flat_map children (visit_from up k t) ≡ []
+    go up k (Leaf s c) h = refl
+    go up k (Arr s es) h = absurd (cc)
+    go up k (Obj s ms) h = absurd (cc)
 
 pub more_passed : (d : Doc) (from next to : ℕ) → from ≤ next → next ≤ to → children_between d from next ≡ [] → children_between d next to ≡ [] → children_between d from to ≡ []
 more_passed d from next to a b before behind = split d from next to a b ∙ rw (before, behind) refl

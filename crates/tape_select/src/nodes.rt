@@ -1,7 +1,8 @@
 //! Steps that add nodes. They pay what they are charged beyond the unit that each selector costs, which is paid in front of them.
 
 ghost use Rattle.std.specs.Prelude.{◌≡◌, ◌<◌, ◌≤◌, ◌+◌, ◌∷◌, [], ◌++◌, length, vec_len, vec_capacity, MatchResult};
-ghost use Rattle.json_tape.specs.Document.{count, node_at, single, IsIn};
+ghost use Rattle.json_tape.specs.Cells.{is_container as is_container_kind};
+ghost use Rattle.json_tape.specs.Document.{count, kind_of, node_at, single, IsIn};
 ghost use Rattle.json_tape.specs.Nodes.{children};
 ghost use Rattle.tape_select.specs.Nodelists.{nodes_of, children_between};
 ghost use Rattle.tape_select.specs.Paying.{Inside, Holds, Adds};
@@ -110,7 +111,16 @@ pub fn reserve(out: &mut Vec<NodeId>, more: u32) -> Result<(), SelectFault>
     Ok(())
 }
 
-// The first children, up to one that has others below it. Returns the number behind those before it.
+// Whether a node is an array or an object.
+#[inline(always)]
+fn is_container(doc: &Document, n: NodeId) -> bool
+    requires { n.0 < count doc.now }
+    ensures { result ≡ is_container_kind (kind_of (node_at doc.now n.0).tree) }
+{
+    matches!(doc.kind(n), Kind::Array | Kind::Object)
+}
+
+// The first children, up to an array or an object. Returns the number behind those before it.
 #[inline(always)]
 #[tactic(auto, using(crate::proofs::Adding::adding))]
 fn push_leaves(doc: &Document, left: &mut Children<'_>, from: u32, out: &mut Vec<NodeId>) -> u32
@@ -128,8 +138,9 @@ fn push_leaves(doc: &Document, left: &mut Children<'_>, from: u32, out: &mut Vec
     let mut next = from;
     while let Some(child) = left.next() {
         let after = doc.after(child);
+        let holds_others = is_container(doc, child);
         out.push_reserved(child);
-        if child.0 != next || after - child.0 != 1 {
+        if child.0 != next || holds_others {
             return next;
         }
         next = after;

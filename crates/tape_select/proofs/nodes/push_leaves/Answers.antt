@@ -1,4 +1,4 @@
-use Rattle.std.proofs.Common.{◌∙◌, arith}
+use Rattle.std.proofs.Common.{◌∙◌, sym, arith}
 use Rattle.tape_select.proofs.Adding.{drawn_inside, draws_one}
 use Rattle.tape_select.proofs.Below.{one_passed, more_passed}
 use Rattle.tape_select.proofs.nodes.push_leaves.Goals as goal
@@ -10,7 +10,7 @@ loop-next-preserved c =
     let p = c.push_reserved.ensures in
     let past = c.after-after.ensures.past in
     let same = c.if-child-next.false in
-    let one = one_passed d c.in-Some.child.0 c.after-after.result (omega (arith, past, c.if-after-child-ne1.false)) c.after-after.ensures.nodes in
+    let one = one_passed d c.in-Some.child.0 c.after-after.result (sym c.is_container-holds_others.ensures ∙ c.if-holds_others.false) c.after-after.ensures.nodes in
     record {
       draws = rw (p.len, p.capacity) (draws_one d _ c.loop-next.out.items c.loop-next.left c.next.new.self c.push_reserved.new.self.items c.in-Some.child _ _ i.draws c.in-Some.ensures.steps p.items);
       capacity = p.capacity ∙ i.capacity;
