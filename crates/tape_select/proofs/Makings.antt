@@ -1,5 +1,5 @@
 -- Lists that are made part by part: what is made and what is left are what there was.
-use Rattle.std.proofs.Common.{◌≡◌, ℕ, ◌+◌, ◌<◌, ◌≤◌, Bool, true, false, ◌&&◌, List, [], ◌∷◌, ◌++◌, map, length, drop, get_or, refl, sym, ap, ◌∙◌}
+use Rattle.std.proofs.Common.{◌≡◌, ℕ, ◌+◌, ◌<◌, Bool, true, false, ◌&&◌, List, [], ◌∷◌, ◌++◌, map, length, drop, get_or, refl, sym, ap, ◌∙◌}
 use Rattle.std.specs.Prelude.{IsTrue}
 use Rattle.std.proofs.lemmas.List.{drop_more}
 use Rattle.tape_select.specs.Planned.{With, trees}

@@ -1,5 +1,5 @@
 -- The end of a nodelist turned round: what a slice with a step below 0 adds.
-use Rattle.std.proofs.Common.{◌≡◌, ℕ, suc, ◌≤◌, ◌<◌, List, [], ◌∷◌, ◌++◌, length, take, drop, reverse, length-append, refl, ap, ◌∙◌, sym, arith}
+use Rattle.std.proofs.Common.{◌≡◌, ℕ, ◌≤◌, ◌<◌, List, [], ◌∷◌, ◌++◌, length, take, drop, reverse, length-append, refl, ap, ◌∙◌, sym, arith}
 use Rattle.std.specs.List.{All}
 use Rattle.std.proofs.lemmas.List.{length-reverse}
 use Rattle.std.proofs.lemmas.List.Elements.{All-nil, All-append, All-take, All-drop, All-cons, All-head, All-tail}

@@ -74,6 +74,10 @@ fn does_hold(
             let found = found(doc, plan, query, child, state)?;
             Ok(compare_found(doc, found.only, op, &constant.literal))
         }
+        Condition::Compare(Operand::Length(operand), op, Operand::Constant(constant)) => {
+            let side = side_of(doc, plan, operand, child, state)?;
+            Ok(compare_length(doc, side, op, constant))
+        }
         _ => holds_by_kind(doc, plan, condition, child, state),
     }
 }
@@ -101,10 +105,6 @@ fn holds_by_kind(
         Condition::Not(operand) => {
             let held = does_hold(doc, plan, operand, child, state)?;
             Ok(!held)
-        }
-        Condition::Compare(Operand::Length(operand), op, Operand::Constant(constant)) => {
-            let side = side_of(doc, plan, operand, child, state)?;
-            Ok(compare_length(doc, side, op, constant))
         }
         Condition::Compare(left, op, right) => {
             let left = side_of(doc, plan, left, child, state)?;

@@ -1,4 +1,4 @@
-use Rattle.std.proofs.Common.{◌≡◌, ◌+◌, ◌-◌, ◌++◌, ◌∷◌, [], ◌||◌, ◌&&◌, length, drop, map}
+use Rattle.std.proofs.Common.{◌≡◌, ◌+◌, ◌-◌, ◌++◌, ◌∷◌, [], ◌||◌, ◌&&◌, drop, map}
 use Rattle.std.specs.Prelude.{flat_map}
 use Rattle.std.specs.Prelude.{filter as keep}
 use Rattle.path_grammar.specs.Tree.{exprs_of, selectors_of}

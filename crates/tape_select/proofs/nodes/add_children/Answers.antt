@@ -1,4 +1,4 @@
-use Rattle.std.proofs.Common.{◌++◌, ◌∷◌, ap, sym, ◌∙◌}
+use Rattle.std.proofs.Common.{◌++◌, ap, sym, ◌∙◌}
 use Rattle.json_tape.specs.Document.{node_at}
 use Rattle.tape_select.specs.Nodelists.{nodes_of}
 use Rattle.tape_select.proofs.Adding.{add_more, drawn, drawn_inside}
