@@ -1,6 +1,6 @@
 -- A text in which no escape of a surrogate begins has no lone one.
 use Rattle.std.proofs.Common.{◌≡◌, ◌≢◌, ℕ, zero, suc, ◌+◌, ◌-◌, ◌*◌, ◌<◌, ◌≤◌, ◌⊎◌, inl, inr, true, false, Some, None, List, [], ◌∷◌, ◌++◌, length, take, drop, get_or, refl, sym, ap, subst, ◌∙◌, arith}
-use Rattle.std.specs.Prelude.{nat_eq}
+use Rattle.structural_index.specs.Places.{HasBackslash}
 use Rattle.std.proofs.lemmas.Bool.{cases_lt}
 use Rattle.std.proofs.lemmas.List.{get_or_past, length-drop, get_or-drop}
 use Rattle.memchr.specs.Find.{OccursAt, FindsNeedle}
@@ -10,7 +10,6 @@ use Rattle.json_tape.specs.Meaning.{Means, nothing, plain, short, unit, HasLone}
 use Rattle.json_tape.specs.Grammar.{IsText}
 use Rattle.json_tape.specs.Tape.{extent}
 use Rattle.json_tape.specs.Limits.{bytes_at}
-use Rattle.json_tape.specs.Spelling.{has_backslash}
 use Rattle.json_tape.specs.Surrogates.{HasNoSurrogates}
 use Rattle.json_tape.specs.Verdict.{SpellsLone}
 use Rattle.json_tape.specs.declared.tape.Extent.{Extent}
@@ -18,7 +17,7 @@ use Rattle.json_tape.proofs.Fits.{Fits, text_fits, part_fits}
 use Rattle.json_tape.proofs.Holders.{name_fits}
 use Rattle.json_tape.proofs.Lones.{HasLonePart}
 use Rattle.json_tape.proofs.Parts.{placed}
-use Rattle.json_tape.proofs.Repeats.{neither}
+use Rattle.json_tape.proofs.PlaceWalk.{same_default}
 
 -- ---- In parts of the bytes
 
@@ -92,12 +91,6 @@ none_lone text t h free (part, has, q) = go part (part_fits (placed has).is_at t
     go (Leaf s Num) f q = absurd q
     go (Arr s es) f q = absurd q
 
--- nor has one in which no byte is a backslash
-pub slashless_none : (bs : List ℕ) → has_backslash bs ≡ false → HasNoSurrogates bs
-slashless_none [] h k e u = absurd (cc)
-slashless_none (b ∷ bs) h zero e u = let n = neither (nat_eq b 92) (has_backslash bs) h in let no = n.0 in let z : nat_eq b 92 ≡ true = rw e refl in absurd (cc)
-slashless_none (b ∷ bs) h (suc k) e u = slashless_none bs (neither (nat_eq b 92) (has_backslash bs) h).1 k e u
-
 -- ---- The search for escapes of units
 
 abbrev pub escape : List ℕ
@@ -112,6 +105,12 @@ within bs k v e = elim (cases_lt k (length bs)) [
   | inl below ↦ below
   | inr above ↦ absurd (let z = get_or_past bs k 0 above in cc)
 ]
+
+-- none begins where no byte is a backslash
+pub slashless_none : (bs : List ℕ) → (HasBackslash bs → ⊥) → HasNoSurrogates bs
+slashless_none bs h k e u =
+    let inside = within bs k 91 e in
+    absurd (h (k, inside, sym (same_default bs k inside) ∙ e))
 
 -- an escape of a unit in the rest is an occurrence of its two bytes
 occurs : (text rest needle : List ℕ) (k m : ℕ) → rest ≡ drop k text → needle ≡ escape → get_or text (k + m) 0 ≡ 92 → get_or text (suc (k + m)) 0 ≡ 117 → OccursAt rest needle m

@@ -22,6 +22,8 @@ pub struct Builder {
     want: Want,
     name: Option<Extent>,
     deepest: usize,
+    // the most bytes of a value that is a string, which no contract speaks of
+    longest: u32,
 }
 
 impl Model for Builder {
@@ -93,6 +95,7 @@ impl Builder {
             want: Want::Value,
             name: None,
             deepest: 0,
+            longest: 0,
         })
     }
 
@@ -158,6 +161,7 @@ impl Builder {
             self.name = Some(source);
             return Ok(());
         }
+        self.longest = self.longest.max(source.len);
         self.leaf(source, Kind::Text)
     }
 
@@ -242,6 +246,12 @@ impl Builder {
         self.deepest
     }
 
+    /// The most bytes of a value that is a string. What rests on it is faster where it is right, and right in any case.
+    #[inline(always)]
+    pub fn longest(&self) -> u32 {
+        self.longest
+    }
+
     /// The tape, without room for more.
     pub fn into_tape(self) -> Tape
         ensures { result ≡ self.entries }
@@ -253,6 +263,7 @@ impl Builder {
             want: _,
             name: _,
             deepest: _,
+            longest: _,
         } = self;
         tape.shrink();
         tape

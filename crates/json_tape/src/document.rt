@@ -82,7 +82,7 @@ impl Document {
             Ok(names) => names,
             Err(fault) => return Err(fault),
         };
-        let Ok(lengths) = count_strings(alloc, checked, &reading.tape) else {
+        let Ok(lengths) = count_strings(alloc, checked, &reading.tape, reading.longest) else {
             return Err(TextFault::Memory);
         };
         match String::from_str(alloc, checked) {

@@ -115,13 +115,21 @@ pub fn count_of(mut scalars: Scalars<'_>) -> u32
     count as u32
 }
 
-/// The lengths of a text's long strings.
-pub fn count_strings(alloc: Global, text: &str, tape: &Tape) -> Result<Lengths, AllocError>
+/// The lengths of a text's long strings. Where no string is known to be longer than so many bytes, none is looked for.
+pub fn count_strings(
+    alloc: Global,
+    text: &str,
+    tape: &Tape,
+    longest: u32,
+) -> Result<Lengths, AllocError>
     requires { IsDocument (record { text = text.now; entries = tape.now }) }
     ensures { IfOk result (λ found. AreCounted (record { text = text.now; entries = tape.now }) found.strings.items found.lengths.items) }
 {
     let mut strings = Vec::new(alloc);
     let mut lengths = Vec::new(alloc);
+    if longest <= SHORT {
+        return Ok(Lengths { strings, lengths });
+    }
     for n in 0..tape.len() {
         let entry = tape.entry(n);
         if is_long(entry) {

@@ -3,6 +3,7 @@
 
 ghost use Rattle.std.specs.Prelude.{◌≡◌, ◌+◌, ◌-◌, ◌^◌, ◌<◌, ◌≤◌, length, get_or, slice_index, IfOk, IfSome, IsUtf8, IsErrOf, IsTrue, true, false};
 ghost use Rattle.structural_index.specs.Answer.{IsIndexOf};
+ghost use Rattle.structural_index.specs.Places.{HasBackslash};
 ghost use Rattle.structural_index.specs.Seams.{AreDigitsBut};
 ghost use Rattle.json_tape.specs.Machine.{IsSmall};
 ghost use Rattle.json_tape.specs.Lexing.{is_blank as blank, is_atom as atom, is_sign, WordIs, Stepped, ended, Marked, DigitsStand, IsFraction, HasNoExponent};
@@ -115,9 +116,6 @@ fn is_short_number(bytes: &[u8], others: Option<u64>) -> bool
 fn word_kind(bytes: &[u8]) -> Option<Kind>
     ensures { WordIs bytes.now result }
 {
-    if scan(bytes).is_some() {
-        return Some(Kind::Number);
-    }
     if bytes == b"null".as_slice() {
         return Some(Kind::Null);
     }
@@ -126,6 +124,9 @@ fn word_kind(bytes: &[u8]) -> Option<Kind>
     }
     if bytes == b"false".as_slice() {
         return Some(Kind::Bool(false));
+    }
+    if scan(bytes).is_some() {
+        return Some(Kind::Number);
     }
     None
 }
@@ -365,12 +366,15 @@ fn pass_sign(
     }
 }
 
-/// What reading a text found: its tape, how many containers lie in one another at most, and whether a number may be beyond the limits.
+/// What reading a text found: its tape, how many containers lie in one another at most, whether a number may be beyond the limits, whether
+/// the text may have a backslash, and the most bytes of a value that is a string.
 #[derive(Drop)]
 pub struct Reading {
     pub tape: Tape,
     pub depth: usize,
     pub may_exceed: bool,
+    pub escapes: bool,
+    pub longest: u32,
 }
 
 /// The tape of a text and its marks, or why there is none, by the places of its index.
@@ -387,6 +391,7 @@ fn walk(alloc: Global, index: &Index, looks: &mut Looks<'_>) -> Result<Reading, 
     ensures few { IfOk result (λ reading. length reading.tape < 2 ^ 31) }
     ensures depth { IfOk result (λ reading. HasDepth looks.old.0 reading.depth) }
     ensures numbers { IfOk result (λ reading. reading.may_exceed ≡ false → AreWithinLimits looks.old.0 reading.tape) }
+    ensures escapes { IfOk result (λ reading. reading.escapes ≡ false → HasBackslash looks.old.0 → ⊥) }
     // Unless memory runs out, a text is refused only where it spells no tree.
     ensures refused { IsErrOf result BuildFault.NotJson → IsNoJson looks.old.0 }
     ensures looked { IfOk result (λ reading. IsBounded looks.old.0 looks.old.1 looks.new.1) }
@@ -421,10 +426,13 @@ fn walk(alloc: Global, index: &Index, looks: &mut Looks<'_>) -> Result<Reading, 
     }
     if builder.is_done() {
         let depth = builder.deepest();
+        let longest = builder.longest();
         Ok(Reading {
             tape: builder.into_tape(),
             depth,
             may_exceed,
+            escapes: index.has_backslash,
+            longest,
         })
     } else {
         Err(BuildFault::NotJson)
@@ -466,6 +474,7 @@ pub fn read(alloc: Global, text: &[u8]) -> Result<Reading, BuildFault>
     ensures short { IfOk result (λ reading. length reading.tape < 2 ^ 31) }
     ensures depth { IfOk result (λ reading. HasDepth text.now reading.depth) }
     ensures numbers { IfOk result (λ reading. reading.may_exceed ≡ false → AreWithinLimits text.now reading.tape) }
+    ensures escapes { IfOk result (λ reading. reading.escapes ≡ false → HasBackslash text.now → ⊥) }
     // Unless memory runs out, a text is refused only where it spells no tree.
     ensures refused { IsErrOf result BuildFault.NotJson → IsNoJson text.now }
 {

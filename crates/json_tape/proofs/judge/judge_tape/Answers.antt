@@ -11,22 +11,22 @@ returns-then-breaks_limit c =
     (not_deep c.args.text.now c.args.reading.now.depth c.requires.depth c.if-reading-gt-DEPTH_LIMIT.false)
     (applies_at NumberLimit c.args.text.now c.as_bytes.result.now _ c.as_bytes.ensures.value c.breaks_limit.ensures c.if-breaks_limit.true)
 
-pub returns-then-has_lone : goal.returns-then-has_lone
-returns-then-has_lone c =
+pub returns-then-spells_lone : goal.returns-then-spells_lone
+returns-then-spells_lone c =
     refused_lone c.args.text.now c.requires.short c.utf8.text c.requires.spelt
     (not_deep c.args.text.now c.args.reading.now.depth c.requires.depth c.if-reading-gt-DEPTH_LIMIT.false)
     (applies_not NumberLimit c.args.text.now c.as_bytes.result.now _ c.as_bytes.ensures.value c.breaks_limit.ensures c.if-breaks_limit.false)
-    (applies_at LoneSurrogate c.args.text.now c.as_bytes-2.result.now _ c.as_bytes-2.ensures.value c.has_lone.ensures c.if-has_lone.true)
+    (applies_at LoneSurrogate c.args.text.now c.as_bytes-2.result.now _ c.as_bytes-2.ensures.value c.spells_lone.ensures c.if-spells_lone.true)
 
 pub order_names-requires-clause-paired : goal.order_names-requires-clause-paired
-order_names-requires-clause-paired c = applies_not LoneSurrogate c.args.text.now c.as_bytes-2.result.now _ c.as_bytes-2.ensures.value c.has_lone.ensures c.if-has_lone.false
+order_names-requires-clause-paired c = applies_not LoneSurrogate c.args.text.now c.as_bytes-2.result.now _ c.as_bytes-2.ensures.value c.spells_lone.ensures c.if-spells_lone.false
 
 pub returns-in-Ok-None : goal.returns-in-Ok-None
 returns-in-Ok-None c =
     refused_twice c.args.text.now c.requires.short c.utf8.text c.requires.spelt
     (not_deep c.args.text.now c.args.reading.now.depth c.requires.depth c.if-reading-gt-DEPTH_LIMIT.false)
     (applies_not NumberLimit c.args.text.now c.as_bytes.result.now _ c.as_bytes.ensures.value c.breaks_limit.ensures c.if-breaks_limit.false)
-    (applies_not LoneSurrogate c.args.text.now c.as_bytes-2.result.now _ c.as_bytes-2.ensures.value c.has_lone.ensures c.if-has_lone.false)
+    (applies_not LoneSurrogate c.args.text.now c.as_bytes-2.result.now _ c.as_bytes-2.ensures.value c.spells_lone.ensures c.if-spells_lone.false)
     (rw c.in-Ok-None.field-0-is at c.in-Ok-None.ensures)
 
 pub returns-in-Ok-Some : goal.returns-in-Ok-Some
@@ -35,7 +35,7 @@ returns-in-Ok-Some c =
       faultless c.args.text.now c.requires.short c.utf8.text c.requires.spelt
           (not_deep c.args.text.now c.args.reading.now.depth c.requires.depth c.if-reading-gt-DEPTH_LIMIT.false)
           (applies_not NumberLimit c.args.text.now c.as_bytes.result.now _ c.as_bytes.ensures.value c.breaks_limit.ensures c.if-breaks_limit.false)
-          (applies_not LoneSurrogate c.args.text.now c.as_bytes-2.result.now _ c.as_bytes-2.ensures.value c.has_lone.ensures c.if-has_lone.false)
+          (applies_not LoneSurrogate c.args.text.now c.as_bytes-2.result.now _ c.as_bytes-2.ensures.value c.spells_lone.ensures c.if-spells_lone.false)
           found.0,
       found.1,
     )

@@ -1,10 +1,7 @@
 use Rattle.std.proofs.Common.{◌-◌, length, drop, refl, sym, ◌∙◌, arith, rules}
 use Rattle.std.proofs.lemmas.List.{take_all, length-drop}
-use Rattle.json_tape.proofs.Surrogateless.{slashless_none, none_on, none_left}
+use Rattle.json_tape.proofs.Surrogateless.{none_on, none_left}
 use Rattle.json_tape.proofs.judge.may_spell_surrogates.Goals as goal
-
-pub returns-then-not-contains : goal.returns-then-not-contains
-returns-then-not-contains c = λ _. slashless_none c.args.text.now (sym c.contains.ensures.value ∙ c.if-not-contains.true)
 
 pub loop-unit-preserved : goal.loop-unit-preserved
 loop-unit-preserved c =
