@@ -1,19 +1,28 @@
 -- Bytes of a load that stand for themselves.
-use Rattle.std.proofs.Common.{◌≡◌, ◌≢◌, leb, bit_or, replicate, ℕ, zero, suc, ◌+◌, ◌-◌, ◌%◌, ◌^◌, ◌<◌, ◌≤◌, eqb, cond, Bool, true, false, not, List, [], ◌∷◌, map, drop, length, get_or, refl, sym, ap, ◌∙◌, subst, arith}
+use Rattle.std.proofs.Common.{◌≡◌, ◌≢◌, leb, bit_or, replicate, ℕ, zero, suc, ◌+◌, ◌-◌, ◌%◌, ◌^◌, ◌<◌, ◌≤◌, eqb, ltb, cond, Bool, true, false, not, List, [], ◌∷◌, map, drop, length, get_or, refl, sym, ap, ◌∙◌, subst, arith}
 use Rattle.std.proofs.lemmas.Bool.{not-false}
 use Rattle.std.proofs.lemmas.Bool.Decides.{nat_tests}
 use Rattle.std.proofs.lemmas.List.{get_or_default}
 use Rattle.std.proofs.lemmas.Simd.{length-chunk, get_or-chunk}
 use lib.Lanes.{chunk, zip2, mask_l, top}
 use Rattle.json_tape.specs.declared.scan.Mode.TheVariants.{Between}
-use Rattle.json_tape.specs.Scanning.{string_end, ArePlain}
+use Rattle.json_tape.specs.declared.scan.Turn.TheVariants.{Go}
+use Rattle.json_tape.specs.Scanning.{turn, string_end}
+use Rattle.structural_index.specs.Seams.{AreUnstopped}
 use Rattle.json_tape.specs.Spelling.{SpellPlainly}
 use Rattle.json_tape.proofs.Steps.{plain_step}
 use Rattle.structural_index.proofs.Lanes.{HasLane, combined, repeated, off, none as nothing_set}
 
 -- ---- Bytes that stand for themselves
 
-pub plain_steps : (text : List ℕ) (start k r : ℕ) → k + r ≤ length text → ArePlain text k (k + r)
+stands : (b : ℕ) → b ≢ 34 → b ≢ 92 → 32 ≤ b → turn Between b ≡ Go Between
+stands b q s l =
+    let quote : eqb b 34 ≡ false = grind (arith, nat_tests) in
+    let slash : eqb b 92 ≡ false = grind (arith, nat_tests) in
+    let control : ltb b 32 ≡ false = grind (arith, nat_tests) in
+    rw (quote, slash, control) refl
+
+pub plain_steps : (text : List ℕ) (start k r : ℕ) → k + r ≤ length text → AreUnstopped text k (k + r)
     → string_end Between k (drop k text) ≡ string_end Between start (drop start text) → string_end Between (k + r) (drop (k + r) text) ≡ string_end Between start (drop start text)
 plain_steps text start k zero h p e =
     let same : k ≡ k + 0 = omega arith in
@@ -21,8 +30,17 @@ plain_steps text start k zero h p e =
 plain_steps text start k (suc r) h p e =
     let next : k + r + 1 ≡ k + suc r = omega arith in
     let before = plain_steps text start k r (omega arith) (λ j from to. p j from (omega arith)) e in
+    let here = p (k + r) (omega arith) (omega arith) in
     subst (λ n. string_end Between n (drop n text) ≡ string_end Between start (drop start text)) next
-    (plain_step text (k + r) start (omega arith) (p (k + r) (omega arith) (omega arith)) before)
+    (plain_step text (k + r) start (omega arith) (stands (get_or text (k + r) 0) here.0 here.1 here.2) before)
+
+-- up to a place
+pub plain_to : (text : List ℕ) (start k m : ℕ) → k ≤ m → m ≤ length text → AreUnstopped text k m
+    → string_end Between k (drop k text) ≡ string_end Between start (drop start text) → string_end Between m (drop m text) ≡ string_end Between start (drop start text)
+plain_to text start k m from to p e =
+    let same : k + (m - k) ≡ m = omega arith in
+    subst (λ n. string_end Between n (drop n text) ≡ string_end Between start (drop start text)) same
+    (plain_steps text start k (m - k) (omega arith) (λ j a b. p j a (omega arith)) e)
 
 -- ---- Four characters beside four scalar values
 

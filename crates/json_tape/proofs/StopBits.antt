@@ -9,19 +9,6 @@ use Rattle.json_tape.specs.declared.scan.Turn.TheVariants.{Go}
 use Rattle.json_tape.specs.Scanning.{turn}
 use Rattle.decimal_order.specs.Number.{IsDigit}
 
--- no quote, no backslash and no control stands in the lane
-pub turns_on : (n i : ℕ) (v : List ℕ) (x : ℕ) → n ≤ 64 → i < n → HasLane n i v x
-    → bit_at (mask_l (map (top 7) (zip2 bit_or (zip2 bit_or (zip2 equal v (replicate n 34)) (zip2 equal v (replicate n 92))) (zip2 less v (replicate n 32)))) % 2 ^ 64) i ≡ 0
-    → turn Between x ≡ Go Between
-turns_on n i v x few inside lane clear =
-    let quote = combined equal n i v (replicate n 34) x 34 inside lane (repeated n i 34 inside) in
-    let backslash = combined equal n i v (replicate n 92) x 92 inside lane (repeated n i 92 inside) in
-    let control = combined less n i v (replicate n 32) x 32 inside lane (repeated n i 32 inside) in
-    let two = combined bit_or n i _ _ _ _ inside quote backslash in
-    let three = combined bit_or n i _ _ _ _ inside two control in
-    let t = none_of (eqb x 34) (eqb x 92) (ltb x 32) (off 7 n i _ _ few inside three clear) in
-    rw (t.0, t.1, t.2) refl
-
 -- neither a backslash nor a byte above ASCII stands in the lane
 pub stands_alone : (n i : ℕ) (v : List ℕ) (x : ℕ) → n ≤ 64 → i < n → HasLane n i v x
     → bit_at (mask_l (map (top 7) (zip2 bit_or (zip2 equal v (replicate n 92)) (zip2 at_most (replicate n 128) v))) % 2 ^ 64) i ≡ 0

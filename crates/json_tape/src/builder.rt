@@ -100,6 +100,7 @@ impl Builder {
     }
 
     /// A word, a number or a string that is a value.
+    #[inline(always)]
     pub fn leaf(&mut self, source: Extent, kind: Kind) -> Result<(), BuildFault>
         requires small { IsSmall text_limit self.old }
         requires room { HasRoom source }
@@ -120,6 +121,7 @@ impl Builder {
     }
 
     /// A comma.
+    #[inline(always)]
     pub fn comma(&mut self) -> Result<(), BuildFault>
         ensures took { Took (step Comma self.old) result self.new }
         ensures no_memory { IsErrOf result BuildFault.Memory → ⊥ }
@@ -135,6 +137,7 @@ impl Builder {
     }
 
     /// A colon.
+    #[inline(always)]
     pub fn colon(&mut self) -> Result<(), BuildFault>
         ensures took { Took (step Between self.old) result self.new }
         ensures no_memory { IsErrOf result BuildFault.Memory → ⊥ }
@@ -151,6 +154,7 @@ impl Builder {
     }
 
     /// A string: a name where one may come, otherwise a value.
+    #[inline(always)]
     pub fn text(&mut self, source: Extent) -> Result<(), BuildFault>
         requires small { IsSmall text_limit self.old }
         requires room { HasRoom source }
@@ -200,6 +204,7 @@ impl Builder {
     }
 
     /// A closing bracket or brace.
+    #[inline(always)]
     pub fn close(&mut self, shape: Shape, place: u32) -> Result<(), BuildFault>
         requires small { IsSmall text_limit self.old }
         requires near { place < 2 ^ 24 }

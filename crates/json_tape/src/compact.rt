@@ -91,6 +91,7 @@ impl Tape {
     }
 
     /// One more value that holds no other.
+    #[inline(always)]
     pub fn leaf(&mut self, kind: Kind, seat: Seat, source: Extent) -> Result<(), AllocError>
         requires scalar { is_container kind ≡ false }
         requires seat { IsNear seat }

@@ -1,11 +1,10 @@
 // Strings: runs of bytes that stand for themselves, and what is between them byte by byte.
 
 ghost use Rattle.std.specs.Prelude.{IsTrue, ◌≡◌, false, ◌+◌, ◌<◌, ◌≤◌, length, drop, IfSome};
-ghost use Rattle.json_tape.specs.Scanning.{turn as turn_of, is_short as short, is_hex as hex, string_end, ArePlain};
+ghost use Rattle.json_tape.specs.Scanning.{turn as turn_of, is_short as short, is_hex as hex, string_end};
 ghost use Rattle.json_tape.specs.Surrogates.{number_of_hex, past_char, past_unit, past_byte, standing, lone_from, lone};
 
-use std::simd::prelude::*;
-use structural_index::{Looks, lanes_before, slashless_run};
+use structural_index::{Looks, slashless_run, unstopped_run};
 
 /// Where a scan of a string stands: between characters, behind a backslash, or before a hexadecimal digit after which this many must come.
 #[derive(Clone, Copy)]
@@ -97,20 +96,6 @@ fn is_plain(b: u8) -> bool
 // How many bytes are looked at in one load.
 const LANES: usize = 16;
 
-// How many bytes of a load, from its first, stand for themselves.
-#[inline(always)]
-fn plain_run(text: &[u8], at: usize) -> usize
-    requires { at + LANES ≤ length text.now }
-    ensures few { result ≤ LANES }
-    ensures plain { ArePlain text.now at (at + result) }
-{
-    let lanes = u8x16::from_slice(&text[at..]);
-    let stops = lanes.simd_eq(u8x16::splat(b'"'))
-        | lanes.simd_eq(u8x16::splat(b'\\'))
-        | lanes.simd_lt(u8x16::splat(32));
-    lanes_before(stops.to_bitmask(), LANES)
-}
-
 // The place of the first byte from here on that does not stand for itself, or the end of the text.
 #[inline(always)]
 #[tactic(auto, using(crate::proofs::Steps::plain_step))]
@@ -141,7 +126,7 @@ fn plain_end(text: &[u8], start: usize) -> usize
 {
     let mut k = start;
     while text.len() - k >= LANES {
-        let run = plain_run(text, k);
+        let run = unstopped_run(text, k);
         if run < LANES {
             return k + run;
         }
@@ -202,14 +187,20 @@ pub fn quote_past(looks: &mut Looks<'_>, start: usize) -> Option<usize>
     ensures looked { IfSome result (λ end. looks.new.1 + start ≤ looks.old.1 + end) }
 {
     let mut mode = Mode::Between;
-    let mut k = start;
+    let mut k = looks.pass_unstopped(start);
     while k < looks.length() {
         match next_turn(mode, looks.at(k)) {
             Turn::Stop => return Some(k + 1),
             Turn::Fail => return None,
-            Turn::Go(next) => mode = next,
+            Turn::Go(Mode::Between) => {
+                mode = Mode::Between;
+                k = looks.pass_unstopped(k + 1);
+            }
+            Turn::Go(next) => {
+                mode = next;
+                k += 1;
+            }
         }
-        k += 1;
     }
     None
 }

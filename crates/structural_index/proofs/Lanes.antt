@@ -136,6 +136,20 @@ slashless_lane n i v x few inside lane clear =
     let t = alone (eqb x 92) (off 7 n i _ _ few inside backslash clear) in
     λ e. grind (arith, nat_tests)
 
+-- ---- No quote, no backslash and no control character
+
+pub unstopped_lane : (n i : ℕ) (v : List ℕ) (x : ℕ) → n ≤ 64 → i < n → HasLane n i v x
+    → bit_at (mask_l (map (top 7) (zip2 bit_or (zip2 bit_or (zip2 equal v (replicate n 34)) (zip2 equal v (replicate n 92))) (zip2 less v (replicate n 32)))) % 2 ^ 64) i ≡ 0
+    → (x ≢ 34) × (x ≢ 92) × (32 ≤ x)
+unstopped_lane n i v x few inside lane clear =
+    let quote = combined equal n i v (replicate n 34) x 34 inside lane (repeated n i 34 inside) in
+    let backslash = combined equal n i v (replicate n 92) x 92 inside lane (repeated n i 92 inside) in
+    let control = combined less n i v (replicate n 32) x 32 inside lane (repeated n i 32 inside) in
+    let two = combined bit_or n i _ _ _ _ inside quote backslash in
+    let three = combined bit_or n i _ _ _ _ inside two control in
+    let t = none_of (eqb x 34) (eqb x 92) (ltb x 32) (off 7 n i _ _ few inside three clear) in
+    (let a = t.0 in λ e. grind (arith, nat_tests), let b = t.1 in λ e. grind (arith, nat_tests), let d = t.2 in grind (arith, nat_tests))
+
 -- ---- A digit
 
 pub digit_lane : (n i : ℕ) (v : List ℕ) (x : ℕ) → n ≤ 64 → i < n → HasLane n i v x
