@@ -1,10 +1,6 @@
 -- The lengths of strings that a document keeps.
-use Rattle.std.specs.Prelude.{◌≡◌, ◌≢◌, ℕ, ◌<◌, List, length, get_or}
+use Rattle.std.specs.Prelude.{◌≡◌, ℕ, ◌<◌, List, length, get_or}
 use Rattle.json_tape.specs.Document.{Doc, node_at, string_meaning}
-
--- so many bytes are ASCII characters and no backslashes
-abbrev pub BeginPlainly : List ℕ → ℕ → Type 0
-BeginPlainly bytes n = (k : ℕ) → k < n → (get_or bytes k 0 < 128) × (get_or bytes k 0 ≢ 92)
 
 -- for each of these strings how many scalar values it means
 pub record AreCounted (d : Doc) (strings lengths : List ℕ) : Type 0 where

@@ -1,17 +1,17 @@
 // How many scalar values long strings mean, so that they are counted once.
 
-ghost use Rattle.std.specs.Prelude.{◌≡◌, ◌+◌, ◌<◌, ◌≤◌, ◌^◌, [], length, OnOk, IfOk, IfSome, IsTrue};
-ghost use Rattle.std.specs.Str.{chars};
+ghost use Rattle.std.specs.Prelude.{◌≡◌, ◌+◌, ◌<◌, ◌≤◌, ◌^◌, [], length, take, false, OnOk, IfOk, IfSome, IsTrue};
+ghost use Rattle.std.specs.Str.{chars, IsCharBoundary};
+ghost use Rattle.json_tape.specs.Spelling.{has_backslash};
 ghost use Rattle.json_tape.specs.Verdict.{text_limit};
 ghost use Rattle.json_tape.specs.Document.{IsDocument};
-ghost use Rattle.json_tape.specs.Counted.{AreCounted, BeginPlainly};
+ghost use Rattle.json_tape.specs.Counted.{AreCounted};
 
 use crate::compact::Tape;
 use crate::scalars::{Scalars, unquoted};
 use crate::tape::{Entry, Kind};
+use memchr::memchr;
 use std::alloc::{AllocError, Global};
-use std::simd::prelude::*;
-use structural_index::lanes_before;
 
 // The length of a string of no more bytes, its quotes included, is counted where it is asked for.
 const SHORT: u32 = 64;
@@ -34,53 +34,15 @@ pub fn is_long(entry: Entry) -> bool
     }
 }
 
-// So many bytes are compared at once.
-const LANES: usize = 16;
-
-// How many bytes of a load, from its first, are ASCII characters and no backslashes.
-#[inline(always)]
-fn plain_run(bytes: &[u8], at: usize) -> usize
-    requires { at + LANES ≤ length bytes.now }
-    ensures few { result ≤ LANES }
-    ensures plain { BeginPlainly bytes.now at → BeginPlainly bytes.now (at + result) }
+/// Where the first backslash stands, or the length of the text.
+pub fn plain_length(text: &str) -> usize
+    ensures boundary { IsCharBoundary text.now result }
+    ensures plain { has_backslash (take result text.now) ≡ false }
 {
-    let lanes = u8x16::from_slice(&bytes[at..]);
-    let stops = lanes.simd_eq(u8x16::splat(b'\\')) | lanes.simd_ge(u8x16::splat(128));
-    lanes_before(stops.to_bitmask(), LANES)
-}
-
-// How many bytes, from the first, are such, where so many are.
-#[inline(always)]
-fn plain_beginning_slowly(bytes: &[u8], from: usize) -> usize
-    requires inside { from ≤ length bytes.now }
-    requires plain { BeginPlainly bytes.now from }
-    ensures bound { result ≤ length bytes.now }
-    ensures plain { BeginPlainly bytes.now result }
-{
-    let mut k = from;
-    while k < bytes.len() {
-        if bytes[k] >= 128 || bytes[k] == b'\\' {
-            return k;
-        }
-        k += 1;
+    match memchr(b'\\', text.as_bytes()) {
+        Some(place) => place,
+        None => text.len(),
     }
-    k
-}
-
-/// How many bytes, from the first, are ASCII characters and no backslashes.
-pub fn plain_beginning(bytes: &[u8]) -> usize
-    ensures bound { result ≤ length bytes.now }
-    ensures plain { BeginPlainly bytes.now result }
-{
-    let mut k = 0;
-    while bytes.len() - k >= LANES {
-        let run = plain_run(bytes, k);
-        if run < LANES {
-            return k + run;
-        }
-        k += LANES;
-    }
-    plain_beginning_slowly(bytes, k)
 }
 
 /// How many characters there are: as many as bytes that are none of 80 to BF (hexadecimal), by which no character begins (RFC 3629,
@@ -103,14 +65,8 @@ pub fn count_of(mut scalars: Scalars<'_>) -> u32
     ensures { result ≡ length scalars.entry }
 {
     let mut count = scalars.pass_plain();
-    if let Some(rest) = scalars.plain_count() {
-        return (count + rest) as u32;
-    }
-    while let Some(scalar) = scalars.next() {
-        count += 1;
-        if scalar.is_ascii() {
-            count += scalars.pass_plain();
-        }
+    while let Some(_scalar) = scalars.next() {
+        count += 1 + scalars.pass_plain();
     }
     count as u32
 }

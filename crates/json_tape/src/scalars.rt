@@ -7,7 +7,7 @@ ghost use Rattle.json_tape.specs.Limits.{bytes_at};
 ghost use Rattle.json_tape.specs.Spelling.{hex_value as value_of_hex, unquoted as inside, IsQuoted};
 ghost use Rattle.json_tape.specs.Reading.{Reads, ReadsUnit};
 
-use crate::lengths::{characters, plain_beginning};
+use crate::lengths::{characters, plain_length};
 use crate::scan::Mode;
 use crate::tape::Extent;
 use std::marker::Model;
@@ -170,26 +170,14 @@ impl<'a> Scalars<'a> {
         }
     }
 
-    /// Passes characters that stand for themselves in one byte, and tells how many.
+    /// Passes the characters before the next backslash, which stand for themselves, and tells how many.
     pub(crate) fn pass_plain(&mut self) -> usize
         ensures { length self.old ≡ result + length self.new }
     {
         let rest = self.rest.as_str();
-        let run = plain_beginning(rest.as_bytes());
+        let run = plain_length(rest);
         self.rest = rest[run..].chars();
-        run
-    }
-
-    /// How many are left, where no backslash is.
-    pub(crate) fn plain_count(&self) -> Option<usize>
-        ensures { IfSome result (λ count. count ≡ length self.now) }
-    {
-        let rest = self.rest.as_str();
-        if rest.as_bytes().contains(&b'\\') {
-            None
-        } else {
-            Some(characters(rest))
-        }
+        characters(&rest[..run])
     }
 }
 

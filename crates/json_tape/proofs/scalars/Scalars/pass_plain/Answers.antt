@@ -1,14 +1,16 @@
-use Rattle.std.proofs.Common.{◌+◌, ◌∙◌, length, sym, ap}
+use Rattle.std.proofs.Common.{◌≡◌, ◌-◌, ◌+◌, ◌++◌, ◌∙◌, length, take, drop, length-append, sym, ap, ap₂, arith}
 use Rattle.std.specs.Str.{chars}
 use Rattle.json_tape.specs.Spelling.{scalars_in}
-use Rattle.json_tape.proofs.CountedStrings.{boundary_at, count_at}
+use Rattle.json_tape.proofs.PlainNames.{plain_front}
 use Rattle.json_tape.proofs.scalars.Scalars.pass_plain.Goals as goal
-
-pub range_from-requires : goal.range_from-requires
-range_from-requires c = λ _. boundary_at c.as_bytes.result.now c.as_str-rest.result.now c.plain_beginning-run.result c.as_bytes.ensures.value c.as_str-rest.utf8 c.plain_beginning-run.ensures.bound c.plain_beginning-run.ensures.plain
 
 pub returns : goal.returns
 returns c =
+    let rest = c.as_str-rest.result.now in
+    let run = c.plain_length-run.result in
+    let is = c.plain_length-run.ensures in
+    let whole : run - 0 ≡ run = omega arith in
     ap length (sym c.self.view_is) ∙ ap (λ l. length (scalars_in (chars l))) (sym c.as_str-rest.ensures)
-    ∙ count_at c.as_bytes.result.now c.as_str-rest.result.now c.plain_beginning-run.result c.as_bytes.ensures.value c.plain_beginning-run.ensures.bound c.plain_beginning-run.ensures.plain
-    ∙ ap (λ l. c.plain_beginning-run.result + length (scalars_in (chars l))) (sym (c.chars-self-inside.ensures.rest ∙ c.range_from.ensures.value))
+    ∙ ap length (plain_front rest run c.as_str-rest.utf8 is.boundary is.plain) ∙ length-append (chars (take run rest)) (scalars_in (chars (drop run rest))) 
+    ∙ ap₂ (λ m n. m + n) (ap (λ l. length (chars l)) (sym (c.range.ensures.value ∙ ap (λ n. take n rest) whole)) ∙ sym c.characters.ensures)
+        (ap (λ l. length (scalars_in (chars l))) (sym (c.chars-self-inside.ensures.rest ∙ c.range_from.ensures.value)))
