@@ -1,18 +1,24 @@
 -- What a builder that goes from place to place asks of the text, what it finds of a string, and how it passes a colon or a comma.
 use Rattle.std.specs.Prelude.{◌≡◌, ◌<◌, ℕ, suc, ◌+◌, Bool, false, List, drop, length, get_or, Option, Some, None, Result, Ok, Err, IsUtf8}
-use Rattle.structural_index.specs.Places.{byte, HasControlInside, HasBackslash}
-use Rattle.structural_index.specs.Seams.{IsSpan}
+use Rattle.structural_index.specs.Places.{byte, HasControlInside}
+use Rattle.structural_index.specs.Seams.{IsSpan, AreSlashless}
+use Rattle.json_tape.specs.declared.slashes.Slashes.{Slashes}
 use Rattle.json_tape.specs.declared.tape.BuildFault.{BuildFault}
 use Rattle.json_tape.specs.declared.tape.BuildFault.TheVariants.{NotJson, Memory}
 use Rattle.json_tape.specs.Machine.{State}
 use Rattle.json_tape.specs.Lexing.{quote_end, is_atom, Refused, Taken}
 use Rattle.json_tape.specs.Bridge.{SpellsString}
 
--- what the index has shown of a text before its tokens are looked at; escapes says that it may have a backslash
-pub record IsIndexed (text : List ℕ) (escapes : Bool) : Type 0 where
+-- no backslash of a text stands outside
+pub record HoldSlashes (text : List ℕ) (slashes : Slashes) : Type 0 where
+  pub before : AreSlashless text 0 slashes.from
+  pub behind : AreSlashless text slashes.to (length text)
+
+-- what has been shown of a text before its tokens are looked at
+pub record IsIndexed (text : List ℕ) (slashes : Slashes) : Type 0 where
   pub utf8 : IsUtf8 text
   pub controls : HasControlInside text → ⊥
-  pub backslashes : escapes ≡ false → HasBackslash text → ⊥
+  pub escapes : HoldSlashes text slashes
 
 -- a quote right before the next place closes the string that begins at byte i
 abbrev pub ClosesBefore : List ℕ → (i next : ℕ) → Type 0

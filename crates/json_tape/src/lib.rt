@@ -31,6 +31,7 @@ mod plain;
 mod scalars;
 mod scan;
 mod second_stage;
+mod slashes;
 mod sought;
 mod tape;
 

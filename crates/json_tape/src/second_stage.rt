@@ -13,12 +13,13 @@ ghost use Rattle.decimal_order.specs.Limits.{IsWithinLimits};
 ghost use Rattle.json_tape.specs.Answer.{IsJson, StandsForAll, HasDepth, IsNoJson};
 ghost use Rattle.json_tape.specs.Building.{IsBounded};
 ghost use Rattle.json_tape.specs.Verdict.{text_limit};
-ghost use Rattle.json_tape.specs.Placing.{IsIndexed, ClosesBefore, StringEnds, Passed};
+ghost use Rattle.json_tape.specs.Placing.{IsIndexed, HoldSlashes, ClosesBefore, StringEnds, Passed};
 
 use crate::builder::Builder;
 use crate::compact::Tape;
 use crate::judge::has_short_exponent;
 use crate::scan::{quote_end, quote_past};
+use crate::slashes::Slashes;
 use crate::tape::{BuildFault, Extent, Kind, Shape, Want};
 use decimal_order::{late_exponents_keep_limits, scan};
 use std::alloc::Global;
@@ -175,12 +176,17 @@ fn has_quote_before(looks: &mut Looks<'_>, i: usize, next: usize) -> bool
 
 // The place past the string that begins at i, where the place behind it is this one.
 #[inline(always)]
-fn string_end(looks: &mut Looks<'_>, i: usize, next: usize, escapes: bool) -> Option<usize>
+fn string_end(
+    looks: &mut Looks<'_>,
+    i: usize,
+    next: usize,
+    slashes: Slashes,
+) -> Option<usize>
     requires in_text { i < length looks.old.0 }
     requires near { next ≤ length looks.old.0 }
     requires short { length looks.old.0 ≤ text_limit }
     requires quote { slice_index looks.old.0 i ≡ 34 }
-    requires indexed { IsIndexed looks.old.0 escapes }
+    requires indexed { IsIndexed looks.old.0 slashes }
     requires closes { ClosesBefore looks.old.0 i next }
     ensures ends { StringEnds looks.old.0 i result }
     ensures bound { IfSome result (λ end. (i < end) × (end ≤ length looks.old.0)) }
@@ -190,7 +196,7 @@ fn string_end(looks: &mut Looks<'_>, i: usize, next: usize, escapes: bool) -> Op
     if !has_quote_before(looks, i, next) {
         return quote_past(looks, i + 1);
     }
-    if !escapes {
+    if slashes.spare(i + 1, next) {
         return Some(next);
     }
     let Some(part) = looks.escaped_part(i + 1, next) else {
@@ -208,7 +214,7 @@ fn string(
     looks: &mut Looks<'_>,
     i: usize,
     next: usize,
-    escapes: bool,
+    slashes: Slashes,
     builder: &mut Builder,
     want: &mut Want,
 ) -> Result<usize, BuildFault>
@@ -217,13 +223,13 @@ fn string(
     requires short { length looks.old.0 ≤ text_limit }
     requires small { IsSmall text_limit builder.old }
     requires quote { slice_index looks.old.0 i ≡ 34 }
-    requires indexed { IsIndexed looks.old.0 escapes }
+    requires indexed { IsIndexed looks.old.0 slashes }
     requires closes { ClosesBefore looks.old.0 i next }
     ensures stepped { Stepped looks.old.0 i builder.old result builder.new }
     ensures same { looks.new.0 ≡ looks.old.0 }
     ensures looked { IfOk result (λ end. looks.new.1 + i ≤ looks.old.1 + end) }
 {
-    match string_end(looks, i, next, escapes) {
+    match string_end(looks, i, next, slashes) {
         None => Err(BuildFault::NotJson),
         Some(end) => {
             let source = Extent {
@@ -292,7 +298,7 @@ fn token(
     looks: &mut Looks<'_>,
     i: usize,
     next: usize,
-    escapes: bool,
+    slashes: Slashes,
     builder: &mut Builder,
     may_exceed: &mut bool,
     want: &mut Want,
@@ -301,7 +307,7 @@ fn token(
     requires near { next ≤ length looks.old.0 }
     requires short { length looks.old.0 ≤ text_limit }
     requires small { IsSmall text_limit builder.old }
-    requires indexed { IsIndexed looks.old.0 escapes }
+    requires indexed { IsIndexed looks.old.0 slashes }
     requires closes { ClosesBefore looks.old.0 i next }
     requires no_blank { blank (slice_index looks.old.0 i) ≡ false }
     ensures stepped { Stepped looks.old.0 i builder.old result builder.new }
@@ -312,7 +318,7 @@ fn token(
 {
     *want = Want::Value;
     match looks.at(i) {
-        b'"' => string(looks, i, next, escapes, builder, want),
+        b'"' => string(looks, i, next, slashes, builder, want),
         b'[' => past_sign(builder.open(Shape::Array, i as u32), i),
         b']' => {
             *want = Want::Next;
@@ -379,10 +385,16 @@ pub struct Reading {
 
 /// The tape of a text and its marks, or why there is none, by the places of its index.
 #[inline(always)]
-fn walk(alloc: Global, index: &Index, looks: &mut Looks<'_>) -> Result<Reading, BuildFault>
+fn walk(
+    alloc: Global,
+    index: &Index,
+    looks: &mut Looks<'_>,
+    slashes: Slashes,
+) -> Result<Reading, BuildFault>
     requires short { length looks.old.0 ≤ text_limit }
     requires utf8 { IsUtf8 looks.old.0 }
     requires index { IsIndexOf index.now looks.old.0 }
+    requires slashes { HoldSlashes looks.old.0 slashes }
     ensures same { looks.new.0 ≡ looks.old.0 }
     // A tape is given only where the text is JSON.
     ensures spelt { IfOk result (λ reading. IsJson looks.old.0) }
@@ -411,7 +423,7 @@ fn walk(alloc: Global, index: &Index, looks: &mut Looks<'_>) -> Result<Reading, 
             looks,
             i,
             next,
-            index.has_backslash,
+            slashes,
             &mut builder,
             &mut may_exceed,
             &mut want,
@@ -456,7 +468,8 @@ pub fn build(alloc: Global, index: &Index, looks: &mut Looks<'_>) -> Result<Tape
     // At most three looks for each place, and one for each source byte of a string, a number or a word.
     ensures looked { IfOk result (λ tape. IsBounded looks.old.0 looks.old.1 looks.new.1) }
 {
-    match walk(alloc, index, looks) {
+    let slashes = Slashes::anywhere(index.has_backslash, looks.length());
+    match walk(alloc, index, looks, slashes) {
         Ok(reading) => Ok(reading.tape),
         Err(fault) => Err(fault),
     }
@@ -481,5 +494,6 @@ pub fn read(alloc: Global, text: &[u8]) -> Result<Reading, BuildFault>
     let Ok(found) = index(alloc, text) else {
         return Err(BuildFault::Memory);
     };
-    walk(alloc, &found, &mut Looks::new(text))
+    let slashes = Slashes::of(text, found.has_backslash);
+    walk(alloc, &found, &mut Looks::new(text), slashes)
 }
