@@ -1,17 +1,18 @@
 // How many scalar values long strings mean, so that they are counted once.
 
-ghost use Rattle.std.specs.Prelude.{◌≡◌, ◌+◌, ◌<◌, ◌≤◌, ◌^◌, [], length, take, false, OnOk, IfOk, IfSome, IsTrue};
+ghost use Rattle.std.specs.Prelude.{◌≡◌, ◌+◌, ◌<◌, ◌≤◌, ◌^◌, [], ℕ, get_or, length, take, drop, false, OnOk, IfOk, IfSome, IsTrue};
 ghost use Rattle.std.specs.Str.{chars, IsCharBoundary};
 ghost use Rattle.json_tape.specs.Spelling.{has_backslash};
 ghost use Rattle.json_tape.specs.Verdict.{text_limit};
 ghost use Rattle.json_tape.specs.Document.{IsDocument};
-ghost use Rattle.json_tape.specs.Counted.{AreCounted};
+ghost use Rattle.json_tape.specs.Counted.{AreCounted, beginnings as beginnings_of};
 
 use crate::compact::Tape;
 use crate::scalars::{Scalars, unquoted};
 use crate::tape::{Entry, Kind};
 use memchr::memchr;
 use std::alloc::{AllocError, Global};
+use std::simd::prelude::*;
 
 // The length of a string of no more bytes, its quotes included, is counted where it is asked for.
 const SHORT: u32 = 64;
@@ -45,18 +46,59 @@ pub fn plain_length(text: &str) -> usize
     }
 }
 
-/// How many characters there are: as many as bytes that are none of 80 to BF (hexadecimal), by which no character begins (RFC 3629,
-/// section 3).
-pub fn characters(text: &str) -> usize
-    ensures { result ≡ length (chars text.now) }
+// So many bytes are looked at in one load.
+const LANES: usize = 16;
+
+// Whether the bytes of a load are all ASCII.
+#[inline(always)]
+fn are_ascii(bytes: &[u8], at: usize) -> bool
+    requires { at + LANES ≤ length bytes.now }
+    ensures { IsTrue result → (k : ℕ) → k < LANES → get_or bytes.now (at + k) 0 < 128 }
+{
+    let lanes = u8x16::from_slice(&bytes[at..]);
+    lanes.simd_ge(u8x16::splat(128)).to_bitmask() == 0
+}
+
+// How many of the bytes begin a character: those that are none of 80 to BF (hexadecimal).
+fn beginnings(bytes: &[u8]) -> usize
+    ensures value { result ≡ beginnings_of bytes.now }
+    ensures few { result ≤ length bytes.now }
 {
     let mut count = 0;
-    for byte in text.as_bytes() {
+    for byte in bytes {
         if *byte < 0x80 || *byte >= 0xC0 {
             count += 1;
         }
     }
     count
+}
+
+// The same of the bytes of a load.
+#[inline(always)]
+fn beginnings_at(bytes: &[u8], at: usize) -> usize
+    requires { at + LANES ≤ length bytes.now }
+    ensures value { result ≡ beginnings_of (take LANES (drop at bytes.now)) }
+    ensures few { result ≤ LANES }
+{
+    if are_ascii(bytes, at) {
+        LANES
+    } else {
+        beginnings(&bytes[at..at + LANES])
+    }
+}
+
+/// How many characters there are: as many as bytes that begin one (RFC 3629, section 3).
+pub fn characters(text: &str) -> usize
+    ensures { result ≡ length (chars text.now) }
+{
+    let bytes = text.as_bytes();
+    let mut count = 0;
+    let mut k = 0;
+    while bytes.len() - k >= LANES {
+        count += beginnings_at(bytes, k);
+        k += LANES;
+    }
+    count + beginnings(&bytes[k..])
 }
 
 /// How many scalar values are left.
