@@ -1,6 +1,6 @@
 -- The members of an object, from one entry to the next.
 use Rattle.std.proofs.Common.{◌≡◌, ℕ, ◌+◌, ◌<◌, ◌≤◌, List, [], ◌∷◌, ◌++◌, length, map, get_or, refl, sym, ap, ◌∙◌, subst, arith, append_assoc, length-append}
-use Rattle.std.proofs.lemmas.List.{get_or_at}
+use Rattle.std.proofs.lemmas.List.{get_or_at, get_or_default}
 use Rattle.json_tape.specs.Tree.{Name, Tree, Obj, Members, NoMember, Member}
 use Rattle.json_tape.specs.Letters.{IsString}
 use Rattle.json_tape.specs.Meaning.{meaning}
@@ -19,6 +19,9 @@ use Rattle.json_tape.proofs.Entries.{size_positive, label_is, after_is}
 -- what an index past the end gives
 abbrev pub no_entry : Entry
 no_entry = record { kind = kinds.Null; role = roles.Whole; label = record { start = 0; len = 0 }; source = record { start = 0; len = 0 }; up = 0; children = 0; after = 0 }
+
+pub same_entry : (tape : List Entry) (k : ℕ) → k < length tape → get_or tape k no_entry ≡ get_or tape k (get_or tape k no_entry)
+same_entry tape k h = get_or_default tape k no_entry (get_or tape k no_entry) h
 
 -- these members stand from entry k to the end
 pub record Left (text : List ℕ) (tape : List Entry) (up k end : ℕ) (ms : Members) : Type 0 where

@@ -1,7 +1,7 @@
 -- The members of wide objects, kept one object after the other.
-use Rattle.std.proofs.Common.{◌≡◌, ℕ, zero, suc, ◌+◌, ◌-◌, ◌<◌, ◌≤◌, false, Bool, inl, inr, List, [], ◌∷◌, ◌++◌, length, map, take, drop, get_or, refl, sym, ap, ◌∙◌, subst, arith, length-append}
+use Rattle.std.proofs.Common.{◌≡◌, ℕ, zero, suc, ◌+◌, ◌-◌, ◌<◌, ◌≤◌, true, false, Bool, cond, inl, inr, List, [], ◌∷◌, ◌++◌, length, map, take, drop, get_or, refl, sym, ap, ◌∙◌, subst, arith, length-append}
 use Rattle.std.specs.Prelude.{nat_eq}
-use Rattle.std.proofs.lemmas.Bool.{cases_lt}
+use Rattle.std.proofs.lemmas.Bool.{cases_lt, cases_Bool, false≢true}
 use Rattle.std.proofs.lemmas.List.{length-map, get_or_append_left, get_or_at, take-append-le, drop-append-le, drop_at, take_all, length-drop, get_or_read}
 use Rattle.std.specs.List.{All}
 use Rattle.std.proofs.lemmas.List.Elements.{All-from_recursion}
@@ -21,7 +21,9 @@ use Rattle.json_tape.specs.Repeats.{IsObject, repeats, meanings, repeats_by, rep
 use Rattle.json_tape.specs.Ordered.{Keyed, keyed, key_name, key_number, key_hash, name_cmp, name_hash, name_at, entry_in, nothing_there, IsOrderOf, AreKept, IsWide, part}
 use Rattle.json_tape.specs.KeyOrder.{keys_equiv, keys_total, keys_tie}
 use Rattle.json_tape.specs.declared.tape.Entry.{Entry}
+use Rattle.json_tape.specs.declared.tape.Kind.{Kind}
 use Rattle.json_tape.specs.declared.tape.Kind.TheVariants as kinds
+use Rattle.json_tape.specs.Cells.{is_object, members_in}
 use Rattle.json_tape.proofs.Numbers.{entry_at}
 use Rattle.json_tape.proofs.Repeats.{strict, sorted_repeats}
 use Rattle.json_tape.proofs.KeysLeft.{IsGood, all_good, length_keyed, repeats_keyed}
@@ -193,13 +195,34 @@ kept_as text tape n objects starts hashes members xs ys got moved sorted kept (m
     rw (a, b, c, d) (kept_more text tape n objects starts hashes members (map key_hash ys) (map key_number ys) kept
     (length-map ys key_number ∙ counted text tape n xs ys got moved sorted ms o) (ordered text tape n xs ys got moved sorted ms o none))
 
--- an entry that is read, and the same entry by its number
-pub not_wide : (tape : List Entry) (n : ℕ) (e : Entry) → e ≡ get_or tape n e → n < length tape → ((e.kind ≡ kinds.Object) × (1 < e.children) → ⊥) → IsWide (entry_in tape n) → ⊥
-not_wide tape n e q l h w =
-    let s : e ≡ entry_in tape n = get_or_read tape n e l q nothing_there in
-    let v = subst IsWide (sym s) w in
-    h (v.0, let m = v.1 in omega arith)
+-- what the number of its members tells of an object
+object_kind : (kind : Kind) → is_object kind ≡ true → kind ≡ kinds.Object
+object_kind kinds.Object h = refl
+object_kind kinds.Null h = absurd (false≢true h)
+object_kind (kinds.Bool b) h = absurd (false≢true h)
+object_kind kinds.Number h = absurd (false≢true h)
+object_kind kinds.Text h = absurd (false≢true h)
+object_kind kinds.Array h = absurd (false≢true h)
 
+pub members_are : (e : Entry) → 0 < members_in e → (e.kind ≡ kinds.Object) × (members_in e ≡ e.children)
+members_are e h = elim (cases_Bool (is_object e.kind)) [
+  | inl t ↦ (object_kind e.kind t, ap (λ b. cond b e.children 0) t)
+  | inr f ↦ absurd (let z : members_in e ≡ 0 = ap (λ b. cond b e.children 0) f in omega arith)
+]
+
+object_members : (e : Entry) → e.kind ≡ kinds.Object → members_in e ≡ e.children
+object_members e q = ap (λ k. cond (is_object k) e.children 0) q
+
+pub few_members : (e : Entry) (members : ℕ) → members ≡ members_in e → members ≤ 1 → (e.kind ≡ kinds.Object) × (1 < e.children) → ⊥
+few_members e members m l w = let q = object_members e w.0 in let h = w.1 in omega arith
+
+pub wide_by : (tape : List Entry) (n members : ℕ) → members ≡ members_in (entry_in tape n) → 16 < members → IsWide (entry_in tape n)
+wide_by tape n members m l = let w = members_are (entry_in tape n) (omega arith) in (w.0, let q = w.1 in omega arith)
+
+pub not_wide_by : (tape : List Entry) (n members : ℕ) → members ≡ members_in (entry_in tape n) → members ≤ 16 → IsWide (entry_in tape n) → ⊥
+not_wide_by tape n members m l w = let q = object_members (entry_in tape n) w.0 in let h = w.1 in omega arith
+
+-- an entry that is read, and the same entry by its number
 pub wide_there : (tape : List Entry) (n : ℕ) (e : Entry) → e ≡ get_or tape n e → n < length tape → IsWide e → IsWide (entry_in tape n)
 wide_there tape n e q l w = subst IsWide (get_or_read tape n e l q nothing_there) w
 

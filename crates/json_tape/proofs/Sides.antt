@@ -3,13 +3,14 @@ use Rattle.std.proofs.Common.{◌≡◌, inl, inr, ℕ, zero, suc, ◌+◌, ◌-
 use Rattle.std.proofs.lemmas.List.{get_or_append_left, get_or_default, get_or-append_right, length-set}
 use Rattle.std.proofs.lemmas.Bool.{false≢true, cases_Bool}
 use Rattle.json_tape.specs.declared.tape.Kind.{Kind}
+use Rattle.json_tape.specs.declared.tape.Kind.TheVariants as kinds
 use Rattle.json_tape.specs.declared.tape.Entry.{Entry}
 use Rattle.json_tape.specs.declared.tape.Extent.{Extent}
 use Rattle.json_tape.specs.declared.tape.Seat.{Seat}
 use Rattle.json_tape.specs.declared.cells.Cell.{Cell}
 use Rattle.json_tape.specs.declared.cells.Side.{Side}
 use Rattle.json_tape.specs.Machine.{change_at, closed}
-use Rattle.json_tape.specs.Cells.{holds, is_container, cell_kind, cell_role, cell_label, cell_start, cell_span, cell_up, leaf_entry, open_entry, leaf_seen, container_seen, seen, no_side, entries_from, entries_of, containers, container_at, AreNumbered, IsTape}
+use Rattle.json_tape.specs.Cells.{holds, is_container, is_object, members_in, cell_kind, cell_role, cell_label, cell_start, cell_span, cell_up, leaf_entry, open_entry, leaf_seen, container_seen, seen, no_side, entries_from, entries_of, containers, container_at, AreNumbered, IsTape}
 
 pub length-entries : (k : ℕ) (cells : List Cell) (sides : List Side) → length (entries_from k cells sides) ≡ length cells
 length-entries k [] sides = refl
@@ -165,7 +166,7 @@ side_inside cells sides n c t l e h =
     let y = t.counted in
     omega (arith, x, y, same)
 
-entry_here : (cells : List Cell) (sides : List Side) (v : List Entry) (n : ℕ) (c : Cell) (d : Entry) → entries_of cells sides ≡ v → n < length cells → c ≡ get_or cells n c
+pub entry_here : (cells : List Cell) (sides : List Side) (v : List Entry) (n : ℕ) (c : Cell) (d : Entry) → entries_of cells sides ≡ v → n < length cells → c ≡ get_or cells n c
     → get_or v n d ≡ seen n c (get_or sides (cell_span c) no_side)
 unfolding entries_of
 entry_here cells sides v n c d q l e =
@@ -266,3 +267,36 @@ closing_done cells sides v n c place children after end t q h e p a =
     ap (λ i. entries_from 0 cells (set sides i s)) span
     ∙ entries-set 0 0 cells sides n c s (closed place children (length v)) t.numbered w.0 w.1 (subst (λ i. i < length sides) span b) (λ z. rw (sym p, sym a) refl)
     ∙ ap (λ l. change_at l n (closed place children (length v))) q
+
+-- ---- A part of an entry alone
+
+seen_label : (k : ℕ) (c : Cell) (s : Side) (b : Bool) → (cond b (container_seen c s) (leaf_seen k c)).label ≡ cell_label c
+seen_label k c s true = refl
+seen_label k c s false = refl
+
+pub label_shown : (cells : List Cell) (sides : List Side) (v : List Entry) (n : ℕ) (c : Cell) (e : Entry) → entries_of cells sides ≡ v → n < length cells → c ≡ get_or cells n c → e ≡ get_or v n e → cell_label c ≡ e.label
+label_shown cells sides v n c e q l f g =
+    sym (ap (λ (x : Entry). x.label) (g ∙ entry_here cells sides v n c e q l f) ∙ seen_label n c (get_or sides (cell_span c) no_side) (holds c))
+
+is_holder : (kind : Kind) → is_object kind ≡ true → is_container kind ≡ true
+is_holder kinds.Object h = refl
+is_holder kinds.Null h = absurd (false≢true h)
+is_holder (kinds.Bool b) h = absurd (false≢true h)
+is_holder kinds.Number h = absurd (false≢true h)
+is_holder kinds.Text h = absurd (false≢true h)
+is_holder kinds.Array h = absurd (false≢true h)
+
+pub object_holds : (c : Cell) → is_object (cell_kind c) ≡ true → holds c ≡ true
+unfolding holds
+object_holds c h = is_holder (cell_kind c) h
+
+pub members_shown : (cells : List Cell) (sides : List Side) (v : List Entry) (n : ℕ) (c : Cell) (s : Side) (e : Entry) → entries_of cells sides ≡ v → n < length cells → c ≡ get_or cells n c → is_object (cell_kind c) ≡ true
+    → cell_span c < length sides → s ≡ get_or sides (cell_span c) s → e ≡ get_or v n e → s.children ≡ members_in e
+members_shown cells sides v n c s e q l f h b r g =
+    sym (ap (λ t. cond t s.children 0) h) ∙ ap members_in (container_shown cells sides v n c s e q l f (object_holds c h) b r ∙ sym g)
+
+pub no_members_shown : (cells : List Cell) (sides : List Side) (v : List Entry) (n : ℕ) (c : Cell) (e : Entry) → entries_of cells sides ≡ v → n < length cells → c ≡ get_or cells n c → is_object (cell_kind c) ≡ false
+    → e ≡ get_or v n e → 0 ≡ members_in e
+no_members_shown cells sides v n c e q l f h g =
+    let k : e.kind ≡ cell_kind c = ap (λ (x : Entry). x.kind) (g ∙ entry_here cells sides v n c e q l f) ∙ seen_kind n c (get_or sides (cell_span c) no_side) (holds c) in
+    sym (ap (λ t. cond t e.children 0) (ap is_object k ∙ h))

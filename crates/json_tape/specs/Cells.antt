@@ -36,6 +36,14 @@ is_container kinds.Array = true
 is_container kinds.Object = true
 is_container _ = false
 
+abbrev pub is_object : Kind → Bool
+is_object kinds.Object = true
+is_object _ = false
+
+-- of an object how many there are
+abbrev pub members_in : Entry → ℕ
+members_in e = cond (is_object e.kind) e.children 0
+
 -- the entry with this number is that of one of these
 abbrev pub container_at : List Entry → ℕ → Bool
 container_at [] n = false

@@ -2,7 +2,7 @@
 
 ghost use Rattle.std.specs.Prelude.{◌≡◌, ◌+◌, ◌++◌, ◌∷◌, [], ◌<◌, ◌≤◌, ◌^◌, IfOk, OnOk, OnErr, true, false, length, slice_index_or};
 ghost use Rattle.json_tape.specs.Machine.{change_at, closed};
-ghost use Rattle.json_tape.specs.Cells.{IsNear, is_container, container_at, leaf_entry, open_entry};
+ghost use Rattle.json_tape.specs.Cells.{IsNear, is_container, members_in, container_at, leaf_entry, open_entry};
 
 use crate::cells::{Cell, Side};
 use crate::growth::push;
@@ -154,5 +154,28 @@ impl Tape {
     {
         self.cells.shrink_to_fit();
         self.sides.shrink_to_fit();
+    }
+
+    /// How many members it has, where it is an object, and otherwise 0.
+    #[inline(always)]
+    pub fn members(&self, n: u32) -> u32
+        requires { n < length self.now }
+        ensures { (e : Entry) → e ≡ slice_index_or self.now n e → result ≡ members_in e }
+    {
+        let cell = self.cells[n as usize];
+        if cell.is_object() {
+            self.sides[cell.span() as usize].children
+        } else {
+            0
+        }
+    }
+
+    /// A member's name, or a start that is an element's index.
+    #[inline(always)]
+    pub fn label(&self, n: u32) -> Extent
+        requires { n < length self.now }
+        ensures { (e : Entry) → e ≡ slice_index_or self.now n e → result ≡ e.label }
+    {
+        self.cells[n as usize].label()
     }
 }

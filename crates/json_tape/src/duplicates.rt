@@ -10,11 +10,11 @@ ghost use Rattle.json_tape.specs.declared.tape.TextFault.TheVariants.{LoneSurrog
 
 use crate::again::has_repeated;
 use crate::compact::Tape;
+use crate::growth::push;
 use crate::hashes::hash;
 use crate::names::Name;
-use crate::order::{NameOrder, is_wide, order_members};
+use crate::order::{NARROW, NameOrder, order_members};
 use crate::scalars::unquoted;
-use crate::tape::{Entry, Kind};
 use std::alloc::{AllocError, Global};
 
 /// The order of the members of wide objects; `None` where two names of one object mean the same. Of a text without lone
@@ -31,7 +31,7 @@ pub fn order_names(alloc: Global, text: &str, tape: &Tape) -> Result<Option<Name
     let mut hashes = Vec::new(alloc);
     let mut order = NameOrder::new(alloc);
     for n in 0..tape.len() {
-        if may_repeat(tape.entry(n)) {
+        if tape.members(n) > 1 {
             let found = repeats_at(alloc, text, tape, n, &mut hashes, &mut order)?;
             if found {
                 return Ok(None);
@@ -57,20 +57,10 @@ fn repeats_at(
     ensures found { IfOk result (λ found. (ms : Members) → IsObject text.now tape.now n ms → found ≡ repeats (meanings ms)) }
     ensures kept { IfOk result (λ found. found ≡ false → AreKept text.now tape.now (n + 1) order.new.objects.items order.new.starts.items order.new.hashes.items order.new.members.items) }
 {
-    if is_wide(tape.entry(n)) {
+    if tape.members(n) > NARROW {
         order_members(alloc, text, tape, n, order)
     } else {
         repeats_in(alloc, text, tape, n, hashes)
-    }
-}
-
-// Only an object of two members or more has two names.
-fn may_repeat(entry: Entry) -> bool
-    ensures { IsTrue result ↔ ((entry.kind ≡ Kind.Object) × (1 < entry.children)) }
-{
-    match entry.kind {
-        Kind::Object => entry.children > 1,
-        Kind::Null | Kind::Bool(_) | Kind::Number | Kind::Text | Kind::Array => false,
     }
 }
 
@@ -105,12 +95,11 @@ fn collect_hashes(text: &str, tape: &Tape, n: u32, hashes: &mut Vec<u64>) -> Res
     ensures { OnOk result ((ms : Members) → IsObject text.now tape.now n ms → hashes.new.items ≡ map hash_of (meanings ms)) }
 {
     hashes.clear();
-    let end = tape.entry(n).after;
+    let end = tape.after(n);
     let mut next = n + 1;
     while next < end {
-        let entry = tape.entry(next);
-        hashes.push(hash(text, entry.label))?;
-        next = entry.after;
+        push(hashes, hash(text, tape.label(next)))?;
+        next = tape.after(next);
     }
     Ok(())
 }
