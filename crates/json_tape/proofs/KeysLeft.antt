@@ -1,5 +1,5 @@
 -- The members of an object that were collected, and those that are left.
-use Rattle.std.proofs.Common.{◌≡◌, ℕ, suc, ◌+◌, ◌<◌, ◌≤◌, Bool, ◌||◌, List, [], ◌∷◌, ◌++◌, length, get_or, refl, sym, ap, ◌∙◌, subst, arith, append_assoc, append-nil}
+use Rattle.std.proofs.Common.{◌≡◌, ℕ, suc, ◌+◌, ◌<◌, ◌≤◌, Bool, ◌||◌, List, [], ◌∷◌, ◌++◌, length, map, get_or, refl, sym, ap, ◌∙◌, subst, arith, append_assoc, append-nil}
 use Rattle.std.specs.List.{All, AllByRecursion, list_any}
 use Rattle.std.specs.Ordering.{on}
 use Rattle.std.proofs.lemmas.List.Elements.{All-from_recursion}
@@ -41,6 +41,34 @@ keyed_all text tape n k end met h before ms o = let b = before ms o in go b.0 b.
     go : (left : Members) → Left text tape n k end left → met ++ keyed left k ≡ keyed ms (n + 1) → met ≡ keyed ms (n + 1)
     go NoMember l e = sym (append-nil met) ∙ e
     go (Member m v others) l e = absurd (let z = size_positive v in let f = l.ends in omega arith)
+
+-- the same of what each member gives
+module _ (f : Keyed → ℕ) where
+  abbrev pub IsGiven : List ℕ → List Entry → ℕ → ℕ → ℕ → List ℕ → Type 0
+  IsGiven text tape n k end met = (ms : Members) → IsObject text tape n ms → (left : Members) × Left text tape n k end left × (met ++ map f (keyed left k) ≡ map f (keyed ms (n + 1)))
+
+  pub given_none : (text : List ℕ) (tape : List Entry) (n : ℕ) → IsGiven text tape n (n + 1) (get_or tape n no_entry).after []
+  given_none text tape n ms o = (ms, all_left text tape n ms o, refl)
+
+  pub given_more : (text : List ℕ) (tape : List Entry) (n k end : ℕ) (met : List ℕ) (one : ℕ) → k < end
+      → ((ms : Members) → IsObject text tape n ms → (left : Members) → (x : Next text tape n k end left) → one ≡ f (record { number = k; name = meaning x.name.characters }))
+      → IsGiven text tape n k end met → IsGiven text tape n (get_or tape k no_entry).after end (met ++ one ∷ [])
+  given_more text tape n k end met one h same before ms o =
+      let b = before ms o in
+      let x = next_left text tape n k end b.0 b.1 h in (
+        x.others,
+        x.left,
+        append_assoc met (one ∷ []) (map f (keyed x.others (get_or tape k no_entry).after)) ∙ ap (λ y. met ++ (y ∷ map f (keyed x.others (get_or tape k no_entry).after))) (same ms o b.0 x)
+            ∙ ap (λ j. met ++ (f (record { number = k; name = meaning x.name.characters }) ∷ map f (keyed x.others j))) x.past
+            ∙ ap (λ l. met ++ map f (keyed l k)) (sym x.whole) ∙ b.2,
+      )
+
+  pub given_all : (text : List ℕ) (tape : List Entry) (n k end : ℕ) (met : List ℕ) → end ≤ k → IsGiven text tape n k end met → (ms : Members) → IsObject text tape n ms → met ≡ map f (keyed ms (n + 1))
+  given_all text tape n k end met h before ms o = let b = before ms o in go b.0 b.1 b.2
+    where
+      go : (left : Members) → Left text tape n k end left → met ++ map f (keyed left k) ≡ map f (keyed ms (n + 1)) → met ≡ map f (keyed ms (n + 1))
+      go NoMember l e = sym (append-nil met) ∙ e
+      go (Member m v others) l e = absurd (let z = size_positive v in let f = l.ends in omega arith)
 
 pub key_is : (x : Keyed) (k : ℕ) (name : List ℕ) → x.number ≡ k → x.name ≡ name → x ≡ record { number = k; name = name }
 key_is x k name e f = ap (λ n. record { number = n; name = x.name }) e ∙ ap (λ l. record { number = k; name = l }) f

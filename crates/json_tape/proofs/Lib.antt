@@ -60,6 +60,7 @@ pub mod Placing
 pub mod LoneSteps
 pub mod Halving
 pub mod KeysLeft
+pub mod HashedWords
 pub mod Runs
 pub mod WideNodes
 pub mod CountedStrings

@@ -31,13 +31,13 @@ use Rattle.json_tape.proofs.KeysLeft.{IsGood, all_good, length_keyed, repeats_ke
 no_key : Keyed
 no_key = record { number = 0; name = [] }
 
-get_map : {A : Type 0} (f : A → ℕ) (xs : List A) (k : ℕ) (a : A) → k < length xs → get_or (map f xs) k 0 ≡ f (get_or xs k a)
+pub get_map : {A : Type 0} (f : A → ℕ) (xs : List A) (k : ℕ) (a : A) → k < length xs → get_or (map f xs) k 0 ≡ f (get_or xs k a)
 get_map f [] k a h = absurd (omega arith)
 get_map f (x ∷ xs) zero a h = refl
 get_map f (x ∷ xs) (suc k) a h = get_map f xs k a (omega arith)
 
 -- what is strictly in order, by two places
-in_order : {K : Type 0} (order : K → K → Ordering) (xs : List K) (d : K) → IsStrictlySortedBy order xs → (j k : ℕ) → j < k → k < length xs → order (get_or xs j d) (get_or xs k d) ≡ Less
+pub in_order : {K : Type 0} (order : K → K → Ordering) (xs : List K) (d : K) → IsStrictlySortedBy order xs → (j k : ℕ) → j < k → k < length xs → order (get_or xs j d) (get_or xs k d) ≡ Less
 unfolding IsStrictlySortedBy
 in_order order [] d s j k h l = absurd (omega arith)
 in_order order (x ∷ xs) d s j zero h l = absurd (omega arith)

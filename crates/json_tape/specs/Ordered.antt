@@ -57,6 +57,16 @@ key_name x = x.name
 abbrev pub key_hash : Keyed → ℕ
 key_hash x = name_hash x.name
 
+-- the hash of a member's name in front of its number
+abbrev pub word_of : Keyed → ℕ
+word_of x = key_hash x * 4294967296 + x.number
+
+unfoldable pub high_half : ℕ → ℕ
+high_half word = word / 4294967296
+
+unfoldable pub low_half : ℕ → ℕ
+low_half word = word % 4294967296
+
 -- ---- By the entries
 
 abbrev pub nothing_there : Entry

@@ -58,7 +58,7 @@ fn repeats_at(
     ensures kept { IfOk result (λ found. found ≡ false → AreKept text.now tape.now (n + 1) order.new.objects.items order.new.starts.items order.new.hashes.items order.new.members.items) }
 {
     if tape.members(n) > NARROW {
-        order_members(alloc, text, tape, n, order)
+        order_members(alloc, text, tape, n, hashes, order)
     } else {
         repeats_in(alloc, text, tape, n, hashes)
     }

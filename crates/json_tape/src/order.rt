@@ -1,13 +1,16 @@
 // The members of wide objects in the order of their names, so that a name is found by halving.
 
-ghost use Rattle.std.specs.Prelude.{◌≡◌, ℕ, ◌+◌, ◌<◌, ◌≤◌, ◌^◌, ◌++◌, ◌∷◌, [], length, map, IfSome, OnOk, get_or, IfOk, IsTrue, ◌↔◌, None, false};
+ghost use Rattle.std.specs.Prelude.{◌≡◌, ℕ, ◌+◌, ◌*◌, ◌<◌, ◌≤◌, ◌^◌, ◌++◌, ◌∷◌, [], length, map, IfSome, OnOk, get_or, IfOk, IsTrue, ◌↔◌, None, false, nat_eq};
 ghost use Rattle.std.specs.List.{Contains};
+ghost use Rattle.std.specs.Ordering.{on};
 ghost use Rattle.json_tape.specs.Tree.{Members};
-ghost use Rattle.json_tape.specs.Repeats.{repeats, meanings, IsObject};
-ghost use Rattle.json_tape.specs.Ordered.{AreNamed, IsOrderOf, AreKept, IsWide, entry_in, name_at, name_cmp, name_hash, keyed, key_number, key_hash, sought_name};
+ghost use Rattle.json_tape.specs.Repeats.{repeats, repeats_next_by, meanings, IsObject};
+ghost use Rattle.json_tape.specs.Ordered.{AreNamed, IsOrderOf, AreKept, IsWide, entry_in, name_at, name_cmp, name_hash, keyed, key_number, key_hash, word_of, high_half, low_half, sought_name};
 
 use crate::again::has_equal_neighbours;
 use crate::compact::Tape;
+use crate::growth::push;
+use crate::hashes::{hash, mixed};
 use crate::keys::Key;
 use crate::sought::{Sought, compare_sought, sought_hash};
 use crate::tape::{Entry, Kind};
@@ -16,6 +19,9 @@ use std::cmp::Ordering;
 
 /// An object of more members keeps their order.
 pub const NARROW: u32 = 16;
+
+// The values of half of a word.
+const HALF: u64 = 4_294_967_296;
 
 /// For each wide object its members in the order of their names.
 #[derive(Drop)]
@@ -131,7 +137,7 @@ fn collect_keys<'a>(
     Ok(keys)
 }
 
-// Adds the hashes and numbers of members.
+// The same, of keys.
 fn add_all(
     keys: &[Key<'_>],
     hashes: &mut Vec<u32>,
@@ -147,8 +153,77 @@ fn add_all(
     Ok(())
 }
 
-/// Keeps the order of the members of one more object, or finds a name that comes again.
-pub fn order_members(
+// A member as a word, in the order of the hashes.
+#[inline(always)]
+fn word(hash: u32, number: u32) -> u64
+    ensures { result ≡ hash * 4294967296 + number }
+{
+    u64::from(hash) * HALF + u64::from(number)
+}
+
+#[inline(always)]
+#[tactic(auto, unfolding(crate::specs::Ordered::high_half))]
+fn hash_in(word: u64) -> u32
+    ensures { result ≡ high_half word }
+{
+    (word / HALF) as u32
+}
+
+#[inline(always)]
+#[tactic(auto, unfolding(crate::specs::Ordered::low_half))]
+fn number_in(word: u64) -> u32
+    ensures { result ≡ low_half word }
+{
+    (word % HALF) as u32
+}
+
+// The members of the object with this number, each as a word, in place of the words that were there.
+fn collect_words(text: &str, tape: &Tape, n: u32, words: &mut Vec<u64>) -> Result<(), AllocError>
+    requires inside { n < length tape.now }
+    requires object { (ms : Members) × IsObject text.now tape.now n ms }
+    requires short { length tape.now < 2 ^ 31 }
+    ensures { OnOk result ((ms : Members) → IsObject text.now tape.now n ms → words.new.items ≡ map word_of (keyed ms (n + 1))) }
+{
+    words.clear();
+    let end = tape.after(n);
+    let mut k = n + 1;
+    while k < end {
+        push(words, word(mixed(hash(text, tape.label(k))), k))?;
+        k = tape.after(k);
+    }
+    Ok(())
+}
+
+// Whether the hash of one of the words is that of the next one.
+fn hashes_meet(words: &[u64]) -> bool
+    ensures { result ≡ repeats_next_by (on high_half nat_eq) words.now }
+{
+    for i in 1..words.len() {
+        if hash_in(words[i - 1]) == hash_in(words[i]) {
+            return true;
+        }
+    }
+    false
+}
+
+// Adds the hashes and numbers of members.
+fn add_words(
+    words: &[u64],
+    hashes: &mut Vec<u32>,
+    members: &mut Vec<u32>,
+) -> Result<(), AllocError>
+    ensures hashes { OnOk result (hashes.new.items ≡ hashes.old.items ++ map high_half words.now) }
+    ensures members { OnOk result (members.new.items ≡ members.old.items ++ map low_half words.now) }
+{
+    for word in words {
+        push(hashes, hash_in(*word))?;
+        push(members, number_in(*word))?;
+    }
+    Ok(())
+}
+
+// The same, where hashes meet.
+fn order_by_names(
     alloc: Global,
     text: &str,
     tape: &Tape,
@@ -171,5 +246,33 @@ pub fn order_members(
     order.objects.push(n)?;
     order.starts.push(order.members.len())?;
     add_all(keys.as_slice(), &mut order.hashes, &mut order.members)?;
+    Ok(false)
+}
+
+/// Keeps the order of the members of one more object, or finds a name that comes again. The words are room to work in.
+pub fn order_members(
+    alloc: Global,
+    text: &str,
+    tape: &Tape,
+    n: u32,
+    words: &mut Vec<u64>,
+    order: &mut NameOrder,
+) -> Result<bool, AllocError>
+    requires inside { n < length tape.now }
+    requires object { (ms : Members) × IsObject text.now tape.now n ms }
+    requires wide { IsWide (entry_in tape.now n) }
+    requires short { length tape.now < 2 ^ 31 }
+    requires kept { AreKept text.now tape.now n order.old.objects.items order.old.starts.items order.old.hashes.items order.old.members.items }
+    ensures found { IfOk result (λ found. (ms : Members) → IsObject text.now tape.now n ms → found ≡ repeats (meanings ms)) }
+    ensures kept { IfOk result (λ found. found ≡ false → AreKept text.now tape.now (n + 1) order.new.objects.items order.new.starts.items order.new.hashes.items order.new.members.items) }
+{
+    collect_words(text, tape, n, words)?;
+    words.as_mut_slice().sort_unstable();
+    if hashes_meet(words.as_slice()) {
+        return order_by_names(alloc, text, tape, n, order);
+    }
+    order.objects.push(n)?;
+    order.starts.push(order.members.len())?;
+    add_words(words.as_slice(), &mut order.hashes, &mut order.members)?;
     Ok(false)
 }
