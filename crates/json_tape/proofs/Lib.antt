@@ -61,6 +61,7 @@ pub mod LoneSteps
 pub mod Halving
 pub mod KeysLeft
 pub mod HashedWords
+pub mod Stamps
 pub mod Runs
 pub mod WideNodes
 pub mod CountedStrings

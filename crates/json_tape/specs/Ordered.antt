@@ -30,6 +30,13 @@ mixed h = (h * 0x9E3779B97F4A7C15) % (2 ^ 64) / 2 ^ 32
 abbrev pub name_hash : List ℕ → ℕ
 name_hash cs = mixed (hash_of cs)
 
+-- the ten highest bits of it
+unfoldable pub stamp : ℕ → ℕ
+stamp half = half / 4194304
+
+abbrev pub name_stamp : List ℕ → ℕ
+name_stamp cs = stamp (name_hash cs)
+
 abbrev pub name_cmp : List ℕ → List ℕ → Ordering
 name_cmp = then_cmp (on name_hash nat_cmp) (slice_cmp nat_cmp)
 

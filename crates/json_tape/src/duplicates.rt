@@ -5,13 +5,13 @@ ghost use Rattle.json_tape.specs.Tree.{Members};
 ghost use Rattle.json_tape.specs.Answer.{IsJson, StandsForAll};
 ghost use Rattle.json_tape.specs.Verdict.{Applies};
 ghost use Rattle.json_tape.specs.Repeats.{meanings, repeats, hash_of, IsObject};
-ghost use Rattle.json_tape.specs.Ordered.{AreKept};
+ghost use Rattle.json_tape.specs.Ordered.{AreKept, stamp};
 ghost use Rattle.json_tape.specs.declared.tape.TextFault.TheVariants.{LoneSurrogate, DuplicateName};
 
 use crate::again::has_repeated;
 use crate::compact::Tape;
 use crate::growth::push;
-use crate::hashes::hash;
+use crate::hashes::{hash, mixed};
 use crate::names::Name;
 use crate::order::{NARROW, NameOrder, order_members};
 use crate::scalars::unquoted;
@@ -29,10 +29,11 @@ pub fn order_names(alloc: Global, text: &str, tape: &Tape) -> Result<Option<Name
         × AreKept text.now tape.now (length tape.now) order.objects.items order.starts.items order.hashes.items order.members.items)) }
 {
     let mut hashes = Vec::new(alloc);
+    let mut owners = [u32::MAX; STAMPS];
     let mut order = NameOrder::new(alloc);
     for n in 0..tape.len() {
         if tape.members(n) > 1 {
-            let found = repeats_at(alloc, text, tape, n, &mut hashes, &mut order)?;
+            let found = repeats_at(alloc, text, tape, n, &mut owners, &mut hashes, &mut order)?;
             if found {
                 return Ok(None);
             }
@@ -47,6 +48,7 @@ fn repeats_at(
     text: &str,
     tape: &Tape,
     n: u32,
+    owners: &mut [u32; STAMPS],
     hashes: &mut Vec<u64>,
     order: &mut NameOrder,
 ) -> Result<bool, AllocError>
@@ -59,12 +61,49 @@ fn repeats_at(
 {
     if tape.members(n) > NARROW {
         order_members(alloc, text, tape, n, hashes, order)
+    } else if are_apart(text, tape, n, owners) {
+        Ok(false)
     } else {
         repeats_in(alloc, text, tape, n, hashes)
     }
 }
 
+// So many stamps tell names apart.
+const STAMPS: usize = 1024;
+
+#[inline(always)]
+#[tactic(auto, unfolding(crate::specs::Ordered::stamp))]
+fn stamp_of(half: u32) -> usize
+    ensures value { result ≡ stamp half }
+    ensures small { result < STAMPS }
+{
+    (half / 4_194_304) as usize
+}
+
+// Whether the names of the object with this number have a stamp each, so that none comes again. The object's number is set at the
+// stamps that it has.
+#[inline(never)]
+fn are_apart(text: &str, tape: &Tape, n: u32, owners: &mut [u32; STAMPS]) -> bool
+    requires inside { n < length tape.now }
+    requires object { (ms : Members) × IsObject text.now tape.now n ms }
+    requires short { length tape.now < 2 ^ 31 }
+    ensures { IsTrue result → (ms : Members) → IsObject text.now tape.now n ms → repeats (meanings ms) ≡ false }
+{
+    let end = tape.after(n);
+    let mut member = n + 1;
+    while member < end {
+        let place = stamp_of(mixed(hash(text, tape.label(member))));
+        if owners[place] == n {
+            return false;
+        }
+        owners[place] = n;
+        member = tape.after(member);
+    }
+    true
+}
+
 // Whether two names of the object with this number mean the same. The names are looked at only where a hash comes again.
+#[inline(never)]
 fn repeats_in(
     alloc: Global,
     text: &str,

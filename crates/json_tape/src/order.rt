@@ -250,6 +250,7 @@ fn order_by_names(
 }
 
 /// Keeps the order of the members of one more object, or finds a name that comes again. The words are room to work in.
+#[inline(never)]
 pub fn order_members(
     alloc: Global,
     text: &str,
