@@ -1,8 +1,9 @@
 -- A text in which no escape of a surrogate begins has no lone one.
 use Rattle.std.proofs.Common.{◌≡◌, ◌≢◌, ℕ, zero, suc, ◌+◌, ◌-◌, ◌*◌, ◌<◌, ◌≤◌, ◌⊎◌, inl, inr, true, false, Some, None, List, [], ◌∷◌, ◌++◌, length, take, drop, get_or, refl, sym, ap, subst, ◌∙◌, arith}
-use Rattle.structural_index.specs.Places.{HasBackslash}
+use Rattle.json_tape.specs.declared.slashes.Slashes.{Slashes}
+use Rattle.json_tape.specs.Placing.{HoldSlashes}
 use Rattle.std.proofs.lemmas.Bool.{cases_lt}
-use Rattle.std.proofs.lemmas.List.{get_or_past, length-drop, get_or-drop}
+use Rattle.std.proofs.lemmas.List.{get_or_past, length-drop, get_or-drop, get_or-take}
 use Rattle.memchr.specs.Find.{OccursAt, FindsNeedle}
 use Rattle.json_tape.specs.Tree.{Spelt, Plain, Short, Unit4, Tree, Leaf, Arr, Obj, Null, True, False, Num, Str}
 use Rattle.json_tape.specs.Letters.{IsHexDigit, IsChar, AreChars, IsString}
@@ -17,7 +18,6 @@ use Rattle.json_tape.proofs.Fits.{Fits, text_fits, part_fits}
 use Rattle.json_tape.proofs.Holders.{name_fits}
 use Rattle.json_tape.proofs.Lones.{HasLonePart}
 use Rattle.json_tape.proofs.Parts.{placed}
-use Rattle.json_tape.proofs.PlaceWalk.{same_default}
 
 -- ---- In parts of the bytes
 
@@ -106,11 +106,50 @@ within bs k v e = elim (cases_lt k (length bs)) [
   | inr above ↦ absurd (let z = get_or_past bs k 0 above in cc)
 ]
 
--- none begins where no byte is a backslash
-pub slashless_none : (bs : List ℕ) → (HasBackslash bs → ⊥) → HasNoSurrogates bs
-slashless_none bs h k e u =
-    let inside = within bs k 91 e in
-    absurd (h (k, inside, sym (same_default bs k inside) ∙ e))
+-- none begins outside the part in which all backslashes stand, with the two bytes behind each
+pub none_outside : (text : List ℕ) (s : Slashes) (end : ℕ) → HoldSlashes text s → end ≤ length text → (end < length text → s.to + 2 ≤ end)
+    → HasNoSurrogates (take (end - s.from) (drop s.from text)) → HasNoSurrogates text
+none_outside text s end held most far h k e u =
+    let inside = within text k 91 e in
+    let from : s.from ≤ k = elim (cases_lt k s.from) [
+      | inl l ↦ absurd (held.before k (omega arith) l e)
+      | inr l ↦ l
+    ] in
+    let to : k < s.to = elim (cases_lt k s.to) [
+      | inl l ↦ l
+      | inr l ↦ absurd (held.behind k l inside e)
+    ] in
+    let n = end - s.from in
+    let i = k - s.from in
+    let here : s.from + i ≡ k = omega arith in
+    let known : (j : ℕ) → k + j < end → get_or (take n (drop s.from text)) (i + j) 0 ≡ get_or text (k + j) 0 = λ j l.
+        let at : s.from + (i + j) ≡ k + j = omega arith in
+        get_or-take n (drop s.from text) (i + j) 0 (omega arith) ∙ get_or-drop s.from text (i + j) 0 ∙ ap (λ x. get_or text x 0) at in
+    let second = within text (suc k) 116 u in
+    elim (cases_lt (k + 2) end) [
+      | inl l ↦
+          (let zero_on : i + 0 ≡ i = omega arith in
+          let one_on : i + 1 ≡ suc i = omega arith in
+          let two_on : i + 2 ≡ suc (suc i) = omega arith in
+          let k_on : k + 0 ≡ k = omega arith in
+          let k_one : k + 1 ≡ suc k = omega arith in
+          let k_two : k + 2 ≡ suc (suc k) = omega arith in
+          let a = known 0 (omega arith) in let b = known 1 (omega arith) in let d = known 2 l in
+          let part = take n (drop s.from text) in
+          let first : get_or part i 0 ≡ 92 = subst (λ x. get_or part x 0 ≡ 92) zero_on (a ∙ ap (λ x. get_or text x 0) k_on ∙ e) in
+          let unit : get_or part (suc i) 0 ≡ 117 = subst (λ x. get_or part x 0 ≡ 117) one_on (b ∙ ap (λ x. get_or text x 0) k_one ∙ u) in
+          let last : get_or part (suc (suc i)) 0 ≡ get_or text (suc (suc k)) 0 = subst (λ x. get_or part x 0 ≡ get_or text (suc (suc k)) 0) two_on (d ∙ ap (λ x. get_or text x 0) k_two) in
+          let no = h i first unit in
+          (λ g. no.0 (last ∙ g), λ g. no.1 (last ∙ g)))
+      | inr l ↦
+          (let over : length text ≤ suc (suc k) = elim (cases_lt end (length text)) [
+            | inl low ↦ absurd (let m = far low in omega arith)
+            | inr high ↦ omega arith
+          ] in
+          let z = get_or_past text (suc (suc k)) 0 over in
+          (λ g. absurd (omega (arith, z, g)), λ g. absurd (omega (arith, z, g))))
+    ]
+
 
 -- an escape of a unit in the rest is an occurrence of its two bytes
 occurs : (text rest needle : List ℕ) (k m : ℕ) → rest ≡ drop k text → needle ≡ escape → get_or text (k + m) 0 ≡ 92 → get_or text (suc (k + m)) 0 ≡ 117 → OccursAt rest needle m

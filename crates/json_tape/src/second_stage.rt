@@ -3,7 +3,6 @@
 
 ghost use Rattle.std.specs.Prelude.{◌≡◌, ◌+◌, ◌-◌, ◌^◌, ◌<◌, ◌≤◌, length, get_or, slice_index, IfOk, IfSome, IsUtf8, IsErrOf, IsTrue, true, false};
 ghost use Rattle.structural_index.specs.Answer.{IsIndexOf};
-ghost use Rattle.structural_index.specs.Places.{HasBackslash};
 ghost use Rattle.structural_index.specs.Seams.{AreDigitsBut};
 ghost use Rattle.json_tape.specs.Machine.{IsSmall};
 ghost use Rattle.json_tape.specs.Lexing.{is_blank as blank, is_atom as atom, is_sign, WordIs, Stepped, ended, Marked, DigitsStand, IsFraction, HasNoExponent};
@@ -372,14 +371,14 @@ fn pass_sign(
     }
 }
 
-/// What reading a text found: its tape, how many containers lie in one another at most, whether a number may be beyond the limits, whether
-/// the text may have a backslash, and the most bytes of a value that is a string.
+/// What reading a text found: its tape, how many containers lie in one another at most, whether a number may be beyond the limits, where
+/// backslashes may stand, and the most bytes of a value that is a string.
 #[derive(Drop)]
 pub struct Reading {
     pub tape: Tape,
     pub depth: usize,
     pub may_exceed: bool,
-    pub escapes: bool,
+    pub slashes: Slashes,
     pub longest: u32,
 }
 
@@ -403,7 +402,7 @@ fn walk(
     ensures few { IfOk result (λ reading. length reading.tape < 2 ^ 31) }
     ensures depth { IfOk result (λ reading. HasDepth looks.old.0 reading.depth) }
     ensures numbers { IfOk result (λ reading. reading.may_exceed ≡ false → AreWithinLimits looks.old.0 reading.tape) }
-    ensures escapes { IfOk result (λ reading. reading.escapes ≡ false → HasBackslash looks.old.0 → ⊥) }
+    ensures slashes { IfOk result (λ reading. HoldSlashes looks.old.0 reading.slashes) }
     // Unless memory runs out, a text is refused only where it spells no tree.
     ensures refused { IsErrOf result BuildFault.NotJson → IsNoJson looks.old.0 }
     ensures looked { IfOk result (λ reading. IsBounded looks.old.0 looks.old.1 looks.new.1) }
@@ -443,7 +442,7 @@ fn walk(
             tape: builder.into_tape(),
             depth,
             may_exceed,
-            escapes: index.has_backslash,
+            slashes,
             longest,
         })
     } else {
@@ -487,7 +486,7 @@ pub fn read(alloc: Global, text: &[u8]) -> Result<Reading, BuildFault>
     ensures short { IfOk result (λ reading. length reading.tape < 2 ^ 31) }
     ensures depth { IfOk result (λ reading. HasDepth text.now reading.depth) }
     ensures numbers { IfOk result (λ reading. reading.may_exceed ≡ false → AreWithinLimits text.now reading.tape) }
-    ensures escapes { IfOk result (λ reading. reading.escapes ≡ false → HasBackslash text.now → ⊥) }
+    ensures slashes { IfOk result (λ reading. HoldSlashes text.now reading.slashes) }
     // Unless memory runs out, a text is refused only where it spells no tree.
     ensures refused { IsErrOf result BuildFault.NotJson → IsNoJson text.now }
 {

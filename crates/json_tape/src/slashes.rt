@@ -4,6 +4,7 @@ ghost use Rattle.std.specs.Prelude.{ℕ, List, ◌≡◌, ◌≤◌, IsTrue, fal
 ghost use Rattle.structural_index.specs.Places.{HasBackslash};
 ghost use Rattle.structural_index.specs.Seams.{AreSlashless};
 ghost use Rattle.json_tape.specs.Placing.{HoldSlashes};
+ghost use Rattle.json_tape.specs.Surrogates.{HasNoSurrogates};
 
 use memchr::{memchr, memrchr};
 
@@ -46,6 +47,19 @@ impl Slashes {
                 to: last + 1,
             },
             _ => Slashes::anywhere(true, text.len()),
+        }
+    }
+
+    /// The bytes in which all escapes of units begin, each with the two bytes behind its backslash.
+    pub fn part(self, text: &[u8]) -> &[u8]
+        requires { HoldSlashes text.now self }
+        ensures { HasNoSurrogates result.now → HasNoSurrogates text.now }
+    {
+        let end = text.len().min(self.to.saturating_add(2));
+        if self.from < end {
+            &text[self.from..end]
+        } else {
+            &text[..0]
         }
     }
 
