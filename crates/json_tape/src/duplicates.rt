@@ -29,7 +29,7 @@ pub fn order_names(alloc: Global, text: &str, tape: &Tape) -> Result<Option<Name
         × AreKept text.now tape.now (length tape.now) order.objects.items order.starts.items order.hashes.items order.members.items)) }
 {
     let mut hashes = Vec::new(alloc);
-    let mut owners = [u32::MAX; STAMPS];
+    let mut owners = [u8::MAX; STAMPS];
     let mut order = NameOrder::new(alloc);
     for n in 0..tape.len() {
         if tape.members(n) > 1 {
@@ -48,7 +48,7 @@ fn repeats_at(
     text: &str,
     tape: &Tape,
     n: u32,
-    owners: &mut [u32; STAMPS],
+    owners: &mut [u8; STAMPS],
     hashes: &mut Vec<u64>,
     order: &mut NameOrder,
 ) -> Result<bool, AllocError>
@@ -80,23 +80,24 @@ fn stamp_of(half: u32) -> usize
     (half / 4_194_304) as usize
 }
 
-// Whether the names of the object with this number have a stamp each, so that none comes again. The object's number is set at the
-// stamps that it has.
+// Whether the names of the object with this number have a stamp each, so that none comes again. The last byte of the number is left
+// at the stamps that were met; where another object left the same one, `false` says no more than that the names are to be compared.
 #[inline(never)]
-fn are_apart(text: &str, tape: &Tape, n: u32, owners: &mut [u32; STAMPS]) -> bool
+fn are_apart(text: &str, tape: &Tape, n: u32, owners: &mut [u8; STAMPS]) -> bool
     requires inside { n < length tape.now }
     requires object { (ms : Members) × IsObject text.now tape.now n ms }
     requires short { length tape.now < 2 ^ 31 }
     ensures { IsTrue result → (ms : Members) → IsObject text.now tape.now n ms → repeats (meanings ms) ≡ false }
 {
     let end = tape.after(n);
+    let owner = (n % 256) as u8;
     let mut member = n + 1;
     while member < end {
         let place = stamp_of(mixed(hash(text, tape.label(member))));
-        if owners[place] == n {
+        if owners[place] == owner {
             return false;
         }
-        owners[place] = n;
+        owners[place] = owner;
         member = tape.after(member);
     }
     true

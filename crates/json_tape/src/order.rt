@@ -207,11 +207,7 @@ fn hashes_meet(words: &[u64]) -> bool
 }
 
 // Adds the hashes and numbers of members.
-fn add_words(
-    words: &[u64],
-    hashes: &mut Vec<u32>,
-    members: &mut Vec<u32>,
-) -> Result<(), AllocError>
+fn add_words(words: &[u64], hashes: &mut Vec<u32>, members: &mut Vec<u32>) -> Result<(), AllocError>
     ensures hashes { OnOk result (hashes.new.items ≡ hashes.old.items ++ map high_half words.now) }
     ensures members { OnOk result (members.new.items ≡ members.old.items ++ map low_half words.now) }
 {
