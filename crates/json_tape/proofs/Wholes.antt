@@ -1,10 +1,11 @@
 -- A number without an exponent, by its digits.
 use Rattle.std.proofs.Common.{◌≡◌, ℕ, zero, suc, ◌+◌, ◌-◌, ◌<◌, ◌≤◌, inl, inr, List, [], ◌∷◌, ◌++◌, length, take, drop, get_or, false, refl, sym, ap, subst, ◌∙◌, arith, append-nil}
-use Rattle.std.proofs.lemmas.List.{drop_more, take_all, take-append-drop, length-drop, drop_all}
+use Rattle.std.proofs.lemmas.List.{drop_more, take_all, take-append-drop, length-drop, drop_all, get_or-take, get_or-drop}
 use Rattle.std.proofs.lemmas.Bool.{cases_lt}
 use Rattle.std.proofs.lemmas.Bool.Decides.{nat_tests}
 use Rattle.decimal_order.specs.Number.{IsDigit, AreDigits, AreSomeDigits, Optional, IsMinus, IsInt, IsFrac, IsNumber}
 use Rattle.decimal_order.specs.Value.{is_e}
+use Rattle.structural_index.specs.Decimals.{IsDecimal, IsDigitAt}
 use Rattle.json_tape.specs.Lexing.{DigitsStand, IsFraction, HasNoExponent}
 
 -- the digits from a place on, as a list
@@ -104,3 +105,26 @@ decimal_plain bs start point one m digits f = λ k l. elim (cases_lt k point) [
     | inr b ↦ (let z : k ≡ point = omega arith in let e = ap (λ n. get_or bs n 0) z ∙ f.0 in no_e (get_or bs k 0) (omega arith))
   ]
 ]
+
+-- ---- As it stands in a text
+
+pub decimal_is : (text bytes : List ℕ) (i : ℕ) → bytes ≡ take (length bytes) (drop i text) → IsDecimal text i (length bytes) → IsNumber bytes × HasNoExponent bytes
+decimal_is text bytes i e d =
+    let same : (k : ℕ) → k < length bytes → get_or bytes k 0 ≡ get_or text (i + k) 0 = λ k l.
+        ap (λ (b : List ℕ). get_or b k 0) e ∙ get_or-take (length bytes) (drop i text) k 0 l ∙ get_or-drop i text k 0 in
+    let digit : (k : ℕ) → k < length bytes → IsDigitAt text (i + k) → IsDigit (get_or bytes k 0) = λ k l h. subst IsDigit (sym (same k l)) h in
+    let f = d.fraction in
+    let until = f.until in
+    let some = d.some in
+    let digits : DigitsStand bytes d.first d.point = λ k a b. digit k (omega (arith, until, b)) (d.digits k a b) in
+    let z : i + 0 ≡ i = omega arith in
+    let minus : d.first ≡ 1 → get_or bytes 0 0 ≡ 45 = λ m. same 0 (omega (arith, until, some)) ∙ ap (λ k. get_or text k 0) z ∙ d.minus m in
+    let lead : get_or bytes d.first 0 ≡ 48 → d.point ≤ d.first + 1 = λ o. d.lead (sym (same d.first (omega (arith, until, some))) ∙ o) in
+    elim (cases_lt d.point (length bytes)) [
+      | inl a ↦
+          (let fraction : IsFraction bytes d.point = (same d.point a ∙ f.point_is a, f.some a, λ k from to. digit k to (f.digits k from to)) in
+          (decimal_number bytes d.first d.point d.sign minus some a digits lead fraction, decimal_plain bytes d.first d.point d.sign minus digits fraction))
+      | inr a ↦
+          (let all : d.point ≡ length bytes = omega (arith, until, a) in
+          (whole_number bytes d.first d.point d.sign minus some all digits lead, whole_plain bytes d.first d.point d.sign minus all digits))
+    ]

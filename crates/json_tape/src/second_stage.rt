@@ -3,12 +3,9 @@
 
 ghost use Rattle.std.specs.Prelude.{◌≡◌, ◌+◌, ◌-◌, ◌^◌, ◌<◌, ◌≤◌, length, get_or, slice_index, IfOk, IfSome, IsUtf8, IsErrOf, IsTrue, true, false};
 ghost use Rattle.structural_index.specs.Answer.{IsIndexOf};
-ghost use Rattle.structural_index.specs.Seams.{AreDigitsBut};
 ghost use Rattle.json_tape.specs.Machine.{IsSmall};
-ghost use Rattle.json_tape.specs.Lexing.{is_blank as blank, is_atom as atom, is_sign, WordIs, Stepped, ended, Marked, DigitsStand, IsFraction, HasNoExponent};
+ghost use Rattle.json_tape.specs.Lexing.{is_blank as blank, is_atom as atom, is_sign, WordIs, Stepped, ended, Marked};
 ghost use Rattle.json_tape.specs.Limits.{AreWithinLimits};
-ghost use Rattle.decimal_order.specs.Number.{IsNumber};
-ghost use Rattle.decimal_order.specs.Limits.{IsWithinLimits};
 ghost use Rattle.json_tape.specs.Answer.{IsJson, StandsForAll, HasDepth, IsNoJson};
 ghost use Rattle.json_tape.specs.Building.{IsBounded};
 ghost use Rattle.json_tape.specs.Verdict.{text_limit};
@@ -22,95 +19,7 @@ use crate::slashes::Slashes;
 use crate::tape::{BuildFault, Extent, Kind, Shape, Want};
 use decimal_order::{late_exponents_keep_limits, scan};
 use std::alloc::Global;
-use structural_index::{Atoms, Index, Looks, index, lanes_before};
-
-// The place past the digits that stand here, by the bits of the bytes that are none.
-#[inline(always)]
-fn digits_end(bytes: &[u8], others: u64, start: usize) -> usize
-    requires start { start ≤ length bytes.now }
-    requires few { length bytes.now < 32 }
-    requires others { AreDigitsBut bytes.now 0 (length bytes.now) others }
-    ensures lower_bound { start ≤ result }
-    ensures upper_bound { result ≤ length bytes.now }
-    ensures digits { DigitsStand bytes.now start result }
-{
-    start + lanes_before(others >> start, bytes.len() - start)
-}
-
-// How many bytes at the beginning are a minus sign.
-#[inline(always)]
-fn sign_length(bytes: &[u8]) -> usize
-    requires { 0 < length bytes.now }
-    ensures few { result ≤ 1 }
-    ensures minus { result ≡ 1 → get_or bytes.now 0 0 ≡ 45 }
-{
-    if bytes[0] == b'-' { 1 } else { 0 }
-}
-
-// Whether there are digits from one place to before another, and the first is no 0 before another one.
-#[inline(always)]
-fn has_no_leading_zero(bytes: &[u8], start: usize, end: usize) -> bool
-    requires { end ≤ length bytes.now }
-    ensures some { IsTrue result → start < end }
-    ensures first { IsTrue result → get_or bytes.now start 0 ≡ 48 → end ≤ start + 1 }
-{
-    if start >= end {
-        return false;
-    }
-    bytes[start] != b'0' || end - start == 1
-}
-
-// Whether the bytes from a point on are one and digits.
-#[inline(always)]
-fn is_fraction(bytes: &[u8], others: u64, point: usize) -> bool
-    requires inside { point < length bytes.now }
-    requires few { length bytes.now < 32 }
-    requires others { AreDigitsBut bytes.now 0 (length bytes.now) others }
-    ensures { IsTrue result → IsFraction bytes.now point }
-{
-    if bytes[point] != b'.' || point + 1 >= bytes.len() {
-        return false;
-    }
-    digits_end(bytes, others, point + 1) == bytes.len()
-}
-
-// Whether the bytes, of which the bits tell those that are no digits, are a number without an exponent.
-#[inline(always)]
-fn is_plain_number(bytes: &[u8], others: u64) -> bool
-    requires few { length bytes.now < 32 }
-    requires others { AreDigitsBut bytes.now 0 (length bytes.now) others }
-    ensures number { IsTrue result → IsNumber bytes.now }
-    ensures plain { IsTrue result → HasNoExponent bytes.now }
-{
-    if bytes.is_empty() {
-        return false;
-    }
-    let start = sign_length(bytes);
-    let point = digits_end(bytes, others, start);
-    if !has_no_leading_zero(bytes, start, point) {
-        return false;
-    }
-    if point < bytes.len() {
-        is_fraction(bytes, others, point)
-    } else {
-        true
-    }
-}
-
-// Whether the bytes are known to be a number without an exponent, and few.
-#[inline(always)]
-fn is_short_number(bytes: &[u8], others: Option<u64>) -> bool
-    requires few { IfSome others (λ others. length bytes.now < 32) }
-    requires others { IfSome others (λ others. AreDigitsBut bytes.now 0 (length bytes.now) others) }
-    ensures number { IsTrue result → IsNumber bytes.now }
-    ensures limits { IsTrue result → IsWithinLimits bytes.now }
-{
-    late_exponents_keep_limits();
-    match others {
-        Some(others) => is_plain_number(bytes, others),
-        None => false,
-    }
-}
+use structural_index::{Atoms, Index, Looks, index};
 
 #[inline(never)]
 fn word_kind(bytes: &[u8]) -> Option<Kind>
@@ -275,12 +184,13 @@ fn word(
     ensures same { looks.new.0 ≡ looks.old.0 }
     ensures looked { IfOk result (λ end. looks.new.1 + i ≤ looks.old.1 + end + 1) }
 {
-    let Atoms { bytes, others } = looks.atoms(i);
+    late_exponents_keep_limits();
+    let Atoms { bytes, decimal } = looks.atoms(i);
     let source = Extent {
         start: i as u32,
         len: bytes.len() as u32,
     };
-    if is_short_number(bytes, others) {
+    if decimal {
         return past_word(builder.leaf(source, Kind::Number), i, bytes.len());
     }
     *may_exceed |= !has_short_exponent(bytes);

@@ -1,10 +1,11 @@
 -- What stands in one lane of a vector, and what a bit of a mask tells of it.
-use Rattle.std.proofs.Common.{◌≡◌, ℕ, zero, suc, ◌+◌, ◌*◌, ◌%◌, ◌^◌, ◌<◌, ◌≤◌, ◌≢◌, eqb, leb, ltb, bit_or, cond, Bool, true, false, List, map, replicate, length, get_or, w64, inl, inr, refl, sym, ap, ap₂, ◌∙◌, arith}
+use Rattle.std.proofs.Common.{◌≡◌, ℕ, zero, suc, ◌+◌, ◌*◌, ◌-◌, ◌/◌, ◌%◌, ◌^◌, ◌<◌, ◌≤◌, ◌≢◌, eqb, leb, ltb, bit_or, cond, Bool, true, false, List, map, replicate, length, get_or, w64, inl, inr, refl, sym, ap, ap₂, ◌∙◌, arith}
 use Rattle.std.specs.Int.{bit_at, trailing_zeros}
 use Rattle.std.proofs.lemmas.Bool.{cases_lt}
 use Rattle.std.proofs.lemmas.Bool.Decides.{nat_tests}
 use Rattle.std.proofs.lemmas.List.{length-map, get_or-map}
-use Rattle.std.proofs.lemmas.Nat.{or_lt}
+use Rattle.std.proofs.Math.Nat.{div-le_self}
+use Rattle.std.proofs.lemmas.Nat.{or_lt, shr-shr}
 use Rattle.std.proofs.lemmas.Nat.Bits.{bit_at-zero, bit_at-trailing_zeros, bit_at_set_same, bit_at_set_other}
 use Rattle.std.proofs.lemmas.Simd.{length-zip2, get_or-zip2, length-replicate, get_or-replicate, length-chunk, get_or-chunk, mask_l-mod, bit_mask_l}
 use lib.Lanes.{chunk, zip2, mask_l, top}
@@ -81,6 +82,36 @@ module _ (stops n : ℕ) (fits : stops < 2 ^ 64) (inside : n < 64) where
       let other : i ≢ n = λ e. omega arith in
       sym (bit_at_set_other w64 stops n inside i other) ∙ lowest.2 i before
 
+-- bits from one on, where bit 32 is set
+module _ (mask from : ℕ) (fits : mask < 2 ^ 64) (most : from ≤ 32) (end : bit_at mask 32 ≡ 1) where
+  abbrev word : ℕ
+  word = mask / 2 ^ from
+
+  same_bit : (i : ℕ) → bit_at word i ≡ bit_at mask (from + i)
+  same_bit i = ap (λ x. x % 2) (shr-shr mask from i)
+
+  ends : bit_at word (32 - from) ≡ 1
+  ends = let back : from + (32 - from) ≡ 32 = omega arith in same_bit (32 - from) ∙ ap (bit_at mask) back ∙ end
+
+  first_set : (trailing_zeros w64 word < 64) × (bit_at word (trailing_zeros w64 word) ≡ 1) × ((i : ℕ) → i < trailing_zeros w64 word → bit_at word i ≡ 0)
+  first_set = let less = div-le_self mask (2 ^ from) in bit_at-trailing_zeros w64 word (some_bit word (32 - from) ends) (omega (arith, less, fits))
+
+  pub few_clear : from + trailing_zeros w64 word ≤ 32
+  few_clear = elim (cases_lt (32 - from) (trailing_zeros w64 word)) [
+    | inl past ↦ absurd (let clear = first_set.2 (32 - from) past in let set = ends in omega arith)
+    | inr within ↦ omega arith
+  ]
+
+  pub clear_from : (i : ℕ) → i < trailing_zeros w64 word → bit_at mask (from + i) ≡ 0
+  clear_from i before = sym (same_bit i) ∙ first_set.2 i before
+
+-- a bit that is set in front leaves the others
+pub set_behind : (stops n i : ℕ) → n < 64 → i ≢ n → bit_at (bit_or stops (1 * 2 ^ n % 2 ^ 64)) i ≡ 0 → bit_at stops i ≡ 0
+set_behind stops n i inside other clear = sym (bit_at_set_other w64 stops n inside i other) ∙ clear
+
+pub set_there : (stops n : ℕ) → n < 64 → bit_at (bit_or stops (1 * 2 ^ n % 2 ^ 64)) n ≡ 1
+set_there stops n inside = bit_at_set_same w64 stops n inside
+
 -- ---- Comparisons joined in a lane, none of which holds
 
 pub neither : (p q : Bool) → top 7 (bit_or (cond p 255 0) (cond q 255 0)) ≡ false → (p ≡ false) × (q ≡ false)
@@ -111,22 +142,6 @@ at_most x y = cond (leb x y) 255 0
 
 abbrev pub less : ℕ → ℕ → ℕ
 less x y = cond (ltb x y) 255 0
-
--- ---- Bytes from the minus sign to the nine
-
--- what stands in the lane is a byte of numbers
-number_byte : (x : ℕ) → ltb x 45 ≡ false → leb 58 x ≡ false → is_plain_atom x ≡ true
-number_byte x a b = grind (arith, nat_tests)
-
-pub number_lane : (n i : ℕ) (v : List ℕ) (x : ℕ) → n ≤ 64 → i < n → HasLane n i v x
-    → bit_at (mask_l (map (top 7) (zip2 bit_or (zip2 less v (replicate n 45)) (zip2 at_most (replicate n 58) v))) % 2 ^ 64) i ≡ 0
-    → is_plain_atom x ≡ true
-number_lane n i v x few inside lane clear =
-    let below = combined less n i v (replicate n 45) x 45 inside lane (repeated n i 45 inside) in
-    let above = combined at_most n i (replicate n 58) v 58 x inside (repeated n i 58 inside) lane in
-    let both = combined bit_or n i _ _ _ _ inside below above in
-    let t = neither (ltb x 45) (leb 58 x) (off 7 n i _ _ few inside both clear) in
-    number_byte x t.0 t.1
 
 -- ---- No backslash
 

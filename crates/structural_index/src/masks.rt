@@ -1,5 +1,5 @@
 // Masks of lanes.
-ghost use Rattle.std.specs.Prelude.{ℕ, ◌≡◌, ◌<◌, ◌≤◌};
+ghost use Rattle.std.specs.Prelude.{ℕ, ◌≡◌, ◌+◌, ◌<◌, ◌≤◌};
 ghost use Rattle.std.specs.Int.{bit_at};
 
 /// How many of so many lanes come before the first whose bit is set.
@@ -10,4 +10,15 @@ pub fn lanes_before(stops: u64, lanes: usize) -> usize
     ensures clear { (i : ℕ) → i < result → bit_at stops i ≡ 0 }
 {
     (stops | (1 << lanes)).trailing_zeros() as usize
+}
+
+/// How many bits from this one on come before the first that is set, where bit 32 is.
+#[inline(always)]
+pub fn clear_bits(mask: u64, from: usize) -> usize
+    requires from { from ≤ 32 }
+    requires end { bit_at mask 32 ≡ 1 }
+    ensures few { from + result ≤ 32 }
+    ensures clear { (i : ℕ) → i < result → bit_at mask (from + i) ≡ 0 }
+{
+    (mask >> from).trailing_zeros() as usize
 }

@@ -1,0 +1,41 @@
+use Rattle.std.proofs.Common.{◌≡◌, ◌+◌, ◌<◌, ◌≤◌, get_or, length, refl, ap, sym, ◌∙◌, arith}
+use Rattle.std.proofs.lemmas.List.{get_or_default}
+use Rattle.structural_index.specs.Seams.{is_plain_atom}
+use Rattle.structural_index.specs.Decimals.{IsDecimal}
+use Rattle.structural_index.proofs.Decimals.{decimal_atoms}
+use Rattle.structural_index.proofs.looks.decimal_run.Goals as goal
+use Rattle.structural_index.proofs.looks.decimal_run.Goals.{Then-often_ends_numbers}
+
+decimal : (c : Then-often_ends_numbers) → IsDecimal c.args.bytes.now c.args.at c.in-Some.end
+decimal c =
+    let sign = c.sign_length-first.ensures in
+    let lead = c.if-not-has_no_leading_zero.ensures in
+    record {
+      first = c.sign_length-first.result;
+      point = c.digits_end-point.result;
+      few = c.if-end-lt-NUMBER_LANES.true;
+      sign = sign.few;
+      minus = sign.minus;
+      some = lead.some refl;
+      digits = c.digits_end-point.ensures.digits;
+      lead = lead.lead refl;
+      fraction = c.in-Some.ensures;
+    }
+
+pub returns-then-often_ends_numbers-clause-decimal : goal.returns-then-often_ends_numbers-clause-decimal
+returns-then-often_ends_numbers-clause-decimal c = decimal c
+
+pub returns-then-often_ends_numbers-clause-run : goal.returns-then-often_ends_numbers-clause-run
+returns-then-often_ends_numbers-clause-run c =
+    let text = c.args.bytes.now in
+    let end = c.in-Some.end in
+    let few = c.if-end-lt-NUMBER_LANES.true in
+    let long = c.if-bytes-at-lt-NUMBER_LANES.false in
+    let here = c.requires in
+    let room : c.args.at + 32 ≤ length text = omega arith in
+    record {
+      from = omega arith;
+      to = omega (arith, room, few);
+      each = decimal_atoms text c.args.at end (decimal c) (omega (arith, room, few));
+      over = λ l. ap is_plain_atom (sym (get_or_default text (c.args.at + end) 0 32 l)) ∙ c.often_ends_numbers.ensures c.if-often_ends_numbers.true;
+    }
