@@ -73,6 +73,6 @@ ascii_part bytes k n room h =
     let left = length-drop k bytes in
     let long : length (take n (drop k bytes)) ≡ n = length-take-le n (drop k bytes) (omega (arith, left)) in
     sym (ascii_begin (take n (drop k bytes)) (λ i l. let inside : i < n = omega (arith, long, l) in
-      let e = get_or-take n (drop k bytes) i 0 inside ∙ get_or-drop k bytes i 0 in
-      let x = h i inside in
-      omega (arith, e, x)) ∙ long)
+    let e = get_or-take n (drop k bytes) i 0 inside ∙ get_or-drop k bytes i 0 in
+    let x = h i inside in
+    omega (arith, e, x)) ∙ long)

@@ -123,8 +123,8 @@ none_outside text s end held most far h k e u =
     let i = k - s.from in
     let here : s.from + i ≡ k = omega arith in
     let known : (j : ℕ) → k + j < end → get_or (take n (drop s.from text)) (i + j) 0 ≡ get_or text (k + j) 0 = λ j l.
-        let at : s.from + (i + j) ≡ k + j = omega arith in
-        get_or-take n (drop s.from text) (i + j) 0 (omega arith) ∙ get_or-drop s.from text (i + j) 0 ∙ ap (λ x. get_or text x 0) at in
+    let at : s.from + (i + j) ≡ k + j = omega arith in
+    get_or-take n (drop s.from text) (i + j) 0 (omega arith) ∙ get_or-drop s.from text (i + j) 0 ∙ ap (λ x. get_or text x 0) at in
     let second = within text (suc k) 116 u in
     elim (cases_lt (k + 2) end) [
       | inl l ↦
@@ -149,7 +149,6 @@ none_outside text s end held most far h k e u =
           let z = get_or_past text (suc (suc k)) 0 over in
           (λ g. absurd (omega (arith, z, g)), λ g. absurd (omega (arith, z, g))))
     ]
-
 
 -- an escape of a unit in the rest is an occurrence of its two bytes
 occurs : (text rest needle : List ℕ) (k m : ℕ) → rest ≡ drop k text → needle ≡ escape → get_or text (k + m) 0 ≡ 92 → get_or text (suc (k + m)) 0 ≡ 117 → OccursAt rest needle m

@@ -111,7 +111,7 @@ decimal_plain bs start point one m digits f = λ k l. elim (cases_lt k point) [
 pub decimal_is : (text bytes : List ℕ) (i : ℕ) → bytes ≡ take (length bytes) (drop i text) → IsDecimal text i (length bytes) → IsNumber bytes × HasNoExponent bytes
 decimal_is text bytes i e d =
     let same : (k : ℕ) → k < length bytes → get_or bytes k 0 ≡ get_or text (i + k) 0 = λ k l.
-        ap (λ (b : List ℕ). get_or b k 0) e ∙ get_or-take (length bytes) (drop i text) k 0 l ∙ get_or-drop i text k 0 in
+    ap (λ (b : List ℕ). get_or b k 0) e ∙ get_or-take (length bytes) (drop i text) k 0 l ∙ get_or-drop i text k 0 in
     let digit : (k : ℕ) → k < length bytes → IsDigitAt text (i + k) → IsDigit (get_or bytes k 0) = λ k l h. subst IsDigit (sym (same k l)) h in
     let f = d.fraction in
     let until = f.until in

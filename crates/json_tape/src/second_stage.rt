@@ -84,12 +84,7 @@ fn has_quote_before(looks: &mut Looks<'_>, i: usize, next: usize) -> bool
 
 // The place past the string that begins at i, where the place behind it is this one.
 #[inline(always)]
-fn string_end(
-    looks: &mut Looks<'_>,
-    i: usize,
-    next: usize,
-    slashes: Slashes,
-) -> Option<usize>
+fn string_end(looks: &mut Looks<'_>, i: usize, next: usize, slashes: Slashes) -> Option<usize>
     requires in_text { i < length looks.old.0 }
     requires near { next ≤ length looks.old.0 }
     requires short { length looks.old.0 ≤ text_limit }

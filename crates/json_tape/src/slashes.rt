@@ -21,15 +21,9 @@ impl Slashes {
         ensures { (text : List ℕ) → length text ≡ long → (any ≡ false → HasBackslash text → ⊥) → HoldSlashes text result }
     {
         if any {
-            Slashes {
-                from: 0,
-                to: long,
-            }
+            Slashes { from: 0, to: long }
         } else {
-            Slashes {
-                from: long,
-                to: 0,
-            }
+            Slashes { from: long, to: 0 }
         }
     }
 

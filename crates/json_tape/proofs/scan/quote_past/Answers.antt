@@ -22,7 +22,7 @@ loop-k-init c =
       from = from;
       within = subst (λ (b : List ℕ). end ≤ length b) (sym same) run.upper_bound;
       passed = subst (λ (b : List ℕ). string_end Between end (drop end b) ≡ string_end Between start (drop start b)) (sym same)
-        (plain_to bytes start start end from run.upper_bound run.none refl);
+          (plain_to bytes start start end from run.upper_bound run.none refl);
       same = same;
       few = omega (arith, now, most, from);
     }
@@ -50,9 +50,9 @@ loop-k-preserved-in-Go-Between c =
       from = omega (arith, from, first);
       within = subst (λ (b : List ℕ). end ≤ length b) (sym same) upper;
       passed = subst (λ (b : List ℕ). string_end Between end (drop end b) ≡ string_end Between start (drop start b)) (sym same)
-        (plain_to bytes start (k + 1) end from upper none
+          (plain_to bytes start (k + 1) end from upper none
           (quote_on bytes c.loop-k.mode k start c.at.result (search rules) (search rules)
-            (sym c.next_turn.ensures ∙ c.in-Go-Between.is ∙ ap Go c.in-Go-Between.field-0-is) before.passed));
+          (sym c.next_turn.ensures ∙ c.in-Go-Between.is ∙ ap Go c.in-Go-Between.field-0-is) before.passed));
       same = same ∙ before.same;
       few = omega (arith, now, most, from, looked, once, few);
     }

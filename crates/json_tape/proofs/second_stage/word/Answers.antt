@@ -15,9 +15,9 @@ pub returns-then-decimal-clause-marked : goal.returns-then-decimal-clause-marked
 returns-then-decimal-clause-marked c =
     let is = c.atoms-decimal in
     word_marked c.args.looks.now.0 is.result.bytes.now c.args.i c.args.may_exceed.now true c.args.may_exceed.now c.leaf.result c.past_word.result is.ensures.value (λ _.
-      let bytes = is.result.bytes.now in
-      let few = (is.ensures.decimal c.if-decimal.true).few in
-      c.late_exponents_keep_limits.ensures bytes (length bytes) (omega (arith, few)) (omega (arith, few)) (decimal_is c.args.looks.now.0 bytes c.args.i is.ensures.value (is.ensures.decimal c.if-decimal.true)).1) (unmarked c.args.may_exceed.now) c.past_word.ensures
+    let bytes = is.result.bytes.now in
+    let few = (is.ensures.decimal c.if-decimal.true).few in
+    c.late_exponents_keep_limits.ensures bytes (length bytes) (omega (arith, few)) (omega (arith, few)) (decimal_is c.args.looks.now.0 bytes c.args.i is.ensures.value (is.ensures.decimal c.if-decimal.true)).1) (unmarked c.args.may_exceed.now) c.past_word.ensures
 
 pub returns-in-None-clause-stepped : goal.returns-in-None-clause-stepped
 returns-in-None-clause-stepped c =

@@ -11,6 +11,6 @@ returns c =
     let is = c.plain_length-run.ensures in
     let whole : run - 0 ≡ run = omega arith in
     ap length (sym c.self.view_is) ∙ ap (λ l. length (scalars_in (chars l))) (sym c.as_str-rest.ensures)
-    ∙ ap length (plain_front rest run c.as_str-rest.utf8 is.boundary is.plain) ∙ length-append (chars (take run rest)) (scalars_in (chars (drop run rest))) 
+    ∙ ap length (plain_front rest run c.as_str-rest.utf8 is.boundary is.plain) ∙ length-append (chars (take run rest)) (scalars_in (chars (drop run rest)))
     ∙ ap₂ (λ m n. m + n) (ap (λ l. length (chars l)) (sym (c.range.ensures.value ∙ ap (λ n. take n rest) whole)) ∙ sym c.characters.ensures)
-        (ap (λ l. length (scalars_in (chars l))) (sym (c.chars-self-inside.ensures.rest ∙ c.range_from.ensures.value)))
+    (ap (λ l. length (scalars_in (chars l))) (sym (c.chars-self-inside.ensures.rest ∙ c.range_from.ensures.value)))
