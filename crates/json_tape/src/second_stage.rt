@@ -1,7 +1,8 @@
 //! Builds the tape of a text from the places of its index, one token each (Langdale and Lemire, "Parsing Gigabytes of JSON per
 //! Second", section 3.2).
 
-ghost use Rattle.std.specs.Prelude.{◌≡◌, ◌+◌, ◌-◌, ◌^◌, ◌<◌, ◌≤◌, length, get_or, slice_index, IfOk, IfSome, IsUtf8, IsErrOf, IsTrue, true, false};
+ghost use Rattle.std.specs.Prelude.{◌≡◌, ◌+◌, ◌-◌, ◌^◌, ◌<◌, ◌≤◌, ◌↔◌, length, get_or, slice_index, IfOk, IfSome, IsUtf8, IsErrOf, IsTrue, true, false};
+ghost use Rattle.decimal_order.specs.Number.{IsNumber};
 ghost use Rattle.structural_index.specs.Answer.{IsIndexOf};
 ghost use Rattle.json_tape.specs.Machine.{IsSmall};
 ghost use Rattle.json_tape.specs.Lexing.{is_blank as blank, is_atom as atom, is_sign, WordIs, Stepped, ended, Marked};
@@ -21,20 +22,39 @@ use decimal_order::{late_exponents_keep_limits, scan};
 use std::alloc::Global;
 use structural_index::{Atoms, Index, Looks, index};
 
+// Whether these bytes are these four.
+#[inline(always)]
+fn are_four(bytes: &[u8], four: [u8; 4]) -> bool
+    ensures { IsTrue result ↔ (bytes.now ≡ four) }
+{
+    bytes.len() == 4
+        && bytes[0] == four[0]
+        && bytes[1] == four[1]
+        && bytes[2] == four[2]
+        && bytes[3] == four[3]
+}
+
 #[inline(never)]
+fn is_number(bytes: &[u8]) -> bool
+    ensures { IsTrue result ↔ IsNumber bytes.now }
+{
+    scan(bytes).is_some()
+}
+
+#[inline(always)]
 fn word_kind(bytes: &[u8]) -> Option<Kind>
     ensures { WordIs bytes.now result }
 {
-    if bytes == b"null".as_slice() {
+    if are_four(bytes, *b"null") {
         return Some(Kind::Null);
     }
-    if bytes == b"true".as_slice() {
+    if are_four(bytes, *b"true") {
         return Some(Kind::Bool(true));
     }
-    if bytes == b"false".as_slice() {
+    if bytes.len() == 5 && bytes[4] == b'e' && are_four(&bytes[..4], *b"fals") {
         return Some(Kind::Bool(false));
     }
-    if scan(bytes).is_some() {
+    if is_number(bytes) {
         return Some(Kind::Number);
     }
     None

@@ -9,7 +9,6 @@ use Rattle.std.proofs.lemmas.Nat.{or_lt, shr-shr}
 use Rattle.std.proofs.lemmas.Nat.Bits.{bit_at-zero, bit_at-trailing_zeros, bit_at_set_same, bit_at_set_other}
 use Rattle.std.proofs.lemmas.Simd.{length-zip2, get_or-zip2, length-replicate, get_or-replicate, length-chunk, get_or-chunk, mask_l-mod, bit_mask_l}
 use lib.Lanes.{chunk, zip2, mask_l, top}
-use Rattle.structural_index.specs.Seams.{is_plain_atom}
 
 -- ---- One lane, built up as its vector is
 
@@ -165,14 +164,14 @@ unstopped_lane n i v x few inside lane clear =
     let t = none_of (eqb x 34) (eqb x 92) (ltb x 32) (off 7 n i _ _ few inside three clear) in
     (let a = t.0 in λ e. grind (arith, nat_tests), let b = t.1 in λ e. grind (arith, nat_tests), let d = t.2 in grind (arith, nat_tests))
 
--- ---- A digit
+-- ---- From one value to before another
 
-pub digit_lane : (n i : ℕ) (v : List ℕ) (x : ℕ) → n ≤ 64 → i < n → HasLane n i v x
-    → bit_at (mask_l (map (top 7) (zip2 bit_or (zip2 less v (replicate n 48)) (zip2 at_most (replicate n 58) v))) % 2 ^ 64) i ≡ 0
-    → (48 ≤ x) × (x ≤ 57)
-digit_lane n i v x few inside lane clear =
-    let below = combined less n i v (replicate n 48) x 48 inside lane (repeated n i 48 inside) in
-    let above = combined at_most n i (replicate n 58) v 58 x inside (repeated n i 58 inside) lane in
+pub range_lane : (n i low high : ℕ) (v : List ℕ) (x : ℕ) → n ≤ 64 → i < n → HasLane n i v x
+    → bit_at (mask_l (map (top 7) (zip2 bit_or (zip2 less v (replicate n low)) (zip2 at_most (replicate n high) v))) % 2 ^ 64) i ≡ 0
+    → (low ≤ x) × (x < high)
+range_lane n i low high v x few inside lane clear =
+    let below = combined less n i v (replicate n low) x low inside lane (repeated n i low inside) in
+    let above = combined at_most n i (replicate n high) v high x inside (repeated n i high inside) lane in
     let both = combined bit_or n i _ _ _ _ inside below above in
-    let t = neither (ltb x 48) (leb 58 x) (off 7 n i _ _ few inside both clear) in
+    let t = neither (ltb x low) (leb high x) (off 7 n i _ _ few inside both clear) in
     (let a = t.0 in grind (arith, nat_tests), let b = t.1 in grind (arith, nat_tests))

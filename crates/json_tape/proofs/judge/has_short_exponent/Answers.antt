@@ -1,6 +1,11 @@
 use Rattle.std.proofs.Common.{◌+◌, ◌≤◌, length, arith}
 use Rattle.json_tape.proofs.judge.has_short_exponent.Goals as goal
 
+pub returns-then-bytes-le-SHORT_LENGTH : goal.returns-then-bytes-le-SHORT_LENGTH
+returns-then-bytes-le-SHORT_LENGTH c = λ _.
+    let few = c.if-bytes-le-SHORT_LENGTH.true in
+    c.late_exponents_keep_limits.ensures c.args.bytes.now 0 (omega (arith, few)) (omega (arith, few)) (λ k below. absurd (omega arith))
+
 pub returns : goal.returns
 returns c = λ _.
     let e = c.saturating_sub-i-end.ensures in

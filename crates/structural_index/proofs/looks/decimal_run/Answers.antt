@@ -1,12 +1,12 @@
-use Rattle.std.proofs.Common.{◌≡◌, ◌+◌, ◌<◌, ◌≤◌, get_or, length, refl, ap, sym, ◌∙◌, arith}
+use Rattle.std.proofs.Common.{◌+◌, ◌≤◌, length, refl, ap, sym, ◌∙◌, arith}
 use Rattle.std.proofs.lemmas.List.{get_or_default}
 use Rattle.structural_index.specs.Seams.{is_plain_atom}
 use Rattle.structural_index.specs.Decimals.{IsDecimal}
 use Rattle.structural_index.proofs.Decimals.{decimal_atoms}
 use Rattle.structural_index.proofs.looks.decimal_run.Goals as goal
-use Rattle.structural_index.proofs.looks.decimal_run.Goals.{Then-often_ends_numbers}
+use Rattle.structural_index.proofs.looks.decimal_run.Goals.{Then-often_ends_atoms}
 
-decimal : (c : Then-often_ends_numbers) → IsDecimal c.args.bytes.now c.args.at c.in-Some.end
+decimal : (c : Then-often_ends_atoms) → IsDecimal c.args.bytes.now c.args.at c.in-Some.end
 decimal c =
     let sign = c.sign_length-first.ensures in
     let lead = c.if-not-has_no_leading_zero.ensures in
@@ -22,11 +22,11 @@ decimal c =
       fraction = c.in-Some.ensures;
     }
 
-pub returns-then-often_ends_numbers-clause-decimal : goal.returns-then-often_ends_numbers-clause-decimal
-returns-then-often_ends_numbers-clause-decimal c = decimal c
+pub returns-then-often_ends_atoms-clause-decimal : goal.returns-then-often_ends_atoms-clause-decimal
+returns-then-often_ends_atoms-clause-decimal c = decimal c
 
-pub returns-then-often_ends_numbers-clause-run : goal.returns-then-often_ends_numbers-clause-run
-returns-then-often_ends_numbers-clause-run c =
+pub returns-then-often_ends_atoms-clause-run : goal.returns-then-often_ends_atoms-clause-run
+returns-then-often_ends_atoms-clause-run c =
     let text = c.args.bytes.now in
     let end = c.in-Some.end in
     let few = c.if-end-lt-NUMBER_LANES.true in
@@ -37,5 +37,5 @@ returns-then-often_ends_numbers-clause-run c =
       from = omega arith;
       to = omega (arith, room, few);
       each = decimal_atoms text c.args.at end (decimal c) (omega (arith, room, few));
-      over = λ l. ap is_plain_atom (sym (get_or_default text (c.args.at + end) 0 32 l)) ∙ c.often_ends_numbers.ensures c.if-often_ends_numbers.true;
+      over = λ l. ap is_plain_atom (sym (get_or_default text (c.args.at + end) 0 32 l)) ∙ c.often_ends_atoms.ensures c.if-often_ends_atoms.true;
     }
