@@ -1,21 +1,20 @@
-use Rattle.std.proofs.Common.{◌+◌, ◌≤◌, length, refl, ap, sym, ◌∙◌, arith}
+use Rattle.std.proofs.Common.{◌+◌, refl, ap, sym, ◌∙◌, arith}
 use Rattle.std.proofs.lemmas.List.{get_or_default}
 use Rattle.structural_index.specs.Seams.{is_plain_atom}
 use Rattle.structural_index.specs.Decimals.{IsDecimal}
 use Rattle.structural_index.proofs.Decimals.{decimal_atoms}
-use Rattle.structural_index.proofs.looks.decimal_run.Goals as goal
-use Rattle.structural_index.proofs.looks.decimal_run.Goals.{Then-often_ends_atoms}
+use Rattle.structural_index.proofs.looks.signed_run.Goals as goal
+use Rattle.structural_index.proofs.looks.signed_run.Goals.{Then-often_ends_atoms}
 
 decimal : (c : Then-often_ends_atoms) → IsDecimal c.args.bytes.now c.args.at c.in-Some.end
 decimal c =
-    let sign = c.sign_length-first.ensures in
     let lead = c.if-not-has_no_leading_zero.ensures in
     record {
-      first = c.sign_length-first.result;
+      first = c.args.first;
       point = c.digits_end-point.result;
       few = c.if-end-lt-NUMBER_LANES.true;
-      sign = sign.few;
-      minus = sign.minus;
+      sign = c.requires.sign;
+      minus = c.requires.minus;
       some = lead.some refl;
       digits = c.digits_end-point.ensures.digits;
       lead = lead.lead refl;
@@ -30,9 +29,7 @@ returns-then-often_ends_atoms-clause-run c =
     let text = c.args.bytes.now in
     let end = c.in-Some.end in
     let few = c.if-end-lt-NUMBER_LANES.true in
-    let long = c.if-bytes-at-lt-NUMBER_LANES.false in
-    let here = c.requires in
-    let room : c.args.at + 32 ≤ length text = omega arith in
+    let room = c.requires.room in
     record {
       from = omega arith;
       to = omega (arith, room, few);
