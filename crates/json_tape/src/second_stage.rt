@@ -372,7 +372,7 @@ pub fn build(alloc: Global, index: &Index, looks: &mut Looks<'_>) -> Result<Tape
     // At most three looks for each place, and one for each source byte of a string, a number or a word.
     ensures looked { IfOk result (λ tape. IsBounded looks.old.0 looks.old.1 looks.new.1) }
 {
-    let slashes = Slashes::anywhere(index.has_backslash, looks.length());
+    let slashes = Slashes::anywhere(index.slashes.len() != 0, looks.length());
     match walk(alloc, index, looks, slashes) {
         Ok(reading) => Ok(reading.tape),
         Err(fault) => Err(fault),
@@ -398,6 +398,6 @@ pub fn read(alloc: Global, text: &[u8]) -> Result<Reading, BuildFault>
     let Ok(found) = index(alloc, text) else {
         return Err(BuildFault::Memory);
     };
-    let slashes = Slashes::of(text, found.has_backslash);
+    let slashes = Slashes::of(text, found.slashes.len() != 0);
     walk(alloc, &found, &mut Looks::new(text), slashes)
 }
