@@ -30,7 +30,7 @@ pub struct Surrogates {
     pub high: bool,
 }
 
-fn is_short(b: u8) -> bool
+pub fn is_short(b: u8) -> bool
     ensures { result ≡ short b }
 {
     b == b'"'
@@ -43,7 +43,7 @@ fn is_short(b: u8) -> bool
         || b == b't'
 }
 
-fn is_hex(b: u8) -> bool
+pub fn is_hex(b: u8) -> bool
     ensures { result ≡ hex b }
 {
     (48 <= b && b <= 57) || (65 <= b && b <= 70) || (97 <= b && b <= 102)

@@ -14,8 +14,9 @@ ghost use Rattle.json_tape.specs.Placing.{IsIndexed, HoldSlashes, ClosesBefore, 
 
 use crate::builder::Builder;
 use crate::compact::Tape;
+use crate::escapes::escapes_hold;
 use crate::judge::{has_short_exponent, may_be_lone};
-use crate::scan::{quote_end, quote_past};
+use crate::scan::quote_past;
 use crate::slashes::Slashes;
 use crate::tape::{BuildFault, Extent, Kind, Shape, Want};
 use decimal_order::{late_exponents_keep_limits, scan};
@@ -85,15 +86,21 @@ fn has_quote_before(looks: &mut Looks<'_>, i: usize, next: usize) -> bool
 
 // The place past the string that begins at i, where the place behind it is this one.
 #[inline(always)]
-fn string_end(looks: &mut Looks<'_>, i: usize, next: usize, slashes: Slashes) -> Option<usize>
+fn string_end(
+    looks: &mut Looks<'_>,
+    i: usize,
+    next: usize,
+    slashes: &mut Slashes<'_>,
+) -> Option<usize>
     requires in_text { i < length looks.old.0 }
     requires near { next ≤ length looks.old.0 }
     requires short { length looks.old.0 ≤ text_limit }
     requires quote { slice_index looks.old.0 i ≡ 34 }
-    requires indexed { IsIndexed looks.old.0 slashes }
+    requires indexed { IsIndexed looks.old.0 slashes.old }
     requires closes { ClosesBefore looks.old.0 i next }
     ensures ends { StringEnds looks.old.0 i result }
     ensures bound { IfSome result (λ end. (i < end) × (end ≤ length looks.old.0)) }
+    ensures slashes { HoldSlashes looks.old.0 slashes.new }
     ensures same { looks.new.0 ≡ looks.old.0 }
     ensures looked { IfSome result (λ end. looks.new.1 + i ≤ looks.old.1 + end) }
 {
@@ -103,12 +110,14 @@ fn string_end(looks: &mut Looks<'_>, i: usize, next: usize, slashes: Slashes) ->
     if slashes.spare(i + 1, next) {
         return Some(next);
     }
-    let Some(part) = looks.escaped_part(i + 1, next) else {
+    *slashes = slashes.advanced(i + 1);
+    if slashes.spare(i + 1, next) {
         return Some(next);
-    };
-    match quote_end(part, 0) {
-        Some(_) => Some(next),
-        None => None,
+    }
+    if escapes_hold(looks.part(i + 1, next - 1)) {
+        Some(next)
+    } else {
+        None
     }
 }
 
@@ -118,7 +127,7 @@ fn string(
     looks: &mut Looks<'_>,
     i: usize,
     next: usize,
-    slashes: Slashes,
+    slashes: &mut Slashes<'_>,
     builder: &mut Builder,
     want: &mut Want,
 ) -> Result<usize, BuildFault>
@@ -127,9 +136,10 @@ fn string(
     requires short { length looks.old.0 ≤ text_limit }
     requires small { IsSmall text_limit builder.old }
     requires quote { slice_index looks.old.0 i ≡ 34 }
-    requires indexed { IsIndexed looks.old.0 slashes }
+    requires indexed { IsIndexed looks.old.0 slashes.old }
     requires closes { ClosesBefore looks.old.0 i next }
     ensures stepped { Stepped looks.old.0 i builder.old result builder.new }
+    ensures slashes { HoldSlashes looks.old.0 slashes.new }
     ensures same { looks.new.0 ≡ looks.old.0 }
     ensures looked { IfOk result (λ end. looks.new.1 + i ≤ looks.old.1 + end) }
 {
@@ -203,7 +213,7 @@ fn token(
     looks: &mut Looks<'_>,
     i: usize,
     next: usize,
-    slashes: Slashes,
+    slashes: &mut Slashes<'_>,
     builder: &mut Builder,
     may_exceed: &mut bool,
     want: &mut Want,
@@ -212,11 +222,12 @@ fn token(
     requires near { next ≤ length looks.old.0 }
     requires short { length looks.old.0 ≤ text_limit }
     requires small { IsSmall text_limit builder.old }
-    requires indexed { IsIndexed looks.old.0 slashes }
+    requires indexed { IsIndexed looks.old.0 slashes.old }
     requires closes { ClosesBefore looks.old.0 i next }
     requires no_blank { blank (slice_index looks.old.0 i) ≡ false }
     ensures stepped { Stepped looks.old.0 i builder.old result builder.new }
     ensures marked { Marked looks.old.0 i may_exceed.old result may_exceed.new }
+    ensures slashes { HoldSlashes looks.old.0 slashes.new }
     ensures same { looks.new.0 ≡ looks.old.0 }
     ensures looked { IfOk result (λ end. looks.new.1 + i ≤ looks.old.1 + end + 2) }
     ensures once { is_sign (slice_index looks.old.0 i) ≡ true → looks.new.1 ≤ looks.old.1 + 1 }
@@ -290,16 +301,10 @@ pub struct Reading {
 
 /// The tape of a text and its marks, or why there is none, by the places of its index.
 #[inline(always)]
-fn walk(
-    alloc: Global,
-    index: &Index,
-    looks: &mut Looks<'_>,
-    slashes: Slashes,
-) -> Result<Reading, BuildFault>
+fn walk(alloc: Global, index: &Index, looks: &mut Looks<'_>) -> Result<Reading, BuildFault>
     requires short { length looks.old.0 ≤ text_limit }
     requires utf8 { IsUtf8 looks.old.0 }
     requires index { IsIndexOf index.now looks.old.0 }
-    requires slashes { HoldSlashes looks.old.0 slashes }
     ensures same { looks.new.0 ≡ looks.old.0 }
     // A tape is given only where the text is JSON.
     ensures spelt { IfOk result (λ reading. IsJson looks.old.0) }
@@ -316,6 +321,7 @@ fn walk(
         return Err(BuildFault::NotJson);
     }
     let places = index.places.as_slice();
+    let mut slashes = Slashes::new(index.slashes.as_slice(), looks.length());
     let mut builder = Builder::new(alloc, places.len() / 2 + 1)?;
     let mut may_exceed = false;
     let mut want = Want::Value;
@@ -327,7 +333,7 @@ fn walk(
             looks,
             i,
             next,
-            slashes,
+            &mut slashes,
             &mut builder,
             &mut may_exceed,
             &mut want,
@@ -372,8 +378,7 @@ pub fn build(alloc: Global, index: &Index, looks: &mut Looks<'_>) -> Result<Tape
     // At most three looks for each place, and one for each source byte of a string, a number or a word.
     ensures looked { IfOk result (λ tape. IsBounded looks.old.0 looks.old.1 looks.new.1) }
 {
-    let slashes = Slashes::anywhere(index.slashes.len() != 0, looks.length());
-    match walk(alloc, index, looks, slashes) {
+    match walk(alloc, index, looks) {
         Ok(reading) => Ok(reading.tape),
         Err(fault) => Err(fault),
     }
@@ -399,8 +404,7 @@ pub fn read(alloc: Global, text: &[u8]) -> Result<Reading, BuildFault>
         return Err(BuildFault::Memory);
     };
     let blocks = found.slashes.as_slice();
-    let slashes = Slashes::anywhere(blocks.len() != 0, text.len());
-    match walk(alloc, &found, &mut Looks::new(text), slashes) {
+    match walk(alloc, &found, &mut Looks::new(text)) {
         Ok(reading) => Ok(Reading {
             may_be_lone: may_be_lone(text, blocks),
             ..reading

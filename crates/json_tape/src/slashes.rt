@@ -1,34 +1,85 @@
-// Where in a text backslashes may stand.
+// Where in a text no backslash stands.
 
-ghost use Rattle.std.specs.Prelude.{ℕ, List, ◌≡◌, ◌≤◌, IsTrue, false, length};
-ghost use Rattle.structural_index.specs.Places.{HasBackslash};
+ghost use Rattle.std.specs.Prelude.{ℕ, List, ◌≡◌, ◌+◌, ◌-◌, ◌<◌, ◌≤◌, IsTrue, get_or, length};
+ghost use Rattle.structural_index.specs.Places.{AreSlashBlocks};
 ghost use Rattle.structural_index.specs.Seams.{AreSlashless};
 ghost use Rattle.json_tape.specs.Placing.{HoldSlashes};
 
-/// From one place to before another: all backslashes of a text stand there.
+// How many bytes a block has.
+const BLOCK: usize = 64;
+
+/// A gap, from one place to before another, in which no backslash of a text stands, and the number of the first block behind it of
+/// those in which backslashes stand.
 #[derive(Clone, Copy)]
-pub struct Slashes {
+pub struct Slashes<'a> {
     from: usize,
     to: usize,
+    blocks: &'a [u32],
+    next: usize,
+    long: usize,
 }
 
-impl Slashes {
-    /// Anywhere in a text of this length, unless there is known to be none.
-    pub fn anywhere(any: bool, long: usize) -> Slashes
-        ensures { (text : List ℕ) → length text ≡ long → (any ≡ false → HasBackslash text → ⊥) → HoldSlashes text result }
+// The place behind the block in front of this one.
+fn gap_start(blocks: &[u32], next: usize) -> usize
+    requires { next ≤ length blocks.now }
+    ensures { 0 < next → result ≡ get_or blocks.now (next - 1) 0 + 64 }
+{
+    if next == 0 {
+        0
+    } else {
+        blocks[next - 1] as usize + BLOCK
+    }
+}
+
+// The first byte of this block, or the end of the text.
+fn gap_end(blocks: &[u32], next: usize, long: usize) -> usize
+    ensures { result ≡ get_or blocks.now next long }
+{
+    if next < blocks.len() {
+        blocks[next] as usize
+    } else {
+        long
+    }
+}
+
+impl<'a> Slashes<'a> {
+    /// No gap yet, in a text of this length whose backslashes stand in these blocks.
+    pub fn new(blocks: &'a [u32], long: usize) -> Slashes<'a>
+        ensures { (text : List ℕ) → AreSlashBlocks text blocks.now → long ≡ length text → HoldSlashes text result }
     {
-        if any {
-            Slashes { from: 0, to: long }
-        } else {
-            Slashes { from: long, to: 0 }
+        Slashes {
+            from: 0,
+            to: 0,
+            blocks,
+            next: 0,
+            long,
         }
     }
 
     /// Whether none stands from one place to before another.
     #[inline(always)]
-    pub fn spare(self, start: usize, end: usize) -> bool
-        ensures { IsTrue result → (text : List ℕ) → HoldSlashes text self → end ≤ length text → AreSlashless text start end }
+    pub fn spare(&self, start: usize, end: usize) -> bool
+        ensures { IsTrue result → (text : List ℕ) → HoldSlashes text self.now → AreSlashless text start end }
     {
-        end <= self.from || self.to <= start
+        self.from <= start && end <= self.to
+    }
+
+    /// The gap in front of the first block from here on that ends behind a place.
+    #[inline(never)]
+    pub fn advanced(self, start: usize) -> Slashes<'a>
+        requires { self.next ≤ length self.blocks.now }
+        ensures { (text : List ℕ) → HoldSlashes text self.entry → HoldSlashes text result }
+    {
+        let mut next = self.next;
+        while next < self.blocks.len() && self.blocks[next] as usize + BLOCK <= start {
+            next += 1;
+        }
+        Slashes {
+            from: gap_start(self.blocks, next),
+            to: gap_end(self.blocks, next, self.long),
+            blocks: self.blocks,
+            next,
+            long: self.long,
+        }
     }
 }
