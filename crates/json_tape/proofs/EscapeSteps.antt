@@ -1,8 +1,7 @@
 -- Escapes one after the other, and the string that they stand in.
-use Rattle.std.proofs.Common.{◌≡◌, ◌≢◌, ℕ, zero, suc, ◌+◌, ◌-◌, ◌<◌, ◌≤◌, ◌⊎◌, inl, inr, Bool, true, false, cond, ◌&&◌, eqb, ltb, List, [], ◌∷◌, ◌++◌, length, drop, get_or, Option, Some, None, refl, sym, ap, subst, ◌∙◌, arith}
-use Rattle.std.proofs.lemmas.Bool.{cases_lt}
+use Rattle.std.proofs.Common.{◌≡◌, ◌≢◌, ℕ, zero, suc, ◌+◌, ◌-◌, ◌<◌, ◌≤◌, Bool, true, false, cond, ◌&&◌, eqb, ltb, List, [], ◌∷◌, ◌++◌, length, drop, get_or, Some, None, refl, sym, ap, subst, ◌∙◌, arith}
 use Rattle.std.proofs.lemmas.Bool.Decides.{nat_tests}
-use Rattle.std.proofs.lemmas.List.{drop_more, drop_all, length-drop}
+use Rattle.std.proofs.lemmas.List.{drop_more, length-drop}
 use Rattle.structural_index.specs.Seams.{AreSlashless}
 use Rattle.json_tape.specs.declared.scan.Mode.{Mode}
 use Rattle.json_tape.specs.declared.scan.Mode.TheVariants.{Between, Escape, Hex}
@@ -28,9 +27,6 @@ slashless_to text k m from to none =
     let same : k + (m - k) ≡ m = omega arith in
     subst (λ i. hold_escapes Between (drop i text) ≡ hold_escapes Between (drop k text)) same (slashless_held text k (m - k) (omega arith) (λ i a b. none i a (omega arith)))
 
-pub held_at_end : (text : List ℕ) (k : ℕ) → length text ≤ k → hold_escapes Between (drop k text) ≡ true
-held_at_end text k l = ap (hold_escapes Between) (drop_all k text l)
-
 module _ (text : List ℕ) (k : ℕ) (inside : k < length text) (slash : get_or text k 0 ≡ 92) where
   abbrev held : Mode → ℕ → Bool
   held m i = hold_escapes m (drop i text)
@@ -38,18 +34,11 @@ module _ (text : List ℕ) (k : ℕ) (inside : k < length text) (slash : get_or 
   begun : held Between k ≡ held Escape (k + 1)
   begun = ap (hold_escapes Between) (drop_more text k 0 inside ∙ ap (λ b. b ∷ drop (k + 1) text) slash)
 
-  -- where the text ends
-  pub cut_off : k + 1 ≡ length text → held Between k ≡ false
-  cut_off e = begun ∙ ap (hold_escapes Escape) (drop_all (k + 1) text (omega arith))
-
   letter : k + 1 < length text → held Between k ≡ cond (is_short (get_or text (k + 1) 0)) (held Between (k + 2)) (eqb (get_or text (k + 1) 0) 117 && held (Hex 3) (k + 2))
   letter l =
       let two : k + 1 + 1 ≡ k + 2 = omega arith in
       subst (λ i. held Between k ≡ cond (is_short (get_or text (k + 1) 0)) (held Between i) (eqb (get_or text (k + 1) 0) 117 && held (Hex 3) i)) two
       (begun ∙ ap (hold_escapes Escape) (drop_more text (k + 1) 0 l))
-
-  pub short_held : k + 1 < length text → is_short (get_or text (k + 1) 0) ≡ true → held Between (k + 2) ≡ held Between k
-  short_held l t = sym (letter l ∙ rw t refl)
 
   pub other_letter : k + 1 < length text → is_short (get_or text (k + 1) 0) ≡ false → eqb (get_or text (k + 1) 0) 117 ≡ false → held Between k ≡ false
   other_letter l t u = letter l ∙ rw (t, u) refl

@@ -1,5 +1,5 @@
 -- What a builder that goes from place to place asks of the text, what it finds of a string, and how it passes a colon or a comma.
-use Rattle.std.specs.Prelude.{◌≡◌, ◌<◌, ◌≤◌, ℕ, suc, ◌+◌, Bool, false, List, drop, length, get_or, Option, Some, None, Result, Ok, Err, IsUtf8}
+use Rattle.std.specs.Prelude.{◌≡◌, ◌<◌, ◌≤◌, ℕ, suc, ◌+◌, false, List, drop, length, get_or, Option, Some, None, Result, Ok, Err, IsUtf8}
 use Rattle.structural_index.specs.Places.{byte, HasControlInside, AreSlashBlocks}
 use Rattle.structural_index.specs.Seams.{IsSpan, AreSlashless}
 use Rattle.json_tape.specs.declared.slashes.Slashes.{Slashes}

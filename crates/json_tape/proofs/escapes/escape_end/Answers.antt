@@ -1,4 +1,4 @@
-use Rattle.std.proofs.Common.{◌≡◌, ℕ, ◌+◌, ◌<◌, eqb, false, get_or, length, sym, ap, ◌∙◌, arith}
+use Rattle.std.proofs.Common.{◌≡◌, ℕ, ◌+◌, ◌<◌, eqb, false, length, sym, ◌∙◌, arith}
 use Rattle.std.proofs.lemmas.Bool.Decides.{nat_tests}
 use Rattle.json_tape.proofs.EscapeSteps.{unit_held, no_digits, few_digits, other_letter}
 use Rattle.json_tape.proofs.escapes.escape_end.Goals.{else-letter-eq117-via-then-letter-eq117+then-text-start-ge-UNIT+else-are_digits, else-letter-eq117-via-then-letter-eq117+else-text-start-ge-UNIT, else-letter-eq117-via-else-letter-eq117}

@@ -1,4 +1,4 @@
-use Rattle.std.proofs.Common.{◌≡◌, ◌<◌, ◌≤◌, inl, inr, length, get_or, subst, sym, ap, arith}
+use Rattle.std.proofs.Common.{◌≡◌, inl, inr, get_or, subst, arith}
 use Rattle.std.proofs.lemmas.Bool.{cases_lt}
 use Rattle.json_tape.proofs.Surrogateless.{NoneInBlock, none_in_block, none_in_blocks, block_inside}
 use Rattle.json_tape.proofs.judge.may_be_lone.Goals as goal
