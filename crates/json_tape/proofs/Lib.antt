@@ -25,6 +25,8 @@ pub mod ShortNumbers
 pub mod LoneLaw
 pub mod Holders
 pub mod Lones
+pub mod EscapeSteps
+pub mod Gaps
 pub mod Surrogateless
 pub mod Entries
 pub mod Parts

@@ -1,15 +1,15 @@
 -- What a token costs and shows at its place: strings by the byte before the next place, words by their run.
 use Rattle.std.proofs.Common.{◌≡◌, ℕ, zero, suc, ◌+◌, ◌-◌, ◌<◌, ◌≤◌, inl, inr, Bool, true, false, cond, List, [], ◌∷◌, ◌++◌, length, take, drop, get_or, filter, Option, Some, None, refl, sym, ap, subst, ◌∙◌, arith, append_assoc, length-append}
 use Rattle.std.specs.List.{range_with_len}
-use Rattle.std.specs.Prelude.{Result, Ok, Err, IsUtf8}
+use Rattle.std.specs.Prelude.{Result, Ok, Err, IsUtf8, nat_lt}
 use Rattle.std.proofs.lemmas.Bool.{cases_lt}
 use Rattle.std.proofs.lemmas.Bool.Decides.{nat_tests}
-use Rattle.std.proofs.lemmas.List.{get_or_default, take-append-drop, drop_more, length-take-le, length-drop}
-use Rattle.structural_index.specs.Places.{byte, is_place, places, IsUnclosed, HasControlInside, HasBackslash}
+use Rattle.std.proofs.lemmas.List.{get_or_default, take-append-drop, drop_more, length-take-le, length-drop, get_or-drop, get_or-take}
+use Rattle.structural_index.specs.Places.{byte, is_place, places, IsUnclosed, HasControlInside}
 use Rattle.structural_index.specs.Seams.{AreSlashless, IsSpan, IsAtomRun, is_plain_atom, next_place}
 use Rattle.json_tape.specs.Placing.{ClosesBefore, StringEnds, Passes, nothing, a_sign, Passed}
 use Rattle.json_tape.specs.Answer.{IsNoJson}
-use Rattle.json_tape.specs.Scanning.{string_end, turn, next_of}
+use Rattle.json_tape.specs.Scanning.{string_end, turn, next_of, hold_escapes}
 use Rattle.json_tape.specs.declared.scan.Mode.{Mode}
 use Rattle.json_tape.specs.declared.scan.Mode.TheVariants.{Between}
 use Rattle.json_tape.specs.declared.scan.Turn.{Turn}
@@ -20,7 +20,8 @@ use Rattle.json_tape.specs.declared.tape.BuildFault.TheVariants.{NotJson, Memory
 use Rattle.json_tape.specs.Lexing.{quote_end, atom_end, is_blank, is_atom, is_sign, sign_at, ended, IsToken, sign, text, word, Taken, Stepped, Refused, WordIs, IsWord}
 use Rattle.json_tape.specs.Machine.{Token, Text, Word, State, run_at, step, Took}
 use Rattle.json_tape.specs.Walking.{weight}
-use Rattle.json_tape.proofs.Bridge.{plain_spells, scan_ends, same_classes}
+use Rattle.json_tape.proofs.Bridge.{plain_spells, control_out, scan_ends, same_classes}
+use Rattle.json_tape.proofs.EscapeSteps.{held_ends}
 use Rattle.json_tape.proofs.Walking.{look_back, place_number, stands_value}
 use Rattle.json_tape.proofs.Calls.{behind, word_none, word_ok, word_err, sign_stepped}
 use Rattle.json_tape.proofs.Marks.{Kept, kept_token}
@@ -93,24 +94,26 @@ plain_string bytes i m u x none span =
     let within = span.within in
     (m, refl, plain_spells bytes i m u x span (λ k a b e. none k (omega arith) (omega arith) (same_default bytes k (omega arith) ∙ e)))
 
--- a text without a backslash
-pub none_escapes : (bytes : List ℕ) (i j : ℕ) → (HasBackslash bytes → ⊥) → j ≤ length bytes → AreSlashless bytes i j
-none_escapes bytes i j none l k a b e = none (k, omega arith, sym (same_default bytes k (omega arith)) ∙ e)
-
 abbrev pub part_of : List ℕ → (i next : ℕ) → List ℕ
 part_of bytes i next = take (next - (i + 1)) (drop (i + 1) bytes)
 
-pub part_found : (bytes : List ℕ) (i m e : ℕ) → IsUtf8 bytes → get_or bytes i 0 ≡ 34 → IsSpan bytes i m → string_end Between 0 (part_of bytes i (suc m)) ≡ Some e → StringEnds bytes i (Some (suc m))
-part_found bytes i m e u q span h =
-    let within = span.within in let after = span.after in
+-- a scan of the part with the closing quote ends at that quote, if at all
+part_whole : (bytes : List ℕ) (i m e : ℕ) → string_end Between 0 (part_of bytes i (suc m)) ≡ Some e → string_end Between (i + 1) (drop (i + 1) bytes) ≡ Some (e + (i + 1))
+part_whole bytes i m e h =
     let n = suc m - (i + 1) in
     let whole = scan_more (part_of bytes i (suc m)) (drop n (drop (i + 1) bytes)) Between 0 (i + 1) e h in
     let z : 0 + (i + 1) ≡ i + 1 = omega arith in
-    let all : string_end Between (i + 1) (drop (i + 1) bytes) ≡ Some (e + (i + 1)) = ap (string_end Between (i + 1)) (sym (take-append-drop n (drop (i + 1) bytes))) ∙ ap (λ k. string_end Between k (part_of bytes i (suc m) ++ drop n (drop (i + 1) bytes))) (sym z) ∙ whole in
-    let same = scan_ends bytes i m (e + (i + 1)) u span all in
-    found_string bytes i (suc m) u (omega arith) q (all ∙ ap Some same)
+    ap (string_end Between (i + 1)) (sym (take-append-drop n (drop (i + 1) bytes))) ∙ ap (λ k. string_end Between k (part_of bytes i (suc m) ++ drop n (drop (i + 1) bytes))) (sym z) ∙ whole
 
-pub part_none : (bytes : List ℕ) (i m : ℕ) → IsUtf8 bytes → IsSpan bytes i m → string_end Between 0 (part_of bytes i (suc m)) ≡ None → StringEnds bytes i None
+part_ends : (bytes : List ℕ) (i m e : ℕ) → IsUtf8 bytes → IsSpan bytes i m → string_end Between 0 (part_of bytes i (suc m)) ≡ Some e → e + (i + 1) ≡ suc m
+part_ends bytes i m e u span h = scan_ends bytes i m (e + (i + 1)) u span (part_whole bytes i m e h)
+
+part_found : (bytes : List ℕ) (i m e : ℕ) → IsUtf8 bytes → get_or bytes i 0 ≡ 34 → IsSpan bytes i m → string_end Between 0 (part_of bytes i (suc m)) ≡ Some e → StringEnds bytes i (Some (suc m))
+part_found bytes i m e u q span h =
+    let within = span.within in let after = span.after in
+    found_string bytes i (suc m) u (omega arith) q (part_whole bytes i m e h ∙ ap Some (part_ends bytes i m e u span h))
+
+part_none : (bytes : List ℕ) (i m : ℕ) → IsUtf8 bytes → IsSpan bytes i m → string_end Between 0 (part_of bytes i (suc m)) ≡ None → StringEnds bytes i None
 part_none bytes i m u span h = by_scan (string_end Between (i + 1) (drop (i + 1) bytes)) refl
   where
     by_scan : (r : Option ℕ) → string_end Between (i + 1) (drop (i + 1) bytes) ≡ r → string_end Between (i + 1) (drop (i + 1) bytes) ≡ None
@@ -124,6 +127,43 @@ part_none bytes i m u span h = by_scan (string_end Between (i + 1) (drop (i + 1)
         let z : 0 + (i + 1) ≡ i + 1 = omega arith in
         let l = scan_behind (part_of bytes i (suc m)) (drop n (drop (i + 1) bytes)) Between 0 (i + 1) x h (ap (λ k. string_end Between k (part_of bytes i (suc m) ++ drop n (drop (i + 1) bytes))) z ∙ ap (string_end Between (i + 1)) (take-append-drop n (drop (i + 1) bytes)) ∙ e) in
         absurd (omega (arith, same, long, l))
+
+-- the part is what stands between the quotes, and the closing one
+abbrev between : List ℕ → (i m : ℕ) → List ℕ
+between bytes i m = take (m - (i + 1)) (drop (i + 1) bytes)
+
+take_more : (n : ℕ) (xs : List ℕ) → n < length xs → take (suc n) xs ≡ take n xs ++ get_or xs n 0 ∷ []
+take_more n [] l = absurd (omega arith)
+take_more zero (x ∷ xs) l = refl
+take_more (suc n) (x ∷ xs) l = ap (λ t. x ∷ t) (take_more n xs (omega arith))
+
+part_is : (bytes : List ℕ) (i m : ℕ) → i < m → m < length bytes → get_or bytes m 0 ≡ 34 → part_of bytes i (suc m) ≡ between bytes i m ++ 34 ∷ []
+part_is bytes i m after within q =
+    let one_more : suc m - (i + 1) ≡ suc (m - (i + 1)) = omega arith in
+    let left = length-drop (i + 1) bytes in
+    let at : i + 1 + (m - (i + 1)) ≡ m = omega arith in
+    ap (λ n. take n (drop (i + 1) bytes)) one_more ∙ take_more (m - (i + 1)) (drop (i + 1) bytes) (omega (arith, left))
+    ∙ ap (λ b. between bytes i m ++ b ∷ []) (get_or-drop (i + 1) bytes (m - (i + 1)) 0 ∙ ap (λ k. get_or bytes k 0) at ∙ q)
+
+-- where nothing else can be wrong, the escapes alone decide
+held_part : (bytes : List ℕ) (i m : ℕ) → IsUtf8 bytes → (HasControlInside bytes → ⊥) → IsSpan bytes i m → get_or bytes m 0 ≡ 34
+    → string_end Between 0 (part_of bytes i (suc m)) ≡ cond (hold_escapes Between (between bytes i m)) (Some (0 + length (between bytes i m) + 1)) None
+held_part bytes i m u x span q =
+    let within = span.within in let after = span.after in
+    let is = part_is bytes i m after within q in
+    let left = length-drop (i + 1) bytes in
+    let long = length-take-le (m - (i + 1)) (drop (i + 1) bytes) (omega (arith, left)) in
+    ap (string_end Between 0) is ∙ held_ends Between 0 (between bytes i m) (λ j l. high j (omega (arith, l, long)))
+    (λ e h. let last = part_ends bytes i m e u span (ap (string_end Between 0) is ∙ h) in omega (arith, last, long))
+  where
+    no_control : (b : ℕ) → nat_lt b 32 ≡ false → 32 ≤ b
+    no_control b t = grind (arith, nat_tests)
+
+    high : (j : ℕ) → j < m - (i + 1) → 32 ≤ get_or (between bytes i m) j 0
+    high j l =
+        let within = span.within in
+        let here = get_or-take (m - (i + 1)) (drop (i + 1) bytes) j 0 l ∙ get_or-drop (i + 1) bytes j 0 ∙ same_default bytes (i + 1 + j) (omega arith) in
+        subst (λ b. 32 ≤ b) (sym here) (no_control (byte bytes (i + 1 + j)) (control_out bytes i m x span (i + 1 + j) (omega arith) (omega arith)))
 
 -- by the test that the code makes
 abbrev pub HasQuoteBefore : List ℕ → (i next : ℕ) → Type 0
@@ -139,15 +179,20 @@ plain_before bytes i next u x none c l q h =
     let (m, e, span) = span_before bytes i next c l q h in
     subst (λ n. StringEnds bytes i (Some n)) (sym e) (plain_string bytes i m u x (subst (AreSlashless bytes (i + 1)) e none) span)
 
-pub part_before : (bytes : List ℕ) (i next end : ℕ) → IsUtf8 bytes → ClosesBefore bytes i next → next ≤ length bytes → get_or bytes i 0 ≡ 34 → HasQuoteBefore bytes i next → string_end Between 0 (part_of bytes i next) ≡ Some end → StringEnds bytes i (Some next)
-part_before bytes i next end u c l q h found =
+pub held_before : (bytes : List ℕ) (i next : ℕ) → IsUtf8 bytes → (HasControlInside bytes → ⊥) → ClosesBefore bytes i next → next ≤ length bytes → get_or bytes i 0 ≡ 34 → HasQuoteBefore bytes i next
+    → hold_escapes Between (between bytes i (next - 1)) ≡ true → StringEnds bytes i (Some next)
+held_before bytes i next u x c l q h held =
     let (m, e, span) = span_before bytes i next c l q h in
-    subst (λ n. StringEnds bytes i (Some n)) (sym e) (part_found bytes i m end u q span (ap (λ n. string_end Between 0 (part_of bytes i n)) (sym e) ∙ found))
+    let last : next - 1 ≡ m = omega arith in
+    subst (λ n. StringEnds bytes i (Some n)) (sym e)
+    (part_found bytes i m _ u q span (held_part bytes i m u x span (ap (λ k. get_or bytes k 0) (sym last) ∙ h.1) ∙ ap (λ t. cond t (Some (0 + length (between bytes i m) + 1)) None) (ap (λ k. hold_escapes Between (between bytes i k)) (sym last) ∙ held)))
 
-pub no_part_before : (bytes : List ℕ) (i next : ℕ) → IsUtf8 bytes → ClosesBefore bytes i next → next ≤ length bytes → get_or bytes i 0 ≡ 34 → HasQuoteBefore bytes i next → string_end Between 0 (part_of bytes i next) ≡ None → StringEnds bytes i None
-no_part_before bytes i next u c l q h none =
+pub unheld_before : (bytes : List ℕ) (i next : ℕ) → IsUtf8 bytes → (HasControlInside bytes → ⊥) → ClosesBefore bytes i next → next ≤ length bytes → get_or bytes i 0 ≡ 34 → HasQuoteBefore bytes i next
+    → hold_escapes Between (between bytes i (next - 1)) ≡ false → StringEnds bytes i None
+unheld_before bytes i next u x c l q h held =
     let (m, e, span) = span_before bytes i next c l q h in
-    part_none bytes i m u span (ap (λ n. string_end Between 0 (part_of bytes i n)) (sym e) ∙ none)
+    let last : next - 1 ≡ m = omega arith in
+    part_none bytes i m u span (held_part bytes i m u x span (ap (λ k. get_or bytes k 0) (sym last) ∙ h.1) ∙ ap (λ t. cond t (Some (0 + length (between bytes i m) + 1)) None) (ap (λ k. hold_escapes Between (between bytes i k)) (sym last) ∙ held))
 
 -- the builder's call for it
 pub string_taken : (bytes : List ℕ) (i end : ℕ) (s new : State) (r : Unit {0}) → StringEnds bytes i (Some end) → Took (step (Text (run_at i (end - i))) s) (Ok r) new → Taken bytes i end s new
@@ -333,5 +378,5 @@ module _ (bytes items : List ℕ) (k : ℕ) (list : items ≡ places bytes) wher
   passed_none before now s new Memory w r e = absurd (cc)
 
 -- what the scan of a lent part says
-pub scanned_part : (bytes other part : List ℕ) (i next : ℕ) (r : Option ℕ) → other ≡ bytes → part ≡ take (next - (i + 1)) (drop (i + 1) other) → r ≡ string_end Between 0 part → string_end Between 0 (part_of bytes i next) ≡ r
-scanned_part bytes other part i next r e f g = ap (λ b. string_end Between 0 (take (next - (i + 1)) (drop (i + 1) b))) (sym e) ∙ ap (string_end Between 0) (sym f) ∙ sym g
+pub scanned_part : (bytes other part : List ℕ) (i m : ℕ) (t : Bool) → other ≡ bytes → part ≡ take (m - (i + 1)) (drop (i + 1) other) → t ≡ hold_escapes Between part → hold_escapes Between (between bytes i m) ≡ t
+scanned_part bytes other part i m t e f g = ap (λ b. hold_escapes Between (between b i m)) (sym e) ∙ ap (hold_escapes Between) (sym f) ∙ sym g

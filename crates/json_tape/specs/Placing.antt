@@ -1,6 +1,6 @@
 -- What a builder that goes from place to place asks of the text, what it finds of a string, and how it passes a colon or a comma.
-use Rattle.std.specs.Prelude.{◌≡◌, ◌<◌, ℕ, suc, ◌+◌, Bool, false, List, drop, length, get_or, Option, Some, None, Result, Ok, Err, IsUtf8}
-use Rattle.structural_index.specs.Places.{byte, HasControlInside}
+use Rattle.std.specs.Prelude.{◌≡◌, ◌<◌, ◌≤◌, ℕ, suc, ◌+◌, false, List, drop, length, get_or, Option, Some, None, Result, Ok, Err, IsUtf8}
+use Rattle.structural_index.specs.Places.{byte, HasControlInside, AreSlashBlocks}
 use Rattle.structural_index.specs.Seams.{IsSpan, AreSlashless}
 use Rattle.json_tape.specs.declared.slashes.Slashes.{Slashes}
 use Rattle.json_tape.specs.declared.tape.BuildFault.{BuildFault}
@@ -9,10 +9,12 @@ use Rattle.json_tape.specs.Machine.{State}
 use Rattle.json_tape.specs.Lexing.{quote_end, is_atom, Refused, Taken}
 use Rattle.json_tape.specs.Bridge.{SpellsString}
 
--- no backslash of a text stands outside
+-- no backslash of a text stands in the gap, and all stand in these blocks
 pub record HoldSlashes (text : List ℕ) (slashes : Slashes) : Type 0 where
-  pub before : AreSlashless text 0 slashes.from
-  pub behind : AreSlashless text slashes.to (length text)
+  pub gap : AreSlashless text slashes.from slashes.to
+  pub blocks_are : AreSlashBlocks text slashes.blocks.now
+  pub next : slashes.next ≤ length slashes.blocks.now
+  pub long : slashes.long ≡ length text
 
 -- what has been shown of a text before its tokens are looked at
 pub record IsIndexed (text : List ℕ) (slashes : Slashes) : Type 0 where

@@ -19,6 +19,7 @@ mod children;
 mod compact;
 mod document;
 mod duplicates;
+mod escapes;
 mod growth;
 mod hashes;
 mod judge;

@@ -4,7 +4,7 @@ ghost use Rattle.std.specs.Prelude.{IsTrue, ◌≡◌, false, ◌+◌, ◌<◌, 
 ghost use Rattle.json_tape.specs.Scanning.{turn as turn_of, is_short as short, is_hex as hex, string_end};
 ghost use Rattle.json_tape.specs.Surrogates.{number_of_hex, past_char, past_unit, past_byte, standing, lone_from, lone};
 
-use structural_index::{Looks, slashless_run, unstopped_run};
+use structural_index::{Looks, slashless_run};
 
 /// Where a scan of a string stands: between characters, behind a backslash, or before a hexadecimal digit after which this many must come.
 #[derive(Clone, Copy)]
@@ -30,7 +30,7 @@ pub struct Surrogates {
     pub high: bool,
 }
 
-fn is_short(b: u8) -> bool
+pub fn is_short(b: u8) -> bool
     ensures { result ≡ short b }
 {
     b == b'"'
@@ -43,7 +43,7 @@ fn is_short(b: u8) -> bool
         || b == b't'
 }
 
-fn is_hex(b: u8) -> bool
+pub fn is_hex(b: u8) -> bool
     ensures { result ≡ hex b }
 {
     (48 <= b && b <= 57) || (65 <= b && b <= 70) || (97 <= b && b <= 102)
@@ -85,98 +85,10 @@ fn next_turn(mode: Mode, b: u8) -> Turn
     }
 }
 
-// Whether the byte stands for itself between two characters of a string.
-#[inline(always)]
-fn is_plain(b: u8) -> bool
-    ensures { IsTrue result → turn_of Mode.Between b ≡ Turn.Go Mode.Between }
-{
-    b > b'\\' || (b != b'"' && b != b'\\' && b >= 32)
-}
-
 // How many bytes are looked at in one load.
 const LANES: usize = 16;
 
-// The place of the first byte from here on that does not stand for itself, or the end of the text.
-#[inline(always)]
-#[tactic(auto, using(crate::proofs::Steps::plain_step))]
-fn plain_end_slowly(text: &[u8], start: usize) -> usize
-    requires { start ≤ length text.now }
-    ensures lower_bound { start ≤ result }
-    ensures upper_bound { result ≤ length text.now }
-    ensures passed { string_end Mode.Between result (drop result text.now) ≡ string_end Mode.Between start (drop start text.now) }
-{
-    let mut k = start;
-    while k < text.len() {
-        if !is_plain(text[k]) {
-            return k;
-        }
-        k += 1;
-    }
-    k
-}
-
-// The same, many bytes at a time while there are as many.
-#[inline(always)]
-#[tactic(auto, using(crate::proofs::PlainLanes::plain_steps))]
-fn plain_end(text: &[u8], start: usize) -> usize
-    requires { start ≤ length text.now }
-    ensures lower_bound { start ≤ result }
-    ensures upper_bound { result ≤ length text.now }
-    ensures passed { string_end Mode.Between result (drop result text.now) ≡ string_end Mode.Between start (drop start text.now) }
-{
-    let mut k = start;
-    while text.len() - k >= LANES {
-        let run = unstopped_run(text, k);
-        if run < LANES {
-            return k + run;
-        }
-        k += LANES;
-    }
-    plain_end_slowly(text, k)
-}
-
-/// The place past the quote that closes a string whose characters begin here.
-#[tactic(auto, using(crate::proofs::Steps::quote_step))]
-pub fn quote_end(text: &[u8], start: usize) -> Option<usize>
-    requires { start ≤ length text.now }
-    ensures value { result ≡ string_end Mode.Between start (drop start text.now) }
-    ensures bound { IfSome result (λ end. (start < end) × (end ≤ length text.now)) }
-{
-    let k = plain_end(text, start);
-    if k < text.len() && text[k] == b'"' {
-        return Some(k + 1);
-    }
-    quote_end_past(text, k)
-}
-
-// The same, one part of a character after the other.
-#[inline(never)]
-#[tactic(auto, using(crate::proofs::Steps::quote_step, crate::proofs::Steps::quote_over))]
-fn quote_end_past(text: &[u8], start: usize) -> Option<usize>
-    requires { start ≤ length text.now }
-    ensures value { result ≡ string_end Mode.Between start (drop start text.now) }
-    ensures bound { IfSome result (λ end. (start < end) × (end ≤ length text.now)) }
-{
-    let mut mode = Mode::Between;
-    let mut k = start;
-    while k < text.len() {
-        match next_turn(mode, text[k]) {
-            Turn::Stop => return Some(k + 1),
-            Turn::Fail => return None,
-            Turn::Go(Mode::Between) => {
-                mode = Mode::Between;
-                k = plain_end(text, k + 1);
-            }
-            Turn::Go(next) => {
-                mode = next;
-                k += 1;
-            }
-        }
-    }
-    None
-}
-
-/// The same through looks, each byte once.
+/// The place past the quote that closes a string whose characters begin here, each byte looked at once.
 #[inline(always)]
 #[tactic(auto, using(crate::proofs::Steps::quote_step, crate::proofs::Steps::quote_over))]
 pub fn quote_past(looks: &mut Looks<'_>, start: usize) -> Option<usize>

@@ -9,13 +9,15 @@ ghost use Rattle.json_tape.specs.Lexing.{is_blank as blank, is_atom as atom, is_
 ghost use Rattle.json_tape.specs.Limits.{AreWithinLimits};
 ghost use Rattle.json_tape.specs.Answer.{IsJson, StandsForAll, HasDepth, IsNoJson};
 ghost use Rattle.json_tape.specs.Building.{IsBounded};
+ghost use Rattle.json_tape.specs.Surrogates.{HasNoSurrogates};
 ghost use Rattle.json_tape.specs.Verdict.{text_limit};
 ghost use Rattle.json_tape.specs.Placing.{IsIndexed, HoldSlashes, ClosesBefore, StringEnds, Passed};
 
 use crate::builder::Builder;
 use crate::compact::Tape;
-use crate::judge::has_short_exponent;
-use crate::scan::{quote_end, quote_past};
+use crate::escapes::escapes_hold;
+use crate::judge::{has_short_exponent, may_be_lone};
+use crate::scan::quote_past;
 use crate::slashes::Slashes;
 use crate::tape::{BuildFault, Extent, Kind, Shape, Want};
 use decimal_order::{late_exponents_keep_limits, scan};
@@ -104,15 +106,21 @@ fn has_quote_before(looks: &mut Looks<'_>, i: usize, next: usize) -> bool
 
 // The place past the string that begins at i, where the place behind it is this one.
 #[inline(always)]
-fn string_end(looks: &mut Looks<'_>, i: usize, next: usize, slashes: Slashes) -> Option<usize>
+fn string_end(
+    looks: &mut Looks<'_>,
+    i: usize,
+    next: usize,
+    slashes: &mut Slashes<'_>,
+) -> Option<usize>
     requires in_text { i < length looks.old.0 }
     requires near { next ≤ length looks.old.0 }
     requires short { length looks.old.0 ≤ text_limit }
     requires quote { slice_index looks.old.0 i ≡ 34 }
-    requires indexed { IsIndexed looks.old.0 slashes }
+    requires indexed { IsIndexed looks.old.0 slashes.old }
     requires closes { ClosesBefore looks.old.0 i next }
     ensures ends { StringEnds looks.old.0 i result }
     ensures bound { IfSome result (λ end. (i < end) × (end ≤ length looks.old.0)) }
+    ensures slashes { HoldSlashes looks.old.0 slashes.new }
     ensures same { looks.new.0 ≡ looks.old.0 }
     ensures looked { IfSome result (λ end. looks.new.1 + i ≤ looks.old.1 + end) }
 {
@@ -122,12 +130,14 @@ fn string_end(looks: &mut Looks<'_>, i: usize, next: usize, slashes: Slashes) ->
     if slashes.spare(i + 1, next) {
         return Some(next);
     }
-    let Some(part) = looks.escaped_part(i + 1, next) else {
+    *slashes = slashes.advanced(i + 1);
+    if slashes.spare(i + 1, next) {
         return Some(next);
-    };
-    match quote_end(part, 0) {
-        Some(_) => Some(next),
-        None => None,
+    }
+    if escapes_hold(looks.part(i + 1, next - 1)) {
+        Some(next)
+    } else {
+        None
     }
 }
 
@@ -137,7 +147,7 @@ fn string(
     looks: &mut Looks<'_>,
     i: usize,
     next: usize,
-    slashes: Slashes,
+    slashes: &mut Slashes<'_>,
     builder: &mut Builder,
     want: &mut Want,
 ) -> Result<usize, BuildFault>
@@ -146,9 +156,10 @@ fn string(
     requires short { length looks.old.0 ≤ text_limit }
     requires small { IsSmall text_limit builder.old }
     requires quote { slice_index looks.old.0 i ≡ 34 }
-    requires indexed { IsIndexed looks.old.0 slashes }
+    requires indexed { IsIndexed looks.old.0 slashes.old }
     requires closes { ClosesBefore looks.old.0 i next }
     ensures stepped { Stepped looks.old.0 i builder.old result builder.new }
+    ensures slashes { HoldSlashes looks.old.0 slashes.new }
     ensures same { looks.new.0 ≡ looks.old.0 }
     ensures looked { IfOk result (λ end. looks.new.1 + i ≤ looks.old.1 + end) }
 {
@@ -222,7 +233,7 @@ fn token(
     looks: &mut Looks<'_>,
     i: usize,
     next: usize,
-    slashes: Slashes,
+    slashes: &mut Slashes<'_>,
     builder: &mut Builder,
     may_exceed: &mut bool,
     want: &mut Want,
@@ -231,11 +242,12 @@ fn token(
     requires near { next ≤ length looks.old.0 }
     requires short { length looks.old.0 ≤ text_limit }
     requires small { IsSmall text_limit builder.old }
-    requires indexed { IsIndexed looks.old.0 slashes }
+    requires indexed { IsIndexed looks.old.0 slashes.old }
     requires closes { ClosesBefore looks.old.0 i next }
     requires no_blank { blank (slice_index looks.old.0 i) ≡ false }
     ensures stepped { Stepped looks.old.0 i builder.old result builder.new }
     ensures marked { Marked looks.old.0 i may_exceed.old result may_exceed.new }
+    ensures slashes { HoldSlashes looks.old.0 slashes.new }
     ensures same { looks.new.0 ≡ looks.old.0 }
     ensures looked { IfOk result (λ end. looks.new.1 + i ≤ looks.old.1 + end + 2) }
     ensures once { is_sign (slice_index looks.old.0 i) ≡ true → looks.new.1 ≤ looks.old.1 + 1 }
@@ -296,29 +308,23 @@ fn pass_sign(
     }
 }
 
-/// What reading a text found: its tape, how many containers lie in one another at most, whether a number may be beyond the limits, where
-/// backslashes may stand, and the most bytes of a value that is a string.
+/// What reading a text found: its tape, how many containers lie in one another at most, whether a number may be beyond the limits,
+/// whether a surrogate may be lone, and the most bytes of a value that is a string.
 #[derive(Drop)]
 pub struct Reading {
     pub tape: Tape,
     pub depth: usize,
     pub may_exceed: bool,
-    pub slashes: Slashes,
+    pub may_be_lone: bool,
     pub longest: u32,
 }
 
 /// The tape of a text and its marks, or why there is none, by the places of its index.
 #[inline(always)]
-fn walk(
-    alloc: Global,
-    index: &Index,
-    looks: &mut Looks<'_>,
-    slashes: Slashes,
-) -> Result<Reading, BuildFault>
+fn walk(alloc: Global, index: &Index, looks: &mut Looks<'_>) -> Result<Reading, BuildFault>
     requires short { length looks.old.0 ≤ text_limit }
     requires utf8 { IsUtf8 looks.old.0 }
     requires index { IsIndexOf index.now looks.old.0 }
-    requires slashes { HoldSlashes looks.old.0 slashes }
     ensures same { looks.new.0 ≡ looks.old.0 }
     // A tape is given only where the text is JSON.
     ensures spelt { IfOk result (λ reading. IsJson looks.old.0) }
@@ -327,7 +333,6 @@ fn walk(
     ensures few { IfOk result (λ reading. length reading.tape < 2 ^ 31) }
     ensures depth { IfOk result (λ reading. HasDepth looks.old.0 reading.depth) }
     ensures numbers { IfOk result (λ reading. reading.may_exceed ≡ false → AreWithinLimits looks.old.0 reading.tape) }
-    ensures slashes { IfOk result (λ reading. HoldSlashes looks.old.0 reading.slashes) }
     // Unless memory runs out, a text is refused only where it spells no tree.
     ensures refused { IsErrOf result BuildFault.NotJson → IsNoJson looks.old.0 }
     ensures looked { IfOk result (λ reading. IsBounded looks.old.0 looks.old.1 looks.new.1) }
@@ -336,6 +341,7 @@ fn walk(
         return Err(BuildFault::NotJson);
     }
     let places = index.places.as_slice();
+    let mut slashes = Slashes::new(index.slashes.as_slice(), looks.length());
     let mut builder = Builder::new(alloc, places.len() / 2 + 1)?;
     let mut may_exceed = false;
     let mut want = Want::Value;
@@ -347,7 +353,7 @@ fn walk(
             looks,
             i,
             next,
-            slashes,
+            &mut slashes,
             &mut builder,
             &mut may_exceed,
             &mut want,
@@ -367,7 +373,7 @@ fn walk(
             tape: builder.into_tape(),
             depth,
             may_exceed,
-            slashes,
+            may_be_lone: true,
             longest,
         })
     } else {
@@ -392,8 +398,7 @@ pub fn build(alloc: Global, index: &Index, looks: &mut Looks<'_>) -> Result<Tape
     // At most three looks for each place, and one for each source byte of a string, a number or a word.
     ensures looked { IfOk result (λ tape. IsBounded looks.old.0 looks.old.1 looks.new.1) }
 {
-    let slashes = Slashes::anywhere(index.has_backslash, looks.length());
-    match walk(alloc, index, looks, slashes) {
+    match walk(alloc, index, looks) {
         Ok(reading) => Ok(reading.tape),
         Err(fault) => Err(fault),
     }
@@ -411,13 +416,19 @@ pub fn read(alloc: Global, text: &[u8]) -> Result<Reading, BuildFault>
     ensures short { IfOk result (λ reading. length reading.tape < 2 ^ 31) }
     ensures depth { IfOk result (λ reading. HasDepth text.now reading.depth) }
     ensures numbers { IfOk result (λ reading. reading.may_exceed ≡ false → AreWithinLimits text.now reading.tape) }
-    ensures slashes { IfOk result (λ reading. HoldSlashes text.now reading.slashes) }
+    ensures lone { IfOk result (λ reading. reading.may_be_lone ≡ false → HasNoSurrogates text.now) }
     // Unless memory runs out, a text is refused only where it spells no tree.
     ensures refused { IsErrOf result BuildFault.NotJson → IsNoJson text.now }
 {
     let Ok(found) = index(alloc, text) else {
         return Err(BuildFault::Memory);
     };
-    let slashes = Slashes::of(text, found.has_backslash);
-    walk(alloc, &found, &mut Looks::new(text), slashes)
+    let blocks = found.slashes.as_slice();
+    match walk(alloc, &found, &mut Looks::new(text)) {
+        Ok(reading) => Ok(Reading {
+            may_be_lone: may_be_lone(text, blocks),
+            ..reading
+        }),
+        Err(fault) => Err(fault),
+    }
 }

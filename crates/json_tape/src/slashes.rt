@@ -1,67 +1,85 @@
-// Where in a text backslashes may stand.
+// Where in a text no backslash stands.
 
-ghost use Rattle.std.specs.Prelude.{ℕ, List, ◌≡◌, ◌≤◌, IsTrue, false, length};
-ghost use Rattle.structural_index.specs.Places.{HasBackslash};
+ghost use Rattle.std.specs.Prelude.{ℕ, List, ◌≡◌, ◌+◌, ◌-◌, ◌<◌, ◌≤◌, IsTrue, get_or, length};
+ghost use Rattle.structural_index.specs.Places.{AreSlashBlocks};
 ghost use Rattle.structural_index.specs.Seams.{AreSlashless};
 ghost use Rattle.json_tape.specs.Placing.{HoldSlashes};
-ghost use Rattle.json_tape.specs.Surrogates.{HasNoSurrogates};
 
-use memchr::{memchr, memrchr};
+// How many bytes a block has.
+const BLOCK: usize = 64;
 
-/// From one place to before another: all backslashes of a text stand there.
+/// A gap, from one place to before another, in which no backslash of a text stands, and the number of the first block behind it of
+/// those in which backslashes stand.
 #[derive(Clone, Copy)]
-pub struct Slashes {
+pub struct Slashes<'a> {
     from: usize,
     to: usize,
+    blocks: &'a [u32],
+    next: usize,
+    long: usize,
 }
 
-impl Slashes {
-    /// Anywhere in a text of this length, unless there is known to be none.
-    pub fn anywhere(any: bool, long: usize) -> Slashes
-        ensures { (text : List ℕ) → length text ≡ long → (any ≡ false → HasBackslash text → ⊥) → HoldSlashes text result }
-    {
-        if any {
-            Slashes { from: 0, to: long }
-        } else {
-            Slashes { from: long, to: 0 }
-        }
+// The place behind the block in front of this one.
+fn gap_start(blocks: &[u32], next: usize) -> usize
+    requires { next ≤ length blocks.now }
+    ensures { 0 < next → result ≡ get_or blocks.now (next - 1) 0 + 64 }
+{
+    if next == 0 {
+        0
+    } else {
+        blocks[next - 1] as usize + BLOCK
     }
+}
 
-    /// From the first to the last one, if there is any.
-    pub fn of(text: &[u8], any: bool) -> Slashes
-        requires { any ≡ false → HasBackslash text.now → ⊥ }
-        ensures { HoldSlashes text.now result }
-    {
-        if !any {
-            return Slashes::anywhere(false, text.len());
-        }
-        match (memchr(b'\\', text), memrchr(b'\\', text)) {
-            (Some(first), Some(last)) => Slashes {
-                from: first,
-                to: last + 1,
-            },
-            _ => Slashes::anywhere(true, text.len()),
-        }
+// The first byte of this block, or the end of the text.
+fn gap_end(blocks: &[u32], next: usize, long: usize) -> usize
+    ensures { result ≡ get_or blocks.now next long }
+{
+    if next < blocks.len() {
+        blocks[next] as usize
+    } else {
+        long
     }
+}
 
-    /// The bytes in which all escapes of units begin, each with the two bytes behind its backslash.
-    pub fn part(self, text: &[u8]) -> &[u8]
-        requires { HoldSlashes text.now self }
-        ensures { HasNoSurrogates result.now → HasNoSurrogates text.now }
+impl<'a> Slashes<'a> {
+    /// No gap yet, in a text of this length whose backslashes stand in these blocks.
+    pub fn new(blocks: &'a [u32], long: usize) -> Slashes<'a>
+        ensures { (text : List ℕ) → AreSlashBlocks text blocks.now → long ≡ length text → HoldSlashes text result }
     {
-        let end = text.len().min(self.to.saturating_add(2));
-        if self.from < end {
-            &text[self.from..end]
-        } else {
-            &text[..0]
+        Slashes {
+            from: 0,
+            to: 0,
+            blocks,
+            next: 0,
+            long,
         }
     }
 
     /// Whether none stands from one place to before another.
     #[inline(always)]
-    pub fn spare(self, start: usize, end: usize) -> bool
-        ensures { IsTrue result → (text : List ℕ) → HoldSlashes text self → end ≤ length text → AreSlashless text start end }
+    pub fn spare(&self, start: usize, end: usize) -> bool
+        ensures { IsTrue result → (text : List ℕ) → HoldSlashes text self.now → AreSlashless text start end }
     {
-        end <= self.from || self.to <= start
+        self.from <= start && end <= self.to
+    }
+
+    /// The gap in front of the first block from here on that ends behind a place.
+    #[inline(never)]
+    pub fn advanced(self, start: usize) -> Slashes<'a>
+        requires { self.next ≤ length self.blocks.now }
+        ensures { (text : List ℕ) → HoldSlashes text self.entry → HoldSlashes text result }
+    {
+        let mut next = self.next;
+        while next < self.blocks.len() && self.blocks[next] as usize + BLOCK <= start {
+            next += 1;
+        }
+        Slashes {
+            from: gap_start(self.blocks, next),
+            to: gap_end(self.blocks, next, self.long),
+            blocks: self.blocks,
+            next,
+            long: self.long,
+        }
     }
 }

@@ -1,8 +1,8 @@
 use Rattle.std.proofs.Common.{◌≡◌, ◌+◌, ◌≤◌, ◌<◌, ◌∙◌, ℕ, List, length, get_or, refl, sym, ap, subst, arith, rules, true, false}
-use Rattle.structural_index.specs.Places.{places}
+use Rattle.structural_index.specs.Places.{places, AreSlashBlocks}
 use Rattle.std.specs.Prelude.{Ok, Err}
 use Rattle.json_tape.specs.Lexing.{is_blank, is_sign, Stepped, Taken, Marked}
-use Rattle.json_tape.specs.Placing.{ClosesBefore, Passes, Passed}
+use Rattle.json_tape.specs.Placing.{HoldSlashes, ClosesBefore, Passes, Passed}
 use Rattle.json_tape.specs.Verdict.{text_limit}
 use Rattle.json_tape.specs.declared.tape.BuildFault.TheVariants.{NotJson}
 use Rattle.json_tape.proofs.Marks.{Kept, kept_start, kept_token}
@@ -25,6 +25,7 @@ loop-k-init c =
     record {
       same = refl;
       walks = subst (Walks bytes 0 (get_or (places bytes) 0 (length bytes)) c.args.looks.now.1 c.args.looks.now.1) (sym c.in_ok-builder.ensures) (walks_start bytes c.args.looks.now.1);
+      slashes = c.new-slashes.ensures bytes (subst (AreSlashBlocks bytes) (sym c.as_slice.ensures.value) c.requires.index.slashes_are) c.length.ensures;
       kept = subst (Kept bytes false) (sym c.in_ok-builder.ensures) (kept_start bytes);
     }
 
@@ -39,7 +40,7 @@ token-requires-clause-near c =
       list = c.as_slice-places.ensures.value ∙ c.requires.index.places_are;
       number = c.loop-k-test.true;
       here = refl;
-      behind = c.place_behind-next.ensures ∙ ap (λ n. get_or items (k + 1) n) (c.length.ensures ∙ ap length same);
+      behind = c.place_behind-next.ensures ∙ ap (λ n. get_or items (k + 1) n) (c.length-in-loop-k.ensures ∙ ap length same);
     } in
     let near = next_in bytes items k i c.place_behind-next.result listed in
     let size = ap length same in
@@ -68,7 +69,7 @@ token-requires-clause-closes c =
       list = c.as_slice-places.ensures.value ∙ c.requires.index.places_are;
       number = c.loop-k-test.true;
       here = refl;
-      behind = c.place_behind-next.ensures ∙ ap (λ n. get_or items (k + 1) n) (c.length.ensures ∙ ap length same);
+      behind = c.place_behind-next.ensures ∙ ap (λ n. get_or items (k + 1) n) (c.length-in-loop-k.ensures ∙ ap length same);
     } in
     let here = walks_here bytes items k i c.place_behind-next.result c.args.looks.now.1 c.loop-k.looks.1 c.loop-k.builder listed c.loop-k.invariant.walks in
     subst (λ b. ClosesBefore b i c.place_behind-next.result) (sym same)
@@ -85,7 +86,7 @@ token-requires-clause-no_blank c =
       list = c.as_slice-places.ensures.value ∙ c.requires.index.places_are;
       number = c.loop-k-test.true;
       here = refl;
-      behind = c.place_behind-next.ensures ∙ ap (λ n. get_or items (k + 1) n) (c.length.ensures ∙ ap length same);
+      behind = c.place_behind-next.ensures ∙ ap (λ n. get_or items (k + 1) n) (c.length-in-loop-k.ensures ∙ ap length same);
     } in
     let here = walks_here bytes items k i c.place_behind-next.result c.args.looks.now.1 c.loop-k.looks.1 c.loop-k.builder listed c.loop-k.invariant.walks in
     let inside = walks_inside bytes items k i c.place_behind-next.result c.args.looks.now.1 c.loop-k.looks.1 c.loop-k.builder listed here in
@@ -102,7 +103,7 @@ returns-in-Err-clause-refused c =
       list = c.as_slice-places.ensures.value ∙ c.requires.index.places_are;
       number = c.loop-k-test.true;
       here = refl;
-      behind = c.place_behind-next.ensures ∙ ap (λ n. get_or items (k + 1) n) (c.length.ensures ∙ ap length same);
+      behind = c.place_behind-next.ensures ∙ ap (λ n. get_or items (k + 1) n) (c.length-in-loop-k.ensures ∙ ap length same);
     } in
     let here = walks_here bytes items k i c.place_behind-next.result c.args.looks.now.1 c.loop-k.looks.1 c.loop-k.builder listed c.loop-k.invariant.walks in
     let inside = walks_inside bytes items k i c.place_behind-next.result c.args.looks.now.1 c.loop-k.looks.1 c.loop-k.builder listed here in
@@ -121,7 +122,7 @@ pass_sign-requires c =
       list = c.as_slice-places.ensures.value ∙ c.requires.index.places_are;
       number = c.loop-k-test.true;
       here = refl;
-      behind = c.place_behind-next.ensures ∙ ap (λ n. get_or items (k + 1) n) (c.length.ensures ∙ ap length same);
+      behind = c.place_behind-next.ensures ∙ ap (λ n. get_or items (k + 1) n) (c.length-in-loop-k.ensures ∙ ap length same);
     } in
     let here = walks_here bytes items k i c.place_behind-next.result c.args.looks.now.1 c.loop-k.looks.1 c.loop-k.builder listed c.loop-k.invariant.walks in
     let inside = walks_inside bytes items k i c.place_behind-next.result c.args.looks.now.1 c.loop-k.looks.1 c.loop-k.builder listed here in
@@ -144,7 +145,7 @@ returns-in-Err-pass_sign-clause-refused c =
       list = c.as_slice-places.ensures.value ∙ c.requires.index.places_are;
       number = c.loop-k-test.true;
       here = refl;
-      behind = c.place_behind-next.ensures ∙ ap (λ n. get_or items (k + 1) n) (c.length.ensures ∙ ap length same);
+      behind = c.place_behind-next.ensures ∙ ap (λ n. get_or items (k + 1) n) (c.length-in-loop-k.ensures ∙ ap length same);
     } in
     let here = walks_here bytes items k i c.place_behind-next.result c.args.looks.now.1 c.loop-k.looks.1 c.loop-k.builder listed c.loop-k.invariant.walks in
     let inside = walks_inside bytes items k i c.place_behind-next.result c.args.looks.now.1 c.loop-k.looks.1 c.loop-k.builder listed here in
@@ -174,7 +175,7 @@ loop-k-preserved c =
       list = c.as_slice-places.ensures.value ∙ c.requires.index.places_are;
       number = c.loop-k-test.true;
       here = refl;
-      behind = c.place_behind-next.ensures ∙ ap (λ n. get_or items (k + 1) n) (c.length.ensures ∙ ap length same);
+      behind = c.place_behind-next.ensures ∙ ap (λ n. get_or items (k + 1) n) (c.length-in-loop-k.ensures ∙ ap length same);
     } in
     let here = walks_here bytes items k i c.place_behind-next.result c.args.looks.now.1 c.loop-k.looks.1 c.loop-k.builder listed c.loop-k.invariant.walks in
     let inside = walks_inside bytes items k i c.place_behind-next.result c.args.looks.now.1 c.loop-k.looks.1 c.loop-k.builder listed here in
@@ -190,6 +191,7 @@ loop-k-preserved c =
     record {
       same = c.in-Ok-pass_sign.ensures.same ∙ now_same;
       walks = walks_passed bytes items (k + 1) list c.in-Ok-pass_sign.next c.args.looks.now.1 c.token.new.looks.1 c.pass_sign.new.looks.1 c.token.new.builder c.pass_sign.new.builder walks passes c.in-Ok-pass_sign.ensures.looked;
+      slashes = subst (λ b. HoldSlashes b c.token.new.slashes) same c.in-Ok.ensures.slashes;
       kept = kept_passed bytes items (k + 1) list c.in-Ok-pass_sign.next c.token.new.may_exceed c.token.new.builder c.pass_sign.new.builder (number_inside bytes items (k + 1) list c.args.looks.now.1 (c.token.new.looks.1 + 1) c.token.new.builder walks) passes kept;
     }
 

@@ -1,6 +1,6 @@
 use Rattle.std.proofs.Common.{◌-◌, ◌≤◌, length}
 use Rattle.structural_index.specs.Seams.{AreSlashless}
-use Rattle.structural_index.proofs.looks.may_escape.Given as goal
+use Rattle.structural_index.proofs.looks.slashless_end.Given as goal
 
 abbrev pub invariant-loop-k : goal.invariant-loop-k
 invariant-loop-k l = record {
