@@ -52,6 +52,7 @@ pub mod Joined
 pub mod Sides
 pub mod Keeping
 mod Beginnings
+pub mod PlainFronts
 pub mod Bridge
 pub mod Counting
 pub mod Walking

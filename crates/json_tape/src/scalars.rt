@@ -7,7 +7,7 @@ ghost use Rattle.json_tape.specs.Limits.{bytes_at};
 ghost use Rattle.json_tape.specs.Spelling.{hex_value as value_of_hex, unquoted as inside, IsQuoted};
 ghost use Rattle.json_tape.specs.Reading.{Reads, ReadsUnit};
 
-use crate::lengths::{characters, plain_length};
+use crate::lengths::plain_front;
 use crate::scan::Mode;
 use crate::tape::Extent;
 use std::marker::Model;
@@ -175,9 +175,9 @@ impl<'a> Scalars<'a> {
         ensures { length self.old ≡ result + length self.new }
     {
         let rest = self.rest.as_str();
-        let run = plain_length(rest);
-        self.rest = rest[run..].chars();
-        characters(&rest[..run])
+        let front = plain_front(rest);
+        self.rest = rest[front.bytes..].chars();
+        front.characters
     }
 }
 
