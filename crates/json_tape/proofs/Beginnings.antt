@@ -9,10 +9,10 @@ use Rattle.std.proofs.lemmas.List.{drop-drop}
 use lib.Utf8.{encode, encodes, next}
 use Rattle.json_tape.specs.Counted.{begins, beginnings}
 
-pub low : (b : ℕ) → ltb b 128 ≡ true → begins b ≡ true
+low : (b : ℕ) → ltb b 128 ≡ true → begins b ≡ true
 low b t = rw t refl
 
-pub lead : (b : ℕ) → 192 ≤ b → begins b ≡ true
+lead : (b : ℕ) → 192 ≤ b → begins b ≡ true
 lead b h = let t : ltb b 128 ≡ false = grind (arith, nat_tests) in let u : leb 192 b ≡ true = grind (arith, nat_tests) in rw (t, u) refl
 
 follows : (c : ℕ) → begins (next c) ≡ false

@@ -1,5 +1,5 @@
 -- The front of a text before its first backslash, and how the bits of a load count its characters.
-use Rattle.std.proofs.Common.{◌≡◌, ◌≢◌, ℕ, zero, suc, ◌+◌, ◌-◌, ◌*◌, ◌%◌, ◌^◌, ◌<◌, ◌≤◌, take, drop, take-append-drop, get_or, ◌⊎◌, inl, inr, Bool, true, false, cond, ◌||◌, eqb, ltb, leb, bit_or, not, List, [], ◌∷◌, ◌++◌, map, replicate, length, w8, w64, refl, sym, ap, ap₂, ◌∙◌, subst, arith, pow-suc}
+use Rattle.std.proofs.Common.{◌≡◌, ◌≢◌, ℕ, zero, suc, ◌+◌, ◌-◌, ◌*◌, ◌%◌, ◌^◌, ◌<◌, ◌≤◌, take, drop, take-append-drop, get_or, inl, inr, Bool, true, false, cond, ◌||◌, eqb, ltb, leb, bit_or, not, List, [], ◌∷◌, ◌++◌, map, replicate, length, w8, w64, refl, sym, ap, ap₂, ◌∙◌, subst, arith, pow-suc}
 use Rattle.std.specs.Prelude.{IsUtf8}
 use Rattle.std.specs.Int.{trailing_zeros}
 use Rattle.std.specs.Int.RustNames.{count_ones}
@@ -13,13 +13,14 @@ use Rattle.std.proofs.lemmas.List.Sums.{count_by-le-length}
 use Rattle.std.proofs.lemmas.Nat.{and_mask, mod-mul-add, pow_below}
 use Rattle.std.proofs.lemmas.Simd.{mask_l-lt, mask_l-mod, ones-mask_l, bitmask_splat, first_set_mask_l, length-chunk, run_in_chunk_le, run_in_chunk_fails, run_in_chunk_stops}
 use Rattle.std.proofs.lemmas.Str.{IsUtf8-take, IsCharBoundary-before_ascii, IsCharBoundary-end}
+use mir.Val.{bool_byte}
 use lib.Bits.{bit_and}
 use lib.Lanes.{chunk, zip2, mask_l, top}
 use Rattle.structural_index.proofs.Lanes.{equal, at_most, less}
 use Rattle.json_tape.specs.Counted.{begins, beginnings, IsPlain}
 use Rattle.json_tape.specs.Spelling.{has_backslash}
 use Rattle.json_tape.specs.declared.lengths.Front.{Front}
-use Rattle.json_tape.proofs.Beginnings.{low, lead, as_many, together, part_on}
+use Rattle.json_tape.proofs.Beginnings.{as_many, together, part_on}
 use Rattle.json_tape.proofs.PlainNames.{slashless_front}
 
 -- ---- The bits of a load
@@ -99,34 +100,17 @@ further bytes front run more p room none many = record {
   many = (let f = front_many bytes front.bytes run in let m = p.many in omega (arith, f, m, many));
 }
 
-pub one_more : (bytes : List ℕ) (front : Front) → IsPlain bytes front → front.bytes < length bytes → get_or bytes front.bytes 0 ≢ 92
-    → IsPlain bytes (record { bytes = front.bytes + 1; characters = front.characters + cond (begins (get_or bytes front.bytes 0)) 1 0 })
-one_more bytes front p room other =
+number_is : (b : Bool) → bool_byte b ≡ cond b 1 0
+number_is false = refl
+number_is true = refl
+
+pub one_more : (bytes : List ℕ) (front : Front) (more : ℕ) (b : Bool) → IsPlain bytes front → front.bytes < length bytes → get_or bytes front.bytes 0 ≢ 92
+    → more ≡ bool_byte b → b ≡ begins (get_or bytes front.bytes 0) → IsPlain bytes (record { bytes = front.bytes + 1; characters = front.characters + more })
+one_more bytes front more b p room other e f =
     let here = ap (λ l. beginnings (take 1 l)) (drop_more bytes front.bytes 0 room) in
-    further bytes front 1 (cond (begins (get_or bytes front.bytes 0)) 1 0) p (omega arith)
-    (λ k from to. let e : front.bytes ≡ k = omega arith in subst (λ j. get_or bytes j 0 ≢ 92) e other) (sym here)
-
--- the byte behind a front begins a character
-pub one_begun : (bytes : List ℕ) (front : Front) → IsPlain bytes front → front.bytes < length bytes → get_or bytes front.bytes 0 ≢ 92
-    → (get_or bytes front.bytes 0 < 128) ⊎ ((128 ≤ get_or bytes front.bytes 0) × (192 ≤ get_or bytes front.bytes 0))
-    → IsPlain bytes (record { bytes = front.bytes + 1; characters = front.characters + 1 })
-one_begun bytes front p room other either =
-    let t : begins (get_or bytes front.bytes 0) ≡ true = elim either [
-      | inl a ↦ (let u : ltb (get_or bytes front.bytes 0) 128 ≡ true = grind (arith, nat_tests) in low (get_or bytes front.bytes 0) u)
-      | inr a ↦ lead (get_or bytes front.bytes 0) a.1
-    ] in
-    subst (λ b. IsPlain bytes (record { bytes = front.bytes + 1; characters = front.characters + cond b 1 0 })) t (one_more bytes front p room other)
-
--- the byte behind a front begins none
-pub none_begun : (bytes : List ℕ) (front : Front) → IsPlain bytes front → front.bytes < length bytes → get_or bytes front.bytes 0 ≢ 92
-    → 128 ≤ get_or bytes front.bytes 0 → get_or bytes front.bytes 0 < 192 → IsPlain bytes (record { bytes = front.bytes + 1; characters = front.characters })
-none_begun bytes front p room other above below =
-    let t : ltb (get_or bytes front.bytes 0) 128 ≡ false = grind (arith, nat_tests) in
-    let u : leb 192 (get_or bytes front.bytes 0) ≡ false = grind (arith, nat_tests) in
-    let e : begins (get_or bytes front.bytes 0) ≡ false = rw (t, u) refl in
-    let same : front.characters + 0 ≡ front.characters = omega arith in
-    subst (λ n. IsPlain bytes (record { bytes = front.bytes + 1; characters = n })) same
-    (subst (λ b. IsPlain bytes (record { bytes = front.bytes + 1; characters = front.characters + cond b 1 0 })) e (one_more bytes front p room other))
+    let is : more ≡ cond (begins (get_or bytes front.bytes 0)) 1 0 = e ∙ number_is b ∙ ap (λ t. cond t 1 0) f in
+    further bytes front 1 more p (omega arith)
+    (λ k from to. let same : front.bytes ≡ k = omega arith in subst (λ j. get_or bytes j 0 ≢ 92) same other) (is ∙ sym here)
 
 pub few_characters : (bytes : List ℕ) (front : Front) → IsPlain bytes front → front.characters ≤ front.bytes
 few_characters bytes front p =

@@ -22,3 +22,10 @@ pub record IsPlain (bytes : List ℕ) (front : Front) : Type 0 where
   pub inside : front.bytes ≤ length bytes
   pub none : (k : ℕ) → k < front.bytes → get_or bytes k 0 ≢ 92
   pub many : front.characters ≡ beginnings (take front.bytes bytes)
+
+-- a backslash stands there, and behind it an ASCII byte that is no u
+pub record BeginsShort (bytes : List ℕ) : Type 0 where
+  pub long : 1 < length bytes
+  pub slash : get_or bytes 0 0 ≡ 92
+  pub ascii : get_or bytes 1 0 < 128
+  pub other : get_or bytes 1 0 ≢ 117

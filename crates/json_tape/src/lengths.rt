@@ -58,7 +58,14 @@ fn first_lane(mask: u64) -> usize
     }
 }
 
-// The bits of the bytes of a load that begin a character: those that are none of 80 to BF (hexadecimal; RFC 3629, section 3).
+// Whether it begins a character: it is none of 80 to BF (hexadecimal; RFC 3629, section 3).
+fn begins_character(byte: u8) -> bool
+    ensures { result ≡ begins byte }
+{
+    byte < 0x80 || byte >= 0xC0
+}
+
+// The bits of the bytes of a load that begin a character.
 #[inline(always)]
 fn beginnings(lanes: u8x32) -> u64
     ensures { result ≡ mask_l (map begins lanes) }
@@ -100,9 +107,7 @@ fn with_bytes(bytes: &[u8], front: Front) -> Front
                 characters,
             };
         }
-        if byte < 0x80 || byte >= 0xC0 {
-            characters += 1;
-        }
+        characters += usize::from(begins_character(byte));
         k += 1;
     }
     Front {
@@ -139,7 +144,7 @@ pub fn count_of(mut scalars: Scalars<'_>) -> u32
     ensures { result ≡ length scalars.entry }
 {
     let mut count = scalars.pass_plain();
-    while let Some(_scalar) = scalars.next() {
+    while scalars.pass_one() {
         count += 1 + scalars.pass_plain();
     }
     count as u32
