@@ -53,7 +53,7 @@ pub mod Sides
 pub mod Keeping
 mod Beginnings
 pub mod PlainFronts
-pub mod ShortEscapes
+pub mod PassedEscapes
 pub mod Bridge
 pub mod Counting
 pub mod Walking

@@ -29,3 +29,15 @@ pub record BeginsShort (bytes : List ℕ) : Type 0 where
   pub slash : get_or bytes 0 0 ≡ 92
   pub ascii : get_or bytes 1 0 < 128
   pub other : get_or bytes 1 0 ≢ 117
+
+-- a backslash and a u stand there, and behind them four ASCII bytes, the first of which is no D
+pub record BeginsUnit (bytes : List ℕ) : Type 0 where
+  pub long : 5 < length bytes
+  pub slash : get_or bytes 0 0 ≡ 92
+  pub letter : get_or bytes 1 0 ≡ 117
+  pub large : get_or bytes 2 0 ≢ 68
+  pub small : get_or bytes 2 0 ≢ 100
+  pub first : get_or bytes 2 0 < 128
+  pub second : get_or bytes 3 0 < 128
+  pub third : get_or bytes 4 0 < 128
+  pub fourth : get_or bytes 5 0 < 128

@@ -6,7 +6,7 @@ ghost use Rattle.json_tape.specs.Meaning.{IsHigh, IsLow, short_value as value_of
 ghost use Rattle.json_tape.specs.Limits.{bytes_at};
 ghost use Rattle.json_tape.specs.Spelling.{hex_value as value_of_hex, unquoted as inside, IsQuoted};
 ghost use Rattle.json_tape.specs.Reading.{Reads, ReadsUnit};
-ghost use Rattle.json_tape.specs.Counted.{BeginsShort};
+ghost use Rattle.json_tape.specs.Counted.{BeginsShort, BeginsUnit};
 
 use crate::lengths::plain_front;
 use crate::scan::Mode;
@@ -166,6 +166,22 @@ fn begins_short(bytes: &[u8]) -> bool
     bytes.len() > 1 && bytes[0] == b'\\' && bytes[1] < 0x80 && bytes[1] != b'u'
 }
 
+// Whether the first bytes are an escape of six bytes that spells no surrogate: `\u` and four bytes of ASCII, the first of which is no `D`.
+#[inline(always)]
+fn begins_unit(bytes: &[u8]) -> bool
+    ensures { IsTrue result → BeginsUnit bytes.now }
+{
+    bytes.len() > 5
+        && bytes[0] == b'\\'
+        && bytes[1] == b'u'
+        && bytes[2] != b'D'
+        && bytes[2] != b'd'
+        && bytes[2] < 0x80
+        && bytes[3] < 0x80
+        && bytes[4] < 0x80
+        && bytes[5] < 0x80
+}
+
 impl<'a> Scalars<'a> {
     ghost use Rattle.std.specs.Str.{chars};
     ghost use Rattle.json_tape.specs.Spelling.{scalars_in};
@@ -203,13 +219,27 @@ impl<'a> Scalars<'a> {
         false
     }
 
+    // Passes an escape of six bytes that spells no surrogate, and so one scalar value. `false` where none stands here.
+    #[inline(always)]
+    fn pass_unit(&mut self) -> bool
+        ensures passed { IsTrue result → length self.old ≡ 1 + length self.new }
+        ensures kept { result ≡ false → self.new ≡ self.old }
+    {
+        let rest = self.rest.as_str();
+        if begins_unit(rest.as_bytes()) {
+            self.rest = rest[6..].chars();
+            return true;
+        }
+        false
+    }
+
     /// Passes one scalar value. `false` where none is left.
     #[inline(always)]
     pub(crate) fn pass_one(&mut self) -> bool
         ensures passed { IsTrue result → length self.old ≡ 1 + length self.new }
         ensures none { result ≡ false → length self.old ≡ 0 }
     {
-        self.pass_short() || self.next().is_some()
+        self.pass_short() || self.pass_unit() || self.next().is_some()
     }
 }
 

@@ -2,7 +2,7 @@ use Rattle.std.proofs.Common.{◌+◌, length, sym, ap, subst, ◌∙◌}
 use Rattle.std.specs.Str.{chars}
 use Rattle.json_tape.specs.Counted.{BeginsShort}
 use Rattle.json_tape.specs.Spelling.{scalars_in}
-use Rattle.json_tape.proofs.ShortEscapes.{cut, one_passed}
+use Rattle.json_tape.proofs.PassedEscapes.{cut, one_passed}
 use Rattle.json_tape.proofs.scalars.Scalars.pass_short.Goals as goal
 
 pub range_from-requires : goal.range_from-requires
