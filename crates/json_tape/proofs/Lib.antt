@@ -54,6 +54,8 @@ pub mod Joined
 pub mod Sides
 pub mod Keeping
 mod Beginnings
+pub mod PlainFronts
+pub mod PassedEscapes
 pub mod Bridge
 pub mod Counting
 pub mod Walking
