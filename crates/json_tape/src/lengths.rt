@@ -134,6 +134,8 @@ pub fn plain_front(text: &str) -> Front
         if front.bytes < end {
             return front;
         }
+        // The same number, which the next load can have before the bits of this one are told.
+        front.bytes = end;
     }
     with_bytes(bytes, front)
 }
