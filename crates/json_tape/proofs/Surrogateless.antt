@@ -1,9 +1,8 @@
 -- A text in which no escape of a surrogate begins has no lone one.
 use Rattle.std.proofs.Common.{◌≡◌, ◌≢◌, ℕ, zero, suc, ◌+◌, ◌-◌, ◌*◌, ◌<◌, ◌≤◌, ◌⊎◌, inl, inr, true, false, Some, None, List, [], ◌∷◌, ◌++◌, length, take, drop, get_or, refl, sym, ap, subst, ◌∙◌, arith}
-use Rattle.json_tape.specs.declared.slashes.Slashes.{Slashes}
-use Rattle.json_tape.specs.Placing.{HoldSlashes}
 use Rattle.std.proofs.lemmas.Bool.{cases_lt}
-use Rattle.std.proofs.lemmas.List.{get_or_past, length-drop, get_or-drop, get_or-take}
+use Rattle.std.proofs.lemmas.List.{get_or_past, get_or_default, length-drop, get_or-drop, get_or-take}
+use Rattle.structural_index.specs.Places.{IsInBlock, AreSlashBlocks}
 use Rattle.memchr.specs.Find.{OccursAt, FindsNeedle}
 use Rattle.json_tape.specs.Tree.{Spelt, Plain, Short, Unit4, Tree, Leaf, Arr, Obj, Null, True, False, Num, Str}
 use Rattle.json_tape.specs.Letters.{IsHexDigit, IsChar, AreChars, IsString}
@@ -106,25 +105,20 @@ within bs k v e = elim (cases_lt k (length bs)) [
   | inr above ↦ absurd (let z = get_or_past bs k 0 above in cc)
 ]
 
--- none begins outside the part in which all backslashes stand, with the two bytes behind each
-pub none_outside : (text : List ℕ) (s : Slashes) (end : ℕ) → HoldSlashes text s → end ≤ length text → (end < length text → s.to + 2 ≤ end)
-    → HasNoSurrogates (take (end - s.from) (drop s.from text)) → HasNoSurrogates text
-none_outside text s end held most far h k e u =
+-- no escape of a surrogate begins in this block
+abbrev pub NoneInBlock : List ℕ → ℕ → Type 0
+NoneInBlock text b = (k : ℕ) → IsInBlock b k → get_or text k 0 ≡ 92 → get_or text (suc k) 0 ≡ 117 → (get_or text (suc (suc k)) 0 ≢ 68) × (get_or text (suc (suc k)) 0 ≢ 100)
+
+-- where none begins in its bytes with the two behind them
+pub none_in_block : (text : List ℕ) (b end : ℕ) → end ≤ length text → (end < length text → b + 66 ≤ end) → HasNoSurrogates (take (end - b) (drop b text)) → NoneInBlock text b
+none_in_block text b end most far h k (from, to) e u =
     let inside = within text k 91 e in
-    let from : s.from ≤ k = elim (cases_lt k s.from) [
-      | inl l ↦ absurd (held.before k (omega arith) l e)
-      | inr l ↦ l
-    ] in
-    let to : k < s.to = elim (cases_lt k s.to) [
-      | inl l ↦ l
-      | inr l ↦ absurd (held.behind k l inside e)
-    ] in
-    let n = end - s.from in
-    let i = k - s.from in
-    let here : s.from + i ≡ k = omega arith in
-    let known : (j : ℕ) → k + j < end → get_or (take n (drop s.from text)) (i + j) 0 ≡ get_or text (k + j) 0 = λ j l.
-    let at : s.from + (i + j) ≡ k + j = omega arith in
-    get_or-take n (drop s.from text) (i + j) 0 (omega arith) ∙ get_or-drop s.from text (i + j) 0 ∙ ap (λ x. get_or text x 0) at in
+    let n = end - b in
+    let i = k - b in
+    let here : b + i ≡ k = omega arith in
+    let known : (j : ℕ) → k + j < end → get_or (take n (drop b text)) (i + j) 0 ≡ get_or text (k + j) 0 = λ j l.
+    let at : b + (i + j) ≡ k + j = omega arith in
+    get_or-take n (drop b text) (i + j) 0 (omega arith) ∙ get_or-drop b text (i + j) 0 ∙ ap (λ x. get_or text x 0) at in
     let second = within text (suc k) 116 u in
     elim (cases_lt (k + 2) end) [
       | inl l ↦
@@ -134,10 +128,10 @@ none_outside text s end held most far h k e u =
           let k_on : k + 0 ≡ k = omega arith in
           let k_one : k + 1 ≡ suc k = omega arith in
           let k_two : k + 2 ≡ suc (suc k) = omega arith in
-          let a = known 0 (omega arith) in let b = known 1 (omega arith) in let d = known 2 l in
-          let part = take n (drop s.from text) in
+          let a = known 0 (omega arith) in let c = known 1 (omega arith) in let d = known 2 l in
+          let part = take n (drop b text) in
           let first : get_or part i 0 ≡ 92 = subst (λ x. get_or part x 0 ≡ 92) zero_on (a ∙ ap (λ x. get_or text x 0) k_on ∙ e) in
-          let unit : get_or part (suc i) 0 ≡ 117 = subst (λ x. get_or part x 0 ≡ 117) one_on (b ∙ ap (λ x. get_or text x 0) k_one ∙ u) in
+          let unit : get_or part (suc i) 0 ≡ 117 = subst (λ x. get_or part x 0 ≡ 117) one_on (c ∙ ap (λ x. get_or text x 0) k_one ∙ u) in
           let last : get_or part (suc (suc i)) 0 ≡ get_or text (suc (suc k)) 0 = subst (λ x. get_or part x 0 ≡ get_or text (suc (suc k)) 0) two_on (d ∙ ap (λ x. get_or text x 0) k_two) in
           let no = h i first unit in
           (λ g. no.0 (last ∙ g), λ g. no.1 (last ∙ g)))
@@ -149,6 +143,17 @@ none_outside text s end held most far h k e u =
           let z = get_or_past text (suc (suc k)) 0 over in
           (λ g. absurd (omega (arith, z, g)), λ g. absurd (omega (arith, z, g))))
     ]
+
+-- nor in any other, so none begins
+pub none_in_blocks : (text blocks : List ℕ) → AreSlashBlocks text blocks → ((j : ℕ) → j < length blocks → NoneInBlock text (get_or blocks j 0)) → HasNoSurrogates text
+none_in_blocks text blocks are none k e u =
+    let inside = within text k 91 e in
+    let (j, l, here) = are.all k inside (sym (get_or_default text k 0 32 inside) ∙ e) in
+    none j l k here e u
+
+-- a block begins in the text
+pub block_inside : (text blocks : List ℕ) (j : ℕ) → AreSlashBlocks text blocks → j < length blocks → get_or blocks j 0 < length text
+block_inside text blocks j are l = let (k, inside, here, e) = are.each j l in omega (arith, inside, here.0)
 
 -- an escape of a unit in the rest is an occurrence of its two bytes
 occurs : (text rest needle : List ℕ) (k m : ℕ) → rest ≡ drop k text → needle ≡ escape → get_or text (k + m) 0 ≡ 92 → get_or text (suc (k + m)) 0 ≡ 117 → OccursAt rest needle m

@@ -9,12 +9,13 @@ ghost use Rattle.json_tape.specs.Lexing.{is_blank as blank, is_atom as atom, is_
 ghost use Rattle.json_tape.specs.Limits.{AreWithinLimits};
 ghost use Rattle.json_tape.specs.Answer.{IsJson, StandsForAll, HasDepth, IsNoJson};
 ghost use Rattle.json_tape.specs.Building.{IsBounded};
+ghost use Rattle.json_tape.specs.Surrogates.{HasNoSurrogates};
 ghost use Rattle.json_tape.specs.Verdict.{text_limit};
 ghost use Rattle.json_tape.specs.Placing.{IsIndexed, HoldSlashes, ClosesBefore, StringEnds, Passed};
 
 use crate::builder::Builder;
 use crate::compact::Tape;
-use crate::judge::has_short_exponent;
+use crate::judge::{has_short_exponent, may_be_lone};
 use crate::scan::{quote_end, quote_past};
 use crate::slashes::Slashes;
 use crate::tape::{BuildFault, Extent, Kind, Shape, Want};
@@ -296,14 +297,14 @@ fn pass_sign(
     }
 }
 
-/// What reading a text found: its tape, how many containers lie in one another at most, whether a number may be beyond the limits, where
-/// backslashes may stand, and the most bytes of a value that is a string.
+/// What reading a text found: its tape, how many containers lie in one another at most, whether a number may be beyond the limits,
+/// whether a surrogate may be lone, and the most bytes of a value that is a string.
 #[derive(Drop)]
 pub struct Reading {
     pub tape: Tape,
     pub depth: usize,
     pub may_exceed: bool,
-    pub slashes: Slashes,
+    pub may_be_lone: bool,
     pub longest: u32,
 }
 
@@ -327,7 +328,6 @@ fn walk(
     ensures few { IfOk result (λ reading. length reading.tape < 2 ^ 31) }
     ensures depth { IfOk result (λ reading. HasDepth looks.old.0 reading.depth) }
     ensures numbers { IfOk result (λ reading. reading.may_exceed ≡ false → AreWithinLimits looks.old.0 reading.tape) }
-    ensures slashes { IfOk result (λ reading. HoldSlashes looks.old.0 reading.slashes) }
     // Unless memory runs out, a text is refused only where it spells no tree.
     ensures refused { IsErrOf result BuildFault.NotJson → IsNoJson looks.old.0 }
     ensures looked { IfOk result (λ reading. IsBounded looks.old.0 looks.old.1 looks.new.1) }
@@ -367,7 +367,7 @@ fn walk(
             tape: builder.into_tape(),
             depth,
             may_exceed,
-            slashes,
+            may_be_lone: true,
             longest,
         })
     } else {
@@ -392,7 +392,7 @@ pub fn build(alloc: Global, index: &Index, looks: &mut Looks<'_>) -> Result<Tape
     // At most three looks for each place, and one for each source byte of a string, a number or a word.
     ensures looked { IfOk result (λ tape. IsBounded looks.old.0 looks.old.1 looks.new.1) }
 {
-    let slashes = Slashes::anywhere(index.has_backslash, looks.length());
+    let slashes = Slashes::anywhere(index.slashes.len() != 0, looks.length());
     match walk(alloc, index, looks, slashes) {
         Ok(reading) => Ok(reading.tape),
         Err(fault) => Err(fault),
@@ -411,13 +411,20 @@ pub fn read(alloc: Global, text: &[u8]) -> Result<Reading, BuildFault>
     ensures short { IfOk result (λ reading. length reading.tape < 2 ^ 31) }
     ensures depth { IfOk result (λ reading. HasDepth text.now reading.depth) }
     ensures numbers { IfOk result (λ reading. reading.may_exceed ≡ false → AreWithinLimits text.now reading.tape) }
-    ensures slashes { IfOk result (λ reading. HoldSlashes text.now reading.slashes) }
+    ensures lone { IfOk result (λ reading. reading.may_be_lone ≡ false → HasNoSurrogates text.now) }
     // Unless memory runs out, a text is refused only where it spells no tree.
     ensures refused { IsErrOf result BuildFault.NotJson → IsNoJson text.now }
 {
     let Ok(found) = index(alloc, text) else {
         return Err(BuildFault::Memory);
     };
-    let slashes = Slashes::of(text, found.has_backslash);
-    walk(alloc, &found, &mut Looks::new(text), slashes)
+    let blocks = found.slashes.as_slice();
+    let slashes = Slashes::anywhere(blocks.len() != 0, text.len());
+    match walk(alloc, &found, &mut Looks::new(text), slashes) {
+        Ok(reading) => Ok(Reading {
+            may_be_lone: may_be_lone(text, blocks),
+            ..reading
+        }),
+        Err(fault) => Err(fault),
+    }
 }

@@ -4,9 +4,6 @@ ghost use Rattle.std.specs.Prelude.{ℕ, List, ◌≡◌, ◌≤◌, IsTrue, fal
 ghost use Rattle.structural_index.specs.Places.{HasBackslash};
 ghost use Rattle.structural_index.specs.Seams.{AreSlashless};
 ghost use Rattle.json_tape.specs.Placing.{HoldSlashes};
-ghost use Rattle.json_tape.specs.Surrogates.{HasNoSurrogates};
-
-use memchr::{memchr, memrchr};
 
 /// From one place to before another: all backslashes of a text stand there.
 #[derive(Clone, Copy)]
@@ -24,36 +21,6 @@ impl Slashes {
             Slashes { from: 0, to: long }
         } else {
             Slashes { from: long, to: 0 }
-        }
-    }
-
-    /// From the first to the last one, if there is any.
-    pub fn of(text: &[u8], any: bool) -> Slashes
-        requires { any ≡ false → HasBackslash text.now → ⊥ }
-        ensures { HoldSlashes text.now result }
-    {
-        if !any {
-            return Slashes::anywhere(false, text.len());
-        }
-        match (memchr(b'\\', text), memrchr(b'\\', text)) {
-            (Some(first), Some(last)) => Slashes {
-                from: first,
-                to: last + 1,
-            },
-            _ => Slashes::anywhere(true, text.len()),
-        }
-    }
-
-    /// The bytes in which all escapes of units begin, each with the two bytes behind its backslash.
-    pub fn part(self, text: &[u8]) -> &[u8]
-        requires { HoldSlashes text.now self }
-        ensures { HasNoSurrogates result.now → HasNoSurrogates text.now }
-    {
-        let end = text.len().min(self.to.saturating_add(2));
-        if self.from < end {
-            &text[self.from..end]
-        } else {
-            &text[..0]
         }
     }
 

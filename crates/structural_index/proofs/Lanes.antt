@@ -1,9 +1,9 @@
 -- What stands in one lane of a vector, and what a bit of a mask tells of it.
 use Rattle.std.proofs.Common.{◌≡◌, ℕ, zero, suc, ◌+◌, ◌*◌, ◌-◌, ◌/◌, ◌%◌, ◌^◌, ◌<◌, ◌≤◌, ◌≢◌, eqb, leb, ltb, bit_or, cond, Bool, true, false, List, map, replicate, length, get_or, w64, inl, inr, refl, sym, ap, ap₂, ◌∙◌, arith}
 use Rattle.std.specs.Int.{bit_at, trailing_zeros}
-use Rattle.std.proofs.lemmas.Bool.{cases_lt}
+use Rattle.std.proofs.lemmas.Bool.{cases_lt, eqb-true}
 use Rattle.std.proofs.lemmas.Bool.Decides.{nat_tests}
-use Rattle.std.proofs.lemmas.List.{length-map, get_or-map}
+use Rattle.std.proofs.lemmas.List.{length-map, get_or-map, get_or_past}
 use Rattle.std.proofs.Math.Nat.{div-le_self}
 use Rattle.std.proofs.lemmas.Nat.{or_lt, shr-shr}
 use Rattle.std.proofs.lemmas.Nat.Bits.{bit_at-zero, bit_at-trailing_zeros, bit_at_set_same, bit_at_set_other}
@@ -41,14 +41,37 @@ unset : (b : Bool) → bit b ≡ 0 → b ≡ false
 unset false e = refl
 unset true e = absurd (omega arith)
 
--- where the bit of a lane is not set, the lane has not its highest bit
-pub off : (h n i : ℕ) (lanes : List ℕ) (x : ℕ) → n ≤ 64 → i < n → HasLane n i lanes x → bit_at (mask_l (map (top h) lanes) % 2 ^ 64) i ≡ 0 → top h x ≡ false
-off h n i lanes x few inside lane clear =
+-- the bit of a lane is its highest
+told : (h n i : ℕ) (lanes : List ℕ) (x : ℕ) → n ≤ 64 → i < n → HasLane n i lanes x → bit_at (mask_l (map (top h) lanes) % 2 ^ 64) i ≡ bit (top h x)
+told h n i lanes x few inside lane =
     let tops = map (top h) lanes in
     let long = lane.many in
     let whole = mask_l-mod tops 64 (omega (arith, length-map lanes (top h))) in
     let at = get_or-map (top h) lanes i 0 false (omega arith) ∙ ap (top h) lane.here in
-    unset (top h x) (sym (ap (λ m. bit_at m i) whole ∙ bit_mask_l tops i ∙ ap bit at) ∙ clear)
+    ap (λ m. bit_at m i) whole ∙ bit_mask_l tops i ∙ ap bit at
+
+-- where the bit of a lane is not set, the lane has not its highest bit
+pub off : (h n i : ℕ) (lanes : List ℕ) (x : ℕ) → n ≤ 64 → i < n → HasLane n i lanes x → bit_at (mask_l (map (top h) lanes) % 2 ^ 64) i ≡ 0 → top h x ≡ false
+off h n i lanes x few inside lane clear = unset (top h x) (sym (told h n i lanes x few inside lane) ∙ clear)
+
+set_only : (b : Bool) → bit b ≡ 1 → b ≡ true
+set_only true e = refl
+set_only false e = absurd (omega arith)
+
+-- and where it is set, the lane has
+pub on : (h n i : ℕ) (lanes : List ℕ) (x : ℕ) → n ≤ 64 → i < n → HasLane n i lanes x → bit_at (mask_l (map (top h) lanes) % 2 ^ 64) i ≡ 1 → top h x ≡ true
+on h n i lanes x few inside lane set = set_only (top h x) (sym (told h n i lanes x few inside lane) ∙ set)
+
+-- no bit is set behind the last lane
+set_within : (h n i : ℕ) (lanes : List ℕ) → n ≤ 64 → length lanes ≡ n → bit_at (mask_l (map (top h) lanes) % 2 ^ 64) i ≡ 1 → i < n
+set_within h n i lanes few long set = elim (cases_lt i n) [
+  | inl inside ↦ inside
+  | inr past ↦ (let tops = map (top h) lanes in
+      let size = length-map lanes (top h) in
+      let whole = mask_l-mod tops 64 (omega (arith, size)) in
+      let clear = ap (λ m. bit_at m i) whole ∙ bit_mask_l tops i ∙ ap bit (get_or_past tops i false (omega (arith, size))) in
+      absurd (omega (arith, clear, set)))
+]
 
 -- no bit of 0 is set
 pub none : (mask i : ℕ) → mask ≡ 0 → bit_at mask i ≡ 0
@@ -149,6 +172,21 @@ slashless_lane n i v x few inside lane clear =
     let backslash = combined equal n i v (replicate n 92) x 92 inside lane (repeated n i 92 inside) in
     let t = alone (eqb x 92) (off 7 n i _ _ few inside backslash clear) in
     λ e. grind (arith, nat_tests)
+
+backslash_on : (x : ℕ) → top 7 (cond (eqb x 92) 255 0) ≡ true → x ≡ 92
+backslash_on x t = go (eqb x 92) refl t
+  where
+    go : (b : Bool) → eqb x 92 ≡ b → top 7 (cond b 255 0) ≡ true → x ≡ 92
+    go true e t = eqb-true x 92 e
+    go false e t = absurd (cc)
+
+pub backslash_lane : (n i : ℕ) (v : List ℕ) (x : ℕ) → n ≤ 64 → i < n → HasLane n i v x → bit_at (mask_l (map (top 7) (zip2 equal v (replicate n 92))) % 2 ^ 64) i ≡ 1 → x ≡ 92
+backslash_lane n i v x few inside lane set =
+    let backslash = combined equal n i v (replicate n 92) x 92 inside lane (repeated n i 92 inside) in
+    backslash_on x (on 7 n i _ _ few inside backslash set)
+
+pub backslash_within : (n i : ℕ) (v : List ℕ) (x : ℕ) → n ≤ 64 → 0 < n → HasLane n 0 v x → bit_at (mask_l (map (top 7) (zip2 equal v (replicate n 92))) % 2 ^ 64) i ≡ 1 → i < n
+backslash_within n i v x few some lane set = set_within 7 n i _ few (combined equal n 0 v (replicate n 92) x 92 some lane (repeated n 0 92 some)).many set
 
 -- ---- No quote, no backslash and no control character
 
