@@ -1,11 +1,11 @@
 -- A text has as many characters as bytes that begin one (RFC 3629, section 3).
-use Rattle.std.proofs.Common.{◌≡◌, ℕ, suc, ◌+◌, ◌/◌, ◌<◌, ◌≤◌, take, drop, take-append-drop, get_or, inl, inr, Bool, true, false, cond, ◌||◌, ltb, leb, List, [], ◌∷◌, ◌++◌, length, refl, sym, ap, ◌∙◌, arith}
+use Rattle.std.proofs.Common.{◌≡◌, ℕ, suc, ◌+◌, ◌/◌, ◌≤◌, take, drop, take-append-drop, inl, inr, Bool, true, false, cond, ltb, leb, List, [], ◌∷◌, ◌++◌, length, refl, sym, ap, ◌∙◌, arith}
 use Rattle.std.specs.Prelude.{IsUtf8}
 use Rattle.std.specs.Str.{chars}
 use Rattle.std.proofs.lemmas.Bool.{cases_lt}
 use Rattle.std.proofs.lemmas.Bool.Decides.{nat_tests}
 use Rattle.std.proofs.lemmas.Str.{encodes-chars}
-use Rattle.std.proofs.lemmas.List.{drop-drop, get_or-drop, get_or-take, length-take-le, length-drop}
+use Rattle.std.proofs.lemmas.List.{drop-drop}
 use lib.Utf8.{encode, encodes, next}
 use Rattle.json_tape.specs.Counted.{begins, beginnings}
 
@@ -53,26 +53,8 @@ together (x ∷ xs) ys = go (begins x) (together xs ys)
     go true e = omega (arith, e)
     go false e = e
 
-pub ascii_begin : (xs : List ℕ) → ((k : ℕ) → k < length xs → get_or xs k 0 < 128) → beginnings xs ≡ length xs
-ascii_begin [] h = refl
-ascii_begin (x ∷ xs) h =
-    let first = h 0 (omega arith) in
-    let t : ltb x 128 ≡ true = grind (arith, nat_tests) in
-    let rest = ascii_begin xs (λ k l. h (suc k) (omega arith)) in
-    rw (low x t) (ap suc rest)
-
 -- a part from a place on, and what is behind it
 pub part_on : (bytes : List ℕ) (k n : ℕ) → beginnings (take n (drop k bytes)) + beginnings (drop (k + n) bytes) ≡ beginnings (drop k bytes)
 part_on bytes k n =
     let behind : drop n (drop k bytes) ≡ drop (k + n) bytes = drop-drop n k bytes in
     sym (ap beginnings (sym (take-append-drop n (drop k bytes))) ∙ together (take n (drop k bytes)) (drop n (drop k bytes)) ∙ ap (λ l. beginnings (take n (drop k bytes)) + beginnings l) behind)
-
--- so many ASCII bytes from a place on
-pub ascii_part : (bytes : List ℕ) (k n : ℕ) → k + n ≤ length bytes → ((i : ℕ) → i < n → get_or bytes (k + i) 0 < 128) → n ≡ beginnings (take n (drop k bytes))
-ascii_part bytes k n room h =
-    let left = length-drop k bytes in
-    let long : length (take n (drop k bytes)) ≡ n = length-take-le n (drop k bytes) (omega (arith, left)) in
-    sym (ascii_begin (take n (drop k bytes)) (λ i l. let inside : i < n = omega (arith, long, l) in
-    let e = get_or-take n (drop k bytes) i 0 inside ∙ get_or-drop k bytes i 0 in
-    let x = h i inside in
-    omega (arith, e, x)) ∙ long)

@@ -52,6 +52,8 @@ pub mod Joined
 pub mod Sides
 pub mod Keeping
 mod Beginnings
+pub mod PlainFronts
+pub mod ShortEscapes
 pub mod Bridge
 pub mod Counting
 pub mod Walking

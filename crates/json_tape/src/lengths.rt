@@ -1,16 +1,17 @@
 // How many scalar values long strings mean, so that they are counted once.
 
-ghost use Rattle.std.specs.Prelude.{◌≡◌, ◌+◌, ◌<◌, ◌≤◌, ◌^◌, [], ℕ, get_or, length, take, drop, false, OnOk, IfOk, IfSome, IsTrue};
+ghost use Rattle.std.specs.Prelude.{◌≡◌, ◌+◌, ◌<◌, ◌≤◌, ◌^◌, [], ℕ, cond, eqb, map, get_or, length, take, false, OnOk, IfOk, IfSome, IsTrue};
+ghost use Rattle.std.specs.Int.{trailing_zeros, w64};
+ghost use lib.Lanes.{mask_l};
 ghost use Rattle.std.specs.Str.{chars, IsCharBoundary};
 ghost use Rattle.json_tape.specs.Spelling.{has_backslash};
 ghost use Rattle.json_tape.specs.Verdict.{text_limit};
 ghost use Rattle.json_tape.specs.Document.{IsDocument};
-ghost use Rattle.json_tape.specs.Counted.{AreCounted, beginnings as beginnings_of};
+ghost use Rattle.json_tape.specs.Counted.{AreCounted, IsPlain, begins};
 
 use crate::compact::Tape;
 use crate::scalars::{Scalars, unquoted};
 use crate::tape::{Entry, Kind};
-use memchr::memchr;
 use std::alloc::{AllocError, Global};
 use std::simd::prelude::*;
 
@@ -35,70 +36,106 @@ pub fn is_long(entry: Entry) -> bool
     }
 }
 
-/// Where the first backslash stands, or the length of the text.
-pub fn plain_length(text: &str) -> usize
-    ensures boundary { IsCharBoundary text.now result }
-    ensures plain { has_backslash (take result text.now) ≡ false }
-{
-    match memchr(b'\\', text.as_bytes()) {
-        Some(place) => place,
-        None => text.len(),
-    }
-}
-
 // So many bytes are looked at in one load.
-const LANES: usize = 16;
+const LANES: usize = 32;
 
-// Whether the bytes of a load are all ASCII.
-#[inline(always)]
-fn are_ascii(bytes: &[u8], at: usize) -> bool
-    requires { at + LANES ≤ length bytes.now }
-    ensures { IsTrue result → (k : ℕ) → k < LANES → get_or bytes.now (at + k) 0 < 128 }
-{
-    let lanes = u8x16::from_slice(&bytes[at..]);
-    lanes.simd_ge(u8x16::splat(128)).to_bitmask() == 0
+/// What stands in front of a text: how many bytes, and how many characters.
+#[derive(Clone, Copy)]
+pub struct Front {
+    pub bytes: usize,
+    pub characters: usize,
 }
 
-// How many of the bytes begin a character: those that are none of 80 to BF (hexadecimal).
-fn beginnings(bytes: &[u8]) -> usize
-    ensures value { result ≡ beginnings_of bytes.now }
-    ensures few { result ≤ length bytes.now }
-{
-    let mut count = 0;
-    for byte in bytes {
-        if *byte < 0x80 || *byte >= 0xC0 {
-            count += 1;
-        }
-    }
-    count
-}
-
-// The same of the bytes of a load.
+// The lane of the first bit that is set, or how many lanes there are.
 #[inline(always)]
-fn beginnings_at(bytes: &[u8], at: usize) -> usize
-    requires { at + LANES ≤ length bytes.now }
-    ensures value { result ≡ beginnings_of (take LANES (drop at bytes.now)) }
-    ensures few { result ≤ LANES }
+fn first_lane(mask: u64) -> usize
+    ensures { result ≡ cond (eqb mask 0) 32 (trailing_zeros w64 mask) }
 {
-    if are_ascii(bytes, at) {
+    if mask == 0 {
         LANES
     } else {
-        beginnings(&bytes[at..at + LANES])
+        mask.trailing_zeros() as usize
     }
 }
 
-/// How many characters there are: as many as bytes that begin one (RFC 3629, section 3).
-pub fn characters(text: &str) -> usize
-    ensures { result ≡ length (chars text.now) }
+// Whether it begins a character: it is none of 80 to BF (hexadecimal; RFC 3629, section 3).
+fn begins_character(byte: u8) -> bool
+    ensures { result ≡ begins byte }
+{
+    byte < 0x80 || byte >= 0xC0
+}
+
+// The bits of the bytes of a load that begin a character.
+#[inline(always)]
+fn beginnings(lanes: u8x32) -> u64
+    ensures { result ≡ mask_l (map begins lanes) }
+{
+    (lanes.simd_lt(u8x32::splat(0x80)) | lanes.simd_ge(u8x32::splat(0xC0))).to_bitmask()
+}
+
+// The front with the bytes of a load before its first backslash.
+#[inline(always)]
+fn with_lanes(bytes: &[u8], front: Front) -> Front
+    requires front { IsPlain bytes.now front }
+    requires room { front.bytes + LANES ≤ length bytes.now }
+    ensures front { IsPlain bytes.now result }
+    ensures few { result.bytes ≤ front.bytes + 32 }
+    ensures stops { result.bytes < front.bytes + 32 → get_or bytes.now result.bytes 0 ≡ 92 }
+{
+    let lanes = u8x32::from_slice(&bytes[front.bytes..]);
+    let run = first_lane(lanes.simd_eq(u8x32::splat(b'\\')).to_bitmask());
+    let characters = (beginnings(lanes) & ((1 << run) - 1)).count_ones() as usize;
+    Front {
+        bytes: front.bytes + run,
+        characters: front.characters + characters,
+    }
+}
+
+// The front with all bytes before the next backslash.
+fn with_bytes(bytes: &[u8], front: Front) -> Front
+    requires { IsPlain bytes.now front }
+    ensures front { IsPlain bytes.now result }
+    ensures stops { result.bytes < length bytes.now → get_or bytes.now result.bytes 0 ≡ 92 }
+{
+    let mut k = front.bytes;
+    let mut characters = front.characters;
+    while k < bytes.len() {
+        let byte = bytes[k];
+        if byte == b'\\' {
+            return Front {
+                bytes: k,
+                characters,
+            };
+        }
+        characters += usize::from(begins_character(byte));
+        k += 1;
+    }
+    Front {
+        bytes: k,
+        characters,
+    }
+}
+
+/// What stands before the first backslash, or all of a text without one.
+#[inline(always)]
+pub fn plain_front(text: &str) -> Front
+    ensures boundary { IsCharBoundary text.now result.bytes }
+    ensures plain { has_backslash (take result.bytes text.now) ≡ false }
+    ensures characters { result.characters ≡ length (chars (take result.bytes text.now)) }
 {
     let bytes = text.as_bytes();
-    let mut count = 0;
-    let mut k = 0;
-    while bytes.len() - k >= LANES {
-        count += beginnings_at(bytes, k);
-        k += LANES;
+    let mut front = Front {
+        bytes: 0,
+        characters: 0,
+    };
+    while bytes.len() - front.bytes >= LANES {
+        let end = front.bytes + LANES;
+        front = with_lanes(bytes, front);
+        if front.bytes < end {
+            return front;
+        }
     }
-    count + beginnings(&bytes[k..])
+    with_bytes(bytes, front)
 }
 
 /// How many scalar values are left.
@@ -107,7 +144,7 @@ pub fn count_of(mut scalars: Scalars<'_>) -> u32
     ensures { result ≡ length scalars.entry }
 {
     let mut count = scalars.pass_plain();
-    while let Some(_scalar) = scalars.next() {
+    while scalars.pass_one() {
         count += 1 + scalars.pass_plain();
     }
     count as u32

@@ -1,13 +1,14 @@
 //! The scalar values that a string or a name means (RFC 8259, section 7).
 
-ghost use Rattle.std.specs.Prelude.{◌≡◌, ℕ, ◌+◌, ◌<◌, length, IfSome};
+ghost use Rattle.std.specs.Prelude.{◌≡◌, ℕ, ◌+◌, ◌<◌, length, false, IfSome, IsTrue};
 ghost use Rattle.std.specs.Char.{IsScalar};
 ghost use Rattle.json_tape.specs.Meaning.{IsHigh, IsLow, short_value as value_of_short, pair_value as value_of_pair};
 ghost use Rattle.json_tape.specs.Limits.{bytes_at};
 ghost use Rattle.json_tape.specs.Spelling.{hex_value as value_of_hex, unquoted as inside, IsQuoted};
 ghost use Rattle.json_tape.specs.Reading.{Reads, ReadsUnit};
+ghost use Rattle.json_tape.specs.Counted.{BeginsShort};
 
-use crate::lengths::{characters, plain_length};
+use crate::lengths::plain_front;
 use crate::scan::Mode;
 use crate::tape::Extent;
 use std::marker::Model;
@@ -157,6 +158,14 @@ fn after(state: Spelling, c: char) -> Meant
     }
 }
 
+// Whether the first bytes are an escape of two bytes: a backslash, and a byte of ASCII that is no `u`.
+#[inline(always)]
+fn begins_short(bytes: &[u8]) -> bool
+    ensures { IsTrue result → BeginsShort bytes.now }
+{
+    bytes.len() > 1 && bytes[0] == b'\\' && bytes[1] < 0x80 && bytes[1] != b'u'
+}
+
 impl<'a> Scalars<'a> {
     ghost use Rattle.std.specs.Str.{chars};
     ghost use Rattle.json_tape.specs.Spelling.{scalars_in};
@@ -175,9 +184,32 @@ impl<'a> Scalars<'a> {
         ensures { length self.old ≡ result + length self.new }
     {
         let rest = self.rest.as_str();
-        let run = plain_length(rest);
-        self.rest = rest[run..].chars();
-        characters(&rest[..run])
+        let front = plain_front(rest);
+        self.rest = rest[front.bytes..].chars();
+        front.characters
+    }
+
+    // Passes an escape of two bytes, which spells one scalar value. `false` where none stands here.
+    #[inline(always)]
+    fn pass_short(&mut self) -> bool
+        ensures passed { IsTrue result → length self.old ≡ 1 + length self.new }
+        ensures kept { result ≡ false → self.new ≡ self.old }
+    {
+        let rest = self.rest.as_str();
+        if begins_short(rest.as_bytes()) {
+            self.rest = rest[2..].chars();
+            return true;
+        }
+        false
+    }
+
+    /// Passes one scalar value. `false` where none is left.
+    #[inline(always)]
+    pub(crate) fn pass_one(&mut self) -> bool
+        ensures passed { IsTrue result → length self.old ≡ 1 + length self.new }
+        ensures none { result ≡ false → length self.old ≡ 0 }
+    {
+        self.pass_short() || self.next().is_some()
     }
 }
 

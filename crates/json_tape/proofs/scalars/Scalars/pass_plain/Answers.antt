@@ -1,4 +1,4 @@
-use Rattle.std.proofs.Common.{◌≡◌, ◌-◌, ◌+◌, ◌++◌, ◌∙◌, length, take, drop, length-append, sym, ap, ap₂, arith}
+use Rattle.std.proofs.Common.{◌+◌, ◌∙◌, length, take, drop, length-append, sym, ap, ap₂}
 use Rattle.std.specs.Str.{chars}
 use Rattle.json_tape.specs.Spelling.{scalars_in}
 use Rattle.json_tape.proofs.PlainNames.{plain_front}
@@ -7,10 +7,8 @@ use Rattle.json_tape.proofs.scalars.Scalars.pass_plain.Goals as goal
 pub returns : goal.returns
 returns c =
     let rest = c.as_str-rest.result.now in
-    let run = c.plain_length-run.result in
-    let is = c.plain_length-run.ensures in
-    let whole : run - 0 ≡ run = omega arith in
+    let run = c.plain_front-front.result.bytes in
+    let is = c.plain_front-front.ensures in
     ap length (sym c.self.view_is) ∙ ap (λ l. length (scalars_in (chars l))) (sym c.as_str-rest.ensures)
     ∙ ap length (plain_front rest run c.as_str-rest.utf8 is.boundary is.plain) ∙ length-append (chars (take run rest)) (scalars_in (chars (drop run rest)))
-    ∙ ap₂ (λ m n. m + n) (ap (λ l. length (chars l)) (sym (c.range.ensures.value ∙ ap (λ n. take n rest) whole)) ∙ sym c.characters.ensures)
-    (ap (λ l. length (scalars_in (chars l))) (sym (c.chars-self-inside.ensures.rest ∙ c.range_from.ensures.value)))
+    ∙ ap₂ (λ m n. m + n) (sym is.characters) (ap (λ l. length (scalars_in (chars l))) (sym (c.chars-self-inside.ensures.rest ∙ c.range_from.ensures.value)))
