@@ -67,3 +67,7 @@ pub mod Stamps
 pub mod Runs
 pub mod WideNodes
 pub mod CountedStrings
+pub mod SameBytes
+pub mod Abreast
+pub mod Appending
+pub mod Alike

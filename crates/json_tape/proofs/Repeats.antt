@@ -100,6 +100,10 @@ module _ {K : Type 0} (same : K → K → Bool) (order : K → K → Ordering) (
   pub strict : (d : K) (xs : List K) → IsSorted order xs → repeats_next_by same xs ≡ false → IsStrictlySortedBy order xs
   strict d xs s h = sorted_from_all_adjacent total xs d (λ k l. below (get_or xs k d) (get_or xs (k + 1) d) (s k d (omega arith) l) (let e : suc k ≡ k + 1 = omega arith in subst (λ j. same (get_or xs k d) (get_or xs j d) ≡ false) e (apart xs k d h (omega arith))))
 
+  -- where each one is less than the next, none comes again
+  pub rising_alone : (xs ys : List K) → IsPermutation xs ys → IsStrictlySortedBy order ys → repeats_by same xs ≡ false
+  rising_alone xs ys p s = no_repeats xs (IsDistinct-IsPermutation tied tied_turned ys xs (IsPermutation-sym xs ys p) (IsDistinct-from_sorted order ys s))
+
   -- in order, one that comes again comes right behind itself
   sorted_again : (d : K) (xs ys : List K) → IsPermutation xs ys → IsSorted order ys → repeats_next_by same ys ≡ repeats_by same xs
   sorted_again d xs ys p s = go (repeats_next_by same ys) refl
@@ -110,7 +114,7 @@ module _ {K : Type 0} (same : K → K → Bool) (order : K → K → Ordering) (
 
       go : (t : Bool) → repeats_next_by same ys ≡ t → t ≡ repeats_by same xs
       go true e = found (repeats_by same xs) refl (next_repeats ys e)
-      go false e = sym (no_repeats xs (IsDistinct-IsPermutation tied tied_turned ys xs (IsPermutation-sym xs ys p) (IsDistinct-from_sorted order ys (strict d ys s e))))
+      go false e = sym (rising_alone xs ys p (strict d ys s e))
 
   -- the same without a value of their type at hand
   pub sorted_repeats : (xs ys : List K) → IsPermutation xs ys → IsSorted order ys → repeats_next_by same ys ≡ repeats_by same xs

@@ -210,7 +210,7 @@ members_are e h = elim (cases_Bool (is_object e.kind)) [
   | inr f ↦ absurd (let z : members_in e ≡ 0 = ap (λ b. cond b e.children 0) f in omega arith)
 ]
 
-object_members : (e : Entry) → e.kind ≡ kinds.Object → members_in e ≡ e.children
+pub object_members : (e : Entry) → e.kind ≡ kinds.Object → members_in e ≡ e.children
 object_members e q = ap (λ k. cond (is_object k) e.children 0) q
 
 pub few_members : (e : Entry) (members : ℕ) → members ≡ members_in e → members ≤ 1 → (e.kind ≡ kinds.Object) × (1 < e.children) → ⊥

@@ -9,7 +9,8 @@ use Rattle.json_tape.specs.Meaning.{Means, HasLone, meaning}
 use Rattle.json_tape.specs.Parts.{IsNameOf, first_name, later_name}
 use Rattle.json_tape.specs.Verdict.{names, HasTwins, Applies}
 use Rattle.json_tape.specs.Answer.{IsJson, StandsForAll}
-use Rattle.json_tape.specs.Tape.{Label, Top, IsAt, member_count}
+use Rattle.json_tape.specs.Tape.{Label, Top, Stands, IsAt, member_count}
+use Rattle.json_tape.specs.Grammar.{IsText}
 use Rattle.json_tape.specs.Document.{kind_of}
 use Rattle.json_tape.specs.Repeats.{is_same, repeats, meanings, IsObject}
 use Rattle.json_tape.specs.declared.tape.Kind.TheVariants as kinds
@@ -81,22 +82,24 @@ few_names NoMember h = refl
 few_names (Member m v NoMember) h = refl
 few_names (Member m v (Member n w ms)) h = absurd (omega arith)
 
+-- the entry of an object is that of its members
+pub object_of : (text : List ℕ) (tape : List Entry) (t : Tree) → IsText text t → Stands tape t → (n : ℕ) (d : Entry) → n < length tape → (get_or tape n d).kind ≡ kinds.Object → (ms : Members) × IsObject text tape n ms
+object_of text tape t h s n d l k =
+    let p = part_with tape t n s l in
+    go p.tree p.up' p.label' p.is_at (sym (kind_is p.tree p.up' p.label' n) ∙ sym (ap (λ (e : Entry). e.kind) (entry_at tape d s p.is_at)) ∙ k)
+  where
+    go : (part : Tree) (up : ℕ) (label : Label) → IsAt t 0 Top 0 n up label part → kind_of part ≡ kinds.Object → (ms : Members) × IsObject text tape n ms
+    go (Obj x ms) up label a k = (ms, record { tree = t; source = x; up = up; label = label; is_text = h; stands = s; is_at = a })
+    go (Arr x es) up label a k = absurd (cc)
+    go (Leaf x Null) up label a k = absurd (cc)
+    go (Leaf x True) up label a k = absurd (cc)
+    go (Leaf x False) up label a k = absurd (cc)
+    go (Leaf x Num) up label a k = absurd (cc)
+    go (Leaf x (Str cs)) up label a k = absurd (cc)
+
 module _ (text : List ℕ) (tape : List Entry) (json : IsJson text) (stands : StandsForAll text tape) where
-  -- the entry of an object is that of its members
   pub object_at : (n : ℕ) (d : Entry) → n < length tape → (get_or tape n d).kind ≡ kinds.Object → (ms : Members) × IsObject text tape n ms
-  object_at n d l k =
-      let s = stands json.0 json.1 in
-      let p = part_with tape json.0 n s l in
-      go p.tree p.up' p.label' p.is_at (sym (kind_is p.tree p.up' p.label' n) ∙ sym (ap (λ (e : Entry). e.kind) (entry_at tape d s p.is_at)) ∙ k)
-    where
-      go : (t : Tree) (up : ℕ) (label : Label) → IsAt json.0 0 Top 0 n up label t → kind_of t ≡ kinds.Object → (ms : Members) × IsObject text tape n ms
-      go (Obj s ms) up label a k = (ms, record { tree = json.0; source = s; up = up; label = label; is_text = json.1; stands = stands json.0 json.1; is_at = a })
-      go (Arr s es) up label a k = absurd (cc)
-      go (Leaf s Null) up label a k = absurd (cc)
-      go (Leaf s True) up label a k = absurd (cc)
-      go (Leaf s False) up label a k = absurd (cc)
-      go (Leaf s Num) up label a k = absurd (cc)
-      go (Leaf s (Str cs)) up label a k = absurd (cc)
+  object_at n d l k = object_of text tape json.0 json.1 (stands json.0 json.1) n d l k
 
   -- an entry that is not that of an object of two members or more
   pub too_few : (n : ℕ) (d : Entry) → (((get_or tape n d).kind ≡ kinds.Object) × (1 < (get_or tape n d).children) → ⊥) → (ms : Members) → IsObject text tape n ms → repeats (meanings ms) ≡ false

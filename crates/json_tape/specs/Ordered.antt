@@ -1,5 +1,5 @@
 -- The order of names in which objects of many members keep them: by a hash, and by the scalar values where hashes meet.
-use Rattle.std.specs.Prelude.{◌≡◌, ℕ, ◌+◌, ◌*◌, ◌/◌, ◌%◌, ◌^◌, ◌<◌, ◌≤◌, List, [], ◌∷◌, length, map, take, drop, get_or}
+use Rattle.std.specs.Prelude.{◌≡◌, ℕ, ◌+◌, ◌-◌, ◌*◌, ◌/◌, ◌%◌, ◌^◌, ◌<◌, ◌≤◌, List, [], ◌∷◌, length, map, take, drop, get_or}
 use Rattle.std.specs.Ordering.{nat_cmp, on, then_cmp}
 use Rattle.std.specs.declared.cmp.Ordering.{Ordering}
 use Rattle.std.specs.declared.cmp.Ordering.TheVariants.{Less}
@@ -116,3 +116,23 @@ pub record AreKept (text : List ℕ) (tape : List Entry) (below : ℕ) (objects 
   pub each : (i : ℕ) → i < length objects → (let n = get_or objects i 0 in let c = (entry_in tape n).children in
       IsOrderOf text tape n (part (get_or starts i 0) c hashes) (part (get_or starts i 0) c members))
   pub all : (n : ℕ) → n < below → IsWide (entry_in tape n) → (i : ℕ) × (i < length objects) × (get_or objects i 0 ≡ n)
+
+-- ---- An object like an earlier one
+
+-- so many bytes from one place on are those from another on
+abbrev pub AreSameFrom : List ℕ → ℕ → ℕ → ℕ → Type 0
+AreSameFrom bytes left right n = (i : ℕ) → i < n → get_or bytes (left + i) 0 ≡ get_or bytes (right + i) 0
+
+abbrev pub onward : ℕ → ℕ → ℕ
+onward shift k = k + shift
+
+-- the same name, so much further on
+abbrev pub moved : ℕ → Keyed → Keyed
+moved shift x = record { number = onward shift x.number; name = x.name }
+
+-- the members of an object stand as those of an earlier one do, under the same names
+pub record AreAlike (text : List ℕ) (tape : List Entry) (n earlier : ℕ) : Type 0 where
+  pub before : Members
+  pub was : IsObject text tape earlier before
+  pub behind : earlier < n
+  pub same : (ms : Members) → IsObject text tape n ms → keyed ms (n + 1) ≡ map (moved (n - earlier)) (keyed before (earlier + 1))

@@ -13,7 +13,7 @@ use crate::compact::Tape;
 use crate::growth::push;
 use crate::hashes::{hash, mixed};
 use crate::names::Name;
-use crate::order::{NARROW, NameOrder, order_members};
+use crate::order::{NARROW, NameOrder, SIZES, order_members};
 use crate::scalars::unquoted;
 use std::alloc::{AllocError, Global};
 
@@ -30,10 +30,20 @@ pub fn order_names(alloc: Global, text: &str, tape: &Tape) -> Result<Option<Name
 {
     let mut hashes = Vec::new(alloc);
     let mut owners = [u8::MAX; STAMPS];
+    let mut latest = [0; SIZES];
     let mut order = NameOrder::new(alloc);
     for n in 0..tape.len() {
         if tape.members(n) > 1 {
-            let found = repeats_at(alloc, text, tape, n, &mut owners, &mut hashes, &mut order)?;
+            let found = repeats_at(
+                alloc,
+                text,
+                tape,
+                n,
+                &mut owners,
+                &mut hashes,
+                &mut latest,
+                &mut order,
+            )?;
             if found {
                 return Ok(None);
             }
@@ -50,6 +60,7 @@ fn repeats_at(
     n: u32,
     owners: &mut [u8; STAMPS],
     hashes: &mut Vec<u64>,
+    latest: &mut [usize; SIZES],
     order: &mut NameOrder,
 ) -> Result<bool, AllocError>
     requires inside { n < length tape.now }
@@ -60,7 +71,7 @@ fn repeats_at(
     ensures kept { IfOk result (λ found. found ≡ false → AreKept text.now tape.now (n + 1) order.new.objects.items order.new.starts.items order.new.hashes.items order.new.members.items) }
 {
     if tape.members(n) > NARROW {
-        order_members(alloc, text, tape, n, hashes, order)
+        order_members(alloc, text, tape, n, hashes, latest, order)
     } else if are_apart(text, tape, n, owners) {
         Ok(false)
     } else {

@@ -5,7 +5,8 @@ ghost use Rattle.std.specs.List.{Contains};
 ghost use Rattle.std.specs.Ordering.{on};
 ghost use Rattle.json_tape.specs.Tree.{Members};
 ghost use Rattle.json_tape.specs.Repeats.{repeats, repeats_next_by, meanings, IsObject};
-ghost use Rattle.json_tape.specs.Ordered.{AreNamed, IsOrderOf, AreKept, IsWide, entry_in, name_at, name_cmp, name_hash, keyed, key_number, key_hash, word_of, high_half, low_half, sought_name};
+ghost use Rattle.json_tape.specs.Limits.{bytes_at};
+ghost use Rattle.json_tape.specs.Ordered.{AreNamed, IsOrderOf, AreKept, IsWide, AreSameFrom, AreAlike, entry_in, name_at, name_cmp, name_hash, keyed, key_number, key_hash, word_of, high_half, low_half, sought_name, part, onward};
 
 use crate::again::has_equal_neighbours;
 use crate::compact::Tape;
@@ -13,9 +14,11 @@ use crate::growth::push;
 use crate::hashes::{hash, mixed};
 use crate::keys::Key;
 use crate::sought::{Sought, compare_sought, sought_hash};
-use crate::tape::{Entry, Kind};
+use crate::tape::{Entry, Extent, Kind};
 use std::alloc::{AllocError, Global};
 use std::cmp::Ordering;
+use std::simd::prelude::*;
+use structural_index::lanes_before;
 
 /// An object of more members keeps their order.
 pub const NARROW: u32 = 16;
@@ -245,9 +248,8 @@ fn order_by_names(
     Ok(false)
 }
 
-/// Keeps the order of the members of one more object, or finds a name that comes again. The words are room to work in.
-#[inline(never)]
-pub fn order_members(
+// Keeps the order of the members of one more object by sorting, or finds a name that comes again. The words are room to work in.
+fn order_by_hashes(
     alloc: Global,
     text: &str,
     tape: &Tape,
@@ -272,4 +274,199 @@ pub fn order_members(
     order.starts.push(order.members.len())?;
     add_words(words.as_slice(), &mut order.hashes, &mut order.members)?;
     Ok(false)
+}
+
+// So many bytes are compared at once.
+const LANES: usize = 16;
+
+// How many bytes of two loads of 16, from their first, are the same.
+#[inline(always)]
+fn same_run(bytes: &[u8], left: usize, right: usize) -> usize
+    requires left { left + LANES ≤ length bytes.now }
+    requires right { right + LANES ≤ length bytes.now }
+    ensures few { result ≤ LANES }
+    ensures same { AreSameFrom bytes.now left right result }
+{
+    let here = u8x16::from_slice(&bytes[left..]);
+    let there = u8x16::from_slice(&bytes[right..]);
+    lanes_before(here.simd_ne(there).to_bitmask(), LANES)
+}
+
+// Whether so many bytes from one place on are those from another on, as far as loads tell.
+#[inline(always)]
+fn are_same(bytes: &[u8], left: usize, right: usize, len: usize) -> bool
+    requires left { left + len ≤ length bytes.now }
+    requires right { right + len ≤ length bytes.now }
+    ensures { IsTrue result → AreSameFrom bytes.now left right len }
+{
+    let mut k = 0;
+    while k < len {
+        if bytes.len() - left - k < LANES || bytes.len() - right - k < LANES {
+            return false;
+        }
+        let run = same_run(bytes, left + k, right + k);
+        if run < LANES {
+            return k + run >= len;
+        }
+        k += LANES;
+    }
+    true
+}
+
+// Whether two names are spelt by the same bytes, as far as loads tell.
+#[inline(always)]
+fn is_same_name(text: &str, left: Extent, right: Extent) -> bool
+    requires left { left.start + left.len ≤ length text.now }
+    requires right { right.start + right.len ≤ length text.now }
+    ensures { IsTrue result → bytes_at text.now left ≡ bytes_at text.now right }
+{
+    left.len == right.len
+        && are_same(
+            text.as_bytes(),
+            left.start as usize,
+            right.start as usize,
+            left.len as usize,
+        )
+}
+
+// Whether the members of an object stand as those of an earlier one do, under names of the same bytes.
+#[inline(never)]
+fn are_alike(text: &str, tape: &Tape, n: u32, earlier: u32) -> bool
+    requires inside { n < length tape.now }
+    requires object { (ms : Members) × IsObject text.now tape.now n ms }
+    requires wide { IsWide (entry_in tape.now n) }
+    requires short { length tape.now < 2 ^ 31 }
+    requires before { earlier < n }
+    ensures { IsTrue result → AreAlike text.now tape.now n earlier }
+{
+    let shift = n - earlier;
+    let end = tape.after(n);
+    if tape.members(earlier) != tape.members(n) || tape.after(earlier) != end - shift {
+        return false;
+    }
+    let mut member = n + 1;
+    let mut other = earlier + 1;
+    while member < end {
+        if !is_same_name(text, tape.label(member), tape.label(other)) {
+            return false;
+        }
+        member = tape.after(member);
+        other = tape.after(other);
+        if other != member - shift {
+            return false;
+        }
+    }
+    true
+}
+
+/// So many sizes of objects are told apart where one like the next is looked for.
+pub const SIZES: usize = 64;
+
+// The place in the list of an object whose members stand as those of this one do, where the latest one of its size is such. The place
+// that this one will have is left as the latest.
+#[inline(always)]
+fn find_alike(
+    text: &str,
+    tape: &Tape,
+    n: u32,
+    order: &NameOrder,
+    latest: &mut [usize; SIZES],
+) -> Option<usize>
+    requires inside { n < length tape.now }
+    requires object { (ms : Members) × IsObject text.now tape.now n ms }
+    requires wide { IsWide (entry_in tape.now n) }
+    requires short { length tape.now < 2 ^ 31 }
+    requires kept { AreKept text.now tape.now n order.now.objects.items order.now.starts.items order.now.hashes.items order.now.members.items }
+    ensures { IfSome result (λ place. (place < length order.now.objects.items) × AreAlike text.now tape.now n (get_or order.now.objects.items place 0)) }
+{
+    let slot = (tape.after(n) - n) as usize % SIZES;
+    let place = latest[slot];
+    latest[slot] = order.objects.len();
+    if place < order.objects.len() && are_alike(text, tape, n, order.objects[place]) {
+        Some(place)
+    } else {
+        None
+    }
+}
+
+// Adds so many hashes and numbers from a place on once more, the numbers further on by the shift.
+fn add_again(
+    start: usize,
+    count: usize,
+    shift: u32,
+    hashes: &mut Vec<u32>,
+    members: &mut Vec<u32>,
+) -> Result<(), AllocError>
+    requires hashes { start + count ≤ length hashes.old.items }
+    requires members { start + count ≤ length members.old.items }
+    requires small { (k : ℕ) → k < count → get_or (part start count members.old.items) k 0 + shift < 2 ^ 32 }
+    ensures hashes { OnOk result (hashes.new.items ≡ hashes.old.items ++ part start count hashes.old.items) }
+    ensures members { OnOk result (members.new.items ≡ members.old.items ++ map (onward shift) (part start count members.old.items)) }
+{
+    for k in start..start + count {
+        let hash = hashes[k];
+        let member = members[k] + shift;
+        push(hashes, hash)?;
+        push(members, member)?;
+    }
+    Ok(())
+}
+
+// Keeps the order of the members of an object which stand as those of the object at this place do.
+#[inline(never)]
+fn order_like(
+    text: &str,
+    tape: &Tape,
+    n: u32,
+    place: usize,
+    order: &mut NameOrder,
+) -> Result<bool, AllocError>
+    requires place { place < length order.old.objects.items }
+    requires alike { AreAlike text.now tape.now n (get_or order.old.objects.items place 0) }
+    requires inside { n < length tape.now }
+    requires object { (ms : Members) × IsObject text.now tape.now n ms }
+    requires wide { IsWide (entry_in tape.now n) }
+    requires short { length tape.now < 2 ^ 31 }
+    requires kept { AreKept text.now tape.now n order.old.objects.items order.old.starts.items order.old.hashes.items order.old.members.items }
+    ensures found { IfOk result (λ found. (ms : Members) → IsObject text.now tape.now n ms → found ≡ repeats (meanings ms)) }
+    ensures kept { IfOk result (λ found. found ≡ false → AreKept text.now tape.now (n + 1) order.new.objects.items order.new.starts.items order.new.hashes.items order.new.members.items) }
+{
+    let start = order.starts[place];
+    let shift = n - order.objects[place];
+    order.objects.push(n)?;
+    order.starts.push(order.members.len())?;
+    add_again(
+        start,
+        tape.members(n) as usize,
+        shift,
+        &mut order.hashes,
+        &mut order.members,
+    )?;
+    Ok(false)
+}
+
+/// Keeps the order of the members of one more object, or finds a name that comes again. The words are room to work in, and the
+/// latest objects say where one like it is looked for.
+#[inline(never)]
+pub fn order_members(
+    alloc: Global,
+    text: &str,
+    tape: &Tape,
+    n: u32,
+    words: &mut Vec<u64>,
+    latest: &mut [usize; SIZES],
+    order: &mut NameOrder,
+) -> Result<bool, AllocError>
+    requires inside { n < length tape.now }
+    requires object { (ms : Members) × IsObject text.now tape.now n ms }
+    requires wide { IsWide (entry_in tape.now n) }
+    requires short { length tape.now < 2 ^ 31 }
+    requires kept { AreKept text.now tape.now n order.old.objects.items order.old.starts.items order.old.hashes.items order.old.members.items }
+    ensures found { IfOk result (λ found. (ms : Members) → IsObject text.now tape.now n ms → found ≡ repeats (meanings ms)) }
+    ensures kept { IfOk result (λ found. found ≡ false → AreKept text.now tape.now (n + 1) order.new.objects.items order.new.starts.items order.new.hashes.items order.new.members.items) }
+{
+    match find_alike(text, tape, n, order, latest) {
+        Some(place) => order_like(text, tape, n, place, order),
+        None => order_by_hashes(alloc, text, tape, n, words, order),
+    }
 }

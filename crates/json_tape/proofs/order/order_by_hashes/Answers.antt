@@ -5,7 +5,7 @@ use Rattle.std.specs.Ordering.{on}
 use Rattle.json_tape.specs.Ordered.{high_half, low_half}
 use Rattle.json_tape.specs.Repeats.{repeats_next_by}
 use Rattle.json_tape.proofs.HashedWords.{none_again, kept_words}
-use Rattle.json_tape.proofs.order.order_members.Goals as goal
+use Rattle.json_tape.proofs.order.order_by_hashes.Goals as goal
 
 pub returns-clause-found : goal.returns-clause-found
 returns-clause-found c =
