@@ -69,6 +69,9 @@ pub mod Stamps
 pub mod Runs
 pub mod WideNodes
 pub mod CountedStrings
+pub mod ValueBytes
+pub mod ValueBits
+pub mod Inside
 pub mod SameBytes
 pub mod Abreast
 pub mod Appending

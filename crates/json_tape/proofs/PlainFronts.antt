@@ -49,7 +49,7 @@ joined : (xs ys : List Bool) → mask_l (xs ++ ys) ≡ mask_l ys * 2 ^ length xs
 joined [] ys = omega arith
 joined (x ∷ xs) ys = doubled (cond x 1 0) (mask_l (xs ++ ys)) (mask_l xs) (mask_l ys) (2 ^ length xs) (2 ^ suc (length xs)) (joined xs ys) (pow-suc 2 (length xs))
 
-mask_front : (ms : List Bool) (k : ℕ) → k ≤ length ms → mask_l ms % 2 ^ k ≡ mask_l (take k ms)
+pub mask_front : (ms : List Bool) (k : ℕ) → k ≤ length ms → mask_l ms % 2 ^ k ≡ mask_l (take k ms)
 mask_front ms k h =
     let long = length-take-le k ms h in
     let small = subst (λ n. mask_l (take k ms) < 2 ^ n) long (mask_l-lt (take k ms)) in

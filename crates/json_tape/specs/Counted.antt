@@ -1,5 +1,5 @@
 -- The lengths of strings that a document keeps.
-use Rattle.std.specs.Prelude.{◌≡◌, ◌≢◌, ℕ, suc, ◌<◌, ◌≤◌, take, Bool, cond, ◌||◌, ltb, leb, List, [], ◌∷◌, length, get_or}
+use Rattle.std.specs.Prelude.{◌≡◌, ◌≢◌, ℕ, suc, ◌+◌, ◌-◌, ◌<◌, ◌≤◌, take, drop, Bool, false, not, cond, ◌&&◌, ◌||◌, eqb, ltb, leb, List, [], ◌∷◌, length, get_or}
 use Rattle.json_tape.specs.Document.{Doc, node_at, string_meaning}
 use Rattle.json_tape.specs.declared.lengths.Front.{Front}
 
@@ -41,3 +41,48 @@ pub record BeginsUnit (bytes : List ℕ) : Type 0 where
   pub second : get_or bytes 3 0 < 128
   pub third : get_or bytes 4 0 < 128
   pub fourth : get_or bytes 5 0 < 128
+
+-- ---- The bytes of a string without its quotes, told one after another, where the first one is escaped or not
+
+-- whether a byte escapes the next one
+abbrev pub escapes : Bool → ℕ → Bool
+escapes escaped b = eqb b 92 && not escaped
+
+-- whether a character begins with this byte that escapes none
+abbrev pub stands : Bool → ℕ → Bool
+stands escaped b = begins b && (escaped || not (eqb b 92))
+
+-- whether the byte behind these is escaped
+abbrev pub escaped_behind : Bool → List ℕ → Bool
+escaped_behind escaped [] = escaped
+escaped_behind escaped (b ∷ bs) = escaped_behind (escapes escaped b) bs
+
+-- for each byte whether a character begins with it that escapes none
+abbrev pub standing_bits : Bool → List ℕ → List Bool
+standing_bits escaped [] = []
+standing_bits escaped (b ∷ bs) = stands escaped b ∷ standing_bits (escapes escaped b) bs
+
+-- for each byte whether it is an escaped u
+abbrev pub unit_bits : Bool → List ℕ → List Bool
+unit_bits escaped [] = []
+unit_bits escaped (b ∷ bs) = (escaped && eqb b 117) ∷ unit_bits (escapes escaped b) bs
+
+-- how many characters escape none
+abbrev pub standing : Bool → List ℕ → ℕ
+standing escaped [] = 0
+standing escaped (b ∷ bs) = cond (stands escaped b) (suc (standing (escapes escaped b) bs)) (standing (escapes escaped b) bs)
+
+-- whether some u is escaped
+abbrev pub has_unit : Bool → List ℕ → Bool
+has_unit escaped [] = false
+has_unit escaped (b ∷ bs) = (escaped && eqb b 117) || has_unit (escapes escaped b) bs
+
+-- the bytes from one place to before another
+abbrev pub between : List ℕ → ℕ → ℕ → List ℕ
+between bytes from to = take (to - from) (drop from bytes)
+
+-- from one place to before another, so many characters that escape none stand before this one, and none of these bytes is an escaped u
+pub record IsPassed (bytes : List ℕ) (from to k standing_before : ℕ) (escaped : Bool) : Type 0 where
+  pub within : k ≤ to
+  pub many : standing_before + standing escaped (between bytes k to) ≡ standing false (between bytes from to)
+  pub unitless : has_unit escaped (between bytes k to) ≡ has_unit false (between bytes from to)

@@ -1,17 +1,19 @@
 // How many scalar values long strings mean, so that they are counted once.
 
-ghost use Rattle.std.specs.Prelude.{◌≡◌, ◌+◌, ◌<◌, ◌≤◌, ◌^◌, [], ℕ, cond, eqb, map, get_or, length, take, false, OnOk, IfOk, IfSome, IsTrue};
+ghost use Rattle.std.specs.Prelude.{◌≡◌, ◌+◌, ◌<◌, ◌≤◌, ◌^◌, [], ℕ, cond, eqb, map, get_or, length, take, false, OnOk, IfOk, IfSome, IsTrue, IsUtf8};
 ghost use Rattle.std.specs.Int.{trailing_zeros, w64};
 ghost use lib.Lanes.{mask_l};
 ghost use Rattle.std.specs.Str.{chars, IsCharBoundary};
-ghost use Rattle.json_tape.specs.Spelling.{has_backslash};
+ghost use Rattle.json_tape.specs.Spelling.{has_backslash, scalars_in, unquoted as inside, IsQuoted};
+ghost use Rattle.json_tape.specs.Limits.{bytes_at};
 ghost use Rattle.json_tape.specs.Verdict.{text_limit};
 ghost use Rattle.json_tape.specs.Document.{IsDocument};
-ghost use Rattle.json_tape.specs.Counted.{AreCounted, IsPlain, begins};
+ghost use Rattle.json_tape.specs.Counted.{AreCounted, IsPlain, begins, between, escaped_behind, standing_bits, unit_bits};
 
 use crate::compact::Tape;
 use crate::scalars::{Scalars, unquoted};
-use crate::tape::{Entry, Kind};
+use crate::tape::{Entry, Extent, Kind};
+use escape_runs::escaped;
 use std::alloc::{AllocError, Global};
 use std::simd::prelude::*;
 
@@ -152,6 +154,96 @@ pub fn count_of(mut scalars: Scalars<'_>) -> u32
     count as u32
 }
 
+// So many bytes are looked at in one block.
+const BLOCK: usize = 64;
+
+// What stands in a block of a string.
+#[derive(Clone, Copy)]
+pub struct Block {
+    // The bytes that begin a character which escapes none.
+    pub standing: u64,
+    // The escaped bytes that are a `u`.
+    pub units: u64,
+    // The byte behind the block is escaped.
+    pub escaped: bool,
+}
+
+// The block of these bytes, of which the first one is escaped or not.
+#[inline(always)]
+fn block_of(lanes: u8x64, carry: bool) -> Block
+    ensures standing { result.standing ≡ mask_l (standing_bits carry lanes) }
+    ensures units { result.units ≡ mask_l (unit_bits carry lanes) }
+    ensures escaped { result.escaped ≡ escaped_behind carry lanes }
+{
+    let begins = (lanes.simd_lt(u8x64::splat(0x80))
+        | lanes.simd_ge(u8x64::splat(0xC0))).to_bitmask();
+    let slashes = lanes.simd_eq(u8x64::splat(b'\\')).to_bitmask();
+    let (escapes, next) = escaped(slashes, carry);
+    Block {
+        standing: begins & (escapes | !slashes),
+        units: escapes & lanes.simd_eq(u8x64::splat(b'u')).to_bitmask(),
+        escaped: next,
+    }
+}
+
+// How many scalar values the bytes from one place to before another mean, which stand between a string's quotes. `None` where a `u` is
+// escaped, or where the text ends less than a block behind the last bytes.
+#[inline(always)]
+fn count_blocks(bytes: &[u8], from: usize, to: usize) -> Option<usize>
+    requires ordered { from ≤ to }
+    requires inside { to ≤ length bytes.now }
+    requires utf8 { IsUtf8 (between bytes.now from to) }
+    ensures { IfSome result (λ n. n ≡ length (scalars_in (chars (between bytes.now from to)))) }
+{
+    let mut k = from;
+    let mut standing = 0;
+    let mut carry = false;
+    while to - k >= BLOCK {
+        let block = block_of(u8x64::from_slice(&bytes[k..]), carry);
+        if block.units != 0 {
+            return None;
+        }
+        standing += block.standing.count_ones() as usize;
+        carry = block.escaped;
+        k += BLOCK;
+    }
+    if bytes.len() - k < BLOCK {
+        return None;
+    }
+    let last = block_of(u8x64::from_slice(&bytes[k..]), carry);
+    let inside = (1 << (to - k)) - 1;
+    if last.units & inside != 0 {
+        return None;
+    }
+    let characters = (last.standing & inside).count_ones() as usize;
+    Some(standing + characters)
+}
+
+// How many scalar values a string means, whatever its escapes. It stands out of line, since few strings take it.
+#[inline(never)]
+fn count_slowly(text: &str, string: Extent) -> u32
+    requires quoted { IsQuoted text.now string }
+    requires few { length (scalars_in (chars (inside (bytes_at text.now string)))) ≤ text_limit }
+    ensures { result ≡ length (scalars_in (chars (inside (bytes_at text.now string)))) }
+{
+    count_of(Scalars::new(unquoted(text, string)))
+}
+
+// How many scalar values a string means.
+#[inline(always)]
+fn count_string(text: &str, string: Extent) -> u32
+    requires quoted { IsQuoted text.now string }
+    requires few { length (scalars_in (chars (inside (bytes_at text.now string)))) ≤ text_limit }
+    ensures { result ≡ length (scalars_in (chars (inside (bytes_at text.now string)))) }
+{
+    let from = string.start as usize + 1;
+    let to = string.start as usize + string.len as usize - 1;
+    match count_blocks(text.as_bytes(), from, to) {
+        Some(length) => length as u32,
+        None => count_slowly(text, string),
+    }
+}
+
 /// The lengths of a text's long strings. Where no string is known to be longer than so many bytes, none is looked for.
 pub fn count_strings(
     alloc: Global,
@@ -170,7 +262,7 @@ pub fn count_strings(
     for n in 0..tape.len() {
         let entry = tape.entry(n);
         if is_long(entry) {
-            let length = count_of(Scalars::new(unquoted(text, entry.source)));
+            let length = count_string(text, entry.source);
             strings.push(n)?;
             lengths.push(length)?;
         }

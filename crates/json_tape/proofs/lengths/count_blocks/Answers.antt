@@ -1,0 +1,51 @@
+use Rattle.std.proofs.Common.{◌∙◌, ◌+◌, ◌≤◌, ◌<◌, length, arith}
+use Rattle.json_tape.specs.Counted.{between}
+use Rattle.json_tape.proofs.ValueBits.{passed_block, few_passed, few_last, all_standing, no_unit}
+use Rattle.json_tape.proofs.ValueBytes.{scalars_standing}
+use Rattle.json_tape.proofs.lengths.count_blocks.Goals as goal
+
+pub overflow_add-standing : goal.overflow_add-standing
+overflow_add-standing c =
+    let block = c.block_of-block.ensures in
+    let t = c.loop-k-test.true in
+    let z = c.if-block-ne0.false in
+    let few =
+    few_passed c.args.bytes.now c.args.from c.args.to c.loop-k.k c.loop-k.standing c.loop-k.carry c.loop-k.invariant c.block_of-block.result.standing c.block_of-block.result.units c.block_of-block.result.escaped
+    block.standing block.units block.escaped (let w = c.loop-k.invariant.within in omega (arith, t, w)) (omega (arith, z)) c.requires.inside in
+    record { fits = omega (arith, few) }
+
+pub loop-k-preserved : goal.loop-k-preserved
+loop-k-preserved c =
+    let block = c.block_of-block.ensures in
+    let t = c.loop-k-test.true in
+    let z = c.if-block-ne0.false in
+    passed_block c.args.bytes.now c.args.from c.args.to c.loop-k.k c.loop-k.standing c.loop-k.carry c.loop-k.invariant c.block_of-block.result.standing c.block_of-block.result.units c.block_of-block.result.escaped
+    block.standing block.units block.escaped (let w = c.loop-k.invariant.within in omega (arith, t, w)) (omega (arith, z))
+
+pub overflow_add-result : goal.overflow_add-result
+overflow_add-result c =
+    let block = c.block_of-last.ensures in
+    let t = c.loop-k-test.false in
+    let r = c.if-bytes-k-lt-BLOCK.false in
+    let w = c.loop-k.invariant.within in
+    let i = c.requires.inside in
+    let few =
+    few_last c.args.bytes.now c.args.from c.args.to c.loop-k.k c.loop-k.standing c.loop-k.carry c.loop-k.invariant c.block_of-last.result.standing c.block_of-last.result.units c.block_of-last.result.escaped
+    block.standing block.units block.escaped (omega (arith, t, w)) (omega (arith, r, w, i)) i in
+    record { fits = omega (arith, few) }
+
+pub returns : goal.returns
+returns c =
+    let block = c.block_of-last.ensures in
+    let t = c.loop-k-test.false in
+    let r = c.if-bytes-k-lt-BLOCK.false in
+    let w = c.loop-k.invariant.within in
+    let i = c.requires.inside in
+    let z = c.if-last-inside-ne0.false in
+    let near : c.args.to < c.loop-k.k + 64 = omega (arith, t, w) in
+    let room : c.loop-k.k + 64 ≤ length c.args.bytes.now = omega (arith, r, w, i) in
+    all_standing c.args.bytes.now c.args.from c.args.to c.loop-k.k c.loop-k.standing c.loop-k.carry c.loop-k.invariant c.block_of-last.result.standing c.block_of-last.result.units c.block_of-last.result.escaped
+    block.standing block.units block.escaped near room
+    ∙ scalars_standing (between c.args.bytes.now c.args.from c.args.to) c.requires.utf8
+    (no_unit c.args.bytes.now c.args.from c.args.to c.loop-k.k c.loop-k.standing c.loop-k.carry c.loop-k.invariant c.block_of-last.result.standing c.block_of-last.result.units c.block_of-last.result.escaped
+    block.standing block.units block.escaped near room (omega (arith, z)))
