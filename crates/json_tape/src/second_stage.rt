@@ -298,13 +298,14 @@ fn pass_sign(
 }
 
 /// What reading a text found: its tape, how many containers lie in one another at most, whether a number may be beyond the limits,
-/// whether a surrogate may be lone, and the most bytes of a value that is a string.
+/// whether a surrogate may be lone, where backslashes stand, and the most bytes of a value that is a string.
 #[derive(Drop)]
 pub struct Reading {
     pub tape: Tape,
     pub depth: usize,
     pub may_exceed: bool,
     pub may_be_lone: bool,
+    pub slashes: Slashes,
     pub longest: u32,
 }
 
@@ -368,6 +369,7 @@ fn walk(
             depth,
             may_exceed,
             may_be_lone: true,
+            slashes,
             longest,
         })
     } else {
@@ -412,6 +414,7 @@ pub fn read(alloc: Global, text: &[u8]) -> Result<Reading, BuildFault>
     ensures depth { IfOk result (λ reading. HasDepth text.now reading.depth) }
     ensures numbers { IfOk result (λ reading. reading.may_exceed ≡ false → AreWithinLimits text.now reading.tape) }
     ensures lone { IfOk result (λ reading. reading.may_be_lone ≡ false → HasNoSurrogates text.now) }
+    ensures slashes { IfOk result (λ reading. HoldSlashes text.now reading.slashes) }
     // Unless memory runs out, a text is refused only where it spells no tree.
     ensures refused { IsErrOf result BuildFault.NotJson → IsNoJson text.now }
 {
@@ -423,6 +426,7 @@ pub fn read(alloc: Global, text: &[u8]) -> Result<Reading, BuildFault>
     match walk(alloc, &found, &mut Looks::new(text), slashes) {
         Ok(reading) => Ok(Reading {
             may_be_lone: may_be_lone(text, blocks),
+            slashes: Slashes::within(blocks, text.len()),
             ..reading
         }),
         Err(fault) => Err(fault),
