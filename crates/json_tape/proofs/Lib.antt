@@ -66,6 +66,8 @@ pub mod Halving
 pub mod KeysLeft
 pub mod HashedWords
 pub mod Stamps
+pub mod PlainStamps
+pub mod SlashRange
 pub mod Runs
 pub mod WideNodes
 pub mod CountedStrings

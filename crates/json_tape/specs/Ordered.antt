@@ -11,7 +11,7 @@ use Rattle.json_tape.specs.Meaning.{meaning}
 use Rattle.json_tape.specs.Nodes.{size}
 use Rattle.json_tape.specs.Spelling.{scalars_in, unquoted, IsQuoted}
 use Rattle.json_tape.specs.Limits.{bytes_at}
-use Rattle.json_tape.specs.Repeats.{hash_of, IsObject}
+use Rattle.json_tape.specs.Repeats.{hash_of, word_of_bytes, IsObject}
 use Rattle.json_tape.specs.declared.tape.Entry.{Entry}
 use Rattle.json_tape.specs.declared.tape.Kind.TheVariants as kinds
 use Rattle.json_tape.specs.declared.tape.Role.TheVariants as roles
@@ -36,6 +36,10 @@ stamp half = half / 4194304
 
 abbrev pub name_stamp : List ℕ → ℕ
 name_stamp cs = stamp (name_hash cs)
+
+-- The same of bytes. No fact of a text rests on which stamp it is.
+abbrev pub bytes_stamp : List ℕ → ℕ
+bytes_stamp bs = stamp (mixed (word_of_bytes bs))
 
 abbrev pub name_cmp : List ℕ → List ℕ → Ordering
 name_cmp = then_cmp (on name_hash nat_cmp) (slice_cmp nat_cmp)

@@ -3,6 +3,7 @@ use Rattle.std.specs.Prelude.{◌≡◌, ◌<◌, ◌≤◌, ℕ, suc, ◌+◌, 
 use Rattle.structural_index.specs.Places.{byte, HasControlInside, AreSlashBlocks}
 use Rattle.structural_index.specs.Seams.{IsSpan, AreSlashless}
 use Rattle.json_tape.specs.declared.slashes.Slashes.{Slashes}
+use Rattle.json_tape.specs.declared.slash_range.SlashRange.{SlashRange}
 use Rattle.json_tape.specs.declared.tape.BuildFault.{BuildFault}
 use Rattle.json_tape.specs.declared.tape.BuildFault.TheVariants.{NotJson, Memory}
 use Rattle.json_tape.specs.Machine.{State}
@@ -15,6 +16,11 @@ pub record HoldSlashes (text : List ℕ) (slashes : Slashes) : Type 0 where
   pub blocks_are : AreSlashBlocks text slashes.blocks.now
   pub next : slashes.next ≤ length slashes.blocks.now
   pub long : slashes.long ≡ length text
+
+-- no backslash of a text stands outside
+pub record StandWithin (text : List ℕ) (range : SlashRange) : Type 0 where
+  pub before : AreSlashless text 0 range.from
+  pub behind : AreSlashless text range.to (length text)
 
 -- what has been shown of a text before its tokens are looked at
 pub record IsIndexed (text : List ℕ) (slashes : Slashes) : Type 0 where

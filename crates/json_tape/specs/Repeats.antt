@@ -1,5 +1,5 @@
 -- What the names of an object mean, and whether one of them comes again.
-use Rattle.std.specs.Prelude.{◌≡◌, ◌≢◌, ℕ, ◌+◌, ◌*◌, ◌%◌, ◌^◌, ◌<◌, ◌≤◌, Bool, false, cond, ltb, eqb, ◌||◌, List, [], ◌∷◌, take, drop, get_or, nat_eq}
+use Rattle.std.specs.Prelude.{◌≡◌, ◌≢◌, ℕ, ◌+◌, ◌-◌, ◌*◌, ◌%◌, ◌^◌, ◌<◌, ◌≤◌, Bool, false, cond, ltb, eqb, ◌||◌, List, [], ◌∷◌, length, take, drop, get_or, nat_eq}
 use Rattle.std.specs.List.{list_any}
 use Rattle.std.specs.Cmp.Lexicographic.{pointwise}
 use Rattle.json_tape.specs.Tree.{Source, Tree, Obj, Members, NoMember, Member}
@@ -71,6 +71,10 @@ hash_of cs = hash_from (after_words 0) cs
 abbrev pub digits : ℕ → List ℕ → ℕ
 digits w [] = w
 digits w (b ∷ bs) = digits (w * 256 + b) bs
+
+-- the first eight bytes and the last eight, or all of fewer, as one word
+abbrev pub word_of_bytes : List ℕ → ℕ
+word_of_bytes bs = cond (ltb (length bs) 8) (digits 0 bs) (joined (digits 0 (take 8 bs)) (digits 0 (drop (length bs - 8) bs)))
 
 -- so many bytes from a place on stand for themselves, and this is their word
 pub record IsPlainWord (text : List ℕ) (at len word : ℕ) : Type 0 where

@@ -1,30 +1,42 @@
 // Objects with two names that mean the same (RFC 8259, section 4).
 
-ghost use Rattle.std.specs.Prelude.{◌≡◌, ◌+◌, ◌<◌, ◌^◌, ◌↔◌, length, map, IsTrue, IfOk, OnOk, MatchOption, false};
+ghost use Rattle.std.specs.Prelude.{◌≡◌, ◌+◌, ◌<◌, ◌^◌, ◌↔◌, length, map, IsTrue, IfOk, IfSome, OnOk, MatchOption, false};
 ghost use Rattle.json_tape.specs.Tree.{Members};
 ghost use Rattle.json_tape.specs.Answer.{IsJson, StandsForAll};
 ghost use Rattle.json_tape.specs.Verdict.{Applies};
 ghost use Rattle.json_tape.specs.Repeats.{meanings, repeats, hash_of, IsObject};
-ghost use Rattle.json_tape.specs.Ordered.{AreKept, stamp};
+ghost use Rattle.json_tape.specs.Ordered.{AreKept, stamp, bytes_stamp};
+ghost use Rattle.json_tape.specs.Limits.{bytes_at};
+ghost use Rattle.json_tape.specs.Spelling.{IsQuoted};
+ghost use Rattle.json_tape.specs.Placing.{StandWithin};
+ghost use Rattle.structural_index.specs.Seams.{AreSlashless};
 ghost use Rattle.json_tape.specs.declared.tape.TextFault.TheVariants.{LoneSurrogate, DuplicateName};
 
 use crate::again::has_repeated;
 use crate::compact::Tape;
 use crate::growth::push;
-use crate::hashes::{hash, mixed};
+use crate::hashes::{EIGHT, bytes_word, hash, mixed};
 use crate::names::Name;
 use crate::order::{NARROW, NameOrder, SIZES, order_members};
 use crate::scalars::unquoted;
+use crate::slash_range::SlashRange;
+use crate::tape::Extent;
 use std::alloc::{AllocError, Global};
 
 /// The order of the members of wide objects; `None` where two names of one object mean the same. Of a text without lone
 /// surrogates.
 #[inline(never)]
-pub fn order_names(alloc: Global, text: &str, tape: &Tape) -> Result<Option<NameOrder>, AllocError>
+pub fn order_names(
+    alloc: Global,
+    text: &str,
+    tape: &Tape,
+    slashes: SlashRange,
+) -> Result<Option<NameOrder>, AllocError>
     requires spelt { IsJson text.now }
     requires stands { StandsForAll text.now tape.now }
     requires short { length tape.now < 2 ^ 31 }
     requires paired { Applies text.now LoneSurrogate → ⊥ }
+    requires slashes { StandWithin text.now slashes }
     ensures { IfOk result (λ found. MatchOption found (Applies text.now DuplicateName) (λ order. (Applies text.now DuplicateName → ⊥)
         × AreKept text.now tape.now (length tape.now) order.objects.items order.starts.items order.hashes.items order.members.items)) }
 {
@@ -39,6 +51,7 @@ pub fn order_names(alloc: Global, text: &str, tape: &Tape) -> Result<Option<Name
                 text,
                 tape,
                 n,
+                slashes,
                 &mut owners,
                 &mut hashes,
                 &mut latest,
@@ -58,6 +71,7 @@ fn repeats_at(
     text: &str,
     tape: &Tape,
     n: u32,
+    slashes: SlashRange,
     owners: &mut [u8; STAMPS],
     hashes: &mut Vec<u64>,
     latest: &mut [usize; SIZES],
@@ -66,13 +80,16 @@ fn repeats_at(
     requires inside { n < length tape.now }
     requires object { (ms : Members) × IsObject text.now tape.now n ms }
     requires short { length tape.now < 2 ^ 31 }
+    requires slashes { StandWithin text.now slashes }
     requires kept { AreKept text.now tape.now n order.old.objects.items order.old.starts.items order.old.hashes.items order.old.members.items }
     ensures found { IfOk result (λ found. (ms : Members) → IsObject text.now tape.now n ms → found ≡ repeats (meanings ms)) }
     ensures kept { IfOk result (λ found. found ≡ false → AreKept text.now tape.now (n + 1) order.new.objects.items order.new.starts.items order.new.hashes.items order.new.members.items) }
 {
     if tape.members(n) > NARROW {
         order_members(alloc, text, tape, n, hashes, latest, order)
-    } else if are_apart(text, tape, n, owners) {
+    } else if are_plainly_apart(text, tape, n, slashes, owners)
+        || are_apart(text, tape, n, owners)
+    {
         Ok(false)
     } else {
         repeats_in(alloc, text, tape, n, hashes)
@@ -89,6 +106,55 @@ fn stamp_of(half: u32) -> usize
     ensures small { result < STAMPS }
 {
     (half / 4_194_304) as usize
+}
+
+// The stamp of a name by its bytes, where none of them is a backslash and the text has eight from its quote on.
+#[inline(always)]
+fn plain_stamp(text: &str, name: Extent, slashes: SlashRange) -> Option<usize>
+    requires quoted { IsQuoted text.now name }
+    requires slashes { StandWithin text.now slashes }
+    ensures { IfSome result (λ place. (place ≡ bytes_stamp (bytes_at text.now name)) × (place < STAMPS)
+        × AreSlashless text.now name.start (name.start + name.len)) }
+{
+    let bytes = text.as_bytes();
+    let at = name.start as usize;
+    let len = name.len as usize;
+    if bytes.len() - at < EIGHT || !slashes.spare(at, at + len) {
+        return None;
+    }
+    Some(stamp_of(mixed(bytes_word(bytes, at, len))))
+}
+
+// Whether each name of the object with this number has a stamp of its own by its bytes. Where no backslash stands, names that mean the
+// same are the same bytes. Where one may stand, `false` says nothing, as it does where a stamp comes again.
+#[inline(never)]
+fn are_plainly_apart(
+    text: &str,
+    tape: &Tape,
+    n: u32,
+    slashes: SlashRange,
+    owners: &mut [u8; STAMPS],
+) -> bool
+    requires inside { n < length tape.now }
+    requires object { (ms : Members) × IsObject text.now tape.now n ms }
+    requires short { length tape.now < 2 ^ 31 }
+    requires slashes { StandWithin text.now slashes }
+    ensures { IsTrue result → (ms : Members) → IsObject text.now tape.now n ms → repeats (meanings ms) ≡ false }
+{
+    let end = tape.after(n);
+    let owner = (n % 256) as u8;
+    let mut child = n + 1;
+    while child < end {
+        let Some(stamp) = plain_stamp(text, tape.label(child), slashes) else {
+            return false;
+        };
+        if owners[stamp] == owner {
+            return false;
+        }
+        owners[stamp] = owner;
+        child = tape.after(child);
+    }
+    true
 }
 
 // Whether the names of the object with this number have a stamp each, so that none comes again. The last byte of the number is left

@@ -4,7 +4,7 @@ ghost use Rattle.std.specs.Prelude.{◌≡◌, ◌+◌, ◌<◌, ◌≤◌, leng
 ghost use Rattle.std.specs.Str.{chars};
 ghost use Rattle.json_tape.specs.Limits.{bytes_at};
 ghost use Rattle.json_tape.specs.Spelling.{scalars_in, unquoted as inside, IsQuoted};
-ghost use Rattle.json_tape.specs.Repeats.{joined as word_joined, more, finished, hash_of, IsPlainWord};
+ghost use Rattle.json_tape.specs.Repeats.{joined as word_joined, more, finished, hash_of, digits, word_of_bytes, IsPlainWord};
 ghost use Rattle.json_tape.specs.Ordered.{mixed as mix};
 
 use crate::scalars::{Scalars, unquoted};
@@ -15,7 +15,7 @@ use structural_index::lanes_before;
 const FACTOR: u64 = 0x9E37_79B9_7F4A_7C15;
 
 // So many scalar values are one word, and so many bytes that stand for themselves: their number, the first of them the highest.
-const EIGHT: usize = 8;
+pub const EIGHT: usize = 8;
 
 /// A hash of some scalar values: of those in whole words, and the word of the others with their number.
 #[derive(Clone, Copy)]
@@ -119,6 +119,35 @@ fn plain_word(text: &[u8], at: usize, len: usize) -> Option<u64>
         return None;
     }
     Some(u64::from_be_bytes(lanes.to_array()) >> (64 - 8 * len))
+}
+
+// The word of so many bytes from a place on, whatever they are.
+#[inline(always)]
+fn word_at(text: &[u8], at: usize, len: usize) -> u64
+    requires some { 0 < len }
+    requires few { len ≤ EIGHT }
+    requires inside { at + EIGHT ≤ length text.now }
+    ensures { result ≡ digits 0 (take len (drop at text.now)) }
+{
+    let bytes = u8x8::from_slice(&text[at..]).to_array();
+    u64::from_be_bytes(bytes) >> (64 - 8 * len)
+}
+
+/// A word of so many bytes from a place on: of the first eight and the last eight, or of all where they are fewer.
+#[inline(always)]
+pub fn bytes_word(text: &[u8], at: usize, len: usize) -> u64
+    requires some { 0 < len }
+    requires inside { at + len ≤ length text.now }
+    requires room { at + EIGHT ≤ length text.now }
+    ensures { result ≡ word_of_bytes (take len (drop at text.now)) }
+{
+    if len < EIGHT {
+        return word_at(text, at, len);
+    }
+    joined(
+        word_at(text, at, EIGHT),
+        word_at(text, at + len - EIGHT, EIGHT),
+    )
 }
 
 // The hash of what so many bytes from a place on mean, word by word.

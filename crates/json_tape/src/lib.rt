@@ -32,6 +32,7 @@ mod plain;
 mod scalars;
 mod scan;
 mod second_stage;
+mod slash_range;
 mod slashes;
 mod sought;
 mod tape;

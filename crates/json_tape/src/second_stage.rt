@@ -11,13 +11,14 @@ ghost use Rattle.json_tape.specs.Answer.{IsJson, StandsForAll, HasDepth, IsNoJso
 ghost use Rattle.json_tape.specs.Building.{IsBounded};
 ghost use Rattle.json_tape.specs.Surrogates.{HasNoSurrogates};
 ghost use Rattle.json_tape.specs.Verdict.{text_limit};
-ghost use Rattle.json_tape.specs.Placing.{IsIndexed, HoldSlashes, ClosesBefore, StringEnds, Passed};
+ghost use Rattle.json_tape.specs.Placing.{IsIndexed, HoldSlashes, ClosesBefore, StringEnds, Passed, StandWithin};
 
 use crate::builder::Builder;
 use crate::compact::Tape;
 use crate::escapes::escapes_hold;
 use crate::judge::{has_short_exponent, may_be_lone};
 use crate::scan::quote_past;
+use crate::slash_range::SlashRange;
 use crate::slashes::Slashes;
 use crate::tape::{BuildFault, Extent, Kind, Shape, Want};
 use decimal_order::{late_exponents_keep_limits, scan};
@@ -309,13 +310,14 @@ fn pass_sign(
 }
 
 /// What reading a text found: its tape, how many containers lie in one another at most, whether a number may be beyond the limits,
-/// whether a surrogate may be lone, and the most bytes of a value that is a string.
+/// whether a surrogate may be lone, where backslashes stand, and the most bytes of a value that is a string.
 #[derive(Drop)]
 pub struct Reading {
     pub tape: Tape,
     pub depth: usize,
     pub may_exceed: bool,
     pub may_be_lone: bool,
+    pub slashes: SlashRange,
     pub longest: u32,
 }
 
@@ -374,6 +376,7 @@ fn walk(alloc: Global, index: &Index, looks: &mut Looks<'_>) -> Result<Reading, 
             depth,
             may_exceed,
             may_be_lone: true,
+            slashes: SlashRange::anywhere(),
             longest,
         })
     } else {
@@ -417,6 +420,7 @@ pub fn read(alloc: Global, text: &[u8]) -> Result<Reading, BuildFault>
     ensures depth { IfOk result (λ reading. HasDepth text.now reading.depth) }
     ensures numbers { IfOk result (λ reading. reading.may_exceed ≡ false → AreWithinLimits text.now reading.tape) }
     ensures lone { IfOk result (λ reading. reading.may_be_lone ≡ false → HasNoSurrogates text.now) }
+    ensures slashes { IfOk result (λ reading. StandWithin text.now reading.slashes) }
     // Unless memory runs out, a text is refused only where it spells no tree.
     ensures refused { IsErrOf result BuildFault.NotJson → IsNoJson text.now }
 {
@@ -427,6 +431,7 @@ pub fn read(alloc: Global, text: &[u8]) -> Result<Reading, BuildFault>
     match walk(alloc, &found, &mut Looks::new(text)) {
         Ok(reading) => Ok(Reading {
             may_be_lone: may_be_lone(text, blocks),
+            slashes: SlashRange::of(blocks, text.len()),
             ..reading
         }),
         Err(fault) => Err(fault),
