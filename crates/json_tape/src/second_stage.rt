@@ -37,14 +37,14 @@ fn are_four(bytes: &[u8], four: [u8; 4]) -> bool
         && bytes[3] == four[3]
 }
 
-#[inline(never)]
+#[inline(always)]
 fn is_number(bytes: &[u8]) -> bool
     ensures { IsTrue result ↔ IsNumber bytes.now }
 {
     scan(bytes).is_some()
 }
 
-#[inline(always)]
+#[inline(never)]
 fn word_kind(bytes: &[u8]) -> Option<Kind>
     ensures { WordIs bytes.now result }
 {
