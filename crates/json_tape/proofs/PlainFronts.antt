@@ -1,5 +1,5 @@
 -- The front of a text before its first backslash, and how the bits of a load count its characters.
-use Rattle.std.proofs.Common.{◌≡◌, ◌≢◌, ℕ, zero, suc, ◌+◌, ◌-◌, ◌*◌, ◌%◌, ◌^◌, ◌<◌, ◌≤◌, take, drop, take-append-drop, get_or, inl, inr, Bool, true, false, cond, ◌||◌, eqb, ltb, leb, bit_or, not, List, [], ◌∷◌, ◌++◌, map, replicate, length, w8, w64, refl, sym, ap, ap₂, ◌∙◌, subst, arith, pow-suc}
+use Rattle.std.proofs.Common.{◌≡◌, ◌≢◌, ℕ, zero, suc, ◌+◌, ◌-◌, ◌*◌, ◌%◌, ◌^◌, ◌<◌, ◌≤◌, take, drop, take-append-drop, get_or, inl, inr, Bool, true, false, cond, ◌||◌, eqb, ltb, leb, bit_or, not, List, [], ◌∷◌, ◌++◌, map, replicate, length, w8, w64, refl, sym, ap, ap₂, ◌∙◌, subst, arith, pow-suc, true≢false}
 use Rattle.std.specs.Prelude.{IsUtf8}
 use Rattle.std.specs.Int.{trailing_zeros}
 use Rattle.std.specs.Int.RustNames.{count_ones}
@@ -11,7 +11,7 @@ use Rattle.std.proofs.lemmas.List.{length-map, length-take-le, take-map, take-ta
 use Rattle.std.proofs.lemmas.List.Recursion.{is_count_by}
 use Rattle.std.proofs.lemmas.List.Sums.{count_by-le-length}
 use Rattle.std.proofs.lemmas.Nat.{and_mask, mod-mul-add, pow_below}
-use Rattle.std.proofs.lemmas.Simd.{mask_l-lt, mask_l-mod, ones-mask_l, bitmask_splat, first_set_mask_l, length-chunk, run_in_chunk_le, run_in_chunk_fails, run_in_chunk_stops}
+use Rattle.std.proofs.lemmas.Simd.{mask_l-lt, mask_l-mod, ones-mask_l, bitmask_splat, first_set_mask_l, length-chunk, get_or-chunk, run_in_chunk_le, run_in_chunk_fails, run_in_chunk_stops}
 use Rattle.std.proofs.lemmas.Str.{IsUtf8-take, IsCharBoundary-before_ascii, IsCharBoundary-end}
 use mir.Val.{bool_byte}
 use lib.Bits.{bit_and}
@@ -120,6 +120,60 @@ pow_positive : (n : ℕ) → 0 < 2 ^ n
 pow_positive zero = omega arith
 pow_positive (suc n) = let p = pow-suc 2 n in let q = pow_positive n in omega (arith, p, q)
 
+-- ---- Whether a backslash stands in a load
+
+slash_bits : (bs : List ℕ) → eqb (mask_l (map (λ b. eqb b 92) bs)) 0 ≡ not (has_backslash bs)
+slash_bits [] = refl
+slash_bits (b ∷ bs) = go (eqb b 92) (mask_l (map (λ x. eqb x 92) bs)) (has_backslash bs) (slash_bits bs)
+  where
+    go : (t : Bool) (m : ℕ) (any : Bool) → eqb m 0 ≡ not any → eqb (cond t 1 0 + 2 * m) 0 ≡ not (t || any)
+    go true m any e = grind (arith, nat_tests)
+    go false zero any e = e
+    go false (suc m) any e =
+        let t : eqb (0 + 2 * suc m) 0 ≡ false = grind (arith, nat_tests) in
+        let u : eqb (suc m) 0 ≡ false = grind (arith, nat_tests) in
+        t ∙ sym u ∙ e
+
+pub slash_found : (n : ℕ) (bs : List ℕ) → length bs ≡ n → n ≤ 64 → not (eqb (mask_l (map (top 7) (zip2 equal bs (replicate n 92))) % 2 ^ 64) 0) ≡ has_backslash bs
+slash_found n bs long few = ap (λ m. not (eqb m 0)) (bitmask_splat w8 eqb bs n 92 long few) ∙ ap not (slash_bits bs) ∙ twice (has_backslash bs)
+  where
+    twice : (t : Bool) → not (not t) ≡ t
+    twice true = refl
+    twice false = refl
+
+slash_before : (bs : List ℕ) → has_backslash bs ≡ true → prefix_len (λ x. not (eqb x 92)) bs < length bs
+slash_before [] h = absurd (true≢false (sym h))
+slash_before (b ∷ bs) h = go (eqb b 92) h (slash_before bs)
+  where
+    go : (t : Bool) → (t || has_backslash bs) ≡ true → (has_backslash bs ≡ true → prefix_len (λ x. not (eqb x 92)) bs < length bs)
+        → cond (not t) (1 + prefix_len (λ x. not (eqb x 92)) bs) 0 < suc (length bs)
+    go true h later = omega arith
+    go false h later = let l = later h in omega (arith, l)
+
+slash_nowhere : (bs : List ℕ) → has_backslash bs ≡ false → (i : ℕ) → get_or bs i 0 ≢ 92
+slash_nowhere [] h i = λ e. omega (arith, e)
+slash_nowhere (b ∷ bs) h i = go (eqb b 92) refl h (slash_nowhere bs) i
+  where
+    go : (t : Bool) → eqb b 92 ≡ t → (t || has_backslash bs) ≡ false → (has_backslash bs ≡ false → (i : ℕ) → get_or bs i 0 ≢ 92) → (i : ℕ) → get_or (b ∷ bs) i 0 ≢ 92
+    go true e h later i = absurd (true≢false h)
+    go false e h later zero = λ f. grind (arith, nat_tests)
+    go false e h later (suc i) = later h i
+
+-- a load without a backslash
+module _ (bytes : List ℕ) (front : Front) (plain : IsPlain bytes front) (room : front.bytes + 32 ≤ length bytes) (none : has_backslash (chunk front.bytes 32 bytes) ≡ false) (mask : ℕ)
+    (mask_is : mask ≡ mask_l (map begins (chunk front.bytes 32 bytes))) where
+  pub passed_load : IsPlain bytes (record { bytes = front.bytes + 32; characters = front.characters + count_ones mask })
+  passed_load =
+      further bytes front 32 (count_ones mask) plain room
+      (λ k from to.
+      let there : front.bytes + (k - front.bytes) ≡ k = omega (arith, from) in
+      let here = get_or-chunk front.bytes 32 bytes (k - front.bytes) 0 (omega (arith, from, to)) ∙ ap (λ n. get_or bytes n 0) there in
+      subst (λ x. x ≢ 92) here (slash_nowhere (chunk front.bytes 32 bytes) none (k - front.bytes)))
+      (ap count_ones mask_is ∙ ones-mask_l begins (chunk front.bytes 32 bytes) ∙ sym (counted (chunk front.bytes 32 bytes)))
+
+  pub few_in_load : front.characters + count_ones mask ≤ length bytes
+  few_in_load = let f = few_characters bytes (record { bytes = front.bytes + 32; characters = front.characters + count_ones mask }) passed_load in omega (arith, f, room)
+
 -- ---- A load before its first backslash
 
 -- the number that a search for a backslash among the lanes gives
@@ -144,8 +198,13 @@ module _ (bytes : List ℕ) (front : Front) (plain : IsPlain bytes front) (room 
   pub some : 1 ≤ 1 * 2 ^ run % 2 ^ 64
   some = let m = few in let small = pow_below run 64 (omega (arith, m)) in let pos = pow_positive run in omega (arith, small, pos)
 
-  pub stops : run < 32 → get_or bytes (front.bytes + run) 0 ≡ 92
-  stops less = let t = run_in_chunk_stops (λ x. eqb x 92) bytes front.bytes 32 run 0 room lanes_before less in grind (arith, nat_tests)
+  pub stops : has_backslash lanes ≡ true → get_or bytes (front.bytes + run) 0 ≡ 92
+  stops slash =
+      let before = slash_before lanes slash in
+      let l = long in
+      let is = lanes_before in
+      let t = run_in_chunk_stops (λ x. eqb x 92) bytes front.bytes 32 run 0 room lanes_before (omega (arith, before, l, is)) in
+      grind (arith, nat_tests)
 
   none : (k : ℕ) → front.bytes ≤ k → k < front.bytes + run → get_or bytes k 0 ≢ 92
   none k from to = let t = run_in_chunk_fails (λ x. eqb x 92) bytes front.bytes 32 run 0 room lanes_before k from to in λ e. grind (arith, nat_tests)

@@ -2,7 +2,7 @@
 
 ghost use Rattle.std.specs.Prelude.{◌≡◌, ◌+◌, ◌<◌, ◌≤◌, ◌^◌, [], ℕ, cond, eqb, map, get_or, length, take, false, OnOk, IfOk, IfSome, IsTrue, IsUtf8};
 ghost use Rattle.std.specs.Int.{trailing_zeros, w64};
-ghost use lib.Lanes.{mask_l};
+ghost use lib.Lanes.{mask_l, chunk};
 ghost use Rattle.std.specs.Str.{chars, IsCharBoundary};
 ghost use Rattle.json_tape.specs.Spelling.{has_backslash, scalars_in, unquoted as inside, IsQuoted};
 ghost use Rattle.json_tape.specs.Limits.{bytes_at};
@@ -75,14 +75,22 @@ fn beginnings(lanes: u8x32) -> u64
     (lanes.simd_lt(u8x32::splat(0x80)) | lanes.simd_ge(u8x32::splat(0xC0))).to_bitmask()
 }
 
+// Whether a backslash stands in a load.
+#[inline(always)]
+fn has_slash(lanes: u8x32) -> bool
+    ensures { result ≡ has_backslash lanes }
+{
+    lanes.simd_eq(u8x32::splat(b'\\')).to_bitmask() != 0
+}
+
 // The front with the bytes of a load before its first backslash.
 #[inline(always)]
 fn with_lanes(bytes: &[u8], front: Front) -> Front
     requires front { IsPlain bytes.now front }
     requires room { front.bytes + LANES ≤ length bytes.now }
+    requires slash { IsTrue (has_backslash (chunk front.bytes 32 bytes.now)) }
     ensures front { IsPlain bytes.now result }
-    ensures few { result.bytes ≤ front.bytes + 32 }
-    ensures stops { result.bytes < front.bytes + 32 → get_or bytes.now result.bytes 0 ≡ 92 }
+    ensures stops { get_or bytes.now result.bytes 0 ≡ 92 }
 {
     let lanes = u8x32::from_slice(&bytes[front.bytes..]);
     let run = first_lane(lanes.simd_eq(u8x32::splat(b'\\')).to_bitmask());
@@ -126,19 +134,24 @@ pub fn plain_front(text: &str) -> Front
     ensures characters { result.characters ≡ length (chars (take result.bytes text.now)) }
 {
     let bytes = text.as_bytes();
-    let mut front = Front {
-        bytes: 0,
-        characters: 0,
-    };
-    while bytes.len() - front.bytes >= LANES {
-        let end = front.bytes + LANES;
-        front = with_lanes(bytes, front);
-        if front.bytes < end {
-            return front;
+    let mut k = 0;
+    let mut characters = 0;
+    while bytes.len() - k >= LANES {
+        let lanes = u8x32::from_slice(&bytes[k..]);
+        if has_slash(lanes) {
+            let front = Front {
+                bytes: k,
+                characters,
+            };
+            return with_lanes(bytes, front);
         }
-        // The same number, which the next load can have before the bits of this one are told.
-        front.bytes = end;
+        characters += beginnings(lanes).count_ones() as usize;
+        k += LANES;
     }
+    let front = Front {
+        bytes: k,
+        characters,
+    };
     with_bytes(bytes, front)
 }
 

@@ -16,8 +16,5 @@ overflow_add-result-2 c =
 pub returns-clause-front : goal.returns-clause-front
 returns-clause-front c = grown c.args.bytes.now c.args.front c.requires.front c.requires.room c.first_lane-run.result c.first_lane-run.ensures c.beginnings.result c.beginnings.ensures
 
-pub returns-clause-few : goal.returns-clause-few
-returns-clause-few c = let m = few c.args.bytes.now c.args.front c.requires.front c.requires.room c.first_lane-run.result c.first_lane-run.ensures in omega (arith, m)
-
 pub returns-clause-stops : goal.returns-clause-stops
-returns-clause-stops c less = stops c.args.bytes.now c.args.front c.requires.front c.requires.room c.first_lane-run.result c.first_lane-run.ensures (omega (arith, less))
+returns-clause-stops c = stops c.args.bytes.now c.args.front c.requires.front c.requires.room c.first_lane-run.result c.first_lane-run.ensures c.requires.slash
