@@ -158,7 +158,8 @@ fn are_plainly_apart(
 }
 
 // Whether the names of the object with this number have a stamp each, so that none comes again. The last byte of the number is left
-// at the stamps that were met; where another object left the same one, `false` says no more than that the names are to be compared.
+// at the stamps that were met; where another object or the test by bytes left the same one, `false` says no more than that the names
+// are to be compared.
 #[inline(never)]
 fn are_apart(text: &str, tape: &Tape, n: u32, owners: &mut [u8; STAMPS]) -> bool
     requires inside { n < length tape.now }

@@ -14,7 +14,7 @@ use structural_index::lanes_before;
 
 const FACTOR: u64 = 0x9E37_79B9_7F4A_7C15;
 
-// So many scalar values are one word, and so many bytes that stand for themselves: their number, the first of them the highest.
+/// So many scalar values are one word, and so many bytes: their number, the first of them the highest.
 pub const EIGHT: usize = 8;
 
 /// A hash of some scalar values: of those in whole words, and the word of the others with their number.
