@@ -5,7 +5,7 @@ use Rattle.std.specs.Int.RustNames.{count_ones}
 use Rattle.std.proofs.lemmas.List.{drop-take, drop-drop, take-take, length-take, length-drop, get_or-map, length-map}
 use Rattle.std.proofs.lemmas.Nat.{and_mask, pow_below}
 use Rattle.std.proofs.lemmas.Nat.Bits.{bit_at-lt, same_from_bits_below}
-use Rattle.std.proofs.lemmas.Simd.{mask_l-lt, bit_mask_l, ones-mask_l_cons, length-chunk}
+use Rattle.std.proofs.lemmas.Simd.{mask_l-lt, bit_mask_l, ones-mask_l_cons}
 use lib.Bits.{bit_and, bit_or, and_le_l}
 use lib.Lanes.{chunk, mask_l}
 use Rattle.bit_words.specs.Words.{is_set, HasBits}
@@ -228,37 +228,32 @@ module _ (bytes : List ℕ) (from to k before : ℕ) (carry : Bool) (passed : Is
     pub few_passed : to ≤ length bytes → before + count_ones standing_is ≤ length bytes
     few_passed inside = let m = passed_block.many in let f = few_between bytes from to in omega (arith, m, f)
 
-  -- the last block, of which only the first bytes are in the part
-  module _ (near : to < k + 64) (room : k + 64 ≤ length bytes) where
-    long : length (chunk k 64 bytes) ≡ 64
-    long = length-chunk k 64 bytes room
+-- the last block, of which only the first bytes are in the part
+module _ (bytes : List ℕ) (from to k before : ℕ) (carry : Bool) (passed : IsPassed bytes from to k before carry) (lanes : List ℕ) (long : length lanes ≡ 64) (front_is : take (to - k) lanes ≡ between bytes k to)
+    (near : to < k + 64) (standing_is unit_is : ℕ) (standing_bits_are : standing_is ≡ mask_l (standing_bits carry lanes)) (unit_bits_are : unit_is ≡ mask_l (unit_bits carry lanes)) where
+  front_bits : (ms : List Bool) → length ms ≡ 64 → bit_and (mask_l ms) (1 * 2 ^ (to - k) % 2 ^ 64 - 1) ≡ mask_l (take (to - k) ms)
+  front_bits ms many =
+      let small = pow_below (to - k) 64 (omega (arith, near)) in
+      let whole : 1 * 2 ^ (to - k) % 2 ^ 64 ≡ 2 ^ (to - k) = omega (arith, small) in
+      ap (λ n. bit_and (mask_l ms) (n - 1)) whole ∙ and_mask (mask_l ms) (to - k) ∙ mask_front ms (to - k) (omega (arith, near, many))
 
-    front_bits : (ms : List Bool) → length ms ≡ 64 → bit_and (mask_l ms) (1 * 2 ^ (to - k) % 2 ^ 64 - 1) ≡ mask_l (take (to - k) ms)
-    front_bits ms many =
-        let small = pow_below (to - k) 64 (omega (arith, near)) in
-        let whole : 1 * 2 ^ (to - k) % 2 ^ 64 ≡ 2 ^ (to - k) = omega (arith, small) in
-        ap (λ n. bit_and (mask_l ms) (n - 1)) whole ∙ and_mask (mask_l ms) (to - k) ∙ mask_front ms (to - k) (omega (arith, near, many))
+  abbrev pub last_ones : ℕ
+  last_ones = count_ones (bit_and standing_is (1 * 2 ^ (to - k) % 2 ^ 64 - 1))
 
-    front_is : take (to - k) (chunk k 64 bytes) ≡ between bytes k to
-    front_is = take-take (to - k) 64 (drop k bytes) (omega (arith, near))
+  ones_are : last_ones ≡ standing carry (between bytes k to)
+  ones_are =
+      ap (λ n. count_ones (bit_and n (1 * 2 ^ (to - k) % 2 ^ 64 - 1))) standing_bits_are
+      ∙ ap count_ones (front_bits (standing_bits carry lanes) (length-standing carry lanes ∙ long) ∙ ap mask_l (standing_front (to - k) carry lanes)) ∙ ones_standing carry (take (to - k) lanes)
+      ∙ ap (standing carry) front_is
 
-    abbrev pub last_ones : ℕ
-    last_ones = count_ones (bit_and standing_is (1 * 2 ^ (to - k) % 2 ^ 64 - 1))
+  pub all_standing : before + last_ones ≡ standing false (between bytes from to)
+  all_standing = ap (λ n. before + n) ones_are ∙ passed.many
 
-    ones_are : last_ones ≡ standing carry (between bytes k to)
-    ones_are =
-        ap (λ n. count_ones (bit_and n (1 * 2 ^ (to - k) % 2 ^ 64 - 1))) standing_bits_are
-        ∙ ap count_ones (front_bits (standing_bits carry (chunk k 64 bytes)) (length-standing carry (chunk k 64 bytes) ∙ long) ∙ ap mask_l (standing_front (to - k) carry (chunk k 64 bytes)))
-        ∙ ones_standing carry (take (to - k) (chunk k 64 bytes)) ∙ ap (standing carry) front_is
+  pub few_last : to ≤ length bytes → before + last_ones ≤ length bytes
+  few_last inside = let e = all_standing in let f = few_between bytes from to in omega (arith, e, f)
 
-    pub all_standing : before + last_ones ≡ standing false (between bytes from to)
-    all_standing = ap (λ n. before + n) ones_are ∙ passed.many
-
-    pub few_last : to ≤ length bytes → before + last_ones ≤ length bytes
-    few_last inside = let e = all_standing in let f = few_between bytes from to in omega (arith, e, f)
-
-    pub no_unit : bit_and unit_is (1 * 2 ^ (to - k) % 2 ^ 64 - 1) ≡ 0 → has_unit false (between bytes from to) ≡ false
-    no_unit none =
-        let word = ap (λ n. bit_and n (1 * 2 ^ (to - k) % 2 ^ 64 - 1)) unit_bits_are
-        ∙ front_bits (unit_bits carry (chunk k 64 bytes)) (length-unit carry (chunk k 64 bytes) ∙ long) ∙ ap mask_l (unit_front (to - k) carry (chunk k 64 bytes)) in
-        sym passed.unitless ∙ sym (ap (has_unit carry) front_is) ∙ none_set carry (take (to - k) (chunk k 64 bytes)) (sym word ∙ none)
+  pub no_unit : bit_and unit_is (1 * 2 ^ (to - k) % 2 ^ 64 - 1) ≡ 0 → has_unit false (between bytes from to) ≡ false
+  no_unit none =
+      let word = ap (λ n. bit_and n (1 * 2 ^ (to - k) % 2 ^ 64 - 1)) unit_bits_are
+      ∙ front_bits (unit_bits carry lanes) (length-unit carry lanes ∙ long) ∙ ap mask_l (unit_front (to - k) carry lanes) in
+      sym passed.unitless ∙ sym (ap (has_unit carry) front_is) ∙ none_set carry (take (to - k) lanes) (sym word ∙ none)

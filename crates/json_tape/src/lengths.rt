@@ -1,6 +1,6 @@
 // How many scalar values long strings mean, so that they are counted once.
 
-ghost use Rattle.std.specs.Prelude.{◌≡◌, ◌+◌, ◌<◌, ◌≤◌, ◌^◌, [], ℕ, cond, eqb, map, get_or, length, take, false, OnOk, IfOk, IfSome, IsTrue, IsUtf8};
+ghost use Rattle.std.specs.Prelude.{◌≡◌, ◌+◌, ◌-◌, ◌<◌, ◌≤◌, ◌^◌, [], ℕ, cond, eqb, map, get_or, length, take, false, OnOk, IfOk, IfSome, IsTrue, IsUtf8};
 ghost use Rattle.std.specs.Int.{trailing_zeros, w64};
 ghost use lib.Lanes.{mask_l, chunk};
 ghost use Rattle.std.specs.Str.{chars, IsCharBoundary};
@@ -13,6 +13,7 @@ ghost use Rattle.json_tape.specs.Counted.{AreCounted, IsPlain, begins, between, 
 use crate::compact::Tape;
 use crate::scalars::{Scalars, unquoted};
 use crate::tape::{Entry, Extent, Kind};
+use byte_masks::tail;
 use escape_runs::escaped;
 use std::alloc::{AllocError, Global};
 use std::simd::prelude::*;
@@ -199,8 +200,22 @@ fn block_of(lanes: u8x64, carry: bool) -> Block
     }
 }
 
+// The bytes from one place to before another, fewer than a block, and others behind them.
+#[inline(always)]
+fn last_lanes(bytes: &[u8], from: usize, to: usize) -> u8x64
+    requires ordered { from ≤ to }
+    requires inside { to ≤ length bytes.now }
+    requires few { to < from + BLOCK }
+    ensures { take (to - from) result ≡ between bytes.now from to }
+{
+    if bytes.len() - from >= BLOCK {
+        return u8x64::from_slice(&bytes[from..]);
+    }
+    tail(&bytes[from..to])
+}
+
 // How many scalar values the bytes from one place to before another mean, which stand between a string's quotes. `None` where a `u` is
-// escaped, or where the text ends less than a block behind the last bytes.
+// escaped.
 #[inline(always)]
 fn count_blocks(bytes: &[u8], from: usize, to: usize) -> Option<usize>
     requires ordered { from ≤ to }
@@ -220,10 +235,8 @@ fn count_blocks(bytes: &[u8], from: usize, to: usize) -> Option<usize>
         carry = block.escaped;
         k += BLOCK;
     }
-    if bytes.len() - k < BLOCK {
-        return None;
-    }
-    let last = block_of(u8x64::from_slice(&bytes[k..]), carry);
+    let lanes = last_lanes(bytes, k, to);
+    let last = block_of(lanes, carry);
     let inside = (1 << (to - k)) - 1;
     if last.units & inside != 0 {
         return None;

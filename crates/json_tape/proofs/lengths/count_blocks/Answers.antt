@@ -1,4 +1,4 @@
-use Rattle.std.proofs.Common.{◌∙◌, ◌+◌, ◌≤◌, ◌<◌, length, arith}
+use Rattle.std.proofs.Common.{◌∙◌, ◌≡◌, ◌+◌, ◌<◌, length, arith}
 use Rattle.json_tape.specs.Counted.{between}
 use Rattle.json_tape.proofs.ValueBits.{passed_block, few_passed, few_last, all_standing, no_unit}
 use Rattle.json_tape.proofs.ValueBytes.{scalars_standing}
@@ -26,26 +26,22 @@ pub overflow_add-result : goal.overflow_add-result
 overflow_add-result c =
     let block = c.block_of-last.ensures in
     let t = c.loop-k-test.false in
-    let r = c.if-bytes-k-lt-BLOCK.false in
     let w = c.loop-k.invariant.within in
-    let i = c.requires.inside in
     let few =
-    few_last c.args.bytes.now c.args.from c.args.to c.loop-k.k c.loop-k.standing c.loop-k.carry c.loop-k.invariant c.block_of-last.result.standing c.block_of-last.result.units c.block_of-last.result.escaped
-    block.standing block.units block.escaped (omega (arith, t, w)) (omega (arith, r, w, i)) i in
+    few_last c.args.bytes.now c.args.from c.args.to c.loop-k.k c.loop-k.standing c.loop-k.carry c.loop-k.invariant c.last_lanes-lanes.result (omega arith) c.last_lanes-lanes.ensures (omega (arith, t, w))
+    c.block_of-last.result.standing c.block_of-last.result.units block.standing block.units c.requires.inside in
     record { fits = omega (arith, few) }
 
 pub returns : goal.returns
 returns c =
     let block = c.block_of-last.ensures in
     let t = c.loop-k-test.false in
-    let r = c.if-bytes-k-lt-BLOCK.false in
     let w = c.loop-k.invariant.within in
-    let i = c.requires.inside in
     let z = c.if-last-inside-ne0.false in
     let near : c.args.to < c.loop-k.k + 64 = omega (arith, t, w) in
-    let room : c.loop-k.k + 64 ≤ length c.args.bytes.now = omega (arith, r, w, i) in
-    all_standing c.args.bytes.now c.args.from c.args.to c.loop-k.k c.loop-k.standing c.loop-k.carry c.loop-k.invariant c.block_of-last.result.standing c.block_of-last.result.units c.block_of-last.result.escaped
-    block.standing block.units block.escaped near room
+    let long : length c.last_lanes-lanes.result ≡ 64 = omega arith in
+    all_standing c.args.bytes.now c.args.from c.args.to c.loop-k.k c.loop-k.standing c.loop-k.carry c.loop-k.invariant c.last_lanes-lanes.result long c.last_lanes-lanes.ensures near
+    c.block_of-last.result.standing c.block_of-last.result.units block.standing block.units
     ∙ scalars_standing (between c.args.bytes.now c.args.from c.args.to) c.requires.utf8
-    (no_unit c.args.bytes.now c.args.from c.args.to c.loop-k.k c.loop-k.standing c.loop-k.carry c.loop-k.invariant c.block_of-last.result.standing c.block_of-last.result.units c.block_of-last.result.escaped
-    block.standing block.units block.escaped near room (omega (arith, z)))
+    (no_unit c.args.bytes.now c.args.from c.args.to c.loop-k.k c.loop-k.standing c.loop-k.carry c.loop-k.invariant c.last_lanes-lanes.result long c.last_lanes-lanes.ensures near
+    c.block_of-last.result.standing c.block_of-last.result.units block.standing block.units (omega (arith, z)))
