@@ -1,7 +1,7 @@
 -- The list of the objects: what it is as the tape grows, and that between two of it there is none.
 use Rattle.std.proofs.Common.{◌≡◌, ◌≢◌, ℕ, zero, suc, ◌+◌, ◌<◌, ◌≤◌, inl, inr, Bool, true, false, cond, List, [], ◌∷◌, ◌++◌, length, get_or, refl, sym, ap, ◌∙◌, subst, arith}
 use Rattle.std.specs.Prelude.{Result, Ok, Err, OnOk, OnErr}
-use Rattle.std.proofs.lemmas.Bool.{false≢true, cases_Bool}
+use Rattle.std.proofs.lemmas.Bool.{cases_lt, false≢true}
 use Rattle.json_tape.specs.declared.tape.Entry.{Entry}
 use Rattle.json_tape.specs.declared.tape.Kind.{Kind}
 use Rattle.json_tape.specs.declared.tape.Kind.TheVariants as kinds
@@ -134,3 +134,40 @@ objects_rise es i h = subst (λ m. get_or (objects_from 0 es) i (length es) < ge
 pub object_inside : (es : List Entry) (i : ℕ) → i < length (objects_of es) → object_number es i < length es
 unfolding objects_of
 object_inside es i h = below_from (length es) 0 es i (omega arith) h
+
+get_any : (xs : List ℕ) (i a b : ℕ) → i < length xs → get_or xs i a ≡ get_or xs i b
+get_any [] i a b h = absurd (omega (arith, h))
+get_any (x ∷ xs) zero a b h = refl
+get_any (x ∷ xs) (suc i) a b h = get_any xs i a b (omega (arith, h))
+
+pub number_listed : (es : List Entry) (objects : List ℕ) (i : ℕ) → objects ≡ objects_of es → i < length objects → get_or objects i 0 ≡ object_number es i
+number_listed es objects i q h = get_any objects i 0 (length es) h ∙ ap (λ l. get_or l i (length es)) q
+
+get_past : (xs : List ℕ) (i a : ℕ) → length xs ≤ i → get_or xs i a ≡ a
+get_past [] i a h = refl
+get_past (x ∷ xs) zero a h = absurd (omega (arith, h))
+get_past (x ∷ xs) (suc i) a h = get_past xs i a (omega (arith, h))
+
+pub number_past : (es : List Entry) (objects : List ℕ) (i : ℕ) → objects ≡ objects_of es → length objects ≤ i → object_number es i ≡ length es
+number_past es objects i q h = get_past (objects_of es) i (length es) (subst (λ l. length l ≤ i) q h)
+
+at_most : (d : ℕ) (xs : List ℕ) (i : ℕ) → ((j : ℕ) → j < length xs → get_or xs j d < d) → get_or xs i d ≤ d
+at_most d xs i all = elim (cases_lt i (length xs)) [
+  | inl g ↦ (let h = all i g in omega (arith, h))
+  | inr g ↦ (let h = get_past xs i d (omega (arith, g)) in omega (arith, h))
+]
+
+pub number_at_most : (es : List Entry) (i : ℕ) → object_number es i ≤ length es
+number_at_most es i = at_most (length es) (objects_of es) i (λ j h. object_inside es j h)
+
+pub listed_inside : (es : List Entry) (objects : List ℕ) (i : ℕ) → objects ≡ objects_of es → i < length objects → get_or objects i 0 < length es
+listed_inside es objects i q h = subst (λ n. n < length es) (sym (number_listed es objects i q h)) (object_inside es i (subst (λ l. i < length l) q h))
+
+pub listed_rise : (es : List Entry) (objects : List ℕ) (i : ℕ) → objects ≡ objects_of es → i < length objects → get_or objects i 0 + 1 ≤ object_number es (i + 1)
+listed_rise es objects i q h =
+    let r = objects_rise es i (subst (λ l. i < length l) q h) in
+    let n = number_listed es objects i q h in
+    omega (arith, r, n)
+
+pub listed_next : (es : List Entry) (objects : List ℕ) (i : ℕ) → objects ≡ objects_of es → i < length objects → NoneFrom es (get_or objects i 0 + 1) (object_number es (i + 1))
+listed_next es objects i q h = subst (λ n. NoneFrom es (n + 1) (object_number es (i + 1))) (sym (number_listed es objects i q h)) (next_object es i)
