@@ -12,7 +12,6 @@ pub mod Wholes
 pub mod Calls
 pub mod WalkEnds
 pub mod Numbers
-mod Objects
 pub mod Fits
 pub mod Shown
 pub mod One

@@ -24,7 +24,6 @@ use Rattle.json_tape.specs.declared.tape.Entry.{Entry}
 use Rattle.json_tape.specs.declared.tape.Kind.{Kind}
 use Rattle.json_tape.specs.declared.tape.Kind.TheVariants as kinds
 use Rattle.json_tape.specs.Cells.{is_object, members_in}
-use Rattle.json_tape.proofs.Objects.{NoneFrom}
 use Rattle.json_tape.proofs.Numbers.{entry_at}
 use Rattle.json_tape.proofs.Repeats.{strict, sorted_repeats}
 use Rattle.json_tape.proofs.KeysLeft.{IsGood, all_good, length_keyed, repeats_keyed}
@@ -114,21 +113,6 @@ module _ (text : List ℕ) (tape : List Entry) where
     all = λ m h w. elim (cases_lt m n) [
       | inl g ↦ k.all m g w
       | inr g ↦ (let e : m ≡ n = omega arith in absurd (narrow (subst (λ j. IsWide (entry_in tape j)) e w)))
-    ];
-  }
-
-  -- past entries that are no objects
-  pub kept_past : (n m : ℕ) (objects starts hashes members : List ℕ) → n ≤ m → m ≤ length tape → NoneFrom tape n m → AreKept text tape n objects starts hashes members → AreKept text tape m objects starts hashes members
-  kept_past n m objects starts hashes members up inside none k = record {
-    rising = k.rising;
-    under = λ i h. (let u = k.under i h in omega (arith, u, up));
-    begun = k.begun;
-    long = k.long;
-    room = k.room;
-    each = k.each;
-    all = λ j h w. elim (cases_lt j n) [
-      | inl g ↦ k.all j g w
-      | inr g ↦ absurd (none j (omega (arith, g)) h (omega (arith, h, inside)) w.0)
     ];
   }
 

@@ -16,8 +16,6 @@ use Rattle.json_tape.specs.Repeats.{is_same, repeats, meanings, IsObject}
 use Rattle.json_tape.specs.declared.tape.Kind.TheVariants as kinds
 use Rattle.json_tape.specs.declared.tape.Entry.{Entry}
 use Rattle.json_tape.specs.declared.tape.TextFault.TheVariants.{LoneSurrogate, DuplicateName}
-use Rattle.json_tape.specs.Ordered.{nothing_there}
-use Rattle.json_tape.proofs.Objects.{NoneFrom}
 use Rattle.json_tape.proofs.Meanings.{meaning_is}
 use Rattle.json_tape.proofs.Repeats.{or_right}
 use Rattle.json_tape.proofs.LoneLaw.{means_unless}
@@ -135,11 +133,4 @@ pub one_more : (text : List ℕ) (tape : List Entry) (n : ℕ) → NoneBelow tex
 one_more text tape n before this i ms l o = elim (cases_lt i n) [
   | inl g ↦ before i ms g o
   | inr g ↦ (let e : i ≡ n = omega arith in this ms (subst (λ j. IsObject text tape j ms) e o))
-]
-
--- past entries that are no objects
-pub none_past : (text : List ℕ) (tape : List Entry) (n m : ℕ) → NoneFrom tape n m → NoneBelow text tape n → NoneBelow text tape m
-none_past text tape n m none before i ms l o = elim (cases_lt i n) [
-  | inl g ↦ before i ms g o
-  | inr g ↦ absurd (none i (omega (arith, g)) l (number_below tape o.tree (Obj o.source ms) i o.up o.label o.stands o.is_at) (ap (λ (x : Entry). x.kind) (entry_at tape nothing_there o.stands o.is_at)))
 ]

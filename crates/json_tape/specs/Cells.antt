@@ -44,14 +44,6 @@ is_object _ = false
 abbrev pub members_in : Entry → ℕ
 members_in e = cond (is_object e.kind) e.children 0
 
--- the numbers of the objects, where the first entry has the number k
-abbrev pub objects_from : ℕ → List Entry → List ℕ
-objects_from k [] = []
-objects_from k (e ∷ es) = cond (is_object e.kind) (k ∷ objects_from (suc k) es) (objects_from (suc k) es)
-
-unfoldable pub objects_of : List Entry → List ℕ
-objects_of es = objects_from 0 es
-
 -- the entry with this number is that of one of these
 abbrev pub container_at : List Entry → ℕ → Bool
 container_at [] n = false

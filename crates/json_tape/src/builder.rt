@@ -1,24 +1,22 @@
 // The tape builder: one call for each token.
 
-ghost use Rattle.std.specs.Prelude.{MatchResult, OnOk, OnErr, IfSome, [], ◌∷◌, ◌++◌, length, ◌≡◌, ◌^◌, ◌<◌, ◌↔◌, IsTrue, IsErrOf, true, false};
+ghost use Rattle.std.specs.Prelude.{MatchResult, IfSome, ◌≡◌, ◌^◌, ◌<◌, ◌↔◌, IsTrue, IsErrOf, true, false};
 ghost use Rattle.json_tape.specs.Machine.{Opening, Closing, Comma, Between, Text, Word, step, start, IsSmall, Took, takes_value as value_may_come, takes_name as name_may_come, closes as may_close, after_comma as want_after_comma, level_of, kind_of_shape, first_of as want_first, label_for as label_in};
 ghost use Rattle.json_tape.specs.Tape.{role_of, label_spot};
-ghost use Rattle.json_tape.specs.Cells.{IsNear, is_container, open_entry, objects_of};
+ghost use Rattle.json_tape.specs.Cells.{IsNear, is_container};
 ghost use Rattle.json_tape.specs.Opened.{HasRoom};
 ghost use Rattle.json_tape.specs.Verdict.{text_limit};
 
 use crate::compact::Tape;
 use crate::growth::push;
 use crate::tape::{BuildFault, Extent, Kind, Level, Open, Role, Seat, Shape, Want};
-use std::alloc::{AllocError, Global};
+use std::alloc::Global;
 use std::marker::Model;
 
 /// The tape so far.
 #[derive(Drop)]
 pub struct Builder {
     tape: Tape,
-    // the numbers of the objects
-    objects: Vec<u32>,
     top: Open,
     outer: Vec<Open>,
     want: Want,
@@ -29,16 +27,15 @@ pub struct Builder {
 }
 
 impl Model for Builder {
-    ghost use Rattle.std.specs.Prelude.{◌∷◌, ◌≡◌, reverse};
+    ghost use Rattle.std.specs.Prelude.{◌∷◌, reverse};
     ghost use Rattle.json_tape.specs.Machine.{State};
     ghost use Rattle.json_tape.specs.Opened.{IsKept};
-    ghost use Rattle.json_tape.specs.Cells.{objects_of};
 
     ghost Value = { State };
 
     ghost view = { λ b. record { entries = b.tape; opens = b.top ∷ reverse b.outer.items; want = b.want; name = b.name; deep = b.deepest } };
 
-    ghost invariant = { λ b. IsKept (record { entries = b.tape; opens = b.top ∷ reverse b.outer.items; want = b.want; name = b.name; deep = b.deepest }) × (b.objects.items ≡ objects_of b.tape) };
+    ghost invariant = { λ b. IsKept (record { entries = b.tape; opens = b.top ∷ reverse b.outer.items; want = b.want; name = b.name; deep = b.deepest }) };
 }
 
 fn takes_value(want: Want) -> bool
@@ -89,7 +86,6 @@ impl Builder {
         };
         Ok(Builder {
             tape,
-            objects: Vec::new(alloc),
             top: Open {
                 level: Level::Root,
                 entry: 0,
@@ -185,7 +181,7 @@ impl Builder {
         }
         let number = self.tape.len();
         let seat = seat_in(self.top, self.name);
-        if add_container(&mut self.tape, &mut self.objects, shape, seat, place).is_err() {
+        if self.tape.open(kind_of(shape), seat, place).is_err() {
             return Err(BuildFault::Memory);
         }
         let outer = Open {
@@ -261,14 +257,12 @@ impl Builder {
         self.longest
     }
 
-    /// The tape, without room for more, and the numbers of its objects.
-    pub fn into_tape(self) -> (Tape, Vec<u32>)
-        ensures tape { result.0 ≡ self.entries }
-        ensures objects { result.1.items ≡ objects_of self.entries }
+    /// The tape, without room for more.
+    pub fn into_tape(self) -> Tape
+        ensures { result ≡ self.entries }
     {
         let Builder {
             mut tape,
-            objects,
             top: _,
             outer: _,
             want: _,
@@ -277,7 +271,7 @@ impl Builder {
             longest: _,
         } = self;
         tape.shrink();
-        (tape, objects)
+        tape
     }
 }
 
@@ -310,35 +304,13 @@ fn seat_in(outer: Open, name: Option<Extent>) -> Seat
     }
 }
 
-// One more container in the tape, and in the list of its objects if it is one.
-#[inline(always)]
-fn add_container(
-    tape: &mut Tape,
-    objects: &mut Vec<u32>,
-    shape: Shape,
-    seat: Seat,
-    place: u32,
-) -> Result<(), AllocError>
-    requires seat { IsNear seat }
-    requires place { place < 2 ^ 24 }
-    requires room { length tape.old < 2 ^ 24 }
-    requires listed { objects.old.items ≡ objects_of tape.old }
-    ensures added { OnOk result (tape.new ≡ tape.old ++ open_entry (kind_of_shape shape) seat place ∷ []) }
-    ensures kept { OnErr result (tape.new ≡ tape.old) }
-    ensures listed { objects.new.items ≡ objects_of tape.new }
+fn kind_of(shape: Shape) -> Kind
+    ensures value { result ≡ kind_of_shape shape }
+    ensures container { is_container result ≡ true }
 {
     match shape {
-        Shape::Array => tape.open(Kind::Array, seat, place),
-        Shape::Object => {
-            push(objects, tape.len())?;
-            match tape.open(Kind::Object, seat, place) {
-                Ok(()) => Ok(()),
-                Err(_) => {
-                    objects.pop();
-                    Err(AllocError)
-                }
-            }
-        }
+        Shape::Array => Kind::Array,
+        Shape::Object => Kind::Object,
     }
 }
 

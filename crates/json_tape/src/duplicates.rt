@@ -9,7 +9,6 @@ ghost use Rattle.json_tape.specs.Ordered.{AreKept, stamp, bytes_stamp};
 ghost use Rattle.json_tape.specs.Limits.{bytes_at};
 ghost use Rattle.json_tape.specs.Spelling.{IsQuoted};
 ghost use Rattle.json_tape.specs.Placing.{StandWithin};
-ghost use Rattle.json_tape.specs.Cells.{objects_of};
 ghost use Rattle.structural_index.specs.Seams.{AreSlashless};
 ghost use Rattle.json_tape.specs.declared.tape.TextFault.TheVariants.{LoneSurrogate, DuplicateName};
 
@@ -31,13 +30,11 @@ pub fn order_names(
     alloc: Global,
     text: &str,
     tape: &Tape,
-    objects: &[u32],
     slashes: SlashRange,
 ) -> Result<Option<NameOrder>, AllocError>
     requires spelt { IsJson text.now }
     requires stands { StandsForAll text.now tape.now }
     requires short { length tape.now < 2 ^ 31 }
-    requires objects { objects.now ≡ objects_of tape.now }
     requires paired { Applies text.now LoneSurrogate → ⊥ }
     requires slashes { StandWithin text.now slashes }
     ensures { IfOk result (λ found. MatchOption found (Applies text.now DuplicateName) (λ order. (Applies text.now DuplicateName → ⊥)
@@ -47,8 +44,7 @@ pub fn order_names(
     let mut owners = [u8::MAX; STAMPS];
     let mut latest = [0; SIZES];
     let mut order = NameOrder::new(alloc);
-    for i in 0..objects.len() {
-        let n = objects[i];
+    for n in 0..tape.len() {
         if tape.members(n) > 1 {
             let found = repeats_at(
                 alloc,

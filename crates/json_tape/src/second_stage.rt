@@ -5,7 +5,6 @@ ghost use Rattle.std.specs.Prelude.{◌≡◌, ◌+◌, ◌-◌, ◌^◌, ◌<�
 ghost use Rattle.decimal_order.specs.Number.{IsNumber};
 ghost use Rattle.structural_index.specs.Answer.{IsIndexOf};
 ghost use Rattle.json_tape.specs.Machine.{IsSmall};
-ghost use Rattle.json_tape.specs.Cells.{objects_of};
 ghost use Rattle.json_tape.specs.Lexing.{is_blank as blank, is_atom as atom, is_sign, WordIs, Stepped, ended, Marked};
 ghost use Rattle.json_tape.specs.Limits.{AreWithinLimits};
 ghost use Rattle.json_tape.specs.Answer.{IsJson, StandsForAll, HasDepth, IsNoJson};
@@ -310,12 +309,11 @@ fn pass_sign(
     }
 }
 
-/// What reading a text found: its tape, the numbers of its objects, how many containers lie in one another at most, whether a number may be beyond the limits,
+/// What reading a text found: its tape, how many containers lie in one another at most, whether a number may be beyond the limits,
 /// whether a surrogate may be lone, where backslashes stand, and the most bytes of a value that is a string.
 #[derive(Drop)]
 pub struct Reading {
     pub tape: Tape,
-    pub objects: Vec<u32>,
     pub depth: usize,
     pub may_exceed: bool,
     pub may_be_lone: bool,
@@ -335,7 +333,6 @@ fn walk(alloc: Global, index: &Index, looks: &mut Looks<'_>) -> Result<Reading, 
     // It stands for each tree that the text spells, so there is only one.
     ensures stands { IfOk result (λ reading. StandsForAll looks.old.0 reading.tape) }
     ensures few { IfOk result (λ reading. length reading.tape < 2 ^ 31) }
-    ensures objects { IfOk result (λ reading. reading.objects.items ≡ objects_of reading.tape) }
     ensures depth { IfOk result (λ reading. HasDepth looks.old.0 reading.depth) }
     ensures numbers { IfOk result (λ reading. reading.may_exceed ≡ false → AreWithinLimits looks.old.0 reading.tape) }
     // Unless memory runs out, a text is refused only where it spells no tree.
@@ -374,10 +371,8 @@ fn walk(alloc: Global, index: &Index, looks: &mut Looks<'_>) -> Result<Reading, 
     if builder.is_done() {
         let depth = builder.deepest();
         let longest = builder.longest();
-        let (tape, objects) = builder.into_tape();
         Ok(Reading {
-            tape,
-            objects,
+            tape: builder.into_tape(),
             depth,
             may_exceed,
             may_be_lone: true,
@@ -422,7 +417,6 @@ pub fn read(alloc: Global, text: &[u8]) -> Result<Reading, BuildFault>
     // It stands for each tree that the text spells, so there is only one.
     ensures stands { IfOk result (λ reading. StandsForAll text.now reading.tape) }
     ensures short { IfOk result (λ reading. length reading.tape < 2 ^ 31) }
-    ensures objects { IfOk result (λ reading. reading.objects.items ≡ objects_of reading.tape) }
     ensures depth { IfOk result (λ reading. HasDepth text.now reading.depth) }
     ensures numbers { IfOk result (λ reading. reading.may_exceed ≡ false → AreWithinLimits text.now reading.tape) }
     ensures lone { IfOk result (λ reading. reading.may_be_lone ≡ false → HasNoSurrogates text.now) }

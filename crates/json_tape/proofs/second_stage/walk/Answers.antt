@@ -217,7 +217,7 @@ returns-then-is_done-clause-stands c =
     let done = c.loop-k-test.false in
     let over = walks_over bytes k i c.args.looks.now.1 c.loop-k.looks.1 c.loop-k.builder walks (omega (arith, list, done)) in
     let answers = walks_end bytes k i c.args.looks.now.1 c.loop-k.looks.1 c.loop-k.builder walks over (c.if-is_done.ensures.0 (search rules)) in
-    λ t h. c.into_tape-tape.ensures.tape ∙ answers.stands t h
+    λ t h. c.into_tape.ensures ∙ answers.stands t h
 
 pub returns-then-is_done-clause-depth : goal.returns-then-is_done-clause-depth
 returns-then-is_done-clause-depth c =

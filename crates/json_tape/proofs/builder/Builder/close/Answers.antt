@@ -1,8 +1,6 @@
 use Rattle.std.proofs.Common.{[], ◌∷◌, length, sym, ap, ◌∙◌, reverse, subst}
 use Rattle.std.proofs.lemmas.List.{reverse-append}
 use Rattle.json_tape.specs.Opened.{AreOpened}
-use Rattle.json_tape.specs.Cells.{objects_of}
-use Rattle.json_tape.proofs.Objects.{objects_closed}
 use Rattle.json_tape.proofs.Keeping.{opened_closed}
 use Rattle.json_tape.proofs.builder.Builder.close.Goals as goal
 
@@ -11,6 +9,6 @@ invariant_of-self-in-Some c =
     let o = c.in-Some.outer in
     let os = reverse c.pop.new.self.items in
     let r = ap reverse c.in-Some.ensures.items ∙ reverse-append c.pop.new.self.items (o ∷ []) in
-    let rest = subst (AreOpened c.self.inside.tape) r c.self.invariant.0.opened.2 in
+    let rest = subst (AreOpened c.self.inside.tape) r c.self.invariant.opened.2 in
     let m = subst (λ es. AreOpened es (o ∷ os)) (sym c.close.ensures) (opened_closed c.self.inside.tape (o ∷ os) c.self.inside.top.entry c.args.place c.self.inside.top.children (length c.self.inside.tape) rest) in
-    (record { opened = m; name = tt }, c.self.invariant.1 ∙ sym (objects_closed c.self.inside.tape c.self.inside.top.entry c.args.place c.self.inside.top.children (length c.self.inside.tape)) ∙ ap objects_of (sym c.close.ensures))
+    record { opened = m; name = tt }

@@ -1,14 +1,12 @@
-use Rattle.std.proofs.Common.{[], ◌∷◌, length, sym, ap, ◌∙◌, reverse, subst}
-use Rattle.json_tape.specs.Cells.{leaf_entry, objects_of}
+use Rattle.std.proofs.Common.{[], ◌∷◌, length, sym, reverse, subst}
+use Rattle.json_tape.specs.Cells.{leaf_entry}
 use Rattle.json_tape.specs.Opened.{AreOpened}
-use Rattle.json_tape.proofs.Objects.{objects_left, scalar_is_no_object}
 use Rattle.json_tape.proofs.Keeping.{unless_err, opened_more}
 use Rattle.json_tape.proofs.builder.Builder.leaf.Goals as goal
 
 pub invariant_of-self-2 : goal.invariant_of-self-2
 invariant_of-self-2 c =
-    let k = c.self.invariant.0.opened in
+    let k = c.self.invariant.opened in
     let grown = opened_more c.self.inside.tape (leaf_entry c.args.kind c.seat_in-seat.result c.args.source (length c.self.inside.tape) ∷ []) (c.self.inside.top ∷ reverse c.self.inside.outer.items) k in
     let m = subst (λ es. AreOpened es (c.self.inside.top ∷ reverse c.self.inside.outer.items)) (sym (unless_err c.leaf.result c.if-is_err.ensures.value c.leaf.ensures.added)) grown in
-    let e = leaf_entry c.args.kind c.seat_in-seat.result c.args.source (length c.self.inside.tape) in
-    (record { opened = (m.0, m.1, m.2); name = tt }, c.self.invariant.1 ∙ sym (objects_left c.self.inside.tape e (scalar_is_no_object c.args.kind c.requires.scalar)) ∙ ap objects_of (sym (unless_err c.leaf.result c.if-is_err.ensures.value c.leaf.ensures.added)))
+    record { opened = (m.0, m.1, m.2); name = tt }
