@@ -61,6 +61,10 @@ pub mod Counting
 pub mod Walking
 pub mod PlaceWalk
 pub mod Placing
+pub mod TokensAt
+pub mod Listed
+pub mod Going
+pub mod Onward
 pub mod LoneSteps
 pub mod Halving
 pub mod KeysLeft

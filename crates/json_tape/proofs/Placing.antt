@@ -319,7 +319,7 @@ walks_over bytes k i before now s w l = elim (cases_lt i (length bytes)) [
   | inr a ↦ a
 ]
 
-walks_next : (bytes : List ℕ) (k i j before now later : ℕ) (s new : State) → Walks bytes k i before now s → i < length bytes → (taken : Taken bytes i j s new) → later ≤ now + 3 + weight taken.tok → Walks bytes (k + 1) (get_or (places bytes) (k + 1) (length bytes)) before later new
+pub walks_next : (bytes : List ℕ) (k i j before now later : ℕ) (s new : State) → Walks bytes k i before now s → i < length bytes → (taken : Taken bytes i j s new) → later ≤ now + 3 + weight taken.tok → Walks bytes (k + 1) (get_or (places bytes) (k + 1) (length bytes)) before later new
 walks_next bytes k i j before now later s new w l taken p =
     let on = walks_token bytes k i j before now later s new w l taken p in
     let at : next_place bytes j ≡ get_or (places bytes) (suc k) (length bytes) = stands_value bytes (suc k) (next_place bytes j) on.here in

@@ -13,6 +13,7 @@ pub mod Document
 pub mod Siblings
 pub mod Answer
 pub mod Machine
+pub mod Built
 pub mod Opened
 pub mod Lexing
 pub mod Scanning
@@ -24,6 +25,7 @@ pub mod Counting
 pub mod Walking
 pub mod Building
 pub mod Placing
+pub mod Walked
 pub mod Ordered
 pub mod KeyOrder
 pub mod Counted

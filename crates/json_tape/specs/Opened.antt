@@ -1,12 +1,11 @@
 -- What a builder keeps, so that its tape can take each entry: which entries are open, and that all numbers have room.
-use Rattle.std.specs.Prelude.{◌≡◌, ℕ, ◌^◌, ◌<◌, true, List, [], ◌∷◌, IfSome}
+use Rattle.std.specs.Prelude.{◌≡◌, ℕ, ◌^◌, ◌<◌, true, List, [], ◌∷◌}
 use Rattle.json_tape.specs.declared.tape.Extent.{Extent}
 use Rattle.json_tape.specs.declared.tape.Entry.{Entry}
 use Rattle.json_tape.specs.declared.tape.Level.{Level}
 use Rattle.json_tape.specs.declared.tape.Level.TheVariants.{Root, Inside}
 use Rattle.json_tape.specs.declared.tape.Open.{Open}
 use Rattle.json_tape.specs.Cells.{container_at}
-use Rattle.json_tape.specs.Machine.{State}
 
 -- an open container is the entry with its number
 abbrev pub IsOpened : List Entry → Level → ℕ → Type 0
@@ -19,7 +18,3 @@ AreOpened es (o ∷ os) = IsOpened es o.level o.entry × (o.entry < 2 ^ 24) × A
 
 abbrev pub HasRoom : Extent → Type 0
 HasRoom x = (x.start < 2 ^ 24) × (x.len < 2 ^ 24)
-
-pub record IsKept (s : State) : Type 0 where
-  pub opened : AreOpened s.entries s.opens
-  pub name : IfSome s.name HasRoom

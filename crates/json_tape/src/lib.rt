@@ -26,6 +26,7 @@ mod judge;
 mod keys;
 pub mod laws;
 mod lengths;
+mod lexing;
 mod names;
 mod order;
 mod plain;

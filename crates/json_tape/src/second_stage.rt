@@ -1,66 +1,61 @@
-//! Builds the tape of a text from the places of its index, one token each (Langdale and Lemire, "Parsing Gigabytes of JSON per
-//! Second", section 3.2).
+//! Builds the tape of a text from the places of its index (Langdale and Lemire, "Parsing Gigabytes of JSON per Second", section 3.2).
+//! What may come next is known by where in the code the walk stands, so that only that is looked for: a child, which is a name, a colon
+//! and a value in an object, and behind it the comma or the end.
 
-ghost use Rattle.std.specs.Prelude.{◌≡◌, ◌+◌, ◌-◌, ◌^◌, ◌<◌, ◌≤◌, ◌↔◌, length, get_or, slice_index, IfOk, IfSome, IsUtf8, IsErrOf, IsTrue, true, false};
-ghost use Rattle.decimal_order.specs.Number.{IsNumber};
+ghost use Rattle.std.specs.Prelude.{◌≡◌, ◌≢◌, ◌+◌, ◌-◌, ◌^◌, ◌<◌, ◌≤◌, ℕ, List, Bool, None, length, get_or, IfOk, IfSome, IsUtf8, IsErrOf, IsTrue, false};
 ghost use Rattle.structural_index.specs.Answer.{IsIndexOf};
-ghost use Rattle.json_tape.specs.Machine.{IsSmall};
-ghost use Rattle.json_tape.specs.Lexing.{is_blank as blank, is_atom as atom, is_sign, WordIs, Stepped, ended, Marked};
+ghost use Rattle.json_tape.specs.Machine.{IsSmall, Took, step, level_of};
+ghost use Rattle.json_tape.specs.Built.{Built, standing, nothing};
 ghost use Rattle.json_tape.specs.Limits.{AreWithinLimits};
 ghost use Rattle.json_tape.specs.Answer.{IsJson, StandsForAll, HasDepth, IsNoJson};
 ghost use Rattle.json_tape.specs.Building.{IsBounded};
+ghost use Rattle.json_tape.specs.Opened.{HasRoom};
 ghost use Rattle.json_tape.specs.Surrogates.{HasNoSurrogates};
 ghost use Rattle.json_tape.specs.Verdict.{text_limit};
-ghost use Rattle.json_tape.specs.Placing.{IsIndexed, HoldSlashes, ClosesBefore, StringEnds, Passed, StandWithin};
+ghost use Rattle.json_tape.specs.Placing.{HoldSlashes, StandWithin};
+ghost use Rattle.json_tape.specs.Walked.{IsListed, FitsTape, token_of, behind, with_sign, without_sign, spot_behind, no_child, byte_at, ending as ending_of, width as width_of, shape_of, point, at, Arrives, Named, Grown, Entered, AsksName, AsksValue, AsksChild};
 
 use crate::builder::Builder;
 use crate::compact::Tape;
-use crate::escapes::escapes_hold;
-use crate::judge::{has_short_exponent, may_be_lone};
-use crate::scan::quote_past;
+use crate::judge::may_be_lone;
+use crate::lexing::{Lexed, name, value};
 use crate::slash_range::SlashRange;
 use crate::slashes::Slashes;
-use crate::tape::{BuildFault, Extent, Kind, Shape, Want};
-use decimal_order::{late_exponents_keep_limits, scan};
+use crate::tape::{BuildFault, Extent, Kind, Level, Shape, Want};
 use std::alloc::Global;
-use structural_index::{Atoms, Index, Looks, index};
+use structural_index::{Index, Looks, index};
 
-// Whether these bytes are these four.
-#[inline(always)]
-fn are_four(bytes: &[u8], four: [u8; 4]) -> bool
-    ensures { IsTrue result ↔ (bytes.now ≡ four) }
-{
-    bytes.len() == 4
-        && bytes[0] == four[0]
-        && bytes[1] == four[1]
-        && bytes[2] == four[2]
-        && bytes[3] == four[3]
+/// How far a walk has come: the number of the next place, and whether a value stands before it. If none does, it is that of a first child.
+#[derive(Clone, Copy)]
+pub struct Spot {
+    pub number: usize,
+    pub behind: bool,
 }
 
+// An object or an array. The functions that are made for each of them take it as a constant, and are two copies each.
 #[inline(always)]
-fn is_number(bytes: &[u8]) -> bool
-    ensures { IsTrue result ↔ IsNumber bytes.now }
+fn shape<const OBJECT: bool>() -> Shape
+    ensures { result ≡ shape_of OBJECT }
 {
-    scan(bytes).is_some()
+    if OBJECT { Shape::Object } else { Shape::Array }
 }
 
-#[inline(never)]
-fn word_kind(bytes: &[u8]) -> Option<Kind>
-    ensures { WordIs bytes.now result }
+// How many places a child has up to its value's first.
+#[inline(always)]
+fn width<const OBJECT: bool>() -> usize
+    ensures value { result ≡ width_of (shape_of OBJECT) }
+    ensures some { 0 < result }
+    ensures few { result ≤ 3 }
 {
-    if are_four(bytes, *b"null") {
-        return Some(Kind::Null);
-    }
-    if are_four(bytes, *b"true") {
-        return Some(Kind::Bool(true));
-    }
-    if bytes.len() == 5 && bytes[4] == b'e' && are_four(&bytes[..4], *b"fals") {
-        return Some(Kind::Bool(false));
-    }
-    if is_number(bytes) {
-        return Some(Kind::Number);
-    }
-    None
+    if OBJECT { 3 } else { 1 }
+}
+
+// The sign that ends a container.
+#[inline(always)]
+fn ending<const OBJECT: bool>() -> u8
+    ensures { result ≡ ending_of (shape_of OBJECT) }
+{
+    if OBJECT { b'}' } else { b']' }
 }
 
 // The place behind place number k, or the end of the text.
@@ -76,236 +71,351 @@ fn place_behind(places: &[u32], k: usize, end: usize) -> usize
     }
 }
 
-// The next number, if the builder took a token of one byte: where the one at i ends, or the place behind the one at place number i.
+// The sign behind a value whose entry was made.
 #[inline(always)]
-fn past_sign(taken: Result<(), BuildFault>, i: usize) -> Result<usize, BuildFault>
-    requires { i < 2 ^ 63 }
-    ensures { result ≡ ended (i + 1) taken }
+fn signed(made: Result<(), BuildFault>, sign: u8) -> Result<Option<u8>, BuildFault>
+    ensures { result ≡ with_sign made sign }
 {
-    match taken {
-        Ok(()) => Ok(i + 1),
+    match made {
+        Ok(()) => Ok(Some(sign)),
         Err(fault) => Err(fault),
     }
 }
 
-// Whether a quote other than the one at i stands right before this place.
+// No sign, where the entry of a container was made.
 #[inline(always)]
-fn has_quote_before(looks: &mut Looks<'_>, i: usize, next: usize) -> bool
-    requires in_text { i < length looks.old.0 }
-    requires near { next ≤ length looks.old.0 }
-    requires short { length looks.old.0 ≤ text_limit }
-    ensures behind { IsTrue result → i + 1 < next }
-    ensures quote { IsTrue result → slice_index looks.old.0 (next - 1) ≡ 34 }
-    ensures same { looks.new.0 ≡ looks.old.0 }
-    ensures looked { looks.new.1 ≤ looks.old.1 + 1 }
+fn unsigned(made: Result<(), BuildFault>) -> Result<Option<u8>, BuildFault>
+    ensures { result ≡ without_sign made }
 {
-    if i + 1 >= next {
-        return false;
-    }
-    looks.at(next - 1) == b'"'
-}
-
-// The place past the string that begins at i, where the place behind it is this one.
-#[inline(always)]
-fn string_end(
-    looks: &mut Looks<'_>,
-    i: usize,
-    next: usize,
-    slashes: &mut Slashes<'_>,
-) -> Option<usize>
-    requires in_text { i < length looks.old.0 }
-    requires near { next ≤ length looks.old.0 }
-    requires short { length looks.old.0 ≤ text_limit }
-    requires quote { slice_index looks.old.0 i ≡ 34 }
-    requires indexed { IsIndexed looks.old.0 slashes.old }
-    requires closes { ClosesBefore looks.old.0 i next }
-    ensures ends { StringEnds looks.old.0 i result }
-    ensures bound { IfSome result (λ end. (i < end) × (end ≤ length looks.old.0)) }
-    ensures slashes { HoldSlashes looks.old.0 slashes.new }
-    ensures same { looks.new.0 ≡ looks.old.0 }
-    ensures looked { IfSome result (λ end. looks.new.1 + i ≤ looks.old.1 + end) }
-{
-    if !has_quote_before(looks, i, next) {
-        return quote_past(looks, i + 1);
-    }
-    if slashes.spare(i + 1, next) {
-        return Some(next);
-    }
-    *slashes = slashes.advanced(i + 1);
-    if slashes.spare(i + 1, next) {
-        return Some(next);
-    }
-    if escapes_hold(looks.part(i + 1, next - 1)) {
-        Some(next)
-    } else {
-        None
-    }
-}
-
-// A string. Says what is wanted behind it.
-#[inline(always)]
-fn string(
-    looks: &mut Looks<'_>,
-    i: usize,
-    next: usize,
-    slashes: &mut Slashes<'_>,
-    builder: &mut Builder,
-    want: &mut Want,
-) -> Result<usize, BuildFault>
-    requires in_text { i < length looks.old.0 }
-    requires near { next ≤ length looks.old.0 }
-    requires short { length looks.old.0 ≤ text_limit }
-    requires small { IsSmall text_limit builder.old }
-    requires quote { slice_index looks.old.0 i ≡ 34 }
-    requires indexed { IsIndexed looks.old.0 slashes.old }
-    requires closes { ClosesBefore looks.old.0 i next }
-    ensures stepped { Stepped looks.old.0 i builder.old result builder.new }
-    ensures slashes { HoldSlashes looks.old.0 slashes.new }
-    ensures same { looks.new.0 ≡ looks.old.0 }
-    ensures looked { IfOk result (λ end. looks.new.1 + i ≤ looks.old.1 + end) }
-{
-    match string_end(looks, i, next, slashes) {
-        None => Err(BuildFault::NotJson),
-        Some(end) => {
-            let source = Extent {
-                start: i as u32,
-                len: (end - i) as u32,
-            };
-            match builder.text(source) {
-                Ok(()) => {
-                    *want = builder.want();
-                    Ok(end)
-                }
-                Err(fault) => Err(fault),
-            }
-        }
-    }
-}
-
-// The next number, if the builder took a word or a number of this length.
-#[inline(always)]
-fn past_word(taken: Result<(), BuildFault>, i: usize, len: usize) -> Result<usize, BuildFault>
-    requires { i + len < 2 ^ 64 }
-    ensures { result ≡ ended (i + len) taken }
-{
-    match taken {
-        Ok(()) => Ok(i + len),
+    match made {
+        Ok(()) => Ok(None),
         Err(fault) => Err(fault),
     }
 }
 
-// A word or a number. Marks where it may be beyond the limits of numbers.
+// Makes the entry of a value that begins at this place.
 #[inline(always)]
-fn word(
-    looks: &mut Looks<'_>,
-    i: usize,
+fn put(
     builder: &mut Builder,
-    may_exceed: &mut bool,
-) -> Result<usize, BuildFault>
-    requires in_text { i < length looks.old.0 }
-    requires short { length looks.old.0 ≤ text_limit }
-    requires small { IsSmall text_limit builder.old }
-    requires is_atom { atom (slice_index looks.old.0 i) ≡ true }
-    ensures stepped { Stepped looks.old.0 i builder.old result builder.new }
-    ensures marked { Marked looks.old.0 i may_exceed.old result may_exceed.new }
-    ensures same { looks.new.0 ≡ looks.old.0 }
-    ensures looked { IfOk result (λ end. looks.new.1 + i ≤ looks.old.1 + end + 1) }
+    level: Level,
+    name: Option<Extent>,
+    i: u32,
+    lexed: Lexed,
+) -> Result<(), BuildFault>
+    requires small { IsSmall text_limit (standing builder.old Want.Next None) }
+    requires level { level ≡ level_of builder.old.opens }
+    requires name { IfSome name HasRoom }
+    requires near { i < 2 ^ 24 }
+    requires fits { FitsTape lexed }
+    ensures { Took (step (token_of i lexed) (standing builder.old Want.Value name)) result (standing builder.new (behind lexed) None) }
 {
-    late_exponents_keep_limits();
-    let Atoms { bytes, decimal } = looks.atoms(i);
-    let source = Extent {
-        start: i as u32,
-        len: bytes.len() as u32,
-    };
-    if decimal {
-        return past_word(builder.leaf(source, Kind::Number), i, bytes.len());
-    }
-    *may_exceed |= !has_short_exponent(bytes);
-    match word_kind(bytes) {
-        None => Err(BuildFault::NotJson),
-        Some(kind) => past_word(builder.leaf(source, kind), i, bytes.len()),
+    match lexed {
+        Lexed::Text(source) => builder.leaf(level, name, source, Kind::Text),
+        Lexed::Number(source) => builder.leaf(level, name, source, Kind::Number),
+        Lexed::Word(kind, source) => builder.leaf(level, name, source, kind),
+        Lexed::Opens(shape) => builder.open(level, name, shape, i),
     }
 }
 
-// The token at i, where the place behind it is this one. Marks where a number may be beyond the limits, and says what is wanted behind
-// a name or a value. Each kind of token says so for itself, which lets the compiler lead it straight to the test of that one sign.
+// The name at place number k and the colon behind it.
 #[inline(always)]
-fn token(
-    looks: &mut Looks<'_>,
-    i: usize,
-    next: usize,
-    slashes: &mut Slashes<'_>,
-    builder: &mut Builder,
-    may_exceed: &mut bool,
-    want: &mut Want,
-) -> Result<usize, BuildFault>
-    requires in_text { i < length looks.old.0 }
-    requires near { next ≤ length looks.old.0 }
-    requires short { length looks.old.0 ≤ text_limit }
-    requires small { IsSmall text_limit builder.old }
-    requires indexed { IsIndexed looks.old.0 slashes.old }
-    requires closes { ClosesBefore looks.old.0 i next }
-    requires no_blank { blank (slice_index looks.old.0 i) ≡ false }
-    ensures stepped { Stepped looks.old.0 i builder.old result builder.new }
-    ensures marked { Marked looks.old.0 i may_exceed.old result may_exceed.new }
-    ensures slashes { HoldSlashes looks.old.0 slashes.new }
-    ensures same { looks.new.0 ≡ looks.old.0 }
-    ensures looked { IfOk result (λ end. looks.new.1 + i ≤ looks.old.1 + end + 2) }
-    ensures once { is_sign (slice_index looks.old.0 i) ≡ true → looks.new.1 ≤ looks.old.1 + 1 }
-{
-    *want = Want::Value;
-    match looks.at(i) {
-        b'"' => string(looks, i, next, slashes, builder, want),
-        b'[' => past_sign(builder.open(Shape::Array, i as u32), i),
-        b']' => {
-            *want = Want::Next;
-            past_sign(builder.close(Shape::Array, i as u32), i)
-        }
-        b'{' => past_sign(builder.open(Shape::Object, i as u32), i),
-        b'}' => {
-            *want = Want::Next;
-            past_sign(builder.close(Shape::Object, i as u32), i)
-        }
-        b',' => past_sign(builder.comma(), i),
-        b':' => past_sign(builder.colon(), i),
-        _ => {
-            *want = Want::Next;
-            word(looks, i, builder, may_exceed)
-        }
-    }
-}
-
-// Whether place number k is there and this byte stands at it.
-#[inline(always)]
-fn stands(looks: &mut Looks<'_>, places: &[u32], k: usize, byte: u8) -> bool
-    requires in_text { k < length places.now → get_or places.now k 0 < length looks.old.0 }
-    ensures inside { IsTrue result → k < length places.now }
-    ensures here { IsTrue result → get_or looks.old.0 (get_or places.now k 0) 0 ≡ byte }
-    ensures same { looks.new.0 ≡ looks.old.0 }
-    ensures looked { looks.new.1 ≤ looks.old.1 + 1 }
-{
-    k < places.len() && looks.at(places[k] as usize) == byte
-}
-
-// The number of the place behind the colon or the comma at place number k, if the one that is wanted stands there, and otherwise k: a
-// name and its colon, and a value and its comma, are one step of the walk. Where nothing is known to be wanted, nothing is passed.
-#[inline(always)]
-fn pass_sign(
+fn named(
     looks: &mut Looks<'_>,
     places: &[u32],
     k: usize,
-    want: Want,
-    builder: &mut Builder,
-) -> Result<usize, BuildFault>
-    requires in_text { k < length places.now → get_or places.now k 0 < length looks.old.0 }
-    ensures passed { Passed looks.old.0 places.now k builder.old result builder.new }
+    slashes: &mut Slashes<'_>,
+) -> Option<Extent>
+    requires listed { IsListed looks.old.0 places.now }
+    requires inside { k + 1 < length places.now }
+    requires slashes { HoldSlashes looks.old.0 slashes.old }
+    ensures named { (b : Built) (w : Want) (exceeds : Bool) → AsksName looks.old.0 places.now k w
+        → Named looks.old.0 places.now (point k (standing b w None) looks.old.1 exceeds) b (k + 2) result looks.new.1 exceeds }
+    ensures room { IfSome result HasRoom }
+    ensures slashes { HoldSlashes looks.old.0 slashes.new }
     ensures same { looks.new.0 ≡ looks.old.0 }
-    ensures looked { looks.new.1 ≤ looks.old.1 + 1 }
 {
-    match want {
-        Want::Colon if stands(looks, places, k, b':') => past_sign(builder.colon(), k),
-        Want::Next if stands(looks, places, k, b',') => past_sign(builder.comma(), k),
-        _ => Ok(k),
+    let colon = places[k + 1] as usize;
+    match name(looks, places[k] as usize, colon, slashes) {
+        Some(name) if looks.at(colon) == b':' => Some(name),
+        _ => None,
+    }
+}
+
+// The value at place number k, which has one behind it: an element, or a member of this name. Gives the sign behind it, which is looked
+// at before the entry is written, or nothing where a container was opened.
+#[inline(always)]
+fn valued<const OBJECT: bool, const COUNT: bool>(
+    looks: &mut Looks<'_>,
+    places: &[u32],
+    k: usize,
+    name: Option<Extent>,
+    slashes: &mut Slashes<'_>,
+    builder: &mut Builder,
+    may_exceed: &mut bool,
+) -> Result<Option<u8>, BuildFault>
+    requires listed { IsListed looks.old.0 places.now }
+    requires inside { k + 1 < length places.now }
+    requires slashes { HoldSlashes looks.old.0 slashes.old }
+    requires small { IsSmall k (standing builder.old Want.Next None) }
+    requires level { level_of builder.old.opens ≡ Level.Inside (shape_of OBJECT) }
+    requires name { IfSome name HasRoom }
+    ensures grown { (w : Want) → AsksValue looks.old.0 places.now k w
+        → Grown looks.old.0 places.now (point k (standing builder.old w name) looks.old.1 may_exceed.old) (shape_of OBJECT) (k + 1) result builder.new looks.new.1 may_exceed.new }
+    ensures slashes { HoldSlashes looks.old.0 slashes.new }
+    ensures same { looks.new.0 ≡ looks.old.0 }
+{
+    let i = places[k];
+    let next = places[k + 1] as usize;
+    let level = Level::Inside(shape::<OBJECT>());
+    match value(looks, i as usize, next, slashes, may_exceed) {
+        None => Err(BuildFault::NotJson),
+        Some(Lexed::Opens(shape)) => unsigned(builder.open(level, name, shape, i)),
+        Some(Lexed::Text(source)) => {
+            let sign = looks.at(next);
+            signed(builder.leaf(level, name, source, Kind::Text), sign)
+        }
+        Some(Lexed::Number(source)) => {
+            let sign = looks.at(next);
+            signed(builder.leaf(level, name, source, Kind::Number), sign)
+        }
+        Some(Lexed::Word(kind, source)) => {
+            let sign = looks.at(next);
+            signed(builder.leaf(level, name, source, kind), sign)
+        }
+    }
+}
+
+// The child at place number k, which has as many places as one needs, and one behind them.
+#[inline(always)]
+fn child<const OBJECT: bool, const COUNT: bool>(
+    looks: &mut Looks<'_>,
+    places: &[u32],
+    k: usize,
+    slashes: &mut Slashes<'_>,
+    builder: &mut Builder,
+    may_exceed: &mut bool,
+) -> Result<Option<u8>, BuildFault>
+    requires listed { IsListed looks.old.0 places.now }
+    requires inside { k + width_of (shape_of OBJECT) < length places.now }
+    requires slashes { HoldSlashes looks.old.0 slashes.old }
+    requires small { IsSmall k (standing builder.old Want.Next None) }
+    requires level { level_of builder.old.opens ≡ Level.Inside (shape_of OBJECT) }
+    ensures grown { (w : Want) → AsksChild looks.old.0 places.now k (shape_of OBJECT) w
+        → Grown looks.old.0 places.now (point k (standing builder.old w None) looks.old.1 may_exceed.old) (shape_of OBJECT) (k + width_of (shape_of OBJECT)) result builder.new looks.new.1 may_exceed.new }
+    ensures slashes { HoldSlashes looks.old.0 slashes.new }
+    ensures same { looks.new.0 ≡ looks.old.0 }
+{
+    if !OBJECT {
+        return valued::<OBJECT, COUNT>(looks, places, k, None, slashes, builder, may_exceed);
+    }
+    match named(looks, places, k, slashes) {
+        None => Err(BuildFault::NotJson),
+        Some(name) => valued::<OBJECT, COUNT>(
+            looks,
+            places,
+            k + 2,
+            Some(name),
+            slashes,
+            builder,
+            may_exceed,
+        ),
+    }
+}
+
+// What stands behind a container that was closed at place number k.
+#[inline(always)]
+fn closed_at(closed: Result<(), BuildFault>, k: usize) -> Result<Spot, BuildFault>
+    requires { k < 2 ^ 63 }
+    ensures { result ≡ spot_behind closed k }
+{
+    match closed {
+        Ok(()) => Ok(Spot {
+            number: k + 1,
+            behind: true,
+        }),
+        Err(fault) => Err(fault),
+    }
+}
+
+// No child, where a container was closed.
+#[inline(always)]
+fn childless(closed: Result<(), BuildFault>) -> Result<Option<usize>, BuildFault>
+    ensures { result ≡ no_child closed }
+{
+    match closed {
+        Ok(()) => Ok(None),
+        Err(fault) => Err(fault),
+    }
+}
+
+// The end of the container, if this sign at place number k is its end. A comma is not.
+#[inline(always)]
+fn ended<const OBJECT: bool>(
+    places: &[u32],
+    k: usize,
+    sign: u8,
+    builder: &mut Builder,
+) -> Result<Spot, BuildFault>
+    requires inside { k < length places.now }
+    requires near { get_or places.now k 0 < 2 ^ 24 }
+    requires level { level_of builder.old.opens ≡ Level.Inside (shape_of OBJECT) }
+    requires no_comma { sign ≢ 44 }
+    ensures { (text : List ℕ) (looked : ℕ) (exceeds : Bool) → IsListed text places.now → sign ≡ byte_at text places.now k
+        → Arrives text places.now (point k (standing builder.old Want.Next None) looked exceeds) result builder.new looked exceeds }
+{
+    if sign != ending::<OBJECT>() {
+        return Err(BuildFault::NotJson);
+    }
+    closed_at(builder.close(shape::<OBJECT>(), places[k]), k)
+}
+
+// What the walk finds where it enters a container, or comes back to it: the number of the place at which the next child has to begin, or
+// nothing where the container ends here.
+#[inline(always)]
+fn entered<const OBJECT: bool>(
+    looks: &mut Looks<'_>,
+    places: &[u32],
+    spot: Spot,
+    builder: &mut Builder,
+) -> Result<Option<usize>, BuildFault>
+    requires listed { IsListed looks.old.0 places.now }
+    requires level { level_of builder.old.opens ≡ Level.Inside (shape_of OBJECT) }
+    ensures entered { (exceeds : Bool) → Entered looks.old.0 places.now (at spot builder.old looks.old.1 exceeds) (shape_of OBJECT) (spot.number + 1) result builder.new looks.new.1 exceeds }
+    ensures inside { IfOk result (λ next. spot.number < length places.now) }
+    ensures same { looks.new.0 ≡ looks.old.0 }
+{
+    if spot.number >= places.len() {
+        return Err(BuildFault::NotJson);
+    }
+    let sign = looks.at(places[spot.number] as usize);
+    if sign == ending::<OBJECT>() {
+        return childless(builder.close(shape::<OBJECT>(), places[spot.number]));
+    }
+    if !spot.behind {
+        return Ok(Some(spot.number));
+    }
+    if sign == b',' {
+        Ok(Some(spot.number + 1))
+    } else {
+        Err(BuildFault::NotJson)
+    }
+}
+
+// The children of the innermost container from here on, up to one that holds others or to the end of the container.
+#[inline(always)]
+fn run<const OBJECT: bool, const COUNT: bool>(
+    looks: &mut Looks<'_>,
+    places: &[u32],
+    spot: Spot,
+    slashes: &mut Slashes<'_>,
+    builder: &mut Builder,
+    may_exceed: &mut bool,
+) -> Result<Spot, BuildFault>
+    requires listed { IsListed looks.old.0 places.now }
+    requires slashes { HoldSlashes looks.old.0 slashes.old }
+    requires small { IsSmall spot.number (standing builder.old Want.Next None) }
+    requires level { level_of builder.old.opens ≡ Level.Inside (shape_of OBJECT) }
+    ensures arrives { Arrives looks.old.0 places.now (at spot builder.old looks.old.1 may_exceed.old) result builder.new looks.new.1 may_exceed.new }
+    ensures further { IfOk result (λ next. (spot.number < next.number) × (next.number ≤ length places.now)) }
+    ensures slashes { HoldSlashes looks.old.0 slashes.new }
+    ensures same { looks.new.0 ≡ looks.old.0 }
+{
+    let first = match entered::<OBJECT>(looks, places, spot, builder) {
+        Err(fault) => return Err(fault),
+        Ok(None) => {
+            return Ok(Spot {
+                number: spot.number + 1,
+                behind: true,
+            });
+        }
+        Ok(Some(first)) => first,
+    };
+    let mut k = first;
+    while k + width::<OBJECT>() < places.len() {
+        match child::<OBJECT, COUNT>(looks, places, k, slashes, builder, may_exceed) {
+            Err(fault) => return Err(fault),
+            Ok(None) => {
+                return Ok(Spot {
+                    number: k + width::<OBJECT>(),
+                    behind: false,
+                });
+            }
+            Ok(Some(b',')) => k += width::<OBJECT>() + 1,
+            Ok(Some(sign)) => return ended::<OBJECT>(places, k + width::<OBJECT>(), sign, builder),
+        }
+    }
+    Err(BuildFault::NotJson)
+}
+
+// What lies in the containers that are open here, up to the end of the outermost one.
+#[inline(always)]
+fn containers<const COUNT: bool>(
+    looks: &mut Looks<'_>,
+    places: &[u32],
+    spot: Spot,
+    slashes: &mut Slashes<'_>,
+    builder: &mut Builder,
+    may_exceed: &mut bool,
+) -> Result<Spot, BuildFault>
+    requires listed { IsListed looks.old.0 places.now }
+    requires slashes { HoldSlashes looks.old.0 slashes.old }
+    requires inside { spot.number ≤ length places.now }
+    requires small { IsSmall spot.number (standing builder.old Want.Next None) }
+    ensures arrives { Arrives looks.old.0 places.now (at spot builder.old looks.old.1 may_exceed.old) result builder.new looks.new.1 may_exceed.new }
+    ensures over { IfOk result (λ next. level_of builder.new.opens ≡ Level.Root) }
+    ensures slashes { HoldSlashes looks.old.0 slashes.new }
+    ensures same { looks.new.0 ≡ looks.old.0 }
+{
+    let mut next = spot;
+    while let Level::Inside(shape) = builder.level() {
+        let arrived = match shape {
+            Shape::Array => {
+                run::<false, COUNT>(looks, places, next, slashes, builder, may_exceed)
+            }
+            Shape::Object => {
+                run::<true, COUNT>(looks, places, next, slashes, builder, may_exceed)
+            }
+        };
+        match arrived {
+            Ok(spot) => next = spot,
+            Err(fault) => return Err(fault),
+        }
+    }
+    Ok(next)
+}
+
+// The value of the whole text, or the bracket or brace that opens it.
+#[inline(always)]
+fn whole<const COUNT: bool>(
+    looks: &mut Looks<'_>,
+    places: &[u32],
+    slashes: &mut Slashes<'_>,
+    builder: &mut Builder,
+    may_exceed: &mut bool,
+) -> Result<Spot, BuildFault>
+    requires listed { IsListed looks.old.0 places.now }
+    requires slashes { HoldSlashes looks.old.0 slashes.old }
+    requires first { builder.old ≡ nothing }
+    ensures arrives { Arrives looks.old.0 places.now (point 0 (standing builder.old Want.Value None) looks.old.1 may_exceed.old) result builder.new looks.new.1 may_exceed.new }
+    ensures further { IfOk result (λ next. next.number ≤ length places.now) }
+    ensures slashes { HoldSlashes looks.old.0 slashes.new }
+    ensures same { looks.new.0 ≡ looks.old.0 }
+{
+    if places.is_empty() {
+        return Err(BuildFault::NotJson);
+    }
+    let i = places[0];
+    let next = place_behind(places, 0, looks.length());
+    let Some(lexed) = value(looks, i as usize, next, slashes, may_exceed) else {
+        return Err(BuildFault::NotJson);
+    };
+    let behind = match lexed {
+        Lexed::Text(_) | Lexed::Number(_) | Lexed::Word(..) => true,
+        Lexed::Opens(_) => false,
+    };
+    match put(builder, Level::Root, None, i, lexed) {
+        Ok(()) => Ok(Spot { number: 1, behind }),
+        Err(fault) => Err(fault),
     }
 }
 
@@ -321,9 +431,14 @@ pub struct Reading {
     pub longest: u32,
 }
 
-/// The tape of a text and its marks, or why there is none, by the places of its index.
+/// The tape of a text and its marks, or why there is none, by the places of its index. The walk is made for one caller whose looks count
+/// and one whose do not, since a count that nobody asks for costs nothing where all is put in line.
 #[inline(always)]
-fn walk(alloc: Global, index: &Index, looks: &mut Looks<'_>) -> Result<Reading, BuildFault>
+fn walk<const COUNT: bool>(
+    alloc: Global,
+    index: &Index,
+    looks: &mut Looks<'_>,
+) -> Result<Reading, BuildFault>
     requires short { length looks.old.0 ≤ text_limit }
     requires utf8 { IsUtf8 looks.old.0 }
     requires index { IsIndexOf index.now looks.old.0 }
@@ -346,42 +461,28 @@ fn walk(alloc: Global, index: &Index, looks: &mut Looks<'_>) -> Result<Reading, 
     let mut slashes = Slashes::new(index.slashes.as_slice(), looks.length());
     let mut builder = Builder::new(alloc, places.len() / 2 + 1)?;
     let mut may_exceed = false;
-    let mut want = Want::Value;
-    let mut k = 0;
-    while k < places.len() {
-        let i = places[k] as usize;
-        let next = place_behind(places, k, looks.length());
-        match token(
-            looks,
-            i,
-            next,
-            &mut slashes,
-            &mut builder,
-            &mut may_exceed,
-            &mut want,
-        ) {
-            Ok(_) => {}
-            Err(fault) => return Err(fault),
-        }
-        match pass_sign(looks, places, k + 1, want, &mut builder) {
-            Ok(next) => k = next,
-            Err(fault) => return Err(fault),
-        }
+    let first = whole::<COUNT>(looks, places, &mut slashes, &mut builder, &mut may_exceed)?;
+    let last = containers::<COUNT>(
+        looks,
+        places,
+        first,
+        &mut slashes,
+        &mut builder,
+        &mut may_exceed,
+    )?;
+    if last.number < places.len() {
+        return Err(BuildFault::NotJson);
     }
-    if builder.is_done() {
-        let depth = builder.deepest();
-        let longest = builder.longest();
-        Ok(Reading {
-            tape: builder.into_tape(),
-            depth,
-            may_exceed,
-            may_be_lone: true,
-            slashes: SlashRange::anywhere(),
-            longest,
-        })
-    } else {
-        Err(BuildFault::NotJson)
-    }
+    let depth = builder.deepest();
+    let longest = builder.longest();
+    Ok(Reading {
+        tape: builder.into_tape(),
+        depth,
+        may_exceed,
+        may_be_lone: true,
+        slashes: SlashRange::anywhere(),
+        longest,
+    })
 }
 
 /// Builds the tape of the text that is looked at, from the places of its index.
@@ -401,7 +502,7 @@ pub fn build(alloc: Global, index: &Index, looks: &mut Looks<'_>) -> Result<Tape
     // At most three looks for each place, and one for each source byte of a string, a number or a word.
     ensures looked { IfOk result (λ tape. IsBounded looks.old.0 looks.old.1 looks.new.1) }
 {
-    match walk(alloc, index, looks) {
+    match walk::<true>(alloc, index, looks) {
         Ok(reading) => Ok(reading.tape),
         Err(fault) => Err(fault),
     }
@@ -428,7 +529,7 @@ pub fn read(alloc: Global, text: &[u8]) -> Result<Reading, BuildFault>
         return Err(BuildFault::Memory);
     };
     let blocks = found.slashes.as_slice();
-    match walk(alloc, &found, &mut Looks::new(text)) {
+    match walk::<false>(alloc, &found, &mut Looks::new(text)) {
         Ok(reading) => Ok(Reading {
             may_be_lone: may_be_lone(text, blocks),
             slashes: SlashRange::of(blocks, text.len()),

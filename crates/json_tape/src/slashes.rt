@@ -66,20 +66,16 @@ impl<'a> Slashes<'a> {
 
     /// The gap in front of the first block from here on that ends behind a place.
     #[inline(never)]
-    pub fn advanced(self, start: usize) -> Slashes<'a>
-        requires { self.next ≤ length self.blocks.now }
-        ensures { (text : List ℕ) → HoldSlashes text self.entry → HoldSlashes text result }
+    pub fn advance(&mut self, start: usize)
+        requires { self.old.next ≤ length self.old.blocks.now }
+        ensures { (text : List ℕ) → HoldSlashes text self.old → HoldSlashes text self.new }
     {
         let mut next = self.next;
         while next < self.blocks.len() && self.blocks[next] as usize + BLOCK <= start {
             next += 1;
         }
-        Slashes {
-            from: gap_start(self.blocks, next),
-            to: gap_end(self.blocks, next, self.long),
-            blocks: self.blocks,
-            next,
-            long: self.long,
-        }
+        self.from = gap_start(self.blocks, next);
+        self.to = gap_end(self.blocks, next, self.long);
+        self.next = next;
     }
 }

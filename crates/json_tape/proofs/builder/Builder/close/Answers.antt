@@ -9,6 +9,6 @@ invariant_of-self-in-Some c =
     let o = c.in-Some.outer in
     let os = reverse c.pop.new.self.items in
     let r = ap reverse c.in-Some.ensures.items ∙ reverse-append c.pop.new.self.items (o ∷ []) in
-    let rest = subst (AreOpened c.self.inside.tape) r c.self.invariant.opened.2 in
+    let rest = subst (AreOpened c.self.inside.tape) r c.self.invariant.2 in
     let m = subst (λ es. AreOpened es (o ∷ os)) (sym c.close.ensures) (opened_closed c.self.inside.tape (o ∷ os) c.self.inside.top.entry c.args.place c.self.inside.top.children (length c.self.inside.tape) rest) in
-    record { opened = m; name = tt }
+    m

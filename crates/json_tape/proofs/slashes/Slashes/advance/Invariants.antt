@@ -1,5 +1,5 @@
 use Rattle.std.proofs.Common.{◌-◌, ◌≤◌, length}
-use Rattle.json_tape.proofs.slashes.Slashes.advanced.Given as goal
+use Rattle.json_tape.proofs.slashes.Slashes.advance.Given as goal
 
 abbrev pub invariant-loop-next : goal.invariant-loop-next
 invariant-loop-next l = l.next ≤ length l.self.blocks.now

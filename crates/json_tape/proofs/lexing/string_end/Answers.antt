@@ -1,7 +1,7 @@
 use Rattle.std.proofs.Common.{◌≡◌, ◌+◌, ◌-◌, ◌∙◌, subst, drop}
 use Rattle.json_tape.specs.Lexing.{quote_end}
 use Rattle.json_tape.proofs.Placing.{scanned_string, scanned_part, plain_before, held_before, unheld_before}
-use Rattle.json_tape.proofs.second_stage.string_end.Goals as goal
+use Rattle.json_tape.proofs.lexing.string_end.Goals as goal
 
 pub returns-then-not-has_quote_before-clause-ends : goal.returns-then-not-has_quote_before-clause-ends
 returns-then-not-has_quote_before-clause-ends c =
@@ -19,7 +19,7 @@ pub returns-then-spare-2-clause-ends : goal.returns-then-spare-2-clause-ends
 returns-then-spare-2-clause-ends c =
     let found = c.if-not-has_quote_before.false in
     plain_before c.args.looks.now.0 c.args.i c.args.next c.requires.indexed.utf8 c.requires.indexed.controls
-    (c.spare-2.ensures c.if-spare-2.true c.args.looks.now.0 (c.advanced.ensures c.args.looks.now.0 c.requires.indexed.escapes))
+    (c.spare-2.ensures c.if-spare-2.true c.args.looks.now.0 (c.advance.ensures c.args.looks.now.0 c.requires.indexed.escapes))
     c.requires.closes c.requires.near c.requires.quote (c.has_quote_before.ensures.behind found, c.has_quote_before.ensures.quote found)
 
 pub returns-then-escapes_hold-clause-ends : goal.returns-then-escapes_hold-clause-ends

@@ -1,0 +1,51 @@
+use Rattle.std.proofs.Common.{◌≡◌, ◌+◌, ℕ, List, None, get_or, subst, ap, length, arith}
+use Rattle.json_tape.specs.Walked.{IsNameAt}
+use Rattle.json_tape.proofs.Listed.{in_text, closes_before, next_is}
+use Rattle.json_tape.proofs.Going.{name_and_colon, no_name_halts, no_colon_halts}
+use Rattle.json_tape.proofs.second_stage.named.Goals as goal
+
+pub name-requires-clause-in_text : goal.name-requires-clause-in_text
+name-requires-clause-in_text c = let l = c.requires.inside in in_text c.args.looks.now.0 c.args.places.now c.requires.listed c.args.k (omega (arith, l))
+
+pub name-requires-clause-near : goal.name-requires-clause-near
+name-requires-clause-near c = let l = in_text c.args.looks.now.0 c.args.places.now c.requires.listed (c.args.k + 1) c.requires.inside in omega (arith, l)
+
+pub name-requires-clause-closes : goal.name-requires-clause-closes
+name-requires-clause-closes c =
+    let l = c.requires.inside in
+    closes_before c.args.looks.now.0 c.args.places.now c.requires.listed c.args.k _ (omega (arith, l)) (next_is c.args.looks.now.0 c.args.places.now c.requires.listed (c.args.k + 1) 0 l)
+
+pub at-requires : goal.at-requires
+at-requires c =
+    let same = ap length c.name.ensures.same in
+    let l = in_text c.args.looks.now.0 c.args.places.now c.requires.listed (c.args.k + 1) c.requires.inside in
+    omega (arith, same, l)
+
+pub returns-in-Some-clause-named : goal.returns-in-Some-clause-named
+returns-in-Some-clause-named c = λ b w exceeds asks.
+    let bytes = c.args.looks.now.0 in
+    let items = c.args.places.now in
+    let k = c.args.k in
+    let looked = c.in-Some.ensures.looked in
+    let counted = ap (λ (p : List ℕ × ℕ). p.1) c.at.ensures.counted in
+    let same = ap (λ (b : List ℕ). get_or b (get_or items (k + 1) 0) 0) c.name.ensures.same in
+    let value = c.at.ensures.value in
+    let colon = c.if-at-eq58.true in
+    name_and_colon bytes items c.requires.listed k c.args.looks.now.1 c.name.new.looks.1 c.at.new.self.1 exceeds b w c.in-Some.name c.requires.inside asks c.in-Some.ensures.name (omega (arith, looked)) (omega (arith, same, value, colon)) (omega (arith, counted))
+
+pub returns-in_default-clause-named : goal.returns-in_default-clause-named
+returns-in_default-clause-named c = λ b w exceeds asks.
+    let bytes = c.args.looks.now.0 in
+    let items = c.args.places.now in
+    let k = c.args.k in
+    let looked = c.in-Some.ensures.looked in
+    let same = ap (λ (b : List ℕ). get_or b (get_or items (k + 1) 0) 0) c.name.ensures.same in
+    let value = c.at.ensures.value in
+    let other = c.if-at-eq58.false in
+    no_colon_halts bytes items c.requires.listed k c.args.looks.now.1 c.name.new.looks.1 exceeds b w c.in-Some.name c.requires.inside asks c.in-Some.ensures.name (omega (arith, looked)) (λ e. omega (arith, same, value, other, e))
+
+pub returns-in_default-2-clause-named : goal.returns-in_default-2-clause-named
+returns-in_default-2-clause-named c = λ b w exceeds asks.
+    let l = c.requires.inside in
+    let none : c.name.result ≡ None = c.in_default.is in
+    no_name_halts c.args.looks.now.0 c.args.places.now c.requires.listed c.args.k c.args.looks.now.1 exceeds b w (omega (arith, l)) asks (subst (IsNameAt c.args.looks.now.0 (get_or c.args.places.now c.args.k 0)) none c.name.ensures.name)
