@@ -73,8 +73,8 @@ impl Document {
         let Ok(checked) = simdutf8::basic::from_utf8(text) else {
             return Err(TextFault::NotUtf8);
         };
-        let reading = match read(alloc, text) {
-            Ok(reading) => reading,
+        let (reading, copy) = match read(alloc, text) {
+            Ok(done) => done,
             Err(BuildFault::NotJson) => return Err(TextFault::NotJson),
             Err(BuildFault::Memory) => return Err(TextFault::Memory),
         };
@@ -85,15 +85,12 @@ impl Document {
         let Ok(lengths) = count_strings(alloc, checked, &reading.tape, reading.longest) else {
             return Err(TextFault::Memory);
         };
-        match String::from_str(alloc, checked) {
-            Err(_) => Err(TextFault::Memory),
-            Ok(text) => Ok(Document {
-                text,
-                tape: reading.tape,
-                names,
-                lengths,
-            }),
-        }
+        Ok(Document {
+            text: unsafe { String::from_utf8_unchecked(copy) },
+            tape: reading.tape,
+            names,
+            lengths,
+        })
     }
 
     /// All bytes of the text, as they were read.

@@ -23,7 +23,7 @@ use crate::slash_range::SlashRange;
 use crate::slashes::Slashes;
 use crate::tape::{BuildFault, Extent, Kind, Level, Shape, Want};
 use std::alloc::Global;
-use structural_index::{Index, Looks, index};
+use structural_index::{Index, Looks, index_and_copy};
 
 /// How far a walk has come: the number of the next place, and whether a value stands before it. If none does, it is that of a first child.
 #[derive(Clone, Copy)]
@@ -508,33 +508,37 @@ pub fn build(alloc: Global, index: &Index, looks: &mut Looks<'_>) -> Result<Tape
     }
 }
 
-/// The tape of a text, by its index, or why there is none.
+/// The tape of a text, by its index, and a copy of the text, or why there is none.
 #[inline(never)]
-pub fn read(alloc: Global, text: &[u8]) -> Result<Reading, BuildFault>
+pub fn read(alloc: Global, text: &[u8]) -> Result<(Reading, Vec<u8>), BuildFault>
     requires long { length text.now ≤ text_limit }
     requires utf8 { IsUtf8 text.now }
     // A tape is given only where the text is JSON.
-    ensures spelt { IfOk result (λ reading. IsJson text.now) }
+    ensures spelt { IfOk result (λ r. IsJson text.now) }
     // It stands for each tree that the text spells, so there is only one.
-    ensures stands { IfOk result (λ reading. StandsForAll text.now reading.tape) }
-    ensures short { IfOk result (λ reading. length reading.tape < 2 ^ 31) }
-    ensures depth { IfOk result (λ reading. HasDepth text.now reading.depth) }
-    ensures numbers { IfOk result (λ reading. reading.may_exceed ≡ false → AreWithinLimits text.now reading.tape) }
-    ensures lone { IfOk result (λ reading. reading.may_be_lone ≡ false → HasNoSurrogates text.now) }
-    ensures slashes { IfOk result (λ reading. StandWithin text.now reading.slashes) }
+    ensures stands { IfOk result (λ r. StandsForAll text.now r.0.tape) }
+    ensures short { IfOk result (λ r. length r.0.tape < 2 ^ 31) }
+    ensures depth { IfOk result (λ r. HasDepth text.now r.0.depth) }
+    ensures numbers { IfOk result (λ r. r.0.may_exceed ≡ false → AreWithinLimits text.now r.0.tape) }
+    ensures lone { IfOk result (λ r. r.0.may_be_lone ≡ false → HasNoSurrogates text.now) }
+    ensures slashes { IfOk result (λ r. StandWithin text.now r.0.slashes) }
+    ensures copy { IfOk result (λ r. r.1.items ≡ text.now) }
     // Unless memory runs out, a text is refused only where it spells no tree.
     ensures refused { IsErrOf result BuildFault.NotJson → IsNoJson text.now }
 {
-    let Ok(found) = index(alloc, text) else {
+    let Ok((found, copy)) = index_and_copy(alloc, text) else {
         return Err(BuildFault::Memory);
     };
     let blocks = found.slashes.as_slice();
     match walk::<false>(alloc, &found, &mut Looks::new(text)) {
-        Ok(reading) => Ok(Reading {
-            may_be_lone: may_be_lone(text, blocks),
-            slashes: SlashRange::of(blocks, text.len()),
-            ..reading
-        }),
+        Ok(reading) => {
+            let whole = Reading {
+                may_be_lone: may_be_lone(text, blocks),
+                slashes: SlashRange::of(blocks, text.len()),
+                ..reading
+            };
+            Ok((whole, copy))
+        }
         Err(fault) => Err(fault),
     }
 }

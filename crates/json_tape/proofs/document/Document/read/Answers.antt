@@ -11,21 +11,21 @@ pub returns-in-Err-NotJson : goal.returns-in-Err-NotJson
 returns-in-Err-NotJson c =
     refused_json c.args.text.now (omega arith) c.in-Ok.ensures.1 (c.in-Err-NotJson.ensures.refused (ap Err c.in-Err-NotJson.field-0-is))
 
-pub returns-in-Ok-from_str : goal.returns-in-Ok-from_str
-returns-in-Ok-from_str c =
-    let same = c.in-Ok-from_str.ensures.ok ∙ c.in-Ok.ensures.0 in
+pub returns : goal.returns
+returns c =
+    let same = ap (λ v. v.items) c.from_utf8_unchecked.ensures.value ∙ c.in-Ok-read.ensures.copy in
     let none = subst IsFaultless c.in-Ok.ensures.0 c.in-Ok-judge_tape.ensures.0 in
-    (same, is_accepted c.args.text.now (string_bytes c.in-Ok-from_str.text) c.in-Ok-read.reading.tape same c.in-Ok-read.ensures.spelt c.in-Ok-read.ensures.stands none)
+    (same, is_accepted c.args.text.now (string_bytes c.from_utf8_unchecked.result) c.in-Ok-read.done.0.tape same c.in-Ok-read.ensures.spelt c.in-Ok-read.ensures.stands none)
 
 pub invariant_of-result : goal.invariant_of-result
 invariant_of-result c =
-    let same = c.in-Ok-from_str.ensures.ok ∙ c.in-Ok.ensures.0 in
+    let same = ap (λ v. v.items) c.from_utf8_unchecked.ensures.value ∙ c.in-Ok-read.ensures.copy in
     let none = subst IsFaultless c.in-Ok.ensures.0 c.in-Ok-judge_tape.ensures.0 in (
-      document c.args.text.now (string_bytes c.in-Ok-from_str.text) c.in-Ok-read.reading.tape same c.in-Ok-read.ensures.spelt c.in-Ok-read.ensures.stands none c.in-Ok-read.ensures.short,
-      kept_of (string_bytes c.in-Ok-from_str.text) _ c.in-Ok-read.reading.tape _ _ _ _ (sym c.in-Ok-from_str.ensures.ok) c.in-Ok-judge_tape.ensures.1,
-      counted_of (string_bytes c.in-Ok-from_str.text) _ c.in-Ok-read.reading.tape _ _ (sym c.in-Ok-from_str.ensures.ok) c.in-Ok-count_strings.ensures,
+      document c.args.text.now (string_bytes c.from_utf8_unchecked.result) c.in-Ok-read.done.0.tape same c.in-Ok-read.ensures.spelt c.in-Ok-read.ensures.stands none c.in-Ok-read.ensures.short,
+      kept_of (string_bytes c.from_utf8_unchecked.result) _ c.in-Ok-read.done.0.tape _ _ _ _ (c.in-Ok.ensures.0 ∙ sym same) c.in-Ok-judge_tape.ensures.1,
+      counted_of (string_bytes c.from_utf8_unchecked.result) _ c.in-Ok-read.done.0.tape _ _ (c.in-Ok.ensures.0 ∙ sym same) c.in-Ok-count_strings.ensures,
     )
 
 pub count_strings-requires : goal.count_strings-requires
 count_strings-requires c =
-    document c.args.text.now _ c.in-Ok-read.reading.tape c.in-Ok.ensures.0 c.in-Ok-read.ensures.spelt c.in-Ok-read.ensures.stands (subst IsFaultless c.in-Ok.ensures.0 c.in-Ok-judge_tape.ensures.0) c.in-Ok-read.ensures.short
+    document c.args.text.now _ c.in-Ok-read.done.0.tape c.in-Ok.ensures.0 c.in-Ok-read.ensures.spelt c.in-Ok-read.ensures.stands (subst IsFaultless c.in-Ok.ensures.0 c.in-Ok-judge_tape.ensures.0) c.in-Ok-read.ensures.short
