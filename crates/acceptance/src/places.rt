@@ -6,7 +6,7 @@ ghost use Rattle.json_tape.specs.Verdict.{text_limit};
 use json_tape::build;
 use std::alloc::Global;
 use std::test::Fail;
-use structural_index::{Looks, index};
+use structural_index::{Index, Looks, index, index_and_copy};
 
 // Whether the index of a text has these places, and no string is left open or has a control byte inside.
 fn has(alloc: Global, text: &[u8], places: &[u32]) -> bool
@@ -15,16 +15,19 @@ fn has(alloc: Global, text: &[u8], places: &[u32]) -> bool
     is_indexed(alloc, text, places, (false, false))
 }
 
-// Whether the index has these places, and these flags: whether a string is left open, and whether a control byte stands in one.
+// Whether an index has these places, and these flags: whether a string is left open, and whether a control byte stands in one.
+fn tells(found: &Index, places: &[u32], flags: (bool, bool)) -> bool {
+    found.places.as_slice() == places && (found.unclosed, found.control_inside) == flags
+}
+
+// The same of the index of a text, and of the one that is made with a copy of it.
 fn is_indexed(alloc: Global, text: &[u8], places: &[u32], flags: (bool, bool)) -> bool
     requires { length text.now ≤ text_limit }
 {
-    match index(alloc, text) {
-        Ok(found) => {
-            found.places.as_slice() == places && (found.unclosed, found.control_inside) == flags
-        }
-        Err(_) => false,
-    }
+    let (Ok(found), Ok((beside, copy))) = (index(alloc, text), index_and_copy(alloc, text)) else {
+        return false;
+    };
+    tells(&found, places, flags) && tells(&beside, places, flags) && copy.as_slice() == text
 }
 
 #[test]

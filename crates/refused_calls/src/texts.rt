@@ -10,7 +10,7 @@ use path_server::query_text;
 use path_types::compile;
 use std::alloc::{AllocError, Global};
 use std::io;
-use structural_index::{Index, Looks, index};
+use structural_index::{Index, Looks, index, index_and_copy};
 use tape_select::{BUDGET, Selected, select};
 
 const OBJECT: &[u8] = b"{\"a\":[10,20],\"\\u0061b\":{\"c\":[]}}";
@@ -27,6 +27,7 @@ pub fn make<R: Print + AllocGlobal>(rt: &R, name: &str) -> io::Result<bool> {
     match name {
         "index" => index_twice(rt, b"{\"a\": [1]}")?,
         "index_of_arrays" => index_twice(rt, ARRAYS.as_bytes())?,
+        "index_and_copy" => index_and_copy_twice(rt, ARRAYS.as_bytes())?,
         "read" => read_twice(rt, OBJECT),
         "read_of_arrays" => read_twice(rt, ARRAYS.as_bytes()),
         "build" => build_twice(rt)?,
@@ -49,6 +50,26 @@ fn index_twice<R: Print + AllocGlobal>(rt: &R, text: &[u8]) -> io::Result<()>
         ends(rt);
         match came {
             Ok(index) => tell(rt, "Ok", places(rt.alloc(), &index)?.as_slice()),
+            Err(fault) => tell_fault(rt, &fault, b""),
+        }
+    }
+    Ok(())
+}
+
+// The places, and the copy behind them.
+fn index_and_copy_twice<R: Print + AllocGlobal>(rt: &R, text: &[u8]) -> io::Result<()>
+    requires { length text.now + 64 ≤ 2 ^ 32 }
+{
+    for _ in 0..2 {
+        begins(rt);
+        let came = index_and_copy(rt.alloc(), text);
+        ends(rt);
+        match came {
+            Ok((index, copy)) => {
+                let mut told = places(rt.alloc(), &index)?;
+                told.extend_from_slice(&copy)?;
+                tell(rt, "Ok", told.as_slice());
+            }
             Err(fault) => tell_fault(rt, &fault, b""),
         }
     }
