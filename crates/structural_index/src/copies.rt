@@ -22,6 +22,7 @@ pub fn append_block(copy: &mut Vec<u8>, lanes: u8x64)
 
 /// The index of `text`, as [`crate::index`] gives it, and a copy of the text, whose blocks are stored while they are at hand. Errs only where
 /// memory is refused, for the index or for the copy, which takes a byte for each byte.
+#[inline(never)]
 pub fn index_and_copy(alloc: Global, text: &[u8]) -> Result<(Index, Vec<u8>), AllocError>
     requires { length text.now + 64 ≤ 2 ^ 32 }
     ensures index { IfOk result (λ r. IsIndexOf r.0 text.now) }
