@@ -39,6 +39,7 @@ pub mod Comparing
 pub mod Repeats
 pub mod MembersLeft
 pub mod MembersSeen
+pub mod NextObjects
 pub mod TwinNames
 pub mod Unique
 pub mod Utf8Order

@@ -11,6 +11,7 @@ use Rattle.json_tape.specs.Meaning.{meaning}
 use Rattle.json_tape.specs.Nodes.{size}
 use Rattle.json_tape.specs.Spelling.{scalars_in, unquoted, IsQuoted}
 use Rattle.json_tape.specs.Limits.{bytes_at}
+use Rattle.json_tape.specs.Cells.{members_in}
 use Rattle.json_tape.specs.Repeats.{hash_of, word_of_bytes, IsObject}
 use Rattle.json_tape.specs.declared.tape.Entry.{Entry}
 use Rattle.json_tape.specs.declared.tape.Kind.TheVariants as kinds
@@ -105,6 +106,10 @@ pub record IsOrderOf (text : List ℕ) (tape : List Entry) (n : ℕ) (hashes mem
 
 abbrev pub IsWide : Entry → Type 0
 IsWide e = (e.kind ≡ kinds.Object) × (narrow < e.children)
+
+-- none of the entries from one number to before another is that of an object of two members or more
+abbrev pub AreFewFrom : List Entry → ℕ → ℕ → Type 0
+AreFewFrom tape from to = (k : ℕ) → from ≤ k → k < to → members_in (entry_in tape k) ≤ 1
 
 -- so many from a place on
 abbrev pub part : ℕ → ℕ → List ℕ → List ℕ

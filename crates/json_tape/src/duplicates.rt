@@ -1,11 +1,12 @@
 // Objects with two names that mean the same (RFC 8259, section 4).
 
-ghost use Rattle.std.specs.Prelude.{◌≡◌, ◌+◌, ◌<◌, ◌^◌, ◌↔◌, length, map, IsTrue, IfOk, IfSome, OnOk, MatchOption, false};
+ghost use Rattle.std.specs.Prelude.{◌≡◌, ◌+◌, ◌<◌, ◌≤◌, ◌^◌, length, map, IsTrue, IfOk, IfSome, OnOk, MatchOption, false};
 ghost use Rattle.json_tape.specs.Tree.{Members};
 ghost use Rattle.json_tape.specs.Answer.{IsJson, StandsForAll};
 ghost use Rattle.json_tape.specs.Verdict.{Applies};
 ghost use Rattle.json_tape.specs.Repeats.{meanings, repeats, hash_of, IsObject};
-ghost use Rattle.json_tape.specs.Ordered.{AreKept, stamp, bytes_stamp};
+ghost use Rattle.json_tape.specs.Ordered.{AreKept, AreFewFrom, entry_in, stamp, bytes_stamp};
+ghost use Rattle.json_tape.specs.Cells.{members_in};
 ghost use Rattle.json_tape.specs.Limits.{bytes_at};
 ghost use Rattle.json_tape.specs.Spelling.{IsQuoted};
 ghost use Rattle.json_tape.specs.Placing.{StandWithin};
@@ -44,25 +45,46 @@ pub fn order_names(
     let mut owners = [u8::MAX; STAMPS];
     let mut latest = [0; SIZES];
     let mut order = NameOrder::new(alloc);
-    for n in 0..tape.len() {
-        if tape.members(n) > 1 {
-            let found = repeats_at(
-                alloc,
-                text,
-                tape,
-                n,
-                slashes,
-                &mut owners,
-                &mut hashes,
-                &mut latest,
-                &mut order,
-            )?;
-            if found {
-                return Ok(None);
-            }
+    let mut n = next_object(tape, 0);
+    while n < tape.len() {
+        let found = repeats_at(
+            alloc,
+            text,
+            tape,
+            n,
+            slashes,
+            &mut owners,
+            &mut hashes,
+            &mut latest,
+            &mut order,
+        )?;
+        if found {
+            return Ok(None);
         }
+        n = next_object(tape, n + 1);
     }
     Ok(Some(order))
+}
+
+// The number of the first object of two members or more from this number on, or how many entries there are. A loop of its own, which
+// takes no call, keeps all that it needs in registers.
+#[inline(always)]
+fn next_object(tape: &Tape, from: u32) -> u32
+    requires { from ≤ length tape.now }
+    ensures ahead { from ≤ result }
+    ensures inside { result ≤ length tape.now }
+    ensures few { AreFewFrom tape.now from result }
+    ensures many { result < length tape.now → 1 < members_in (entry_in tape.now result) }
+{
+    let end = tape.len();
+    let mut n = from;
+    while n < end {
+        if tape.members(n) > 1 {
+            return n;
+        }
+        n += 1;
+    }
+    end
 }
 
 // Whether two names of the object with this number mean the same. Where it is wide, its members are kept in order.
