@@ -55,6 +55,7 @@ pub mod Joined
 pub mod Sides
 pub mod Keeping
 mod Beginnings
+pub mod PlainBlocks
 pub mod PlainFronts
 pub mod PassedEscapes
 pub mod Bridge

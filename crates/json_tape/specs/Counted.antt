@@ -8,6 +8,10 @@ pub record AreCounted (d : Doc) (strings lengths : List ℕ) : Type 0 where
   pub as_many : length lengths ≡ length strings
   pub each : (i : ℕ) → i < length strings → get_or lengths i 0 ≡ length (string_meaning (node_at d (get_or strings i 0)).tree)
 
+-- each of these bytes is an ASCII character and no backslash
+abbrev pub StandAlone : List ℕ → Type 0
+StandAlone bytes = (i : ℕ) → i < length bytes → (get_or bytes i 0 < 128) × (get_or bytes i 0 ≢ 92)
+
 -- whether a character begins with this byte (RFC 3629, section 3)
 abbrev pub begins : ℕ → Bool
 begins b = ltb b 128 || leb 192 b

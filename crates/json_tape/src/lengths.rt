@@ -8,7 +8,7 @@ ghost use Rattle.json_tape.specs.Spelling.{has_backslash, scalars_in, unquoted a
 ghost use Rattle.json_tape.specs.Limits.{bytes_at};
 ghost use Rattle.json_tape.specs.Verdict.{text_limit};
 ghost use Rattle.json_tape.specs.Document.{IsDocument};
-ghost use Rattle.json_tape.specs.Counted.{AreCounted, IsPlain, begins, between, escaped_behind, standing_bits, unit_bits};
+ghost use Rattle.json_tape.specs.Counted.{AreCounted, IsPlain, StandAlone, begins, between, escaped_behind, standing_bits, unit_bits};
 
 use crate::compact::Tape;
 use crate::scalars::{Scalars, unquoted};
@@ -182,16 +182,45 @@ pub struct Block {
     pub escaped: bool,
 }
 
-// The block of these bytes, of which the first one is escaped or not.
+// A block in which no byte is escaped, with the bits of those that begin a character.
+#[inline(always)]
+fn unescaped(standing: u64) -> Block
+    ensures standing { result.standing ≡ standing }
+    ensures units { result.units ≡ 0 }
+    ensures escaped { result.escaped ≡ false }
+{
+    Block {
+        standing,
+        units: 0,
+        escaped: false,
+    }
+}
+
+// Whether each byte of a block is an ASCII character that escapes none.
+#[inline(always)]
+fn is_plain(lanes: u8x64) -> bool
+    ensures { IsTrue result → StandAlone lanes }
+{
+    let stops = lanes.simd_eq(u8x64::splat(b'\\')) | lanes.simd_ge(u8x64::splat(128));
+    stops.to_bitmask() == 0
+}
+
+// The block of these bytes, of which the first one is escaped or not. Most have no backslash, and of these most are ASCII alone.
 #[inline(always)]
 fn block_of(lanes: u8x64, carry: bool) -> Block
     ensures standing { result.standing ≡ mask_l (standing_bits carry lanes) }
     ensures units { result.units ≡ mask_l (unit_bits carry lanes) }
     ensures escaped { result.escaped ≡ escaped_behind carry lanes }
 {
+    if !carry && is_plain(lanes) {
+        return unescaped(u64::MAX);
+    }
     let begins = (lanes.simd_lt(u8x64::splat(0x80))
         | lanes.simd_ge(u8x64::splat(0xC0))).to_bitmask();
     let slashes = lanes.simd_eq(u8x64::splat(b'\\')).to_bitmask();
+    if !carry && slashes == 0 {
+        return unescaped(begins);
+    }
     let (escapes, next) = escaped(slashes, carry);
     Block {
         standing: begins & (escapes | !slashes),
