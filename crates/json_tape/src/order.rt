@@ -292,25 +292,42 @@ fn same_run(bytes: &[u8], left: usize, right: usize) -> usize
     lanes_before(here.simd_ne(there).to_bitmask(), LANES)
 }
 
-// Whether so many bytes from one place on are those from another on, as far as loads tell.
+// Whether a load of 16 stands at both places.
+#[inline(always)]
+fn have_loads(bytes: &[u8], left: usize, right: usize) -> bool
+    ensures { IsTrue result → (left + LANES ≤ length bytes.now) × (right + LANES ≤ length bytes.now) }
+{
+    bytes.len() >= LANES && left <= bytes.len() - LANES && right <= bytes.len() - LANES
+}
+
+// Whether two loads of 16 are the same.
+#[inline(always)]
+fn is_same_load(bytes: &[u8], left: usize, right: usize) -> bool
+    requires left { left + LANES ≤ length bytes.now }
+    requires right { right + LANES ≤ length bytes.now }
+    ensures { IsTrue result → AreSameFrom bytes.now left right LANES }
+{
+    same_run(bytes, left, right) >= LANES
+}
+
+// Whether so many bytes from one place on are those from another on, by loads of 16, of which the last one begins among the bytes
+// that were seen.
 #[inline(always)]
 fn are_same(bytes: &[u8], left: usize, right: usize, len: usize) -> bool
     requires left { left + len ≤ length bytes.now }
     requires right { right + len ≤ length bytes.now }
+    requires long { LANES ≤ len }
     ensures { IsTrue result → AreSameFrom bytes.now left right len }
 {
+    let last = len - LANES;
     let mut k = 0;
-    while k < len {
-        if bytes.len() - left - k < LANES || bytes.len() - right - k < LANES {
+    while k < last {
+        if !is_same_load(bytes, left + k, right + k) {
             return false;
-        }
-        let run = same_run(bytes, left + k, right + k);
-        if run < LANES {
-            return k + run >= len;
         }
         k += LANES;
     }
-    true
+    is_same_load(bytes, left + last, right + last)
 }
 
 // Whether two names are spelt by the same bytes, as far as loads tell.
@@ -320,13 +337,17 @@ fn is_same_name(text: &str, left: Extent, right: Extent) -> bool
     requires right { right.start + right.len ≤ length text.now }
     ensures { IsTrue result → bytes_at text.now left ≡ bytes_at text.now right }
 {
-    left.len == right.len
-        && are_same(
-            text.as_bytes(),
-            left.start as usize,
-            right.start as usize,
-            left.len as usize,
-        )
+    if left.len != right.len {
+        return false;
+    }
+    let bytes = text.as_bytes();
+    let here = left.start as usize;
+    let there = right.start as usize;
+    let len = left.len as usize;
+    if len >= LANES {
+        return are_same(bytes, here, there, len);
+    }
+    have_loads(bytes, here, there) && same_run(bytes, here, there) >= len
 }
 
 // Whether the members of an object stand as those of an earlier one do, under names of the same bytes.

@@ -1,14 +1,14 @@
-use Rattle.std.proofs.Common.{◌+◌, ◌≤◌, arith}
-use Rattle.std.proofs.lemmas.Bool.Decides.{nat_tests}
+use Rattle.std.proofs.Common.{◌-◌, refl, arith}
 use Rattle.json_tape.proofs.SameBytes.{same_more}
 use Rattle.json_tape.proofs.order.are_same.Goals as goal
 
-pub returns-then-run-lt-LANES : goal.returns-then-run-lt-LANES
-returns-then-run-lt-LANES c t i h =
-    let r : c.args.len ≤ c.loop-k.k + c.same_run-run.result = grind (arith, nat_tests, t) in
-    same_more c.args.bytes.now c.args.left c.args.right c.loop-k.k c.same_run-run.result c.loop-k.invariant c.same_run-run.ensures.same i (omega arith)
-
 pub loop-k-preserved : goal.loop-k-preserved
-loop-k-preserved c i h =
-    let r = c.if-run-lt-LANES.false in
-    same_more c.args.bytes.now c.args.left c.args.right c.loop-k.k c.same_run-run.result c.loop-k.invariant c.same_run-run.ensures.same i (omega arith)
+loop-k-preserved c =
+    let t = c.loop-k-test.true in
+    (omega arith, same_more c.args.bytes.now c.args.left c.args.right c.loop-k.k 16 c.loop-k.invariant.1 (c.if-not-is_same_load.ensures refl))
+
+pub returns : goal.returns
+returns c t i h =
+    let past = c.loop-k-test.false in
+    let long = c.requires.long in
+    same_more c.args.bytes.now c.args.left c.args.right (c.args.len - 16) 16 (λ j g. c.loop-k.invariant.1 j (omega arith)) (c.is_same_load-2.ensures t) i (omega arith)
