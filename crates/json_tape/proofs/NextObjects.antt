@@ -1,12 +1,13 @@
--- From one object of two members or more to the next.
-use Rattle.std.proofs.Common.{◌≡◌, ℕ, ◌+◌, ◌<◌, ◌≤◌, inl, inr, List, [], length, refl, arith}
+-- Objects that are passed, since they are narrow and no name of theirs comes again.
+use Rattle.std.proofs.Common.{◌≡◌, ℕ, ◌+◌, ◌<◌, ◌≤◌, inl, inr, false, List, [], refl, subst, arith}
 use Rattle.std.proofs.lemmas.Bool.{cases_lt}
-use Rattle.json_tape.specs.Answer.{IsJson, StandsForAll}
+use Rattle.json_tape.specs.Tree.{Members}
 use Rattle.json_tape.specs.Cells.{members_in}
-use Rattle.json_tape.specs.Ordered.{AreKept, AreFewFrom, entry_in, nothing_there}
+use Rattle.json_tape.specs.Repeats.{repeats, meanings, IsObject}
+use Rattle.json_tape.specs.Ordered.{AreKept, ArePassed, IsWide, entry_in}
 use Rattle.json_tape.specs.declared.tape.Entry.{Entry}
-use Rattle.json_tape.proofs.TwinNames.{NoneBelow, too_few}
-use Rattle.json_tape.proofs.Runs.{few_members, not_wide_by}
+use Rattle.json_tape.proofs.TwinNames.{NoneBelow}
+use Rattle.json_tape.proofs.Runs.{not_wide_by}
 
 -- below the first entry nothing is kept
 pub kept_none : (text : List ℕ) (tape : List Entry) → AreKept text tape 0 [] [] [] []
@@ -20,25 +21,47 @@ kept_none text tape = record {
   all = λ n h w. absurd (omega arith);
 }
 
-module _ (tape : List Entry) (text : List ℕ) (n m : ℕ) (few : AreFewFrom tape n m) where
-  -- none of the objects that are passed has a name that comes again
-  pub none_on : IsJson text → StandsForAll text tape → NoneBelow text tape n → NoneBelow text tape m
-  none_on json stands before i ms l o = elim (cases_lt i n) [
-    | inl g ↦ before i ms g o
-    | inr g ↦ too_few text tape json stands i nothing_there (few_members (entry_in tape i) (members_in (entry_in tape i)) refl (few i g l)) ms o
-  ]
+module _ (text : List ℕ) (tape : List Entry) where
+  pub passed_none : (from : ℕ) → ArePassed text tape from from
+  passed_none from = record {
+    ahead = omega arith;
+    narrow = λ k l h w. absurd (omega arith);
+    apart = λ k ms l h o. absurd (omega arith);
+  }
 
-  -- and none of them keeps the order of its members
-  pub kept_on : (objects starts hashes members : List ℕ) → n ≤ m → AreKept text tape n objects starts hashes members → AreKept text tape m objects starts hashes members
-  kept_on objects starts hashes members from k = record {
-    rising = k.rising;
-    under = λ i h. (let u = k.under i h in omega arith);
-    begun = k.begun;
-    long = k.long;
-    room = k.room;
-    each = k.each;
-    all = λ i h w. elim (cases_lt i n) [
-      | inl g ↦ k.all i g w
-      | inr g ↦ absurd (let l = few i g h in not_wide_by tape i (members_in (entry_in tape i)) refl (omega arith) w)
+  pub passed_more : (from n : ℕ) → ArePassed text tape from n → members_in (entry_in tape n) ≤ 16 → ((ms : Members) → IsObject text tape n ms → repeats (meanings ms) ≡ false)
+      → ArePassed text tape from (n + 1)
+  passed_more from n before few this = record {
+    ahead = (let a = before.ahead in omega arith);
+    narrow = λ k l h w. elim (cases_lt k n) [
+      | inl g ↦ before.narrow k l g w
+      | inr g ↦ (let e : k ≡ n = omega arith in not_wide_by tape n (members_in (entry_in tape n)) refl few (subst (λ i. IsWide (entry_in tape i)) e w))
+    ];
+    apart = λ k ms l h o. elim (cases_lt k n) [
+      | inl g ↦ before.apart k ms l g o
+      | inr g ↦ (let e : k ≡ n = omega arith in this ms (subst (λ i. IsObject text tape i ms) e o))
     ];
   }
+
+  module _ (from to : ℕ) (passed : ArePassed text tape from to) where
+    -- none of the objects that are passed has a name that comes again
+    pub none_on : NoneBelow text tape from → NoneBelow text tape to
+    none_on before i ms l o = elim (cases_lt i from) [
+      | inl g ↦ before i ms g o
+      | inr g ↦ passed.apart i ms g l o
+    ]
+
+    -- and none of them keeps the order of its members
+    pub kept_on : (objects starts hashes members : List ℕ) → AreKept text tape from objects starts hashes members → AreKept text tape to objects starts hashes members
+    kept_on objects starts hashes members k = record {
+      rising = k.rising;
+      under = λ i h. (let u = k.under i h in let a = passed.ahead in omega arith);
+      begun = k.begun;
+      long = k.long;
+      room = k.room;
+      each = k.each;
+      all = λ i h w. elim (cases_lt i from) [
+        | inl g ↦ k.all i g w
+        | inr g ↦ absurd (passed.narrow i g h w)
+      ];
+    }

@@ -5,7 +5,7 @@ ghost use Rattle.json_tape.specs.Tree.{Members};
 ghost use Rattle.json_tape.specs.Answer.{IsJson, StandsForAll};
 ghost use Rattle.json_tape.specs.Verdict.{Applies};
 ghost use Rattle.json_tape.specs.Repeats.{meanings, repeats, hash_of, IsObject};
-ghost use Rattle.json_tape.specs.Ordered.{AreKept, AreFewFrom, entry_in, stamp, bytes_stamp};
+ghost use Rattle.json_tape.specs.Ordered.{AreKept, ArePassed, entry_in, stamp, bytes_stamp};
 ghost use Rattle.json_tape.specs.Cells.{members_in};
 ghost use Rattle.json_tape.specs.Limits.{bytes_at};
 ghost use Rattle.json_tape.specs.Spelling.{IsQuoted};
@@ -45,14 +45,13 @@ pub fn order_names(
     let mut owners = [u8::MAX; STAMPS];
     let mut latest = [0; SIZES];
     let mut order = NameOrder::new(alloc);
-    let mut n = next_object(tape, 0);
+    let mut n = pass_apart(text, tape, 0, slashes, &mut owners);
     while n < tape.len() {
         let found = repeats_at(
             alloc,
             text,
             tape,
             n,
-            slashes,
             &mut owners,
             &mut hashes,
             &mut latest,
@@ -61,25 +60,34 @@ pub fn order_names(
         if found {
             return Ok(None);
         }
-        n = next_object(tape, n + 1);
+        n = pass_apart(text, tape, n + 1, slashes, &mut owners);
     }
     Ok(Some(order))
 }
 
-// The number of the first object of two members or more from this number on, or how many entries there are. A loop of its own, which
-// takes no call, keeps all that it needs in registers.
-#[inline(always)]
-fn next_object(tape: &Tape, from: u32) -> u32
-    requires { from ≤ length tape.now }
-    ensures ahead { from ≤ result }
+// The number of the first object from this number on that is to be looked at more closely, or how many entries there are. None before it is
+// wide or has two names that mean the same. No call is taken here, so that the loops keep what they need in registers.
+#[inline(never)]
+fn pass_apart(
+    text: &str,
+    tape: &Tape,
+    from: u32,
+    slashes: SlashRange,
+    owners: &mut [u8; STAMPS],
+) -> u32
+    requires spelt { IsJson text.now }
+    requires stands { StandsForAll text.now tape.now }
+    requires short { length tape.now < 2 ^ 31 }
+    requires slashes { StandWithin text.now slashes }
+    requires inside { from ≤ length tape.now }
     ensures inside { result ≤ length tape.now }
-    ensures few { AreFewFrom tape.now from result }
-    ensures many { result < length tape.now → 1 < members_in (entry_in tape.now result) }
+    ensures passed { ArePassed text.now tape.now from result }
+    ensures object { result < length tape.now → 1 < members_in (entry_in tape.now result) }
 {
     let end = tape.len();
     let mut n = from;
     while n < end {
-        if tape.members(n) > 1 {
+        if tape.members(n) > 1 && !is_plainly_apart(text, tape, n, slashes, owners) {
             return n;
         }
         n += 1;
@@ -93,7 +101,6 @@ fn repeats_at(
     text: &str,
     tape: &Tape,
     n: u32,
-    slashes: SlashRange,
     owners: &mut [u8; STAMPS],
     hashes: &mut Vec<u64>,
     latest: &mut [usize; SIZES],
@@ -102,16 +109,13 @@ fn repeats_at(
     requires inside { n < length tape.now }
     requires object { (ms : Members) × IsObject text.now tape.now n ms }
     requires short { length tape.now < 2 ^ 31 }
-    requires slashes { StandWithin text.now slashes }
     requires kept { AreKept text.now tape.now n order.old.objects.items order.old.starts.items order.old.hashes.items order.old.members.items }
     ensures found { IfOk result (λ found. (ms : Members) → IsObject text.now tape.now n ms → found ≡ repeats (meanings ms)) }
     ensures kept { IfOk result (λ found. found ≡ false → AreKept text.now tape.now (n + 1) order.new.objects.items order.new.starts.items order.new.hashes.items order.new.members.items) }
 {
     if tape.members(n) > NARROW {
         order_members(alloc, text, tape, n, hashes, latest, order)
-    } else if are_plainly_apart(text, tape, n, slashes, owners)
-        || are_apart(text, tape, n, owners)
-    {
+    } else if are_apart(text, tape, n, owners) {
         Ok(false)
     } else {
         repeats_in(alloc, text, tape, n, hashes)
@@ -141,15 +145,37 @@ fn plain_stamp(text: &str, name: Extent, slashes: SlashRange) -> Option<usize>
     let bytes = text.as_bytes();
     let at = name.start as usize;
     let len = name.len as usize;
-    if bytes.len() - at < EIGHT || !slashes.spare(at, at + len) {
+    if at >= bytes.len().saturating_sub(EIGHT - 1) || !slashes.spare(at, at + len) {
         return None;
     }
     Some(stamp_of(mixed(bytes_word(bytes, at, len))))
 }
 
+// Whether the object with this number is not wide and its names are told apart by their bytes.
+#[inline(always)]
+fn is_plainly_apart(
+    text: &str,
+    tape: &Tape,
+    n: u32,
+    slashes: SlashRange,
+    owners: &mut [u8; STAMPS],
+) -> bool
+    requires inside { n < length tape.now }
+    requires object { (ms : Members) × IsObject text.now tape.now n ms }
+    requires short { length tape.now < 2 ^ 31 }
+    requires slashes { StandWithin text.now slashes }
+    ensures narrow { IsTrue result → members_in (entry_in tape.now n) ≤ NARROW }
+    ensures apart { IsTrue result → (ms : Members) → IsObject text.now tape.now n ms → repeats (meanings ms) ≡ false }
+{
+    if tape.members(n) > NARROW {
+        return false;
+    }
+    are_plainly_apart(text, tape, n, slashes, owners)
+}
+
 // Whether each name of the object with this number has a stamp of its own by its bytes. Where no backslash stands, names that mean the
 // same are the same bytes. Where one may stand, `false` says nothing, as it does where a stamp comes again.
-#[inline(never)]
+#[inline(always)]
 fn are_plainly_apart(
     text: &str,
     tape: &Tape,

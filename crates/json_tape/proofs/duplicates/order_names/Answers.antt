@@ -8,12 +8,12 @@ use Rattle.json_tape.proofs.duplicates.order_names.Goals as goal
 
 pub loop-n-init : goal.loop-n-init
 loop-n-init c =
-    let e = c.next_object-n.ensures in
+    let e = c.pass_apart-n.ensures in
     let o = c.new-order.ensures in (
       e.inside,
-      e.many,
-      none_on c.args.tape.now c.args.text.now 0 c.next_object-n.result e.few c.requires.spelt c.requires.stands (λ i ms l o. absurd (omega arith)),
-      kept_on c.args.tape.now c.args.text.now 0 c.next_object-n.result e.few _ _ _ _ (omega arith) (rw (o.objects, o.starts, o.hashes, o.members) (kept_none c.args.text.now c.args.tape.now)),
+      e.object,
+      none_on c.args.text.now c.args.tape.now 0 c.pass_apart-n.result e.passed (λ i ms l o. absurd (omega arith)),
+      kept_on c.args.text.now c.args.tape.now 0 c.pass_apart-n.result e.passed _ _ _ _ (rw (o.objects, o.starts, o.hashes, o.members) (kept_none c.args.text.now c.args.tape.now)),
     )
 
 pub repeats_at-requires-clause-object : goal.repeats_at-requires-clause-object
@@ -34,12 +34,12 @@ returns-then-found c =
 
 pub loop-n-preserved : goal.loop-n-preserved
 loop-n-preserved c =
-    let e = c.next_object-n-in-loop-n.ensures in (
+    let e = c.pass_apart-n-in-loop-n.ensures in (
       e.inside,
-      e.many,
-      none_on c.args.tape.now c.args.text.now (c.loop-n.n + 1) c.next_object-n-in-loop-n.result e.few c.requires.spelt c.requires.stands
+      e.object,
+      none_on c.args.text.now c.args.tape.now (c.loop-n.n + 1) c.pass_apart-n-in-loop-n.result e.passed
           (one_more c.args.text.now c.args.tape.now c.loop-n.n c.loop-n.invariant.2 (λ ms o. sym (c.in_ok-found.ensures.found ms o) ∙ c.if-found.false)),
-      kept_on c.args.tape.now c.args.text.now (c.loop-n.n + 1) c.next_object-n-in-loop-n.result e.few _ _ _ _ e.ahead (c.in_ok-found.ensures.kept c.if-found.false),
+      kept_on c.args.text.now c.args.tape.now (c.loop-n.n + 1) c.pass_apart-n-in-loop-n.result e.passed _ _ _ _ (c.in_ok-found.ensures.kept c.if-found.false),
     )
 
 pub returns : goal.returns
