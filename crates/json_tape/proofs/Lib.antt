@@ -1,6 +1,7 @@
 pub mod Snoc
 pub mod Complete
 pub mod Follows
+pub mod Leaves
 pub mod Lexed
 pub mod Front
 pub mod Walk

@@ -1,13 +1,16 @@
 -- Objects that are passed, since they are narrow and no name of theirs comes again.
-use Rattle.std.proofs.Common.{◌≡◌, ℕ, ◌+◌, ◌<◌, ◌≤◌, inl, inr, false, List, [], refl, subst, arith}
+use Rattle.std.proofs.Common.{◌≡◌, ℕ, ◌+◌, ◌<◌, ◌≤◌, inl, inr, Bool, true, false, true≢false, cond, List, [], refl, subst, arith}
 use Rattle.std.proofs.lemmas.Bool.{cases_lt}
 use Rattle.json_tape.specs.Tree.{Members}
-use Rattle.json_tape.specs.Cells.{members_in}
+use Rattle.json_tape.specs.Answer.{IsJson, StandsForAll}
+use Rattle.json_tape.specs.Cells.{members_in, is_object, is_container}
 use Rattle.json_tape.specs.Repeats.{repeats, meanings, IsObject}
-use Rattle.json_tape.specs.Ordered.{AreKept, ArePassed, IsWide, entry_in}
+use Rattle.json_tape.specs.Ordered.{AreKept, ArePassed, IsWide, entry_in, nothing_there}
 use Rattle.json_tape.specs.declared.tape.Entry.{Entry}
-use Rattle.json_tape.proofs.TwinNames.{NoneBelow}
-use Rattle.json_tape.proofs.Runs.{not_wide_by}
+use Rattle.json_tape.specs.declared.tape.Kind.{Kind}
+use Rattle.json_tape.specs.declared.tape.Kind.TheVariants as kinds
+use Rattle.json_tape.proofs.TwinNames.{NoneBelow, too_few}
+use Rattle.json_tape.proofs.Runs.{not_wide_by, few_members}
 
 -- below the first entry nothing is kept
 pub kept_none : (text : List ℕ) (tape : List Entry) → AreKept text tape 0 [] [] [] []
@@ -43,6 +46,20 @@ module _ (text : List ℕ) (tape : List Entry) where
     ];
   }
 
+  -- behind these, entries that are not of objects of several members
+  pub passed_over : IsJson text → StandsForAll text tape → (from m to : ℕ) → ArePassed text tape from m → m ≤ to → ((k : ℕ) → m ≤ k → k < to → members_in (entry_in tape k) ≤ 1) → ArePassed text tape from to
+  passed_over json stands from m to before h few = record {
+    ahead = (let a = before.ahead in omega arith);
+    narrow = λ k l g w. elim (cases_lt k m) [
+      | inl i ↦ before.narrow k l i w
+      | inr i ↦ (let f = few k i g in not_wide_by tape k (members_in (entry_in tape k)) refl (omega arith) w)
+    ];
+    apart = λ k ms l g o. elim (cases_lt k m) [
+      | inl i ↦ before.apart k ms l i o
+      | inr i ↦ too_few text tape json stands k nothing_there (few_members (entry_in tape k) (members_in (entry_in tape k)) refl (few k i g)) ms o
+    ];
+  }
+
   module _ (from to : ℕ) (passed : ArePassed text tape from to) where
     -- none of the objects that are passed has a name that comes again
     pub none_on : NoneBelow text tape from → NoneBelow text tape to
@@ -65,3 +82,23 @@ module _ (text : List ℕ) (tape : List Entry) where
         | inr g ↦ absurd (passed.narrow i g h w)
       ];
     }
+
+-- one that has no child has no member
+pub childless : (e : Entry) → e.children ≤ 1 → members_in e ≤ 1
+childless e h = go (is_object e.kind)
+  where
+    go : (b : Bool) → cond b e.children 0 ≤ 1
+    go true = h
+    go false = omega arith
+
+-- nor has one that holds nothing
+pub leaf_members : (e : Entry) → is_container e.kind ≡ false → members_in e ≤ 1
+leaf_members e h = go e.kind h
+  where
+    go : (kind : Kind) → is_container kind ≡ false → cond (is_object kind) e.children 0 ≤ 1
+    go kinds.Null h = omega arith
+    go (kinds.Bool b) h = omega arith
+    go kinds.Number h = omega arith
+    go kinds.Text h = omega arith
+    go kinds.Array h = absurd (true≢false h)
+    go kinds.Object h = absurd (true≢false h)

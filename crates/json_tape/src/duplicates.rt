@@ -1,6 +1,6 @@
 // Objects with two names that mean the same (RFC 8259, section 4).
 
-ghost use Rattle.std.specs.Prelude.{◌≡◌, ◌+◌, ◌<◌, ◌≤◌, ◌^◌, length, map, IsTrue, IfOk, IfSome, OnOk, MatchOption, false};
+ghost use Rattle.std.specs.Prelude.{◌≡◌, ℕ, ◌+◌, ◌<◌, ◌≤◌, ◌^◌, length, map, IsTrue, IfOk, IfSome, OnOk, MatchOption, false};
 ghost use Rattle.json_tape.specs.Tree.{Members};
 ghost use Rattle.json_tape.specs.Answer.{IsJson, StandsForAll};
 ghost use Rattle.json_tape.specs.Verdict.{Applies};
@@ -87,12 +87,36 @@ fn pass_apart(
     let end = tape.len();
     let mut n = from;
     while n < end {
-        if tape.members(n) > 1 && !is_plainly_apart(text, tape, n, slashes, owners) {
-            return n;
+        if tape.holds(n) {
+            if !is_passed(text, tape, n, slashes, owners) {
+                return n;
+            }
+            n = past_leaves(text, tape, n);
+        } else {
+            n += 1;
         }
-        n += 1;
     }
     end
+}
+
+// The number of the next entry behind this one and, where it holds leaves alone, behind these.
+#[inline(always)]
+fn past_leaves(text: &str, tape: &Tape, n: u32) -> u32
+    requires spelt { IsJson text.now }
+    requires stands { StandsForAll text.now tape.now }
+    requires short { length tape.now < 2 ^ 31 }
+    requires inside { n < length tape.now }
+    ensures ahead { n < result }
+    ensures inside { result ≤ length tape.now }
+    ensures leaves { (k : ℕ) → n < k → k < result → members_in (entry_in tape.now k) ≤ 1 }
+{
+    let _ = text;
+    let entry = tape.entry(n);
+    if entry.after - n - 1 == entry.children {
+        entry.after
+    } else {
+        n + 1
+    }
 }
 
 // Whether two names of the object with this number mean the same. Where it is wide, its members are kept in order.
@@ -151,23 +175,30 @@ fn plain_stamp(text: &str, name: Extent, slashes: SlashRange) -> Option<usize>
     Some(stamp_of(mixed(bytes_word(bytes, at, len))))
 }
 
-// Whether the object with this number is not wide and its names are told apart by their bytes.
+// Whether the entry with this number is none of an object of several members, or of one that is not wide and whose names are told apart
+// by their bytes.
 #[inline(always)]
-fn is_plainly_apart(
+fn is_passed(
     text: &str,
     tape: &Tape,
     n: u32,
     slashes: SlashRange,
     owners: &mut [u8; STAMPS],
 ) -> bool
-    requires inside { n < length tape.now }
-    requires object { (ms : Members) × IsObject text.now tape.now n ms }
+    requires spelt { IsJson text.now }
+    requires stands { StandsForAll text.now tape.now }
     requires short { length tape.now < 2 ^ 31 }
     requires slashes { StandWithin text.now slashes }
+    requires inside { n < length tape.now }
     ensures narrow { IsTrue result → members_in (entry_in tape.now n) ≤ NARROW }
     ensures apart { IsTrue result → (ms : Members) → IsObject text.now tape.now n ms → repeats (meanings ms) ≡ false }
+    ensures object { result ≡ false → 1 < members_in (entry_in tape.now n) }
 {
-    if tape.members(n) > NARROW {
+    let members = tape.members(n);
+    if members <= 1 {
+        return true;
+    }
+    if members > NARROW {
         return false;
     }
     are_plainly_apart(text, tape, n, slashes, owners)

@@ -1,0 +1,11 @@
+use Rattle.std.proofs.Common.{◌<◌, length, ◌∙◌, arith}
+use Rattle.json_tape.proofs.Sides.{entries_many, holds_shown}
+use Rattle.json_tape.proofs.compact.Tape.holds.Goals as goal
+
+pub index-requires : goal.index-requires
+index-requires c = let m = entries_many _ _ _ c.self.view_is in omega (arith, m, c.requires, c.self.inside.cells.ok.0)
+
+pub returns : goal.returns
+returns c e q =
+    let m = entries_many _ _ _ c.self.view_is in
+    c.holds.ensures ∙ holds_shown c.self.inside.cells.items c.self.inside.sides.items c.args.self.now c.args.n c.index.result.now e c.self.view_is (omega (arith, m, c.requires)) c.index.ensures q
