@@ -40,7 +40,7 @@ pub mod Comparing
 pub mod Repeats
 pub mod MembersLeft
 pub mod MembersSeen
-pub mod NextObjects
+pub mod PassedObjects
 pub mod TwinNames
 pub mod Unique
 pub mod Utf8Order

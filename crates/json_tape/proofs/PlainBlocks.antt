@@ -1,5 +1,5 @@
 -- Blocks of a string without a backslash, and those of ASCII alone.
-use Rattle.std.proofs.Common.{◌≡◌, ◌≢◌, ℕ, suc, ◌*◌, ◌+◌, ◌<◌, ◌^◌, Bool, true, false, not, ◌&&◌, ◌||◌, eqb, ltb, ◌%◌, replicate, cond, List, [], ◌∷◌, map, length, get_or, refl, sym, ap, ◌∙◌, subst, arith, pow-suc}
+use Rattle.std.proofs.Common.{◌≡◌, ℕ, suc, ◌*◌, ◌+◌, ◌<◌, ◌^◌, Bool, true, false, not, ◌&&◌, ◌||◌, eqb, ltb, ◌%◌, replicate, cond, List, [], ◌∷◌, map, length, refl, sym, ap, ◌∙◌, arith, pow-suc}
 use Rattle.std.proofs.lemmas.Bool.Decides.{nat_tests}
 use lib.Lanes.{mask_l, zip2, top}
 use Rattle.structural_index.proofs.Lanes.{equal}

@@ -3,7 +3,7 @@ use Rattle.json_tape.specs.Repeats.{repeats, meanings}
 use Rattle.json_tape.specs.Ordered.{AreKept, entry_in, nothing_there}
 use Rattle.json_tape.proofs.TwinNames.{object_at, duplicate_found, duplicate_none, one_more}
 use Rattle.json_tape.proofs.Runs.{members_are}
-use Rattle.json_tape.proofs.NextObjects.{none_on, kept_none, kept_on}
+use Rattle.json_tape.proofs.PassedObjects.{none_on, kept_none, kept_on}
 use Rattle.json_tape.proofs.duplicates.order_names.Goals as goal
 
 pub loop-n-init : goal.loop-n-init

@@ -4,7 +4,7 @@ use Rattle.json_tape.specs.Ordered.{ArePassed, entry_in, nothing_there}
 use Rattle.json_tape.proofs.MembersLeft.{same_entry}
 use Rattle.json_tape.proofs.TwinNames.{too_few}
 use Rattle.json_tape.proofs.Runs.{few_members}
-use Rattle.json_tape.proofs.NextObjects.{passed_more, passed_over, leaf_members}
+use Rattle.json_tape.proofs.PassedObjects.{passed_more, passed_over, leaf_members}
 use Rattle.json_tape.proofs.duplicates.pass_apart.Goals as goal
 
 pub loop-n-preserved-then-holds : goal.loop-n-preserved-then-holds

@@ -1,9 +1,9 @@
-use Rattle.std.proofs.Common.{◌≡◌, ◌+◌, ◌∙◌, ◌<◌, ◌≤◌, length, ap, sym, subst, arith}
+use Rattle.std.proofs.Common.{ap, arith}
 use Rattle.std.proofs.lemmas.List.{get_or_read}
 use Rattle.json_tape.specs.Ordered.{entry_in, nothing_there}
 use Rattle.json_tape.specs.declared.tape.Entry.{Entry}
 use Rattle.json_tape.proofs.Leaves.{ends, leaves_alone}
-use Rattle.json_tape.proofs.NextObjects.{childless}
+use Rattle.json_tape.proofs.PassedObjects.{childless}
 use Rattle.json_tape.proofs.duplicates.past_leaves.Goals as goal
 
 pub overflow_sub-entry : goal.overflow_sub-entry

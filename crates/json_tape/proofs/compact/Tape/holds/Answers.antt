@@ -1,4 +1,4 @@
-use Rattle.std.proofs.Common.{◌<◌, length, ◌∙◌, arith}
+use Rattle.std.proofs.Common.{◌∙◌, arith}
 use Rattle.json_tape.proofs.Sides.{entries_many, holds_shown}
 use Rattle.json_tape.proofs.compact.Tape.holds.Goals as goal
 

@@ -25,13 +25,6 @@ kept_none text tape = record {
 }
 
 module _ (text : List ℕ) (tape : List Entry) where
-  pub passed_none : (from : ℕ) → ArePassed text tape from from
-  passed_none from = record {
-    ahead = omega arith;
-    narrow = λ k l h w. absurd (omega arith);
-    apart = λ k ms l h o. absurd (omega arith);
-  }
-
   pub passed_more : (from n : ℕ) → ArePassed text tape from n → members_in (entry_in tape n) ≤ 16 → ((ms : Members) → IsObject text tape n ms → repeats (meanings ms) ≡ false)
       → ArePassed text tape from (n + 1)
   passed_more from n before few this = record {
