@@ -1,14 +1,12 @@
 -- Objects that are passed, since they are narrow and no name of theirs comes again.
-use Rattle.std.proofs.Common.{◌≡◌, ℕ, ◌+◌, ◌<◌, ◌≤◌, inl, inr, Bool, true, false, true≢false, cond, List, [], refl, subst, arith}
+use Rattle.std.proofs.Common.{◌≡◌, ℕ, ◌+◌, ◌<◌, ◌≤◌, inl, inr, Bool, true, false, cond, List, [], refl, subst, arith}
 use Rattle.std.proofs.lemmas.Bool.{cases_lt}
 use Rattle.json_tape.specs.Tree.{Members}
 use Rattle.json_tape.specs.Answer.{IsJson, StandsForAll}
-use Rattle.json_tape.specs.Cells.{members_in, is_object, is_container}
+use Rattle.json_tape.specs.Cells.{members_in, is_object}
 use Rattle.json_tape.specs.Repeats.{repeats, meanings, IsObject}
 use Rattle.json_tape.specs.Ordered.{AreKept, ArePassed, IsWide, entry_in, nothing_there}
 use Rattle.json_tape.specs.declared.tape.Entry.{Entry}
-use Rattle.json_tape.specs.declared.tape.Kind.{Kind}
-use Rattle.json_tape.specs.declared.tape.Kind.TheVariants as kinds
 use Rattle.json_tape.proofs.TwinNames.{NoneBelow, too_few}
 use Rattle.json_tape.proofs.Runs.{not_wide_by, few_members}
 
@@ -83,15 +81,3 @@ childless e h = go (is_object e.kind)
     go : (b : Bool) → cond b e.children 0 ≤ 1
     go true = h
     go false = omega arith
-
--- nor has one that holds nothing
-pub leaf_members : (e : Entry) → is_container e.kind ≡ false → members_in e ≤ 1
-leaf_members e h = go e.kind h
-  where
-    go : (kind : Kind) → is_container kind ≡ false → cond (is_object kind) e.children 0 ≤ 1
-    go kinds.Null h = omega arith
-    go (kinds.Bool b) h = omega arith
-    go kinds.Number h = omega arith
-    go kinds.Text h = omega arith
-    go kinds.Array h = absurd (true≢false h)
-    go kinds.Object h = absurd (true≢false h)

@@ -278,12 +278,6 @@ pub label_shown : (cells : List Cell) (sides : List Side) (v : List Entry) (n : 
 label_shown cells sides v n c e q l f g =
     sym (ap (λ (x : Entry). x.label) (g ∙ entry_here cells sides v n c e q l f) ∙ seen_label n c (get_or sides (cell_span c) no_side) (holds c))
 
-pub holds_shown : (cells : List Cell) (sides : List Side) (v : List Entry) (n : ℕ) (c : Cell) (e : Entry) → entries_of cells sides ≡ v → n < length cells → c ≡ get_or cells n c → e ≡ get_or v n e
-    → holds c ≡ is_container e.kind
-holds_shown cells sides v n c e q l f g =
-    let k : e.kind ≡ cell_kind c = ap (λ (x : Entry). x.kind) (g ∙ entry_here cells sides v n c e q l f) ∙ seen_kind n c (get_or sides (cell_span c) no_side) (holds c) in
-    holds_kind c ∙ sym (ap is_container k)
-
 is_holder : (kind : Kind) → is_object kind ≡ true → is_container kind ≡ true
 is_holder kinds.Object h = refl
 is_holder kinds.Null h = absurd (false≢true h)

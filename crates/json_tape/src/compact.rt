@@ -156,15 +156,6 @@ impl Tape {
         self.sides.shrink_to_fit();
     }
 
-    /// Whether it is an array or an object.
-    #[inline(always)]
-    pub fn holds(&self, n: u32) -> bool
-        requires { n < length self.now }
-        ensures { (e : Entry) → e ≡ slice_index_or self.now n e → result ≡ is_container e.kind }
-    {
-        self.cells[n as usize].holds()
-    }
-
     /// How many members it has, where it is an object, and otherwise 0.
     #[inline(always)]
     pub fn members(&self, n: u32) -> u32

@@ -87,8 +87,8 @@ fn pass_apart(
     let end = tape.len();
     let mut n = from;
     while n < end {
-        if tape.holds(n) {
-            if !is_passed(text, tape, n, slashes, owners) {
+        if tape.members(n) > 1 {
+            if !is_plainly_apart(text, tape, n, slashes, owners) {
                 return n;
             }
             n = past_leaves(text, tape, n);
@@ -99,7 +99,8 @@ fn pass_apart(
     end
 }
 
-// The number of the next entry behind this one and, where it holds leaves alone, behind these.
+// The number of the next entry behind this one and, where it holds leaves alone, behind these. Of arrays it is not asked: each step
+// would wait for what the last one loads.
 #[inline(always)]
 fn past_leaves(text: &str, tape: &Tape, n: u32) -> u32
     requires spelt { IsJson text.now }
@@ -175,33 +176,23 @@ fn plain_stamp(text: &str, name: Extent, slashes: SlashRange) -> Option<usize>
     Some(stamp_of(mixed(bytes_word(bytes, at, len))))
 }
 
-// Whether the entry with this number is none of an object of several members, or of one that is not wide and whose names are told apart
-// by their bytes.
+// Whether the object with this number is not wide and its names are told apart by their bytes.
 #[inline(always)]
-fn is_passed(
+fn is_plainly_apart(
     text: &str,
     tape: &Tape,
     n: u32,
     slashes: SlashRange,
     owners: &mut [u8; STAMPS],
 ) -> bool
-    requires spelt { IsJson text.now }
-    requires stands { StandsForAll text.now tape.now }
+    requires inside { n < length tape.now }
+    requires object { (ms : Members) × IsObject text.now tape.now n ms }
     requires short { length tape.now < 2 ^ 31 }
     requires slashes { StandWithin text.now slashes }
-    requires inside { n < length tape.now }
     ensures narrow { IsTrue result → members_in (entry_in tape.now n) ≤ NARROW }
     ensures apart { IsTrue result → (ms : Members) → IsObject text.now tape.now n ms → repeats (meanings ms) ≡ false }
-    ensures object { result ≡ false → 1 < members_in (entry_in tape.now n) }
 {
-    let members = tape.members(n);
-    if members <= 1 {
-        return true;
-    }
-    if members > NARROW {
-        return false;
-    }
-    are_plainly_apart(text, tape, n, slashes, owners)
+    tape.members(n) <= NARROW && are_plainly_apart(text, tape, n, slashes, owners)
 }
 
 // Whether each name of the object with this number has a stamp of its own by its bytes. Where no backslash stands, names that mean the
