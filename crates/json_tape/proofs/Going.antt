@@ -178,7 +178,7 @@ module _ (bytes items : List ℕ) where
   here_halts a h = (a, here a, h)
 
   -- over one token
-  one : (k now later : ℕ) (mark mark' : Bool) (tok : Token) (s s' : State) → k < length items → TokenAt bytes (place items k) tok → step tok s ≡ Some s' → later ≤ now + 3 + weight tok
+  pub one : (k now later : ℕ) (mark mark' : Bool) (tok : Token) (s s' : State) → k < length items → TokenAt bytes (place items k) tok → step tok s ≡ Some s' → later ≤ now + 3 + weight tok
       → Marked bytes (place items k) mark (Ok (place items k + size tok)) mark' → Walked bytes items (point k s now mark) (point (k + 1) s' later mark')
   one k now later mark mark' tok s s' l t e p m =
       let z : k + 1 ≡ suc k = omega arith in

@@ -68,6 +68,7 @@ pub mod TokensAt
 pub mod Listed
 pub mod Going
 pub mod Onward
+pub mod Arrived
 pub mod LoneSteps
 pub mod Halving
 pub mod KeysLeft

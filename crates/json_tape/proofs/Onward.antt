@@ -1,6 +1,6 @@
 -- Where a walk enters a container, goes from child to child, and leaves it.
 use Rattle.std.proofs.Common.{◌≡◌, ◌≢◌, ℕ, zero, suc, ◌+◌, ◌-◌, ◌<◌, ◌≤◌, ◌⊎◌, inl, inr, Bool, true, false, not, cond, List, [], ◌∷◌, length, get_or, Option, Some, None, refl, sym, ap, subst, ◌∙◌, arith}
-use Rattle.std.specs.Prelude.{Result, Ok, Err, eqb}
+use Rattle.std.specs.Prelude.{Result, Ok, Err, IfOk, eqb}
 use Rattle.std.proofs.lemmas.Option.{none-some, same_Some}
 use Rattle.std.proofs.lemmas.Bool.Decides.{nat_tests}
 use Rattle.json_tape.specs.declared.tape.Extent.{Extent}
@@ -15,12 +15,14 @@ use Rattle.json_tape.specs.declared.tape.Want.TheVariants as wants
 use Rattle.json_tape.specs.declared.tape.Open.{Open}
 use Rattle.json_tape.specs.declared.tape.BuildFault.{BuildFault}
 use Rattle.json_tape.specs.declared.tape.BuildFault.TheVariants.{NotJson, Memory}
+use Rattle.json_tape.specs.declared.lexing.Lexed.{Lexed}
+use Rattle.json_tape.specs.declared.lexing.Lexed.TheVariants as lexed
 use Rattle.json_tape.specs.declared.second_stage.Spot.{Spot}
 use Rattle.json_tape.specs.Machine.{Token, Opening, Closing, Comma, Between, Text, Word, State, step, put_close, put_comma, closes, after_comma, level_of, first_of, Took, IsSmall}
 use Rattle.json_tape.specs.Built.{Built, standing}
-use Rattle.json_tape.specs.Lexing.{sign_at, is_atom, Taken}
-use Rattle.json_tape.specs.Walked.{TokenAt, begins_value, is_text, AsksValue, AsksName, IsListed, place, byte_at, Point, point, Walked, stays, moves, IsUnfinished, Outlasts, IsBlocked, refused, few, Halts, want_at, at, AsksChild, shape_of, width, ending, Grown, Entered, Arrives, spot_behind, no_child}
-use Rattle.json_tape.proofs.Going.{unopened, unput, cond_none, not_root, first_byte, blocked, here_halts, halts_more, walked_more, here, over_sign, refused_halts, value_only, name_only, colon_only, value_any, named_step, open_level, leaf_level}
+use Rattle.json_tape.specs.Lexing.{sign_at, is_atom, Taken, Marked}
+use Rattle.json_tape.specs.Walked.{TokenAt, begins_value, is_text, AsksValue, AsksName, IsListed, place, byte_at, Point, point, Walked, stays, moves, IsUnfinished, Outlasts, IsBlocked, refused, few, Halts, want_at, at, AsksChild, shape_of, width, ending, Grown, Entered, Arrives, spot_behind, no_child, token_of, end_of, price_of, behind, is_whole, spot_after}
+use Rattle.json_tape.proofs.Going.{unopened, unput, cond_none, not_root, first_byte, blocked, here_halts, halts_more, walked_more, here, one, over_sign, refused_halts, value_only, name_only, colon_only, value_any, named_step, open_level, leaf_level}
 use Rattle.json_tape.proofs.Listed.{in_text}
 use Rattle.json_tape.proofs.TokensAt.{sign_token}
 use Rattle.json_tape.proofs.Walk.{step_small}
@@ -181,6 +183,14 @@ module _ (bytes items : List ℕ) (listed : IsListed bytes items) where
   pub over_halts : (k now : ℕ) (mark : Bool) (s : State) (shape : Shape) → length items ≤ k → level_of s.opens ≡ Inside shape → Halts bytes items (point k s now mark)
   over_halts k now mark s shape l level = here_halts bytes items _ (few 0 (omega (arith, l)) (λ h. not_root level h.0))
 
+pub closed_behind : (k : ℕ) (made : Result (Unit {0}) BuildFault) (r : Result Spot BuildFault) → r ≡ spot_behind made k → IfOk r (λ next. (next.number ≡ k + 1) × (next.behind ≡ true))
+closed_behind k (Ok x) r e = subst (λ x. IfOk x (λ next. (next.number ≡ k + 1) × (next.behind ≡ true))) (sym e) (refl, refl)
+closed_behind k (Err fault) r e = subst (λ x. IfOk x (λ next. (next.number ≡ k + 1) × (next.behind ≡ true))) (sym e) tt
+
+pub if_ok : {A : Type 0} {P Q : A → Type 0} (r : Result A BuildFault) → ((x : A) → P x → Q x) → IfOk r P → IfOk r Q
+if_ok (Ok x) f h = f x h
+if_ok (Err fault) f h = tt
+
 -- ---- Children
 
 -- a child may stand at place number k, in a container on this level
@@ -332,6 +342,11 @@ module _ (bytes items : List ℕ) (listed : IsListed bytes items) where
       let here' = subst (λ b. Grown b items (point k (standing old g.0 None) now mark) shape (k + width shape) r new later mark') same (grown g.0 (subst (λ b. AsksChild b items k shape g.0) (sym same) g.1)) in
       subst (λ x. Grown bytes items a shape n x new later mark') is (subst (λ x. Grown bytes items a shape x r new later mark') (sym size) (grown_more shape (k + width shape) later r new mark' g.2 here'))
 
+  pub child_fault : (other : List ℕ) (a : Point) (k now later : ℕ) (mark mark' : Bool) (level : Level) (shape : Shape) (old new : Built) (r : Result (Option ℕ) BuildFault) (fault : BuildFault) → level ≡ Inside shape → other ≡ bytes → MayGrow bytes items a k level old now mark → r ≡ Err fault
+      → ((w : Want) → AsksChild other items k shape w → Grown other items (point k (standing old w None) now mark) shape (k + width shape) r new later mark') → Arrives bytes items a (Err fault) new later mark'
+  child_fault other a k now later mark mark' level shape old new r fault e same may is grown =
+      grown_fault a shape (k + width shape) later fault new mark' (child_grown other a k (k + width shape) now later mark mark' level shape old new r (Err fault) e same may is refl grown)
+
   pub next_may_grow : (a : Point) (n k looked : ℕ) (mark : Bool) (level : Level) (shape : Shape) (b : Built) (byte : ℕ) → level ≡ Inside shape → byte ≡ 44 → k ≡ n + 1 → Grown bytes items a shape n (Ok (Some byte)) b looked mark → MayGrow bytes items a k level b looked mark
   next_may_grow a n k looked mark level shape b byte e comma size g =
       let w = comma_walks bytes items listed n looked looked mark b shape g.3 g.1 (sym g.2 ∙ comma) (omega arith) in
@@ -340,3 +355,41 @@ module _ (bytes items : List ℕ) (listed : IsListed bytes items) where
   pub grown_ended : (a : Point) (n looked : ℕ) (mark : Bool) (shape : Shape) (old new : Built) (byte : ℕ) (r : Result Spot BuildFault) → Grown bytes items a shape n (Ok (Some byte)) old looked mark
       → (byte ≡ byte_at bytes items n → Arrives bytes items (point n (standing old wants.Next None) looked mark) r new looked mark) → Arrives bytes items a r new looked mark
   grown_ended a n looked mark shape old new byte r g h = arrives_more looked r new mark g.0 (h g.2)
+
+  pub arrives_same : (other : List ℕ) (a b : Point) (looked : ℕ) (r : Result Spot BuildFault) (new : Built) (mark : Bool) → other ≡ bytes → Walked bytes items a b → Arrives other items b r new looked mark → Arrives bytes items a r new looked mark
+  arrives_same other a b looked r new mark same w h = arrives_more looked r new mark w (subst (λ x. Arrives x items b r new looked mark) same h)
+
+  -- ---- The first token
+
+  abbrev First : Point → Result Spot BuildFault → Built → ℕ → Bool → Type 0
+  First a r new later mark = Arrives bytes items a r new later mark × IfOk r (λ next. next.behind ≡ false → level_of new.opens ≡ Root → ⊥)
+
+  first_taken : (now later : ℕ) (mark mark' : Bool) (old new : Built) (l : Lexed) → 0 < length items → TokenAt bytes (place items 0) (token_of (place items 0) l) → Marked bytes (place items 0) mark (Ok (end_of (place items 0) l)) mark' → later ≤ now + price_of l
+      → step (token_of (place items 0) l) (standing old wants.Value None) ≡ Some (standing new (behind l) None) → First (point 0 (standing old wants.Value None) now mark) (Ok (record { number = 1; behind = is_whole l })) new later mark'
+  first_taken now later mark mark' old new (lexed.Text x) l t m p took = (one bytes items 0 now (later + 1) mark mark' (Text x) _ _ l t took (omega (arith, p)) m, λ e. absurd (cc))
+  first_taken now later mark mark' old new (lexed.Number x) l t m p took = (one bytes items 0 now (later + 1) mark mark' (Word x kinds.Number) _ _ l t took (omega (arith, p)) m, λ e. absurd (cc))
+  first_taken now later mark mark' old new (lexed.Word kind x) l t m p took = (one bytes items 0 now (later + 1) mark mark' (Word x kind) _ _ l t took (omega (arith, p)) m, λ e. absurd (cc))
+  first_taken now later mark mark' old new (lexed.Opens shape) l t m p took =
+      let level = open_level shape (place items 0) old.entries old.opens None old.deep _ took in (
+        subst (λ v. Walked bytes items (point 0 (standing old wants.Value None) now mark) (point 1 (standing new (want_at false v) None) (later + 1) mark')) (sym level)
+            (one bytes items 0 now (later + 1) mark mark' (Opening shape (place items 0)) _ _ l t took (omega (arith, p)) m),
+        λ e. not_root level,
+      )
+
+  first_arrives : (now later : ℕ) (mark mark' : Bool) (old new : Built) (l : Lexed) (made : Result (Unit {0}) BuildFault) → 0 < length items → TokenAt bytes (place items 0) (token_of (place items 0) l) → Marked bytes (place items 0) mark (Ok (end_of (place items 0) l)) mark' → later ≤ now + price_of l
+      → Took (step (token_of (place items 0) l) (standing old wants.Value None)) made (standing new (behind l) None) → First (point 0 (standing old wants.Value None) now mark) (spot_after made l) new later mark'
+  first_arrives now later mark mark' old new l (Ok x) inside t m p took = first_taken now later mark mark' old new l inside t m p took
+  first_arrives now later mark mark' old new l (Err NotJson) inside t m p took = (refused_halts bytes items listed 0 now mark (token_of (place items 0) l) _ inside t took, tt)
+  first_arrives now later mark mark' old new l (Err Memory) inside t m p took = (tt, tt)
+
+  pub whole_arrives : (now later : ℕ) (mark mark' : Bool) (old new : Built) (l : Lexed) (made : Result (Unit {0}) BuildFault) (r : Result Spot BuildFault) → 0 < length items → TokenAt bytes (place items 0) (token_of (place items 0) l) → Marked bytes (place items 0) mark (Ok (end_of (place items 0) l)) mark' → later ≤ now + price_of l
+      → Took (step (token_of (place items 0) l) (standing old wants.Value None)) made (standing new (behind l) None) → r ≡ spot_after made l → First (point 0 (standing old wants.Value None) now mark) r new later mark'
+  whole_arrives now later mark mark' old new l made r inside t m p took e = subst (λ x. First (point 0 (standing old wants.Value None) now mark) x new later mark') (sym e) (first_arrives now later mark mark' old new l made inside t m p took)
+
+  pub spot_one : (made : Result (Unit {0}) BuildFault) (l : Lexed) (r : Result Spot BuildFault) → 0 < length items → r ≡ spot_after made l → IfOk r (λ next. next.number ≤ length items)
+  spot_one (Ok x) l r inside e = subst (λ y. IfOk y (λ next. next.number ≤ length items)) (sym e) (omega (arith, inside))
+  spot_one (Err fault) l r inside e = subst (λ y. IfOk y (λ next. next.number ≤ length items)) (sym e) tt
+
+  -- no place, no token
+  pub nothing_halts : (now : ℕ) (mark : Bool) (b : Built) → length items ≤ 0 → Halts bytes items (point 0 (standing b wants.Value None) now mark)
+  nothing_halts now mark b l = here_halts bytes items _ (few 0 (omega (arith, l)) (λ h. let e = h.1 in cc))

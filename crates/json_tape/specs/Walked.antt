@@ -198,6 +198,15 @@ abbrev pub without_sign : Result (Unit {0}) BuildFault → Result (Option ℕ) B
 without_sign (Ok x) = Ok None
 without_sign (Err fault) = Err fault
 
+-- what stands behind the first token of a text
+abbrev pub is_whole : Lexed → Bool
+is_whole (lexed.Opens shape) = false
+is_whole _ = true
+
+abbrev pub spot_after : Result (Unit {0}) BuildFault → Lexed → Result Spot BuildFault
+spot_after (Ok x) l = Ok (record { number = 1; behind = is_whole l })
+spot_after (Err fault) l = Err fault
+
 -- where a container was closed at place number k: what stands behind it, and that no child comes
 abbrev pub spot_behind : Result (Unit {0}) BuildFault → ℕ → Result Spot BuildFault
 spot_behind (Ok x) k = Ok (record { number = k + 1; behind = true })

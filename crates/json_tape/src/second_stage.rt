@@ -2,7 +2,7 @@
 //! What may come next is known by where in the code the walk stands, so that only that is looked for: a child, which is a name, a colon
 //! and a value in an object, and behind it the comma or the end.
 
-ghost use Rattle.std.specs.Prelude.{◌≡◌, ◌≢◌, ◌+◌, ◌-◌, ◌^◌, ◌<◌, ◌≤◌, ℕ, List, Bool, None, length, get_or, IfOk, IfSome, IsUtf8, IsErrOf, IsTrue, false};
+ghost use Rattle.std.specs.Prelude.{◌≡◌, ◌≢◌, ◌+◌, ◌-◌, ◌^◌, ◌<◌, ◌≤◌, ℕ, List, Bool, None, length, get_or, IfOk, IfSome, IsUtf8, IsErrOf, IsTrue, true, false};
 ghost use Rattle.structural_index.specs.Answer.{IsIndexOf};
 ghost use Rattle.json_tape.specs.Machine.{IsSmall, Took, step, level_of};
 ghost use Rattle.json_tape.specs.Built.{Built, standing, nothing};
@@ -13,7 +13,7 @@ ghost use Rattle.json_tape.specs.Opened.{HasRoom};
 ghost use Rattle.json_tape.specs.Surrogates.{HasNoSurrogates};
 ghost use Rattle.json_tape.specs.Verdict.{text_limit};
 ghost use Rattle.json_tape.specs.Placing.{HoldSlashes, StandWithin};
-ghost use Rattle.json_tape.specs.Walked.{IsListed, FitsTape, token_of, behind, with_sign, without_sign, spot_behind, no_child, byte_at, ending as ending_of, width as width_of, shape_of, point, at, Arrives, Named, Grown, Entered, AsksName, AsksValue, AsksChild};
+ghost use Rattle.json_tape.specs.Walked.{IsListed, FitsTape, token_of, behind, with_sign, without_sign, spot_after, is_whole as whole_token, spot_behind, no_child, byte_at, ending as ending_of, width as width_of, shape_of, point, at, Arrives, Named, Grown, Entered, AsksName, AsksValue, AsksChild};
 
 use crate::builder::Builder;
 use crate::compact::Tape;
@@ -260,8 +260,9 @@ fn ended<const OBJECT: bool>(
     requires near { get_or places.now k 0 < 2 ^ 24 }
     requires level { level_of builder.old.opens ≡ Level.Inside (shape_of OBJECT) }
     requires no_comma { sign ≢ 44 }
-    ensures { (text : List ℕ) (looked : ℕ) (exceeds : Bool) → IsListed text places.now → sign ≡ byte_at text places.now k
+    ensures arrives { (text : List ℕ) (looked : ℕ) (exceeds : Bool) → IsListed text places.now → sign ≡ byte_at text places.now k
         → Arrives text places.now (point k (standing builder.old Want.Next None) looked exceeds) result builder.new looked exceeds }
+    ensures behind { IfOk result (λ next. (next.number ≡ k + 1) × (next.behind ≡ true)) }
 {
     if sign != ending::<OBJECT>() {
         return Err(BuildFault::NotJson);
@@ -317,6 +318,7 @@ fn run<const OBJECT: bool, const COUNT: bool>(
     requires level { level_of builder.old.opens ≡ Level.Inside (shape_of OBJECT) }
     ensures arrives { Arrives looks.old.0 places.now (at spot builder.old looks.old.1 may_exceed.old) result builder.new looks.new.1 may_exceed.new }
     ensures further { IfOk result (λ next. (spot.number < next.number) × (next.number ≤ length places.now)) }
+    ensures opened { IfOk result (λ next. next.behind ≡ false → level_of builder.new.opens ≡ Level.Root → ⊥) }
     ensures slashes { HoldSlashes looks.old.0 slashes.new }
     ensures same { looks.new.0 ≡ looks.old.0 }
 {
@@ -347,6 +349,33 @@ fn run<const OBJECT: bool, const COUNT: bool>(
     Err(BuildFault::NotJson)
 }
 
+// The same for the shape that the container has.
+#[inline(always)]
+fn children<const COUNT: bool>(
+    looks: &mut Looks<'_>,
+    places: &[u32],
+    spot: Spot,
+    shape: Shape,
+    slashes: &mut Slashes<'_>,
+    builder: &mut Builder,
+    may_exceed: &mut bool,
+) -> Result<Spot, BuildFault>
+    requires listed { IsListed looks.old.0 places.now }
+    requires slashes { HoldSlashes looks.old.0 slashes.old }
+    requires small { IsSmall spot.number (standing builder.old Want.Next None) }
+    requires level { level_of builder.old.opens ≡ Level.Inside shape }
+    ensures arrives { Arrives looks.old.0 places.now (at spot builder.old looks.old.1 may_exceed.old) result builder.new looks.new.1 may_exceed.new }
+    ensures further { IfOk result (λ next. (spot.number < next.number) × (next.number ≤ length places.now)) }
+    ensures opened { IfOk result (λ next. next.behind ≡ false → level_of builder.new.opens ≡ Level.Root → ⊥) }
+    ensures slashes { HoldSlashes looks.old.0 slashes.new }
+    ensures same { looks.new.0 ≡ looks.old.0 }
+{
+    match shape {
+        Shape::Array => run::<false, COUNT>(looks, places, spot, slashes, builder, may_exceed),
+        Shape::Object => run::<true, COUNT>(looks, places, spot, slashes, builder, may_exceed),
+    }
+}
+
 // What lies in the containers that are open here, up to the end of the outermost one.
 #[inline(always)]
 fn containers<const COUNT: bool>(
@@ -361,27 +390,45 @@ fn containers<const COUNT: bool>(
     requires slashes { HoldSlashes looks.old.0 slashes.old }
     requires inside { spot.number ≤ length places.now }
     requires small { IsSmall spot.number (standing builder.old Want.Next None) }
+    requires opened { spot.behind ≡ false → level_of builder.old.opens ≡ Level.Root → ⊥ }
     ensures arrives { Arrives looks.old.0 places.now (at spot builder.old looks.old.1 may_exceed.old) result builder.new looks.new.1 may_exceed.new }
-    ensures over { IfOk result (λ next. level_of builder.new.opens ≡ Level.Root) }
+    ensures over { IfOk result (λ next. (level_of builder.new.opens ≡ Level.Root) × (next.behind ≡ true)) }
     ensures slashes { HoldSlashes looks.old.0 slashes.new }
     ensures same { looks.new.0 ≡ looks.old.0 }
 {
     let mut next = spot;
     while let Level::Inside(shape) = builder.level() {
-        let arrived = match shape {
-            Shape::Array => {
-                run::<false, COUNT>(looks, places, next, slashes, builder, may_exceed)
-            }
-            Shape::Object => {
-                run::<true, COUNT>(looks, places, next, slashes, builder, may_exceed)
-            }
-        };
-        match arrived {
+        match children::<COUNT>(looks, places, next, shape, slashes, builder, may_exceed) {
             Ok(spot) => next = spot,
             Err(fault) => return Err(fault),
         }
     }
     Ok(next)
+}
+
+// What stands behind the first token of a text, where its entry was made.
+#[inline(always)]
+fn first_spot(made: Result<(), BuildFault>, lexed: Lexed) -> Result<Spot, BuildFault>
+    ensures { result ≡ spot_after made lexed }
+{
+    match made {
+        Ok(()) => Ok(Spot {
+            number: 1,
+            behind: is_whole(lexed),
+        }),
+        Err(fault) => Err(fault),
+    }
+}
+
+// Whether it is a value that holds no other.
+#[inline(always)]
+fn is_whole(lexed: Lexed) -> bool
+    ensures { result ≡ whole_token lexed }
+{
+    match lexed {
+        Lexed::Text(_) | Lexed::Number(_) | Lexed::Word(..) => true,
+        Lexed::Opens(_) => false,
+    }
 }
 
 // The value of the whole text, or the bracket or brace that opens it.
@@ -398,6 +445,7 @@ fn whole<const COUNT: bool>(
     requires first { builder.old ≡ nothing }
     ensures arrives { Arrives looks.old.0 places.now (point 0 (standing builder.old Want.Value None) looks.old.1 may_exceed.old) result builder.new looks.new.1 may_exceed.new }
     ensures further { IfOk result (λ next. next.number ≤ length places.now) }
+    ensures opened { IfOk result (λ next. next.behind ≡ false → level_of builder.new.opens ≡ Level.Root → ⊥) }
     ensures slashes { HoldSlashes looks.old.0 slashes.new }
     ensures same { looks.new.0 ≡ looks.old.0 }
 {
@@ -409,14 +457,7 @@ fn whole<const COUNT: bool>(
     let Some(lexed) = value(looks, i as usize, next, slashes, may_exceed) else {
         return Err(BuildFault::NotJson);
     };
-    let behind = match lexed {
-        Lexed::Text(_) | Lexed::Number(_) | Lexed::Word(..) => true,
-        Lexed::Opens(_) => false,
-    };
-    match put(builder, Level::Root, None, i, lexed) {
-        Ok(()) => Ok(Spot { number: 1, behind }),
-        Err(fault) => Err(fault),
-    }
+    first_spot(put(builder, Level::Root, None, i, lexed), lexed)
 }
 
 /// What reading a text found: its tape, how many containers lie in one another at most, whether a number may be beyond the limits,
@@ -461,15 +502,21 @@ fn walk<const COUNT: bool>(
     let mut slashes = Slashes::new(index.slashes.as_slice(), looks.length());
     let mut builder = Builder::new(alloc, places.len() / 2 + 1)?;
     let mut may_exceed = false;
-    let first = whole::<COUNT>(looks, places, &mut slashes, &mut builder, &mut may_exceed)?;
-    let last = containers::<COUNT>(
+    let first = match whole::<COUNT>(looks, places, &mut slashes, &mut builder, &mut may_exceed) {
+        Ok(first) => first,
+        Err(fault) => return Err(fault),
+    };
+    let last = match containers::<COUNT>(
         looks,
         places,
         first,
         &mut slashes,
         &mut builder,
         &mut may_exceed,
-    )?;
+    ) {
+        Ok(last) => last,
+        Err(fault) => return Err(fault),
+    };
     if last.number < places.len() {
         return Err(BuildFault::NotJson);
     }

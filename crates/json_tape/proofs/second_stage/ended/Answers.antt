@@ -1,16 +1,19 @@
 use Rattle.std.proofs.Common.{◌∙◌, sym, ap, arith}
 use Rattle.json_tape.specs.Walked.{ending}
-use Rattle.json_tape.proofs.Onward.{no_sign_halts, ended_arrives}
+use Rattle.json_tape.proofs.Onward.{no_sign_halts, ended_arrives, closed_behind}
 use Rattle.json_tape.proofs.second_stage.ended.Goals as goal
 
-pub returns-then-sign-ending : goal.returns-then-sign-ending
-returns-then-sign-ending g c = λ text looked exceeds listed is.
+pub returns-then-sign-ending-clause-arrives : goal.returns-then-sign-ending-clause-arrives
+returns-then-sign-ending-clause-arrives g c = λ text looked exceeds listed is.
     let other = c.if-sign-ending.true in
     let end = c.ending.ensures in
     no_sign_halts text c.args.places.now listed c.args.k looked exceeds c.args.builder.now _ c.requires.inside c.requires.level (λ e. c.requires.no_comma (is ∙ e)) (λ e. omega (arith, is, other, end, e))
 
-pub returns : goal.returns
-returns g c = λ text looked exceeds listed is.
+pub returns-clause-arrives : goal.returns-clause-arrives
+returns-clause-arrives g c = λ text looked exceeds listed is.
     let same = c.if-sign-ending.false in
     let end = c.ending.ensures ∙ ap ending (sym c.shape.ensures) in
     ended_arrives text c.args.places.now listed c.args.k looked exceeds c.args.builder.now c.close.new.self c.shape.result c.close.result c.closed_at.result c.requires.inside (omega (arith, is, same, end)) c.close.ensures c.closed_at.ensures
+
+pub returns-clause-behind : goal.returns-clause-behind
+returns-clause-behind g c = closed_behind c.args.k c.close.result c.closed_at.result c.closed_at.ensures

@@ -1,8 +1,10 @@
-use Rattle.std.proofs.Common.{◌≡◌, ◌∙◌, ◌+◌, ℕ, List, length, get_or, refl, sym, ap, subst, arith}
-use Rattle.json_tape.specs.Walked.{IsListed, AsksChild, at}
+use Rattle.std.proofs.Common.{◌≡◌, ◌∙◌, ◌+◌, ℕ, List, length, get_or, None, Some, refl, sym, ap, subst, arith}
+use Rattle.std.specs.Prelude.{Ok, Err}
+use Rattle.json_tape.specs.Walked.{IsListed, at}
 use Rattle.json_tape.specs.Placing.{HoldSlashes}
 use Rattle.json_tape.proofs.Listed.{near, number_below}
-use Rattle.json_tape.proofs.Onward.{entered_none, entered_some, may_grow, child_grown, next_may_grow, grown_ended, grown_fault, few_halts, walked_small, small_state}
+use Rattle.json_tape.proofs.Onward.{entered_none, entered_some, may_grow, child_grown, next_may_grow, grown_ended, child_fault, few_halts, walked_small, walked_onward, small_state, if_ok}
+use Rattle.json_tape.proofs.Going.{halts_more}
 use Rattle.json_tape.proofs.second_stage.run.Goals as goal
 
 pub returns-in-Ok-None-clause-arrives : goal.returns-in-Ok-None-clause-arrives
@@ -47,3 +49,102 @@ returns-in-Err-child-clause-slashes g c = subst (λ b. HoldSlashes b c.child.new
 
 pub returns-in-Err-child-clause-same : goal.returns-in-Err-child-clause-same
 returns-in-Err-child-clause-same g c = c.in-Err-child.ensures.same ∙ c.loop-k.invariant.same
+
+pub returns-in-Err-child-clause-arrives : goal.returns-in-Err-child-clause-arrives
+returns-in-Err-child-clause-arrives g c =
+    child_fault c.args.looks.now.0 c.args.places.now c.requires.listed c.loop-k.looks.0 (at c.args.spot c.args.builder.now c.args.looks.now.1 c.args.may_exceed.now) c.loop-k.k c.loop-k.looks.1 c.child.new.looks.1 c.loop-k.may_exceed c.child.new.may_exceed _ _ c.loop-k.builder c.child.new.builder c.child.result c.in-Err-child.fault
+    c.requires.level c.loop-k.invariant.same c.loop-k.invariant.grows c.in-Err-child.is c.child.ensures.grown
+
+pub returns-in-Ok-None-child-clause-arrives : goal.returns-in-Ok-None-child-clause-arrives
+returns-in-Ok-None-child-clause-arrives g c =
+    let bytes = c.args.looks.now.0 in
+    let items = c.args.places.now in
+    let k = c.loop-k.k in
+    let a = at c.args.spot c.args.builder.now c.args.looks.now.1 c.args.may_exceed.now in
+    let n = k + c.width-in-Ok-None-child.result in
+    let size = ap (λ x. k + x) c.width-in-Ok-None-child.ensures.value in
+    (child_grown bytes items c.requires.listed c.loop-k.looks.0 a k n c.loop-k.looks.1 c.child.new.looks.1 c.loop-k.may_exceed c.child.new.may_exceed _ _ c.loop-k.builder c.child.new.builder c.child.result (Ok None) c.requires.level c.loop-k.invariant.same c.loop-k.invariant.grows (c.in-Ok-None-child.is ∙ ap Ok c.in-Ok-None-child.field-0-is) size c.child.ensures.grown).0
+
+pub returns-in-Ok-None-child-clause-opened : goal.returns-in-Ok-None-child-clause-opened
+returns-in-Ok-None-child-clause-opened g c = λ first.
+    let bytes = c.args.looks.now.0 in
+    let items = c.args.places.now in
+    let k = c.loop-k.k in
+    let a = at c.args.spot c.args.builder.now c.args.looks.now.1 c.args.may_exceed.now in
+    let n = k + c.width-in-Ok-None-child.result in
+    let size = ap (λ x. k + x) c.width-in-Ok-None-child.ensures.value in
+    (child_grown bytes items c.requires.listed c.loop-k.looks.0 a k n c.loop-k.looks.1 c.child.new.looks.1 c.loop-k.may_exceed c.child.new.may_exceed _ _ c.loop-k.builder c.child.new.builder c.child.result (Ok None) c.requires.level c.loop-k.invariant.same c.loop-k.invariant.grows (c.in-Ok-None-child.is ∙ ap Ok c.in-Ok-None-child.field-0-is) size c.child.ensures.grown).1
+
+pub returns-in-Ok-None-child-clause-further : goal.returns-in-Ok-None-child-clause-further
+returns-in-Ok-None-child-clause-further g c =
+    let grows = c.loop-k.invariant.grows _ c.requires.level in
+    let on = walked_onward c.args.looks.now.0 c.args.places.now c.requires.listed _ _ grows.2 in
+    let some = c.width-in-Ok-None-child.ensures.some in
+    let same = c.width-in-Ok-None-child.ensures.value ∙ sym c.width.ensures.value in
+    let test = c.loop-k-test.true in
+    (omega (arith, on, some), omega (arith, same, test))
+
+pub loop-k-preserved : goal.loop-k-preserved
+loop-k-preserved g c =
+    let bytes = c.args.looks.now.0 in
+    let items = c.args.places.now in
+    let k = c.loop-k.k in
+    let a = at c.args.spot c.args.builder.now c.args.looks.now.1 c.args.may_exceed.now in
+    let n = k + c.width-in-Ok-Some-eq44.result in
+    let size = ap (λ x. k + x) c.width-in-Ok-Some-eq44.ensures.value in
+    let same = c.width-in-Ok-Some-eq44.ensures.value ∙ sym c.width.ensures.value in
+    let test = c.loop-k-test.true in
+    let found = child_grown bytes items c.requires.listed c.loop-k.looks.0 a k n c.loop-k.looks.1 c.child.new.looks.1 c.loop-k.may_exceed c.child.new.may_exceed _ _ c.loop-k.builder c.child.new.builder c.child.result (Ok (Some c.in-Ok-Some-eq44.field-0-0)) c.requires.level c.loop-k.invariant.same c.loop-k.invariant.grows (c.in-Ok-Some-eq44.is ∙ ap Ok c.in-Ok-Some-eq44.field-0-is) size c.child.ensures.grown in
+    record {
+      same = c.in-Ok-Some-eq44.ensures.same ∙ c.loop-k.invariant.same;
+      slashes = subst (λ b. HoldSlashes b c.child.new.slashes) c.loop-k.invariant.same c.in-Ok-Some-eq44.ensures.slashes;
+      level = found.1 ∙ sym c.requires.level;
+      grows = next_may_grow bytes items c.requires.listed a n _ c.child.new.looks.1 c.child.new.may_exceed _ _ c.child.new.builder c.in-Ok-Some-eq44.field-0-0 c.requires.level (let t = c.in-Ok-Some-eq44.field-0-0-test in omega (arith, t)) (omega arith) found;
+      to = omega (arith, same, test);
+    }
+
+pub ended-requires-clause-near : goal.ended-requires-clause-near
+ended-requires-clause-near g c =
+    let same = c.width-in-Ok-Some-child.ensures.value ∙ sym c.width.ensures.value in
+    let test = c.loop-k-test.true in
+    near c.args.looks.now.0 c.args.places.now c.requires.listed (c.loop-k.k + c.width-in-Ok-Some-child.result) (omega (arith, same, test))
+
+pub ended-requires-clause-level : goal.ended-requires-clause-level
+ended-requires-clause-level g c =
+    let bytes = c.args.looks.now.0 in
+    let items = c.args.places.now in
+    let k = c.loop-k.k in
+    let a = at c.args.spot c.args.builder.now c.args.looks.now.1 c.args.may_exceed.now in
+    let n = k + c.width-in-Ok-Some-child.result in
+    let size = ap (λ x. k + x) c.width-in-Ok-Some-child.ensures.value in
+    (child_grown bytes items c.requires.listed c.loop-k.looks.0 a k n c.loop-k.looks.1 c.child.new.looks.1 c.loop-k.may_exceed c.child.new.may_exceed _ _ c.loop-k.builder c.child.new.builder c.child.result (Ok (Some c.in-Ok-Some-child.sign)) c.requires.level c.loop-k.invariant.same c.loop-k.invariant.grows (c.in-Ok-Some-child.is ∙ ap Ok c.in-Ok-Some-child.field-0-is) size c.child.ensures.grown).1
+
+pub returns-in-Ok-Some-child-clause-arrives : goal.returns-in-Ok-Some-child-clause-arrives
+returns-in-Ok-Some-child-clause-arrives g c =
+    let bytes = c.args.looks.now.0 in
+    let items = c.args.places.now in
+    let k = c.loop-k.k in
+    let a = at c.args.spot c.args.builder.now c.args.looks.now.1 c.args.may_exceed.now in
+    let n = k + c.width-in-Ok-Some-child.result in
+    let size = ap (λ x. k + x) c.width-in-Ok-Some-child.ensures.value in
+    let found = child_grown bytes items c.requires.listed c.loop-k.looks.0 a k n c.loop-k.looks.1 c.child.new.looks.1 c.loop-k.may_exceed c.child.new.may_exceed _ _ c.loop-k.builder c.child.new.builder c.child.result (Ok (Some c.in-Ok-Some-child.sign)) c.requires.level c.loop-k.invariant.same c.loop-k.invariant.grows (c.in-Ok-Some-child.is ∙ ap Ok c.in-Ok-Some-child.field-0-is) size c.child.ensures.grown in
+    grown_ended bytes items c.requires.listed a n c.child.new.looks.1 c.child.new.may_exceed _ c.child.new.builder c.ended.new.builder c.in-Ok-Some-child.sign c.ended.result found (c.ended.ensures.arrives bytes c.child.new.looks.1 c.child.new.may_exceed c.requires.listed)
+
+pub returns-in-Ok-Some-child-clause-further : goal.returns-in-Ok-Some-child-clause-further
+returns-in-Ok-Some-child-clause-further g c =
+    let grows = c.loop-k.invariant.grows _ c.requires.level in
+    let on = walked_onward c.args.looks.now.0 c.args.places.now c.requires.listed _ _ grows.2 in
+    let same = c.width-in-Ok-Some-child.ensures.value ∙ sym c.width.ensures.value in
+    let test = c.loop-k-test.true in
+    if_ok c.ended.result (λ next h. (let e = h.0 in omega (arith, on, e), let e = h.0 in omega (arith, e, same, test))) c.ended.ensures.behind
+
+pub returns-in-Ok-Some-child-clause-opened : goal.returns-in-Ok-Some-child-clause-opened
+returns-in-Ok-Some-child-clause-opened g c = if_ok c.ended.result (λ next h first level. let e = h.1 in cc) c.ended.ensures.behind
+
+pub returns-clause-arrives : goal.returns-clause-arrives
+returns-clause-arrives g c =
+    let grows = c.loop-k.invariant.grows _ c.requires.level in
+    let test = c.loop-k-test.false in
+    let size = c.width.ensures.value in
+    halts_more c.args.looks.now.0 c.args.places.now grows.2
+    (few_halts c.args.looks.now.0 c.args.places.now c.requires.listed c.loop-k.k c.loop-k.looks.1 c.loop-k.may_exceed c.loop-k.builder _ grows.0 (omega (arith, test, size)) (c.loop-k.invariant.level ∙ c.requires.level) grows.1)
