@@ -1,20 +1,19 @@
 -- What a whole walk shows of a text: its tape where it comes to the end, and that there is none where it halts.
-use Rattle.std.proofs.Common.{◌≡◌, ◌≢◌, ℕ, zero, suc, ◌+◌, ◌<◌, ◌≤◌, ◌^◌, ◌⊎◌, inl, inr, Bool, true, false, List, [], ◌∷◌, ◌++◌, length, drop, get_or, Option, Some, None, refl, sym, ap, subst, ◌∙◌, arith}
-use Rattle.std.specs.Prelude.{Result, Ok, Err}
+use Rattle.std.proofs.Common.{◌≡◌, ◌≢◌, ℕ, zero, suc, ◌+◌, ◌<◌, ◌≤◌, ◌^◌, inl, inr, Bool, true, false, List, [], ◌∷◌, ◌++◌, length, drop, get_or, Some, None, refl, sym, ap, subst, ◌∙◌, arith}
+use Rattle.std.specs.Prelude.{Err}
 use Rattle.std.proofs.lemmas.Bool.{cases_lt}
 use Rattle.std.proofs.lemmas.List.{drop_more}
 use Rattle.structural_index.specs.Places.{places}
 use Rattle.json_tape.specs.Answer.{IsJson, IsNoJson, StandsForAll, HasDepth}
 use Rattle.json_tape.specs.Building.{IsBounded}
 use Rattle.json_tape.specs.Limits.{AreWithinLimits}
-use Rattle.json_tape.specs.Verdict.{text_limit}
 use Rattle.json_tape.specs.declared.tape.Kind.TheVariants as kinds
 use Rattle.json_tape.specs.declared.tape.Level.TheVariants.{Root}
 use Rattle.json_tape.specs.declared.tape.Want.TheVariants as wants
 use Rattle.json_tape.specs.declared.tape.BuildFault.{BuildFault}
 use Rattle.json_tape.specs.declared.tape.BuildFault.TheVariants.{NotJson, Memory}
 use Rattle.json_tape.specs.declared.second_stage.Spot.{Spot}
-use Rattle.json_tape.specs.Machine.{Token, Opening, Closing, Comma, Between, Text, Word, State, step, start, closes, put_close, put_comma, after_comma, level_of}
+use Rattle.json_tape.specs.Machine.{Token, Opening, Closing, Comma, Between, Text, Word, State, step, closes, put_close, put_comma, after_comma, level_of}
 use Rattle.json_tape.specs.declared.tape.Entry.{Entry}
 use Rattle.json_tape.specs.declared.tape.Open.{Open}
 use Rattle.json_tape.specs.declared.tape.Shape.{Shape}
@@ -27,8 +26,8 @@ use Rattle.json_tape.proofs.Going.{unopened, unput, cond_none}
 use Rattle.json_tape.proofs.Listed.{in_text, next_is, no_blank}
 use Rattle.json_tape.proofs.Marks.{Kept, kept_start, kept_token}
 use Rattle.json_tape.proofs.PlaceWalk.{Walks, walks_start, walks_end, walks_refused}
-use Rattle.json_tape.proofs.Placing.{walks_next, walks_over, place_in}
-use Rattle.json_tape.proofs.WalkEnds.{reads_none, reads_depth, reads_small, solid_by_test}
+use Rattle.json_tape.proofs.Placing.{walks_next, walks_over}
+use Rattle.json_tape.proofs.WalkEnds.{reads_none, reads_depth, solid_by_test}
 
 -- a way from a byte that is no blank begins with a token
 record Begun (p : ℕ) (bs : List ℕ) (s : State) : Type 0 where

@@ -1,11 +1,7 @@
 -- Strings whose lengths are kept.
-use Rattle.std.proofs.Common.{◌≡◌, ◌≢◌, ℕ, zero, suc, ◌+◌, ◌<◌, ◌≤◌, List, [], ◌∷◌, ◌++◌, length, drop, get_or, inl, inr, sym, ap, ◌∙◌, subst, arith, length-append}
+use Rattle.std.proofs.Common.{◌≡◌, ℕ, ◌<◌, List, [], ◌∷◌, ◌++◌, length, get_or, inl, inr, sym, ap, ◌∙◌, subst, arith, length-append}
 use Rattle.std.proofs.lemmas.Bool.{cases_lt}
 use Rattle.std.proofs.lemmas.List.{get_or_append_left, get_or_at}
-use Rattle.std.specs.Prelude.{IsUtf8}
-use Rattle.std.specs.Str.{chars, IsCharBoundary}
-use Rattle.std.proofs.lemmas.Str.{IsUtf8-drop, IsCharBoundary-start, IsCharBoundary-after_ascii}
-use Rattle.json_tape.specs.Spelling.{scalars_in}
 use Rattle.json_tape.specs.Document.{Doc, IsDocument, node_at, count, string_meaning}
 use Rattle.json_tape.specs.Counted.{AreCounted}
 use Rattle.json_tape.specs.Tree.{Source, Spelt}
@@ -16,7 +12,6 @@ use Rattle.json_tape.specs.declared.tape.Entry.{Entry}
 use Rattle.json_tape.specs.declared.tape.Kind.TheVariants as kinds
 use Rattle.json_tape.proofs.Fits.{Lies}
 use Rattle.json_tape.proofs.Readers.{string_is, kind_is}
-use Rattle.json_tape.proofs.PlainBytes.{plain_at}
 
 -- one string more
 pub counted_more : (d : Doc) (strings lengths : List ℕ) (n count : ℕ) → AreCounted d strings lengths → count ≡ length (string_meaning (node_at d n).tree) → AreCounted d (strings ++ n ∷ []) (lengths ++ count ∷ [])

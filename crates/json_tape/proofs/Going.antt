@@ -1,5 +1,5 @@
 -- Where a walk goes from one point to another: what each call shows of the tokens that it took.
-use Rattle.std.proofs.Common.{◌≡◌, ◌≢◌, ℕ, zero, suc, ◌+◌, ◌-◌, ◌<◌, ◌≤◌, ◌⊎◌, inl, inr, Bool, true, false, cond, List, [], ◌∷◌, ◌++◌, length, drop, get_or, Option, Some, None, refl, sym, ap, subst, ◌∙◌, arith}
+use Rattle.std.proofs.Common.{◌≡◌, ◌≢◌, ℕ, suc, ◌+◌, ◌<◌, ◌≤◌, Bool, true, false, cond, List, [], ◌∷◌, ◌++◌, length, drop, Option, Some, None, refl, sym, ap, subst, ◌∙◌, arith}
 use Rattle.std.specs.Prelude.{Result, Ok, Err}
 use Rattle.std.proofs.lemmas.Bool.Decides.{nat_tests}
 use Rattle.std.proofs.lemmas.Option.{cond_some}
@@ -19,11 +19,11 @@ use Rattle.json_tape.specs.declared.tape.BuildFault.{BuildFault}
 use Rattle.json_tape.specs.declared.tape.BuildFault.TheVariants.{NotJson, Memory}
 use Rattle.json_tape.specs.declared.lexing.Lexed.{Lexed}
 use Rattle.json_tape.specs.declared.lexing.Lexed.TheVariants as lexed
-use Rattle.json_tape.specs.Machine.{Token, Opening, Closing, Comma, Between, Text, Word, State, step, put_leaf, put_open, put_close, put_comma, put_text, takes_value, takes_name, closes, after_comma, level_of, first_of, Took}
+use Rattle.json_tape.specs.Machine.{Token, Opening, Closing, Comma, Between, Text, Word, State, step, put_leaf, put_open, put_close, put_comma, takes_value, takes_name, closes, after_comma, level_of, first_of, Took}
 use Rattle.json_tape.specs.Built.{Built, standing}
-use Rattle.json_tape.specs.Lexing.{is_atom, sign_at, IsToken, sign, text, word, Marked, Taken, Refused}
+use Rattle.json_tape.specs.Lexing.{is_atom, sign_at, IsToken, sign, text, word, Marked}
 use Rattle.json_tape.specs.Walking.{weight}
-use Rattle.json_tape.specs.Walked.{TokenAt, begins_value, is_text, NoneAt, IsNameAt, IsValueAt, token_of, end_of, price_of, IsListed, place, byte_at, Point, point, Moves, Walked, stays, moves, IsUnfinished, Outlasts, IsBlocked, refused, few, Halts, want_at, AsksValue, AsksName, AsksChild, width, ending, with_sign, without_sign, Named, Grown, Entered, Arrives}
+use Rattle.json_tape.specs.Walked.{TokenAt, begins_value, is_text, NoneAt, IsNameAt, token_of, end_of, price_of, IsListed, place, byte_at, Point, point, Walked, stays, moves, IsBlocked, refused, Halts, want_at, AsksValue, AsksName, with_sign, without_sign, Grown}
 use Rattle.json_tape.proofs.Tokens.{refused_all}
 use Rattle.json_tape.proofs.TokensAt.{sign_token, token_size, size, ends_at, no_word_marked}
 use Rattle.json_tape.proofs.Listed.{in_text}

@@ -1,10 +1,10 @@
 -- What stands at a place of the list: each is a place of the text, where a token may begin.
-use Rattle.std.proofs.Common.{◌≡◌, ℕ, zero, suc, ◌+◌, ◌-◌, ◌<◌, ◌≤◌, ◌^◌, Bool, true, false, not, ◌&&◌, ◌||◌, cond, List, [], ◌∷◌, length, drop, get_or, filter, refl, sym, ap, subst, ◌∙◌, arith}
+use Rattle.std.proofs.Common.{◌≡◌, ℕ, zero, suc, ◌+◌, ◌-◌, ◌<◌, ◌≤◌, ◌^◌, Bool, true, false, not, ◌&&◌, ◌||◌, cond, List, ◌∷◌, length, drop, get_or, filter, refl, sym, ap, subst, ◌∙◌, arith}
 use Rattle.std.specs.List.{range_with_len}
 use Rattle.std.proofs.lemmas.List.{get_or_default}
 use Rattle.byte_masks.specs.Classes.{op_byte, blank_byte}
-use Rattle.structural_index.specs.Places.{byte, is_real_quote, is_inside, is_opening, is_atom as is_atom_at, after_atom, is_place, places, places_from}
-use Rattle.structural_index.specs.Seams.{IsSeam, next_place}
+use Rattle.structural_index.specs.Places.{byte, is_real_quote, is_inside, after_atom, is_place, places, places_from}
+use Rattle.structural_index.specs.Seams.{IsSeam}
 use Rattle.structural_index.proofs.Seams as seams
 use Rattle.json_tape.specs.Lexing.{is_blank}
 use Rattle.json_tape.specs.Placing.{ClosesBefore, HoldSlashes, IsIndexed}
@@ -51,6 +51,19 @@ places_few p (suc n) a = go (places_few p n (a + 1)) (p a)
     go : length (filter p (range_with_len (a + 1) n)) ≤ n → (b : Bool) → length (cond b (a ∷ filter p (range_with_len (a + 1) n)) (filter p (range_with_len (a + 1) n))) ≤ suc n
     go h true = omega (arith, h)
     go h false = omega (arith, h)
+
+-- no place is behind the end
+places_in : (p : ℕ → Bool) (n a d k : ℕ) → a + n ≤ d → get_or (filter p (range_with_len a n)) k d ≤ d
+places_in p zero a d k l = omega arith
+places_in p (suc n) a d k l = go (λ k. places_in p n (a + 1) d k (omega arith)) (p a) k
+  where
+    go : ((k : ℕ) → get_or (filter p (range_with_len (a + 1) n)) k d ≤ d) → (b : Bool) (k : ℕ) → get_or (cond b (a ∷ filter p (range_with_len (a + 1) n)) (filter p (range_with_len (a + 1) n))) k d ≤ d
+    go ih true zero = omega arith
+    go ih true (suc k) = ih k
+    go ih false k = ih k
+
+pub place_in : (bytes : List ℕ) (k : ℕ) → get_or (places bytes) k (length bytes) ≤ length bytes
+place_in bytes k = places_in (is_place bytes) (length bytes - 0) 0 (length bytes) k (omega arith)
 
 -- a place is outside strings
 outside : (op inside quote blank after : Bool) → ((op && not inside) || (quote && not inside) || ((not inside && not quote && not blank && not op) && not after)) ≡ true → inside ≡ false

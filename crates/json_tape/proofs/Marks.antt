@@ -8,7 +8,7 @@ use Rattle.json_tape.specs.Grammar.{IsText}
 use Rattle.json_tape.specs.Tape.{Stands}
 use Rattle.json_tape.specs.Limits.{bytes_at, IsBadNumber, AreWithinLimits}
 use Rattle.decimal_order.specs.Limits.{IsWithinLimits}
-use Rattle.json_tape.specs.Lexing.{Atom, class, IsToken, sign, text, word, sign_at, is_atom, Taken, Marked, ended}
+use Rattle.json_tape.specs.Lexing.{Atom, class, IsToken, sign, text, word, sign_at, is_atom, Taken, Marked}
 use Rattle.json_tape.specs.Machine.{Token, Opening, Closing, Comma, Between, Text, Word, State, takes_value, takes_name, closes, put_leaf, put_open, change_at, put_close, put_comma, is_colon, put_text, step, start, kind_of_shape, closed}
 use Rattle.json_tape.specs.declared.tape.Kind.{Kind}
 use Rattle.json_tape.specs.declared.tape.Kind.TheVariants as kinds
@@ -21,8 +21,7 @@ use Rattle.json_tape.specs.declared.tape.Level.TheVariants.{Root, Inside}
 use Rattle.json_tape.specs.declared.tape.Want.{Want}
 use Rattle.json_tape.specs.declared.tape.Want.TheVariants as wants
 use Rattle.json_tape.specs.declared.tape.Open.{Open}
-use Rattle.json_tape.specs.declared.tape.BuildFault.{BuildFault}
-use Rattle.std.specs.Prelude.{Result, Ok, Err, not, ◌||◌}
+use Rattle.std.specs.Prelude.{Ok, not, ◌||◌}
 use Rattle.json_tape.proofs.Repeats.{neither}
 use Rattle.json_tape.proofs.ShortNumbers.{number_at}
 
@@ -173,23 +172,11 @@ pub unmarked : (old : Bool) → old ≡ (old || not true)
 unmarked true = refl
 unmarked false = refl
 
-pub word_marked : (bytes bs : List ℕ) (i : ℕ) (old keeps new : Bool) (taken : Result (Unit {0}) BuildFault) (r : Result ℕ BuildFault) → bs ≡ take (length bs) (drop i bytes) → (keeps ≡ true → IsWithinLimits bs) → new ≡ (old || not keeps) → r ≡ ended (i + length bs) taken → Marked bytes i old r new
-word_marked bytes bs i old keeps new taken r e h m is = subst (λ x. Marked bytes i old x new) (sym is) (go taken keeps h m)
-  where
-    go : (taken : Result (Unit {0}) BuildFault) (keeps : Bool) → (keeps ≡ true → IsWithinLimits bs) → new ≡ (old || not keeps) → Marked bytes i old (ended (i + length bs) taken) new
-    go (Err f) keeps h m = tt
-    go (Ok x) true h m = λ n.
-        let size : length bs ≡ i + length bs - i = omega arith in
-        ((neither old false (sym m ∙ n)).0, λ a. subst IsWithinLimits (e ∙ ap (λ n. take n (drop i bytes)) size) (h refl))
-    go (Ok x) false h m = λ n. let k = (neither old true (sym m ∙ n)).1 in absurd (cc)
-
--- a token that is no word leaves it
-pub sign_marked : (bytes : List ℕ) (i b : ℕ) (mark : Bool) (taken : Result (Unit {0}) BuildFault) (r : Result ℕ BuildFault) → get_or bytes i 0 ≡ b → is_atom b ≡ false → r ≡ ended (i + 1) taken → Marked bytes i mark r mark
-sign_marked bytes i b mark taken r e a q = subst (λ x. Marked bytes i mark x mark) (sym q) (go taken)
-  where
-    go : (taken : Result (Unit {0}) BuildFault) → Marked bytes i mark (ended (i + 1) taken) mark
-    go (Ok x) = λ n. (n, λ k. absurd (let f = ap is_atom e in cc))
-    go (Err f) = tt
+pub word_marked : (bytes bs : List ℕ) (i : ℕ) (old keeps new : Bool) → bs ≡ take (length bs) (drop i bytes) → (keeps ≡ true → IsWithinLimits bs) → new ≡ (old || not keeps) → Marked bytes i old (Ok (i + length bs)) new
+word_marked bytes bs i old true new e h m = λ n.
+    let size : length bs ≡ i + length bs - i = omega arith in
+    ((neither old false (sym m ∙ n)).0, λ a. subst IsWithinLimits (e ∙ ap (λ n. take n (drop i bytes)) size) (h refl))
+word_marked bytes bs i old false new e h m = λ n. let k = (neither old true (sym m ∙ n)).1 in absurd (cc)
 
 pub kept_token : (bytes : List ℕ) (i j : ℕ) (old new : Bool) (s s' : State) → i < length bytes → Taken bytes i j s s' → (new ≡ false → (old ≡ false) × (is_atom (get_or bytes i 0) ≡ true → IsWithinLimits (take (j - i) (drop i bytes)))) → Kept bytes old s → Kept bytes new s'
 kept_token bytes i j old new s s' h t m k =

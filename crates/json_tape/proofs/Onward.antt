@@ -1,5 +1,5 @@
 -- Where a walk enters a container, goes from child to child, and leaves it.
-use Rattle.std.proofs.Common.{◌≡◌, ◌≢◌, ℕ, zero, suc, ◌+◌, ◌-◌, ◌<◌, ◌≤◌, ◌⊎◌, inl, inr, Bool, true, false, not, cond, List, [], ◌∷◌, length, get_or, Option, Some, None, refl, sym, ap, subst, ◌∙◌, arith}
+use Rattle.std.proofs.Common.{◌≡◌, ◌≢◌, ℕ, zero, suc, ◌+◌, ◌<◌, ◌≤◌, ◌⊎◌, inl, inr, Bool, true, false, not, cond, List, [], ◌∷◌, length, Option, Some, None, refl, sym, ap, subst, ◌∙◌, arith}
 use Rattle.std.specs.Prelude.{Result, Ok, Err, IfOk, eqb}
 use Rattle.std.proofs.lemmas.Option.{none-some, same_Some}
 use Rattle.std.proofs.lemmas.Bool.Decides.{nat_tests}
@@ -21,8 +21,8 @@ use Rattle.json_tape.specs.declared.second_stage.Spot.{Spot}
 use Rattle.json_tape.specs.Machine.{Token, Opening, Closing, Comma, Between, Text, Word, State, step, put_close, put_comma, closes, after_comma, level_of, first_of, Took, IsSmall}
 use Rattle.json_tape.specs.Built.{Built, standing}
 use Rattle.json_tape.specs.Lexing.{sign_at, is_atom, Taken, Marked}
-use Rattle.json_tape.specs.Walked.{TokenAt, begins_value, is_text, AsksValue, AsksName, IsListed, place, byte_at, Point, point, Walked, stays, moves, IsUnfinished, Outlasts, IsBlocked, refused, few, Halts, want_at, at, AsksChild, shape_of, width, ending, Grown, Entered, Arrives, spot_behind, no_child, token_of, end_of, price_of, behind, is_whole, spot_after}
-use Rattle.json_tape.proofs.Going.{unopened, unput, cond_none, not_root, first_byte, blocked, here_halts, halts_more, walked_more, here, one, over_sign, refused_halts, value_only, name_only, colon_only, value_any, named_step, open_level, leaf_level}
+use Rattle.json_tape.specs.Walked.{TokenAt, begins_value, is_text, AsksValue, AsksName, IsListed, place, byte_at, Point, point, Walked, stays, moves, Outlasts, few, Halts, want_at, AsksChild, shape_of, width, ending, Grown, Entered, Arrives, spot_behind, no_child, token_of, end_of, price_of, behind, is_whole, spot_after}
+use Rattle.json_tape.proofs.Going.{unopened, unput, cond_none, not_root, first_byte, blocked, here_halts, halts_more, walked_more, one, over_sign, refused_halts, value_only, name_only, colon_only, value_any, named_step, open_level, leaf_level}
 use Rattle.json_tape.proofs.Listed.{in_text}
 use Rattle.json_tape.proofs.TokensAt.{sign_token}
 use Rattle.json_tape.proofs.Walk.{step_small}

@@ -1,33 +1,27 @@
--- What a token costs and shows at its place: strings by the byte before the next place, words by their run.
-use Rattle.std.proofs.Common.{◌≡◌, ℕ, zero, suc, ◌+◌, ◌-◌, ◌<◌, ◌≤◌, inl, inr, Bool, true, false, cond, List, [], ◌∷◌, ◌++◌, length, take, drop, get_or, filter, Option, Some, None, refl, sym, ap, subst, ◌∙◌, arith, append_assoc, length-append}
-use Rattle.std.specs.List.{range_with_len}
-use Rattle.std.specs.Prelude.{Result, Ok, Err, IsUtf8, nat_lt}
+-- What a token shows at its place: strings by the byte before the next place, words by their run.
+use Rattle.std.proofs.Common.{◌≡◌, ℕ, zero, suc, ◌+◌, ◌-◌, ◌<◌, ◌≤◌, inl, inr, Bool, true, false, cond, List, [], ◌∷◌, ◌++◌, length, take, drop, get_or, Option, Some, None, refl, sym, ap, subst, ◌∙◌, arith, append_assoc, length-append}
+use Rattle.std.specs.Prelude.{IsUtf8, nat_lt}
 use Rattle.std.proofs.lemmas.Bool.{cases_lt}
 use Rattle.std.proofs.lemmas.Bool.Decides.{nat_tests}
-use Rattle.std.proofs.lemmas.List.{get_or_default, take-append-drop, drop_more, length-take-le, length-drop, get_or-drop, get_or-take}
-use Rattle.structural_index.specs.Places.{byte, is_place, places, IsUnclosed, HasControlInside}
+use Rattle.std.proofs.lemmas.List.{take-append-drop, drop_more, length-take-le, length-drop, get_or-drop, get_or-take}
+use Rattle.structural_index.specs.Places.{byte, places, HasControlInside}
 use Rattle.structural_index.specs.Seams.{AreSlashless, IsSpan, IsAtomRun, is_plain_atom, next_place}
-use Rattle.json_tape.specs.Placing.{ClosesBefore, StringEnds, Passes, nothing, a_sign, Passed}
-use Rattle.json_tape.specs.Answer.{IsNoJson}
+use Rattle.json_tape.specs.Placing.{ClosesBefore, StringEnds}
 use Rattle.json_tape.specs.Scanning.{string_end, turn, next_of, hold_escapes}
 use Rattle.json_tape.specs.declared.scan.Mode.{Mode}
 use Rattle.json_tape.specs.declared.scan.Mode.TheVariants.{Between}
 use Rattle.json_tape.specs.declared.scan.Turn.{Turn}
 use Rattle.json_tape.specs.declared.scan.Turn.TheVariants.{Stop, Fail, Go}
-use Rattle.json_tape.specs.declared.tape.BuildFault.{BuildFault}
-use Rattle.json_tape.specs.declared.tape.Kind.{Kind}
-use Rattle.json_tape.specs.declared.tape.BuildFault.TheVariants.{NotJson, Memory}
-use Rattle.json_tape.specs.Lexing.{quote_end, atom_end, is_blank, is_atom, is_sign, sign_at, ended, IsToken, sign, text, word, Taken, Stepped, Refused, WordIs, IsWord}
-use Rattle.json_tape.specs.Machine.{Token, Text, Word, State, run_at, step, Took}
+use Rattle.json_tape.specs.Lexing.{quote_end, atom_end, is_atom, Taken, Refused, WordIs}
+use Rattle.json_tape.specs.Machine.{State}
 use Rattle.json_tape.specs.Walking.{weight}
 use Rattle.json_tape.proofs.Bridge.{plain_spells, control_out, scan_ends, same_classes}
 use Rattle.json_tape.proofs.EscapeSteps.{held_ends}
-use Rattle.json_tape.proofs.Walking.{look_back, place_number, stands_value}
-use Rattle.json_tape.proofs.Calls.{behind, word_none, word_ok, word_err, sign_stepped}
-use Rattle.json_tape.proofs.Marks.{Kept, kept_token}
-use Rattle.json_tape.proofs.Tokens.{quote_found, refused_all}
+use Rattle.json_tape.proofs.Walking.{place_number, stands_value}
+use Rattle.json_tape.proofs.Calls.{behind, word_none}
+use Rattle.json_tape.proofs.Tokens.{quote_found}
 use Rattle.json_tape.proofs.Steps.{atom_step, atom_over}
-use Rattle.json_tape.proofs.PlaceWalk.{Walks, walks_token, walks_refused, plain_taken, same_default}
+use Rattle.json_tape.proofs.PlaceWalk.{Walks, walks_token, same_default}
 
 -- ---- A scan of a part and of all
 
@@ -194,17 +188,9 @@ unheld_before bytes i next u x c l q h held =
     let last : next - 1 ≡ m = omega arith in
     part_none bytes i m u span (held_part bytes i m u x span (ap (λ k. get_or bytes k 0) (sym last) ∙ h.1) ∙ ap (λ t. cond t (Some (0 + length (between bytes i m) + 1)) None) (ap (λ k. hold_escapes Between (between bytes i k)) (sym last) ∙ held))
 
--- the builder's call for it
-pub string_taken : (bytes : List ℕ) (i end : ℕ) (s new : State) (r : Unit {0}) → StringEnds bytes i (Some end) → Took (step (Text (run_at i (end - i))) s) (Ok r) new → Taken bytes i end s new
-string_taken bytes i end s new r (j, e, x) t =
-    subst (λ n. Taken bytes i n s new) (sym e) (plain_taken bytes i j s new x (ap (λ n. step (Text (run_at i (n - i))) s) (sym e) ∙ t))
-
-pub string_fails : (bytes : List ℕ) (i end : ℕ) (s new : State) (f : BuildFault) → StringEnds bytes i (Some end) → Took {A = Unit {0}} (step (Text (run_at i (end - i))) s) (Err f) new → Stepped bytes i s (Err f) new
-string_fails bytes i end s new Memory x t = tt
-string_fails bytes i end s new NotJson (j, e, x) t =
-    let last = x.end in
-    let size : end - i ≡ length x.bytes = omega arith in
-    refused_all bytes x.bytes x.rest i (Text (run_at i (length x.bytes))) s x.stands (text x.characters x.is_string) (ap (λ n. step (Text (run_at i n)) s) (sym size) ∙ t)
+-- what the scan of a lent part says
+pub scanned_part : (bytes other part : List ℕ) (i m : ℕ) (t : Bool) → other ≡ bytes → part ≡ take (m - (i + 1)) (drop (i + 1) other) → t ≡ hold_escapes Between part → hold_escapes Between (between bytes i m) ≡ t
+scanned_part bytes other part i m t e f g = ap (λ b. hold_escapes Between (between b i m)) (sym e) ∙ ap (hold_escapes Between) (sym f) ∙ sym g
 
 -- ---- Words and numbers
 
@@ -224,40 +210,6 @@ atom_run bytes (suc n) i l each over =
 pub run_ends : (bytes : List ℕ) (i n : ℕ) → IsAtomRun bytes i (i + n) → i + n ≡ atom_end i (drop i bytes)
 run_ends bytes i n r = sym (atom_run bytes n i r.to r.each r.over)
 
--- ---- The price of a token
-
-sign_is : (p b : ℕ) (tok : Token) → sign_at p b ≡ Some tok → is_sign b ≡ true
-sign_is p b tok h = grind (arith, nat_tests)
-
--- one look is left for the byte behind it
-token_weighs : {p : ℕ} {vs rest : List ℕ} {tok : Token} → IsToken p vs tok rest → (b : ℕ) (cs : List ℕ) → b ∷ cs ≡ vs ++ rest → (now later : ℕ) → later ≤ now + length vs + 2 → (is_sign b ≡ true → later ≤ now + 1)
-    → later + 1 ≤ now + 3 + weight tok
-token_weighs (sign {p = p} {b = b'} {tok = tok} h) b cs e now later l once =
-    let f : b ≡ b' = cc in
-    let few = once (ap is_sign f ∙ sign_is p b' tok h) in omega (arith, few)
-token_weighs (text cs' h) b cs e now later l once = omega arith
-token_weighs (word a n k) b cs e now later l once = omega arith
-
-pub taken_weighs : (bytes : List ℕ) (i j now later : ℕ) (s new : State) → i < length bytes → (taken : Taken bytes i j s new) → later + i ≤ now + j + 2 → (is_sign (get_or bytes i 0) ≡ true → later ≤ now + 1) → later + 1 ≤ now + 3 + weight taken.tok
-taken_weighs bytes i j now later s new h taken l once =
-    let e = taken.end in
-    token_weighs taken.is_token (get_or bytes i 0) (drop (i + 1) bytes) (sym (drop_more bytes i 0 h) ∙ taken.stands) now later (omega arith) once
-
--- ---- The places
-
--- no place is behind the end
-places_in : (p : ℕ → Bool) (n a d k : ℕ) → a + n ≤ d → get_or (filter p (range_with_len a n)) k d ≤ d
-places_in p zero a d k l = omega arith
-places_in p (suc n) a d k l = go (λ k. places_in p n (a + 1) d k (omega arith)) (p a) k
-  where
-    go : ((k : ℕ) → get_or (filter p (range_with_len (a + 1) n)) k d ≤ d) → (b : Bool) (k : ℕ) → get_or (cond b (a ∷ filter p (range_with_len (a + 1) n)) (filter p (range_with_len (a + 1) n))) k d ≤ d
-    go ih true zero = omega arith
-    go ih true (suc k) = ih k
-    go ih false k = ih k
-
-pub place_in : (bytes : List ℕ) (k : ℕ) → get_or (places bytes) k (length bytes) ≤ length bytes
-place_in bytes k = places_in (is_place bytes) (length bytes - 0) 0 (length bytes) k (omega arith)
-
 -- the bytes that a run lends
 size_back : (i n : ℕ) → i + n - i ≡ n
 size_back i n = omega arith
@@ -268,49 +220,7 @@ run_bytes bytes bs i e = e ∙ ap (λ n. take n (drop i bytes)) (sym (size_back 
 pub word_absent : (bytes bs : List ℕ) (i : ℕ) (s : State) → i < length bytes → is_atom (get_or bytes i 0) ≡ true → bs ≡ take (length bs) (drop i bytes) → IsAtomRun bytes i (i + length bs) → WordIs bs None → Refused bytes i s
 word_absent bytes bs i s h q e r w = word_none bytes i (i + length bs) s h q (run_ends bytes i (length bs) r) (subst (λ l. WordIs l None) (run_bytes bytes bs i e) w)
 
-word_taken : (bytes bs : List ℕ) (i : ℕ) (k : Kind) (s new : State) (x : Unit {0}) → i < length bytes → is_atom (get_or bytes i 0) ≡ true → bs ≡ take (length bs) (drop i bytes) → IsAtomRun bytes i (i + length bs) → IsWord bs k → Took (step (Word (run_at i (length bs)) k) s) (Ok x) new → Taken bytes i (i + length bs) s new
-word_taken bytes bs i k s new x h q e r w t =
-    word_ok bytes i (i + length bs) k s new x h q (run_ends bytes i (length bs) r) (subst (λ l. IsWord l k) (run_bytes bytes bs i e) w) (ap (λ n. step (Word (run_at i n) k) s) (size_back i (length bs)) ∙ t)
-
-word_fails : (bytes bs : List ℕ) (i : ℕ) (k : Kind) (s new : State) (f : BuildFault) → i < length bytes → is_atom (get_or bytes i 0) ≡ true → bs ≡ take (length bs) (drop i bytes) → IsAtomRun bytes i (i + length bs) → IsWord bs k → Took {A = Unit {0}} (step (Word (run_at i (length bs)) k) s) (Err f) new → Stepped bytes i s (Err f) new
-word_fails bytes bs i k s new f h q e r w t =
-    word_err bytes i (i + length bs) k s new f h q (run_ends bytes i (length bs) r) (subst (λ l. IsWord l k) (run_bytes bytes bs i e) w) (subst (λ n. Took {A = Unit {0}} (step (Word (run_at i n) k) s) (Err f) new) (sym (size_back i (length bs))) t)
-
-pub word_stepped : (bytes bs : List ℕ) (i : ℕ) (k : Kind) (s new : State) (taken : Result (Unit {0}) BuildFault) (r : Result ℕ BuildFault) → i < length bytes → is_atom (get_or bytes i 0) ≡ true → bs ≡ take (length bs) (drop i bytes) → IsAtomRun bytes i (i + length bs) → IsWord bs k
-    → Took (step (Word (run_at i (length bs)) k) s) taken new → r ≡ ended (i + length bs) taken → Stepped bytes i s r new
-word_stepped bytes bs i k s new (Ok x) r h q e a w t is = subst (λ x. Stepped bytes i s x new) (sym is) (word_taken bytes bs i k s new x h q e a w t)
-word_stepped bytes bs i k s new (Err f) r h q e a w t is = subst (λ x. Stepped bytes i s x new) (sym is) (word_fails bytes bs i k s new f h q e a w t)
-
--- ---- By the list of places
-
--- the list that the code reads: the place with number k, and the one behind it
-pub record IsListed (bytes items : List ℕ) (k i next : ℕ) : Type 0 where
-  pub list : items ≡ places bytes
-  pub number : k < length items
-  pub here : i ≡ get_or items k 0
-  pub behind : next ≡ get_or items (k + 1) (length bytes)
-
-pub place_here : (bytes items : List ℕ) (k i next : ℕ) → IsListed bytes items k i next → get_or (places bytes) k (length bytes) ≡ i
-place_here bytes items k i next h = ap (λ (l : List ℕ). get_or l k (length bytes)) (sym h.list) ∙ get_or_default items k (length bytes) 0 h.number ∙ sym h.here
-
-pub walks_here : (bytes items : List ℕ) (k i next before now : ℕ) (s : State) → IsListed bytes items k i next → Walks bytes k (get_or (places bytes) k (length bytes)) before now s → Walks bytes k i before now s
-walks_here bytes items k i next before now s h w = subst (λ x. Walks bytes k x before now s) (place_here bytes items k i next h) w
-
-pub next_in : (bytes items : List ℕ) (k i next : ℕ) → IsListed bytes items k i next → next ≤ length bytes
-next_in bytes items k i next h =
-    let e : next ≡ get_or (places bytes) (k + 1) (length bytes) = h.behind ∙ ap (λ (l : List ℕ). get_or l (k + 1) (length bytes)) h.list in
-    let l = place_in bytes (k + 1) in omega arith
-
-pub walks_closes : (bytes items : List ℕ) (k i next before now : ℕ) (s : State) → IsListed bytes items k i next → (IsUnclosed bytes → ⊥) → Walks bytes k i before now s → ClosesBefore bytes i next
-walks_closes bytes items k i next before now s h u w m e l q q' =
-    let f : suc k ≡ k + 1 = omega arith in
-    look_back bytes k i m u w.here q (ap (λ n. get_or (places bytes) n (length bytes)) f ∙ ap (λ (l : List ℕ). get_or l (k + 1) (length bytes)) (sym h.list) ∙ sym h.behind ∙ e) l q'
-
-pub walks_inside : (bytes items : List ℕ) (k i next before now : ℕ) (s : State) → IsListed bytes items k i next → Walks bytes k i before now s → i < length bytes
-walks_inside bytes items k i next before now s h w = let number = place_number bytes k i w.here in number.over (let a = h.number in let e = ap length h.list in omega arith)
-
-pub walks_solid : (bytes : List ℕ) (k i before now : ℕ) (s : State) → Walks bytes k i before now s → i < length bytes → is_blank (get_or bytes i 0) ≡ false
-walks_solid bytes k i before now s w l = let number = place_number bytes k i w.here in ap is_blank (same_default bytes i l) ∙ number.solid l
+-- ---- From place to place
 
 -- behind the last place the text is over
 pub walks_over : (bytes : List ℕ) (k i before now : ℕ) (s : State) → Walks bytes k i before now s → length (places bytes) ≤ k → length bytes ≤ i
@@ -325,58 +235,3 @@ walks_next bytes k i j before now later s new w l taken p =
     let at : next_place bytes j ≡ get_or (places bytes) (suc k) (length bytes) = stands_value bytes (suc k) (next_place bytes j) on.here in
     let f : suc k ≡ k + 1 = omega arith in
     subst (λ n. Walks bytes n (get_or (places bytes) n (length bytes)) before later new) f (subst (λ x. Walks bytes (suc k) x before later new) at on)
-
--- behind a token, with one look more
-pub walks_on : (bytes : List ℕ) (k i j before now later : ℕ) (s new : State) → Walks bytes k i before now s → i < length bytes → Taken bytes i j s new → later + i ≤ now + j + 2 → (is_sign (get_or bytes i 0) ≡ true → later ≤ now + 1) → Walks bytes (k + 1) (get_or (places bytes) (k + 1) (length bytes)) before (later + 1) new
-walks_on bytes k i j before now later s new w l taken p once = walks_next bytes k i j before now (later + 1) s new w l taken (taken_weighs bytes i j now later s new l taken p once)
-
--- ---- A colon or a comma, right behind what it belongs to
-
-pub passed_sign : (bytes items : List ℕ) (k b : ℕ) (tok : Token) (s new : State) (r : Result (Unit {0}) BuildFault) (e : Result ℕ BuildFault) → k < length items → get_or items k 0 < length bytes → get_or bytes (get_or items k 0) 0 ≡ b → sign_at (get_or items k 0) b ≡ Some tok → is_atom b ≡ false
-    → Took (step tok s) r new → e ≡ ended (k + 1) r → Passed bytes items k s e new
-passed_sign bytes items k b tok s new r e l h here shown no_atom t q = subst (λ x. Passed bytes items k s x new) (sym q) (go r t)
-  where
-    there : sign_at (get_or items k 0) (get_or bytes (get_or items k 0) 0) ≡ Some tok
-    there = ap (sign_at (get_or items k 0)) here ∙ shown
-
-    go : (r : Result (Unit {0}) BuildFault) → Took (step tok s) r new → Passed bytes items k s (ended (k + 1) r) new
-    go (Ok x) t = a_sign refl l (ap is_atom here ∙ no_atom) (sign_stepped bytes (get_or items k 0) tok s new (Ok x) (Ok (get_or items k 0 + 1)) h there t refl)
-    go (Err NotJson) t = (l, sign_stepped bytes (get_or items k 0) tok s new (Err NotJson) (Err NotJson) h there t refl)
-    go (Err Memory) t = tt
-
-pub passes_on : {bytes items : List ℕ} {k m : ℕ} {s new : State} → Passes bytes items k m s new → k ≤ m
-passes_on (nothing e f) = omega arith
-passes_on (a_sign e l n t) = omega arith
-
-module _ (bytes items : List ℕ) (k : ℕ) (list : items ≡ places bytes) where
-  number_here : k < length items → get_or (places bytes) k (length bytes) ≡ get_or items k 0
-  number_here l = ap (λ (l : List ℕ). get_or l k (length bytes)) (sym list) ∙ get_or_default items k (length bytes) 0 l
-
-  at_number : (before now : ℕ) (s : State) → k < length items → Walks bytes k (get_or (places bytes) k (length bytes)) before now s → Walks bytes k (get_or items k 0) before now s
-  at_number before now s l w = subst (λ x. Walks bytes k x before now s) (number_here l) w
-
-  pub number_inside : (before now : ℕ) (s : State) → Walks bytes k (get_or (places bytes) k (length bytes)) before now s → k < length items → get_or items k 0 < length bytes
-  number_inside before now s w l = let number = place_number bytes k (get_or items k 0) (at_number before now s l w).here in number.over (let e = ap length list in omega arith)
-
-  pub walks_passed : (m before now later : ℕ) (s new : State) → Walks bytes k (get_or (places bytes) k (length bytes)) before (now + 1) s → Passes bytes items k m s new → later ≤ now + 1 → Walks bytes m (get_or (places bytes) m (length bytes)) before later new
-  walks_passed m before now later s new w (nothing e f) l =
-      let paid = w.paid in
-      let less : Walks bytes k (get_or (places bytes) k (length bytes)) before later s = record { knows = w.knows; here = w.here; paid = omega arith; few = w.few } in
-      subst (λ n. Walks bytes n (get_or (places bytes) n (length bytes)) before later new) (sym e) (subst (Walks bytes k (get_or (places bytes) k (length bytes)) before later) (sym f) less)
-  walks_passed m before now later s new w (a_sign e number no_atom taken) l =
-      let i = get_or items k 0 in
-      let next = walks_next bytes k i (i + 1) before (now + 1) later s new (at_number before (now + 1) s number w) (number_inside before (now + 1) s w number) taken (omega arith) in
-      subst (λ n. Walks bytes n (get_or (places bytes) n (length bytes)) before later new) (sym e) next
-
-  pub kept_passed : (m : ℕ) (mark : Bool) (s new : State) → (k < length items → get_or items k 0 < length bytes) → Passes bytes items k m s new → Kept bytes mark s → Kept bytes mark new
-  kept_passed m mark s new inside (nothing e f) kept = subst (Kept bytes mark) (sym f) kept
-  kept_passed m mark s new inside (a_sign e number no_atom taken) kept =
-      kept_token bytes (get_or items k 0) (get_or items k 0 + 1) mark mark s new (inside number) taken (λ n. (n, λ a. absurd (cc))) kept
-
-  pub passed_none : (before now : ℕ) (s new : State) (f : BuildFault) → Walks bytes k (get_or (places bytes) k (length bytes)) before now s → Passed bytes items k s (Err f) new → f ≡ NotJson → IsNoJson bytes
-  passed_none before now s new NotJson w (l, r) e = walks_refused bytes k (get_or items k 0) before now s (at_number before now s l w) (number_inside before now s w l) r
-  passed_none before now s new Memory w r e = absurd (cc)
-
--- what the scan of a lent part says
-pub scanned_part : (bytes other part : List ℕ) (i m : ℕ) (t : Bool) → other ≡ bytes → part ≡ take (m - (i + 1)) (drop (i + 1) other) → t ≡ hold_escapes Between part → hold_escapes Between (between bytes i m) ≡ t
-scanned_part bytes other part i m t e f g = ap (λ b. hold_escapes Between (between b i m)) (sym e) ∙ ap (hold_escapes Between) (sym f) ∙ sym g

@@ -1,12 +1,9 @@
 -- What a bit of a mask tells of the bytes of a string.
-use Rattle.std.proofs.Common.{◌≡◌, ℕ, ◌%◌, ◌^◌, ◌<◌, ◌≤◌, ◌≢◌, eqb, leb, ltb, bit_or, List, map, replicate, refl, arith}
+use Rattle.std.proofs.Common.{◌≡◌, ℕ, ◌%◌, ◌^◌, ◌<◌, ◌≤◌, ◌≢◌, eqb, leb, ltb, bit_or, List, map, replicate, arith}
 use Rattle.std.specs.Int.{bit_at}
 use Rattle.std.proofs.lemmas.Bool.Decides.{nat_tests}
 use lib.Lanes.{zip2, mask_l, top}
-use Rattle.structural_index.proofs.Lanes.{HasLane, repeated, combined, off, neither, none_of, equal, at_most, less}
-use Rattle.json_tape.specs.declared.scan.Mode.TheVariants.{Between}
-use Rattle.json_tape.specs.declared.scan.Turn.TheVariants.{Go}
-use Rattle.json_tape.specs.Scanning.{turn}
+use Rattle.structural_index.proofs.Lanes.{HasLane, repeated, combined, off, neither, equal, at_most, less}
 use Rattle.decimal_order.specs.Number.{IsDigit}
 
 -- neither a backslash nor a byte above ASCII stands in the lane

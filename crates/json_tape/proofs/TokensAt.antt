@@ -1,25 +1,23 @@
 -- The tokens that stand at a byte: strings by where they end, words by their run, and what no token is.
-use Rattle.std.proofs.Common.{◌≡◌, ◌≢◌, ℕ, ◌+◌, ◌-◌, ◌<◌, ◌≤◌, ◌^◌, inl, inr, Bool, true, false, List, [], ◌∷◌, ◌++◌, length, take, drop, get_or, Option, Some, None, refl, sym, ap, subst, ◌∙◌, arith}
-use Rattle.std.specs.Prelude.{Result, Ok, Err}
+use Rattle.std.proofs.Common.{◌≡◌, ◌≢◌, ℕ, ◌+◌, ◌-◌, ◌<◌, Bool, true, false, List, [], ◌∷◌, ◌++◌, length, take, drop, get_or, Some, None, refl, sym, ap, subst, ◌∙◌, arith}
+use Rattle.std.specs.Prelude.{Ok}
 use Rattle.std.proofs.lemmas.Bool.Decides.{nat_tests}
 use Rattle.std.proofs.lemmas.List.{drop_more}
 use Rattle.structural_index.specs.Places.{byte}
-use Rattle.structural_index.specs.Seams.{IsAtomRun, is_plain_atom}
+use Rattle.structural_index.specs.Seams.{IsAtomRun}
 use Rattle.json_tape.specs.declared.tape.Kind.{Kind}
 use Rattle.json_tape.specs.declared.tape.Kind.TheVariants as kinds
 use Rattle.json_tape.specs.declared.tape.Shape.TheVariants.{Array, Object}
 use Rattle.json_tape.specs.declared.lexing.Lexed.{Lexed}
 use Rattle.json_tape.specs.declared.lexing.Lexed.TheVariants as lexed
-use Rattle.json_tape.specs.Machine.{Token, Opening, Closing, Comma, Between, Text, Word, State, run_at, step, start}
+use Rattle.json_tape.specs.Machine.{Token, Opening, Closing, Comma, Between, Text, Word, run_at, step, start}
 use Rattle.json_tape.specs.Cells.{is_container}
-use Rattle.json_tape.specs.Lexing.{Atom, class, is_atom, is_blank, is_sign, sign_at, quote_end, IsToken, sign, text, word, IsWord, WordIs, Refused, Marked}
+use Rattle.json_tape.specs.Lexing.{Atom, class, is_atom, sign_at, IsToken, sign, text, word, IsWord, WordIs, Marked}
 use Rattle.json_tape.specs.Placing.{StringEnds}
-use Rattle.json_tape.specs.Verdict.{text_limit}
-use Rattle.json_tape.specs.Walked.{TokenAt, begins_value, is_text, NoneAt, IsNameAt, IsValueAt, token_of, end_of, FitsTape}
-use Rattle.json_tape.proofs.Bridge.{same_classes, length_within}
+use Rattle.json_tape.specs.Walked.{TokenAt, begins_value, is_text, NoneAt, token_of, end_of}
+use Rattle.json_tape.proofs.Bridge.{same_classes}
 use Rattle.json_tape.proofs.Calls.{no_string, word_is, atoms_here}
 use Rattle.json_tape.proofs.Chars.{number_some}
-use Rattle.json_tape.proofs.Marks.{word_marked}
 use Rattle.json_tape.proofs.PlaceWalk.{same_default}
 use Rattle.json_tape.proofs.Placing.{word_absent, run_ends}
 

@@ -1,13 +1,10 @@
--- What a builder that goes from place to place asks of the text, what it finds of a string, and how it passes a colon or a comma.
-use Rattle.std.specs.Prelude.{◌≡◌, ◌<◌, ◌≤◌, ℕ, suc, ◌+◌, false, List, drop, length, get_or, Option, Some, None, Result, Ok, Err, IsUtf8}
+-- What a builder that goes from place to place asks of the text, and what it finds of a string.
+use Rattle.std.specs.Prelude.{◌≡◌, ◌<◌, ◌≤◌, ℕ, suc, ◌+◌, List, drop, length, Option, Some, None, IsUtf8}
 use Rattle.structural_index.specs.Places.{byte, HasControlInside, AreSlashBlocks}
 use Rattle.structural_index.specs.Seams.{IsSpan, AreSlashless}
 use Rattle.json_tape.specs.declared.slashes.Slashes.{Slashes}
 use Rattle.json_tape.specs.declared.slash_range.SlashRange.{SlashRange}
-use Rattle.json_tape.specs.declared.tape.BuildFault.{BuildFault}
-use Rattle.json_tape.specs.declared.tape.BuildFault.TheVariants.{NotJson, Memory}
-use Rattle.json_tape.specs.Machine.{State}
-use Rattle.json_tape.specs.Lexing.{quote_end, is_atom, Refused, Taken}
+use Rattle.json_tape.specs.Lexing.{quote_end}
 use Rattle.json_tape.specs.Bridge.{SpellsString}
 
 -- no backslash of a text stands in the gap, and all stand in these blocks
@@ -36,14 +33,3 @@ ClosesBefore text i next = (m : ℕ) → next ≡ suc m → i < m → byte text 
 abbrev pub StringEnds : List ℕ → ℕ → Option ℕ → Type 0
 StringEnds text i (Some end) = (j : ℕ) × (end ≡ suc j) × SpellsString text i j
 StringEnds text i None = quote_end (i + 1) (drop (i + 1) text) ≡ None
-
--- from place number k to place number m: over nothing, or over one token of one byte
-pub data Passes : (text places : List ℕ) (k m : ℕ) (old new : State) → Type 0 where
-  nothing : {text places : List ℕ} {k m : ℕ} {old new : State} → m ≡ k → new ≡ old → Passes text places k m old new
-  a_sign : {text places : List ℕ} {k m : ℕ} {old new : State} → m ≡ k + 1 → k < length places → is_atom (get_or text (get_or places k 0) 0) ≡ false
-      → Taken text (get_or places k 0) (get_or places k 0 + 1) old new → Passes text places k m old new
-
-abbrev pub Passed : List ℕ → List ℕ → ℕ → State → Result ℕ BuildFault → State → Type 0
-Passed text places k old (Ok m) new = Passes text places k m old new
-Passed text places k old (Err NotJson) new = (k < length places) × Refused text (get_or places k 0) old
-Passed text places k old (Err Memory) new = Unit {0}

@@ -1,7 +1,6 @@
 -- A walk over the places of a text, a token at each: what leads from one point of it to another, and where nothing leads on.
 use Rattle.std.specs.Prelude.{◌≡◌, ◌≢◌, ◌<◌, ◌≤◌, ℕ, zero, suc, ◌+◌, Bool, true, false, List, drop, ◌++◌, length, get_or, Option, Some, None, Result, Ok, Err, IsUtf8}
 use Rattle.structural_index.specs.Places.{places, IsUnclosed, HasControlInside}
-use Rattle.json_tape.specs.declared.tape.Kind.{Kind}
 use Rattle.json_tape.specs.declared.tape.Kind.TheVariants as kinds
 use Rattle.json_tape.specs.declared.tape.Extent.{Extent}
 use Rattle.json_tape.specs.declared.tape.Shape.{Shape}
@@ -15,7 +14,7 @@ use Rattle.json_tape.specs.declared.tape.BuildFault.TheVariants.{NotJson, Memory
 use Rattle.json_tape.specs.declared.lexing.Lexed.{Lexed}
 use Rattle.json_tape.specs.declared.lexing.Lexed.TheVariants as lexed
 use Rattle.json_tape.specs.declared.second_stage.Spot.{Spot}
-use Rattle.json_tape.specs.Machine.{Token, Opening, Closing, Comma, Between, Text, Word, State, level_of, first_of, takes_value, takes_name}
+use Rattle.json_tape.specs.Machine.{Token, Opening, Text, Word, State, level_of, first_of, takes_value, takes_name}
 use Rattle.json_tape.specs.Built.{Built, standing}
 use Rattle.json_tape.specs.Lexing.{IsToken, Taken, Refused, Marked}
 use Rattle.json_tape.specs.Walking.{weight}

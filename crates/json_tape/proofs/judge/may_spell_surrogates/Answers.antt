@@ -1,4 +1,4 @@
-use Rattle.std.proofs.Common.{◌-◌, length, drop, refl, sym, ◌∙◌, arith, rules}
+use Rattle.std.proofs.Common.{◌-◌, length, drop, refl, arith, rules}
 use Rattle.std.proofs.lemmas.List.{take_all, length-drop}
 use Rattle.json_tape.proofs.Surrogateless.{none_on, none_left}
 use Rattle.json_tape.proofs.judge.may_spell_surrogates.Goals as goal

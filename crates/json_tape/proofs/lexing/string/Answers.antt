@@ -1,4 +1,3 @@
-use Rattle.std.proofs.Common.{sym, ap}
 use Rattle.json_tape.specs.Walked.{is_text, begins_value}
 use Rattle.json_tape.proofs.TokensAt.{text_at, none_at}
 use Rattle.json_tape.proofs.lexing.string.Goals as goal

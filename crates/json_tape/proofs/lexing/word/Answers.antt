@@ -1,5 +1,4 @@
-use Rattle.std.proofs.Common.{◌+◌, length, refl, arith, true}
-use Rattle.std.specs.Prelude.{Ok}
+use Rattle.std.proofs.Common.{length, refl, arith, true}
 use Rattle.json_tape.specs.declared.tape.Kind.TheVariants.{Number}
 use Rattle.json_tape.proofs.TokensAt.{word_at, word_token, no_value_at}
 use Rattle.json_tape.proofs.Marks.{unmarked, word_marked}
@@ -15,10 +14,10 @@ returns-then-decimal-clause-value c =
 pub returns-then-decimal-clause-marked : goal.returns-then-decimal-clause-marked
 returns-then-decimal-clause-marked c =
     let is = c.atoms-decimal in
-    word_marked c.args.looks.now.0 is.result.bytes.now c.args.i c.args.may_exceed.now true c.args.may_exceed.now (Ok tt) (Ok (c.args.i + length is.result.bytes.now)) is.ensures.value (λ _.
+    word_marked c.args.looks.now.0 is.result.bytes.now c.args.i c.args.may_exceed.now true c.args.may_exceed.now is.ensures.value (λ _.
     let bytes = is.result.bytes.now in
     let few = (is.ensures.decimal c.if-decimal.true).few in
-    c.late_exponents_keep_limits.ensures bytes (length bytes) (omega (arith, few)) (omega (arith, few)) (decimal_is c.args.looks.now.0 bytes c.args.i is.ensures.value (is.ensures.decimal c.if-decimal.true)).1) (unmarked c.args.may_exceed.now) refl
+    c.late_exponents_keep_limits.ensures bytes (length bytes) (omega (arith, few)) (omega (arith, few)) (decimal_is c.args.looks.now.0 bytes c.args.i is.ensures.value (is.ensures.decimal c.if-decimal.true)).1) (unmarked c.args.may_exceed.now)
 
 pub returns-in-None-clause-value : goal.returns-in-None-clause-value
 returns-in-None-clause-value c =
@@ -33,4 +32,4 @@ returns-in-Some-clause-value c =
 pub returns-in-Some-clause-marked : goal.returns-in-Some-clause-marked
 returns-in-Some-clause-marked c =
     let is = c.atoms-decimal in
-    word_marked c.args.looks.now.0 is.result.bytes.now c.args.i c.args.may_exceed.now c.has_short_exponent.result _ (Ok tt) (Ok (c.args.i + length is.result.bytes.now)) is.ensures.value c.has_short_exponent.ensures refl refl
+    word_marked c.args.looks.now.0 is.result.bytes.now c.args.i c.args.may_exceed.now c.has_short_exponent.result _ is.ensures.value c.has_short_exponent.ensures refl

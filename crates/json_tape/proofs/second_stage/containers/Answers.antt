@@ -1,4 +1,4 @@
-use Rattle.std.proofs.Common.{◌∙◌, refl, sym, subst, arith}
+use Rattle.std.proofs.Common.{◌∙◌, refl, subst}
 use Rattle.std.specs.Prelude.{Ok, Err}
 use Rattle.json_tape.specs.Walked.{at}
 use Rattle.json_tape.specs.Placing.{HoldSlashes}

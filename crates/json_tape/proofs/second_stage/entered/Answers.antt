@@ -1,8 +1,8 @@
-use Rattle.std.proofs.Common.{◌≡◌, ◌+◌, ℕ, List, get_or, None, subst, sym, ap, refl, arith}
+use Rattle.std.proofs.Common.{◌+◌, ℕ, List, get_or, None, subst, sym, ap, refl, arith}
 use Rattle.json_tape.specs.declared.tape.Want.TheVariants.{Next}
 use Rattle.json_tape.specs.Machine.{Closing, step, Took}
 use Rattle.json_tape.specs.Built.{standing}
-use Rattle.json_tape.proofs.Listed.{in_text, near}
+use Rattle.json_tape.proofs.Listed.{in_text}
 use Rattle.json_tape.proofs.Onward.{over_halts, closed_entered, first_entered, comma_entered, none_entered}
 use Rattle.json_tape.proofs.second_stage.entered.Goals as goal
 

@@ -1,5 +1,5 @@
-use Rattle.std.proofs.Common.{◌≡◌, ◌∙◌, ◌+◌, ℕ, List, length, get_or, None, Some, refl, sym, ap, subst, arith}
-use Rattle.std.specs.Prelude.{Ok, Err}
+use Rattle.std.proofs.Common.{◌∙◌, ◌+◌, None, Some, sym, ap, subst, arith}
+use Rattle.std.specs.Prelude.{Ok}
 use Rattle.json_tape.specs.Walked.{IsListed, at}
 use Rattle.json_tape.specs.Placing.{HoldSlashes}
 use Rattle.json_tape.proofs.Listed.{near, number_below}

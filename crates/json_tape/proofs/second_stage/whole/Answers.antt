@@ -1,9 +1,8 @@
-use Rattle.std.proofs.Common.{◌≡◌, ◌∙◌, ◌+◌, ◌<◌, ◌≤◌, ℕ, List, length, get_or, None, refl, sym, ap, subst, arith}
+use Rattle.std.proofs.Common.{◌≡◌, ◌∙◌, ℕ, List, length, get_or, None, refl, ap, arith}
 use Rattle.std.proofs.lemmas.Bool.Decides.{nat_tests}
 use Rattle.structural_index.specs.Places.{places}
 use Rattle.json_tape.specs.declared.tape.Want.TheVariants.{Value}
-use Rattle.json_tape.proofs.Listed.{in_text, closes_before, no_blank, near}
-use Rattle.json_tape.proofs.Placing.{place_in}
+use Rattle.json_tape.proofs.Listed.{in_text, closes_before, no_blank, near, place_in}
 use Rattle.json_tape.proofs.Going.{no_value_halts}
 use Rattle.json_tape.proofs.Onward.{whole_arrives, spot_one, nothing_halts}
 use Rattle.json_tape.proofs.second_stage.whole.Goals as goal
