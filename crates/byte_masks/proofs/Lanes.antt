@@ -1,13 +1,13 @@
 -- From lanes to the bits of a mask.
-use Rattle.std.proofs.Common.{◌≡◌, ℕ, ◌+◌, ◌-◌, ◌*◌, ◌/◌, ◌%◌, ◌^◌, ◌<◌, ◌≤◌, ◌⊎◌, inl, inr, Bool, true, false, not, cond, if◌then◌else◌, nat_lt, List, length, get_or, replicate, map, refl, sym, ap, ap₂, subst, ◌∙◌, arith, ◌==◌, ◌||◌, ◌++◌, w8, Fits, zero-add}
+use Rattle.std.proofs.Common.{◌≡◌, ℕ, ◌+◌, ◌-◌, ◌*◌, ◌/◌, ◌%◌, ◌^◌, ◌<◌, ◌≤◌, min, ◌⊎◌, inl, inr, Bool, true, false, not, cond, if◌then◌else◌, nat_lt, List, length, get_or, replicate, map, refl, sym, ap, ap₂, subst, ◌∙◌, arith, ◌==◌, ◌||◌, ◌++◌, w8, Fits, zero-add}
 use Rattle.std.specs.List.{range_with_len}
-use Rattle.std.proofs.lemmas.Simd.{tops_compared, mask_l-mod, mask_l-lt, bit_mask_l, length-zip2, get_or-zip2, length-replicate, get_or-replicate, Each1-get_or, Each1-from_get_or, SwzOk, SwzOk-from_Each1, swz_l, get_or-swz_l, get_or-chunk, pick_l-range_with_len, pick_l_left}
+use Rattle.std.proofs.lemmas.Simd.{tops_compared, mask_l-mod, mask_l-lt, bit_mask_l, length-zip2, get_or-zip2, length-replicate, get_or-replicate, get_or-sel_l, Each1-get_or, Each1-from_get_or, SwzOk, SwzOk-from_Each1, swz_l, get_or-swz_l, get_or-chunk, pick_l-range_with_len, pick_l_left}
 use Rattle.std.proofs.lemmas.Nat.Bits.{bit_at_above}
 use Rattle.std.proofs.lemmas.Bool.{cases_lt}
 use Rattle.std.proofs.lemmas.Bool.Decides.{nat_tests}
 use lib.Bits.{bit_and, bit_or}
 use lib.Dec.{T, ltb}
-use lib.Lanes.{mask_l, top, zip2, Each1, pick_l, all_below}
+use lib.Lanes.{mask_l, top, zip2, sel_l, Each1, pick_l, all_below}
 use mir.Val.{zeroes}
 use Rattle.bit_words.specs.Words.{is_set, HasBits}
 use Rattle.bit_words.proofs.Bits.{is_set-or, shifted, is_set-shifted, is_set-shifted_low}
@@ -39,6 +39,19 @@ compared_lt t n xs ys few lx ly =
 -- the same with one byte in each of 64 lanes
 pub compared_with : (t : ℕ → ℕ → Bool) (xs : List ℕ) (byte : ℕ) → length xs ≡ 64 → HasBits (mask_l (map (top 7) (zip2 (λ a b. cond (t a b) 255 0) xs (replicate 64 byte))) % 2 ^ 64) (λ i. t (get_or xs i 0) byte)
 compared_with t xs byte lx i h = compared_at t 64 xs (replicate 64 byte) (omega arith) lx (length-replicate {A = ℕ} 64 byte) i h ∙ ap (t (get_or xs i 0)) (get_or-replicate 64 i byte 0 h)
+
+-- `simd_min`
+pub lesser_at : (xs ys : List ℕ) (n i : ℕ) → length xs ≡ n → length ys ≡ n → i < n
+    → get_or (sel_l (map (top 7) (zip2 (λ a b. cond (nat_lt a b) 255 0) xs ys)) xs ys) i 0 ≡ min (get_or xs i 0) (get_or ys i 0)
+lesser_at xs ys n i lx ly h =
+    let long = length-zip2 nat_lt xs ys (lx ∙ sym ly) in
+    ap (λ ms. get_or (sel_l ms xs ys) i 0) (tops_compared w8 nat_lt xs ys)
+    ∙ get_or-sel_l (zip2 nat_lt xs ys) xs ys i 0 (omega arith) (omega arith) (omega arith)
+    ∙ ap (λ m. cond m (get_or xs i 0) (get_or ys i 0)) (get_or-zip2 nat_lt xs ys i 0 0 false (omega arith) (omega arith))
+    ∙ least (get_or xs i 0) (get_or ys i 0)
+  where
+    least : (a b : ℕ) → cond (nat_lt a b) a b ≡ min a b
+    least a b = grind (arith, nat_tests)
 
 -- an operator with one byte in each lane
 pub masked : (f : ℕ → ℕ → ℕ) (lanes : List ℕ) (n mask i : ℕ) → length lanes ≡ n → i < n → get_or (zip2 f lanes (replicate n mask)) i 0 ≡ f (get_or lanes i 0) mask
@@ -166,3 +179,16 @@ module _ (test : ℕ → Bool) (a b c d : ℕ) (la : a < 2 ^ 16) (lb : b < 2 ^ 1
       quarter : (i < 16) ⊎ (16 ≤ i) → is_set (bit_or (bit_or (bit_or a (shifted b 16)) (shifted c 32)) (shifted d 48)) i ≡ test i
       quarter (inl lt) = first lt
       quarter (inr le) = middle (cases_lt i 32) le
+
+-- what holds of no byte of the four parts holds of none
+pub none_of : (test : ℕ → Bool) → ((k : ℕ) → k < 16 → (test k ≡ false) × (test (16 + k) ≡ false) × (test (32 + k) ≡ false) × (test (48 + k) ≡ false)) → (i : ℕ) → i < 64 → test i ≡ false
+none_of test parts i within = go (cases_lt i 16) (cases_lt i 32) (cases_lt i 48)
+  where
+    at : (from : ℕ) → from ≤ i → test (from + (i - from)) ≡ false → test i ≡ false
+    at from le e = let same : from + (i - from) ≡ i = omega arith in ap test (sym same) ∙ e
+
+    go : (i < 16) ⊎ (16 ≤ i) → (i < 32) ⊎ (32 ≤ i) → (i < 48) ⊎ (48 ≤ i) → test i ≡ false
+    go (inl lt) b c = (parts i lt).0
+    go (inr le) (inl lt) c = at 16 le (parts (i - 16) (omega arith)).1
+    go (inr _) (inr le) (inl lt) = at 32 le (parts (i - 32) (omega arith)).2
+    go (inr _) (inr _) (inr le) = at 48 le (parts (i - 48) (omega arith)).3

@@ -1,7 +1,7 @@
 // The classes of 64 bytes, as words with a bit for each byte.
 #![tactic(auto)]
 
-ghost use Rattle.std.specs.Prelude.{◌≡◌, ℕ, ◌^◌, ◌<◌, ◌-◌, ◌≤◌, ◌++◌, ◌==◌, length, replicate, slice_index};
+ghost use Rattle.std.specs.Prelude.{◌≡◌, ℕ, ◌^◌, ◌<◌, ◌-◌, ◌≤◌, min, ◌++◌, ◌==◌, length, replicate, slice_index, IsFalse};
 ghost use Rattle.bit_words.specs.Words.{is_set, HasBits};
 ghost use Rattle.byte_masks.specs.Classes.{op_byte, blank_byte, control_byte, found, near_op};
 
@@ -91,6 +91,32 @@ fn controls(lanes: u8x64) -> u64
     lanes.simd_lt(u8x64::splat(0x20)).to_bitmask()
 }
 
+// In each lane the lesser byte.
+#[inline(always)]
+fn lesser(lanes: u8x16, others: u8x16) -> u8x16
+    ensures { (i : ℕ) → i < 16 → slice_index result i ≡ min (slice_index lanes i) (slice_index others i) }
+{
+    lanes.simd_min(others)
+}
+
+// Whether some of 16 bytes is a control character.
+#[inline(always)]
+fn control_among(lanes: u8x16) -> bool
+    ensures { IsFalse result → (i : ℕ) → i < 16 → IsFalse (control_byte (slice_index lanes i)) }
+{
+    lanes.simd_lt(u8x16::splat(0x20)).to_bitmask() != 0
+}
+
+// Whether some byte is a control character: the least of all is looked at.
+#[inline(always)]
+fn has_control(lanes: u8x64) -> bool
+    ensures { IsFalse result → (i : ℕ) → i < 64 → IsFalse (control_byte (slice_index lanes i)) }
+{
+    let first = lesser(lanes.extract::<0, 16>(), lanes.extract::<16, 16>());
+    let second = lesser(lanes.extract::<32, 16>(), lanes.extract::<48, 16>());
+    control_among(lesser(first, second))
+}
+
 /// The classes of 64 bytes, where lane `i` is byte `i`.
 #[inline(always)]
 pub fn classify(lanes: Simd<u8, 64>) -> Block
@@ -100,13 +126,28 @@ pub fn classify(lanes: Simd<u8, 64>) -> Block
     ensures blank { HasBits result.blank (λ i. blank_byte (slice_index lanes i)) }
     ensures control { HasBits result.control (λ i. control_byte (slice_index lanes i)) }
 {
-    let control = controls(lanes);
+    let quote = equal_to(lanes, b'"');
+    let backslash = equal_to(lanes, b'\\');
+    let near = near_ops(lanes);
+    // Without control characters the look-ups for blanks and control characters are spared. A text without line ends has no such block,
+    // and one with them has them in most: the processor guesses right.
+    if has_control(lanes) {
+        let control = controls(lanes);
+        let op = near & !control;
+        return Block {
+            quote,
+            backslash,
+            op,
+            blank: blanks(lanes),
+            control,
+        };
+    }
     Block {
-        quote: equal_to(lanes, b'"'),
-        backslash: equal_to(lanes, b'\\'),
-        op: near_ops(lanes) & !control,
-        blank: blanks(lanes),
-        control,
+        quote,
+        backslash,
+        op: near,
+        blank: equal_to(lanes, b' '),
+        control: 0,
     }
 }
 
