@@ -12,14 +12,23 @@ use Rattle.json_tape.specs.Nodes.{size}
 use Rattle.json_tape.specs.Meaning.{meaning}
 use Rattle.json_tape.specs.Spelling.{IsQuoted}
 use Rattle.json_tape.specs.Cells.{members_in}
-use Rattle.json_tape.specs.Repeats.{IsObject, is_same, repeats, meanings}
+use Rattle.json_tape.specs.Repeats.{IsObject, is_same, hash_of, repeats, meanings}
 use Rattle.json_tape.specs.KeyOrder.{names_total, names_tie}
-use Rattle.json_tape.specs.Ordered.{Keyed, keyed, key_number, key_name, name_cmp, name_hash, name_at, entry_in, nothing_there, part, IsWide, IsOrderOf, AreKept, AreAlike, moved, onward}
+use Rattle.json_tape.specs.Ordered.{Keyed, keyed, key_number, key_name, mixed, name_cmp, name_hash, name_at, entry_in, nothing_there, part, IsWide, IsOrderOf, AreKept, AreAlike, moved, onward}
 use Rattle.json_tape.specs.declared.tape.Entry.{Entry}
 use Rattle.json_tape.proofs.Numbers.{entry_at}
 use Rattle.json_tape.proofs.Repeats.{rising_alone}
 use Rattle.json_tape.proofs.KeysLeft.{IsGood, all_good, length_keyed}
 use Rattle.json_tape.proofs.Runs.{get_map, kept_more, object_members}
+
+-- no further on
+pub onward_by_none : (xs : List ℕ) → map (onward 0) xs ≡ xs
+onward_by_none [] = refl
+onward_by_none (x ∷ xs) = let e : x + 0 ≡ x = omega arith in rw (e, onward_by_none xs) refl
+
+hash_small : (h : ℕ) → mixed h < 2 ^ 32
+unfolding mixed
+hash_small h = omega arith
 
 names_keyed : (ms : Members) (k : ℕ) → meanings ms ≡ map key_name (keyed ms k)
 names_keyed NoMember k = refl
@@ -143,6 +152,12 @@ module _ (text : List ℕ) (tape : List Entry) where
 
     pub small_before : length tape < 2 ^ 31 → n < length tape → (k : ℕ) → k < count → get_or (part start count members) k 0 + (n - first) < 2 ^ 32
     small_before short l k h = let i = order_before.named.inside k (let e = part_long in omega arith) in omega arith
+
+    pub small_hashes : (k : ℕ) → k < count → get_or (part start count hashes) k 0 + 0 < 2 ^ 32
+    small_hashes k h =
+        let e = order_before.named.hashed k (let l = part_long in omega arith) in
+        let s = hash_small (hash_of (name_at text tape (get_or (part start count members) k 0))) in
+        omega arith
 
     pub none_like : (ms : Members) → IsObject text tape n ms → false ≡ repeats (meanings ms)
     none_like ms p = none_again n earlier a ms p _ _ order_before

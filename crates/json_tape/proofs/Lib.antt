@@ -84,5 +84,4 @@ pub mod ValueBits
 pub mod Inside
 pub mod SameBytes
 pub mod Abreast
-pub mod Appending
 pub mod Alike

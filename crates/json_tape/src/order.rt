@@ -410,26 +410,27 @@ fn find_alike(
     }
 }
 
-// Adds so many hashes and numbers from a place on once more, the numbers further on by the shift.
-fn add_again(
-    start: usize,
-    count: usize,
-    shift: u32,
-    hashes: &mut Vec<u32>,
-    members: &mut Vec<u32>,
-) -> Result<(), AllocError>
-    requires hashes { start + count ≤ length hashes.old.items }
-    requires members { start + count ≤ length members.old.items }
-    requires small { (k : ℕ) → k < count → get_or (part start count members.old.items) k 0 + shift < 2 ^ 32 }
-    ensures hashes { OnOk result (hashes.new.items ≡ hashes.old.items ++ part start count hashes.old.items) }
-    ensures members { OnOk result (members.new.items ≡ members.old.items ++ map (onward shift) (part start count members.old.items)) }
+// Sets a list to the numbers of another one, further on by the shift.
+fn set_onward(from: &[u32], to: &mut [u32], shift: u32)
+    requires len { length from.now ≡ length to.old }
+    requires small { (k : ℕ) → k < length from.now → get_or from.now k 0 + shift < 2 ^ 32 }
+    ensures { to.new ≡ map (onward shift) from.now }
 {
-    for k in start..start + count {
-        let hash = hashes[k];
-        let member = members[k] + shift;
-        push(hashes, hash)?;
-        push(members, member)?;
+    for k in 0..to.len() {
+        to[k] = from[k] + shift;
     }
+}
+
+// Adds so many numbers from a place on once more, further on by the shift. Room that is filled first takes no test for each.
+fn add_part(list: &mut Vec<u32>, start: usize, count: usize, shift: u32) -> Result<(), AllocError>
+    requires inside { start + count ≤ length list.old.items }
+    requires small { (k : ℕ) → k < count → get_or (part start count list.old.items) k 0 + shift < 2 ^ 32 }
+    ensures { OnOk result (list.new.items ≡ list.old.items ++ map (onward shift) (part start count list.old.items)) }
+{
+    let len = list.len();
+    list.resize(len + count, 0)?;
+    let (old, new) = list.as_mut_slice().split_at_mut(len);
+    set_onward(&old[start..start + count], new, shift);
     Ok(())
 }
 
@@ -456,13 +457,9 @@ fn order_like(
     let shift = n - order.objects[place];
     order.objects.push(n)?;
     order.starts.push(order.members.len())?;
-    add_again(
-        start,
-        tape.members(n) as usize,
-        shift,
-        &mut order.hashes,
-        &mut order.members,
-    )?;
+    let count = tape.members(n) as usize;
+    add_part(&mut order.hashes, start, count, 0)?;
+    add_part(&mut order.members, start, count, shift)?;
     Ok(false)
 }
 
