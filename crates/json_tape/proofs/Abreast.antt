@@ -1,5 +1,5 @@
 -- The members of an object, and beside them those of an earlier one.
-use Rattle.std.proofs.Common.{◌≡◌, ℕ, ◌+◌, ◌-◌, ◌<◌, ◌≤◌, List, ◌∷◌, length, map, get_or, refl, sym, ap, ◌∙◌, subst, arith}
+use Rattle.std.proofs.Common.{◌≡◌, ℕ, zero, suc, ◌+◌, ◌-◌, ◌<◌, ◌≤◌, List, ◌∷◌, length, map, get_or, refl, sym, ap, ◌∙◌, subst, arith}
 use Rattle.std.specs.Str.{chars}
 use Rattle.json_tape.specs.Tree.{Members, NoMember, Member}
 use Rattle.json_tape.specs.Meaning.{meaning}
@@ -7,11 +7,11 @@ use Rattle.json_tape.specs.Limits.{bytes_at}
 use Rattle.json_tape.specs.Spelling.{scalars_in, unquoted}
 use Rattle.json_tape.specs.Cells.{members_in}
 use Rattle.json_tape.specs.Repeats.{IsObject}
-use Rattle.json_tape.specs.Ordered.{keyed, moved, entry_in, IsWide, AreAlike}
+use Rattle.json_tape.specs.Ordered.{keyed, moved, entry_in, IsWide, AreAlike, AreLeavesAlike, IsNameInside}
 use Rattle.json_tape.specs.declared.tape.Entry.{Entry}
 use Rattle.json_tape.specs.declared.tape.Extent.{Extent}
 use Rattle.json_tape.proofs.Entries.{size_positive}
-use Rattle.json_tape.proofs.Spelled.{scalars_at}
+use Rattle.json_tape.proofs.Spelled.{scalars_at, quoted_at}
 use Rattle.json_tape.proofs.MembersLeft.{no_entry, Left, Next, all_left, next_left}
 use Rattle.json_tape.proofs.KeysLeft.{key_is}
 use Rattle.json_tape.proofs.Runs.{members_are, object_members}
@@ -110,3 +110,31 @@ module _ (text : List ℕ) (tape : List Entry) (n earlier : ℕ) where
         go ms NoMember NoMember l r f = f refl
         go ms (Member m v left) old l r f = absurd (let z = size_positive v in let e = l.ends in omega arith)
         go ms NoMember (Member m v old) l r f = absurd (let z = size_positive v in let e = r.ends in let b = a.along in let c = a.closes in omega arith)
+
+  pub names_inside : (member other end last : ℕ) → Abreast member other end last → (ms : Members) × IsObject text tape n ms → member < end → IsNameInside text tape member × IsNameInside text tape other
+  names_inside member other end last a (ms, o) h =
+      let x = next_here member other end last a ms o h in
+      let y = next_there member other end last a ms o h in
+      ((x.inside, (quoted_at text text _ x.name.source x.name.characters refl x.label x.lies x.string).1), (y.inside, (quoted_at text text _ y.name.source y.name.characters refl y.label y.lies y.string).1))
+
+  -- past leaves
+  pub abreast_leaves : (k member other end last : ℕ) → Abreast member other end last → (ms : Members) × IsObject text tape n ms → AreLeavesAlike text tape member other k → member + k ≤ end → Abreast (member + k) (other + k) end last
+  abreast_leaves zero member other end last a o same h =
+      let here : member ≡ member + 0 = omega arith in
+      let there : other ≡ other + 0 = omega arith in
+      subst (λ i. Abreast i (other + 0) end last) here (subst (λ j. Abreast member j end last) there a)
+  abreast_leaves (suc k) member other end last a o same h =
+      let before = abreast_leaves k member other end last a o (λ i l. same i (omega arith)) (omega arith) in
+      let along = before.along in
+      let (named, passed, passed_there) = same k (omega arith) in
+      let here : member + k + 1 ≡ member + suc k = omega arith in
+      let there : other + k + 1 ≡ other + suc k = omega arith in
+      subst (λ i. Abreast i (other + suc k) end last) here (subst (λ j. Abreast (member + k + 1) j end last) there
+      (abreast_more (member + k) (other + k) end last before _ _ (member + k + 1) (other + k + 1) refl refl (sym passed) (sym passed_there) named (omega arith) (omega arith) o))
+
+  pub abreast_past : (k member end last : ℕ) → Abreast member (member - (n - earlier)) end last → (ms : Members) × IsObject text tape n ms → AreLeavesAlike text tape member (member - (n - earlier)) k → member + k ≤ end
+      → Abreast (member + k) (member + k - (n - earlier)) end last
+  abreast_past k member end last a o same h =
+      let ahead = a.ahead in
+      let e : member - (n - earlier) + k ≡ member + k - (n - earlier) = omega arith in
+      subst (λ j. Abreast (member + k) j end last) e (abreast_leaves k member (member - (n - earlier)) end last a o same h)

@@ -1,5 +1,5 @@
 -- Cells and sides, and the entries that they stand for.
-use Rattle.std.proofs.Common.{◌≡◌, inl, inr, ℕ, zero, suc, ◌+◌, ◌-◌, ◌^◌, ◌<◌, ◌≤◌, Bool, true, false, cond, List, [], ◌∷◌, ◌++◌, length, get_or, set, refl, sym, ap, ◌∙◌, subst, arith, length-append, get_or-set_same, get_or-set_other}
+use Rattle.std.proofs.Common.{◌≡◌, inl, inr, ℕ, zero, suc, ◌+◌, ◌*◌, ◌/◌, ◌%◌, ◌-◌, ◌^◌, ◌<◌, ◌≤◌, Bool, true, false, cond, List, [], ◌∷◌, ◌++◌, length, get_or, set, refl, sym, ap, ◌∙◌, subst, arith, length-append, get_or-set_same, get_or-set_other}
 use Rattle.std.proofs.lemmas.List.{get_or_append_left, get_or_default, get_or-append_right, length-set}
 use Rattle.std.proofs.lemmas.Bool.{false≢true, cases_Bool}
 use Rattle.json_tape.specs.declared.tape.Kind.{Kind}
@@ -10,7 +10,7 @@ use Rattle.json_tape.specs.declared.tape.Seat.{Seat}
 use Rattle.json_tape.specs.declared.cells.Cell.{Cell}
 use Rattle.json_tape.specs.declared.cells.Side.{Side}
 use Rattle.json_tape.specs.Machine.{change_at, closed}
-use Rattle.json_tape.specs.Cells.{holds, is_container, is_object, members_in, cell_kind, cell_role, cell_label, cell_start, cell_span, cell_up, leaf_entry, open_entry, leaf_seen, container_seen, seen, no_side, entries_from, entries_of, containers, container_at, AreNumbered, IsTape}
+use Rattle.json_tape.specs.Cells.{low, high, holds, is_container, is_object, members_in, cell_kind, cell_role, cell_label, cell_start, cell_span, cell_up, leaf_entry, open_entry, leaf_seen, container_seen, seen, no_side, entries_from, entries_of, containers, container_at, AreNumbered, IsTape}
 
 pub length-entries : (k : ℕ) (cells : List Cell) (sides : List Side) → length (entries_from k cells sides) ≡ length cells
 length-entries k [] sides = refl
@@ -300,3 +300,19 @@ pub no_members_shown : (cells : List Cell) (sides : List Side) (v : List Entry) 
 no_members_shown cells sides v n c e q l f h g =
     let k : e.kind ≡ cell_kind c = ap (λ (x : Entry). x.kind) (g ∙ entry_here cells sides v n c e q l f) ∙ seen_kind n c (get_or sides (cell_span c) no_side) (holds c) in
     sym (ap (λ t. cond t e.children 0) (ap is_object k ∙ h))
+
+-- the name of a leaf, where its length is in one byte
+short_label : (c : Cell) (len : ℕ) → c.label < 2 ^ 24 → c.up < 2 ^ 24 → len ≡ c.span / 16777216 → record { start = c.label; len = len } ≡ cell_label c
+unfolding low high
+short_label c len small short s =
+    let start : c.label ≡ c.label % 16777216 = omega arith in
+    let above : len ≡ c.up / 16777216 * 65536 + c.label / 16777216 * 256 + c.span / 16777216 = omega arith in
+    ap (λ x. record { start = x; len = len }) start ∙ ap (λ x. record { start = c.label % 16777216; len = x }) above
+
+pub short_leaf : (cells : List Cell) (sides : List Side) (v : List Entry) (n : ℕ) (c : Cell) (e : Entry) (len : ℕ) → entries_of cells sides ≡ v → n < length cells → c ≡ get_or cells n c → holds c ≡ false
+    → c.label < 2 ^ 24 → c.up < 2 ^ 24 → len ≡ c.span / 16777216 → e ≡ get_or v n e → record { start = c.label; len = len } ≡ e.label × e.after ≡ n + 1
+short_leaf cells sides v n c e len q l f h small short s g =
+    let is = leaf_shown cells sides v n c e q l f h ∙ sym g in (
+      short_label c len small short s ∙ ap (λ (x : Entry). x.label) is,
+      sym (ap (λ (x : Entry). x.after) is),
+    )

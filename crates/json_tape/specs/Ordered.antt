@@ -133,6 +133,19 @@ pub record AreKept (text : List ℕ) (tape : List Entry) (below : ℕ) (objects 
 abbrev pub AreSameFrom : List ℕ → ℕ → ℕ → ℕ → Type 0
 AreSameFrom bytes left right n = (i : ℕ) → i < n → get_or bytes (left + i) 0 ≡ get_or bytes (right + i) 0
 
+-- two values that hold no others stand under names of the same bytes
+abbrev pub IsLeafAlike : List ℕ → List Entry → ℕ → ℕ → Type 0
+IsLeafAlike text tape left right =
+    (bytes_at text (entry_in tape left).label ≡ bytes_at text (entry_in tape right).label) × ((entry_in tape left).after ≡ left + 1) × ((entry_in tape right).after ≡ right + 1)
+
+-- so many from two numbers on
+abbrev pub AreLeavesAlike : List ℕ → List Entry → ℕ → ℕ → ℕ → Type 0
+AreLeavesAlike text tape left right n = (i : ℕ) → i < n → IsLeafAlike text tape (left + i) (right + i)
+
+-- the name of an entry lies in the text
+abbrev pub IsNameInside : List ℕ → List Entry → ℕ → Type 0
+IsNameInside text tape n = (n < length tape) × ((entry_in tape n).label.start + (entry_in tape n).label.len ≤ length text)
+
 abbrev pub onward : ℕ → ℕ → ℕ
 onward shift k = k + shift
 

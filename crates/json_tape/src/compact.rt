@@ -1,10 +1,10 @@
 //! The entries of a text in few bytes: 16 for each value, and 12 more for each container.
 
-ghost use Rattle.std.specs.Prelude.{◌≡◌, ◌+◌, ◌++◌, ◌∷◌, [], ◌<◌, ◌≤◌, ◌^◌, IfOk, OnOk, OnErr, true, false, length, slice_index_or};
+ghost use Rattle.std.specs.Prelude.{◌≡◌, ◌+◌, ◌++◌, ◌∷◌, [], ◌<◌, ◌≤◌, ◌^◌, IfOk, IfSome, OnOk, OnErr, IsTrue, true, false, length, slice_index_or};
 ghost use Rattle.json_tape.specs.Machine.{change_at, closed};
 ghost use Rattle.json_tape.specs.Cells.{IsNear, is_container, members_in, container_at, leaf_entry, open_entry};
 
-use crate::cells::{Cell, Side};
+use crate::cells::{Cell, Side, WORD_LIMIT};
 use crate::growth::push;
 use crate::tape::{Entry, Extent, Kind, Seat, Shape};
 use std::alloc::{AllocError, Global};
@@ -28,6 +28,15 @@ impl Model for Tape {
     ghost view = { λ t. entries_of t.cells.items t.sides.items };
 
     ghost invariant = { λ t. IsTape t.cells.items t.sides.items };
+}
+
+// Whether a name's length is in one byte, and its start alone in its word.
+#[inline(always)]
+fn has_short_name(cell: Cell) -> bool
+    ensures start { IsTrue result → cell.label < 2 ^ 24 }
+    ensures len { IsTrue result → cell.up < 2 ^ 24 }
+{
+    (cell.label < WORD_LIMIT) & (cell.up < WORD_LIMIT)
 }
 
 impl Tape {
@@ -177,5 +186,35 @@ impl Tape {
         ensures { (e : Entry) → e ≡ slice_index_or self.now n e → result ≡ e.label }
     {
         self.cells[n as usize].label()
+    }
+
+    /// The names of two values that hold no others, where both are of one length below 256.
+    #[inline(always)]
+    pub fn leaf_names(&self, left: usize, right: usize) -> Option<(Extent, Extent)>
+        requires left { left < length self.now }
+        requires right { right < length self.now }
+        ensures left { IfSome result (λ names. (e : Entry) → e ≡ slice_index_or self.now left e → (names.0 ≡ e.label) × (e.after ≡ left + 1)) }
+        ensures right { IfSome result (λ names. (e : Entry) → e ≡ slice_index_or self.now right e → (names.1 ≡ e.label) × (e.after ≡ right + 1)) }
+        ensures len { IfSome result (λ names. names.0.len ≡ names.1.len) }
+    {
+        let here = self.cells[left];
+        let there = self.cells[right];
+        let len = here.span / WORD_LIMIT;
+        if len != there.span / WORD_LIMIT || here.holds() | there.holds() {
+            return None;
+        }
+        if has_short_name(here) & has_short_name(there) {
+            let first = Extent {
+                start: here.label,
+                len,
+            };
+            let second = Extent {
+                start: there.label,
+                len,
+            };
+            Some((first, second))
+        } else {
+            None
+        }
     }
 }

@@ -6,7 +6,7 @@ ghost use Rattle.std.specs.Ordering.{on};
 ghost use Rattle.json_tape.specs.Tree.{Members};
 ghost use Rattle.json_tape.specs.Repeats.{repeats, repeats_next_by, meanings, IsObject};
 ghost use Rattle.json_tape.specs.Limits.{bytes_at};
-ghost use Rattle.json_tape.specs.Ordered.{AreNamed, IsOrderOf, AreKept, IsWide, AreSameFrom, AreAlike, entry_in, name_at, name_cmp, name_hash, keyed, key_number, key_hash, word_of, high_half, low_half, sought_name, part, onward};
+ghost use Rattle.json_tape.specs.Ordered.{AreNamed, IsOrderOf, AreKept, IsWide, AreSameFrom, IsLeafAlike, AreLeavesAlike, IsNameInside, AreAlike, entry_in, name_at, name_cmp, name_hash, keyed, key_number, key_hash, word_of, high_half, low_half, sought_name, part, onward};
 
 use crate::again::has_equal_neighbours;
 use crate::compact::Tape;
@@ -350,6 +350,65 @@ fn is_same_name(text: &str, left: Extent, right: Extent) -> bool
     have_loads(bytes, here, there) && same_run(bytes, here, there) >= len
 }
 
+// Whether so many bytes from one place on are those from another on, by a load at both, and where they are more than these have, at
+// most twice as many, by one at their ends.
+#[inline(always)]
+fn are_same_few(bytes: &[u8], left: usize, right: usize, len: usize) -> bool
+    requires left { (left + LANES ≤ length bytes.now) × (left + len ≤ length bytes.now) }
+    requires right { (right + LANES ≤ length bytes.now) × (right + len ≤ length bytes.now) }
+    ensures { IsTrue result → AreSameFrom bytes.now left right len }
+{
+    let run = same_run(bytes, left, right);
+    if run >= len {
+        return true;
+    }
+    if run < LANES || len > 2 * LANES {
+        return false;
+    }
+    let behind = len - LANES;
+    is_same_load(bytes, left + behind, right + behind)
+}
+
+// Whether two values that hold no others stand under the same name, as far as loads tell, none of which begins behind the last place.
+#[inline(always)]
+fn is_leaf_alike(text: &str, last: usize, tape: &Tape, left: usize, right: usize) -> bool
+    requires last { last + LANES ≤ length text.now }
+    requires here { IsNameInside text.now tape.now left }
+    requires there { IsNameInside text.now tape.now right }
+    ensures { IsTrue result → IsLeafAlike text.now tape.now left right }
+{
+    match tape.leaf_names(left, right) {
+        None => false,
+        Some((first, second)) => {
+            let here = first.start as usize;
+            let there = second.start as usize;
+            here <= last
+                && there <= last
+                && are_same_few(text.as_bytes(), here, there, first.len as usize)
+        }
+    }
+}
+
+// How many values from two numbers on, of at most so many, hold no others and stand under the same names.
+#[inline(always)]
+fn leaves_alike(text: &str, tape: &Tape, left: usize, right: usize, count: usize) -> usize
+    requires short { length tape.now < 2 ^ 31 }
+    requires named { (k : ℕ) → k < count → AreLeavesAlike text.now tape.now left right k → IsNameInside text.now tape.now (left + k) × IsNameInside text.now tape.now (right + k) }
+    ensures few { result ≤ count }
+    ensures alike { AreLeavesAlike text.now tape.now left right result }
+{
+    if text.len() < LANES {
+        return 0;
+    }
+    let last = text.len() - LANES;
+    for k in 0..count {
+        if !is_leaf_alike(text, last, tape, left + k, right + k) {
+            return k;
+        }
+    }
+    count
+}
+
 // Whether the members of an object stand as those of an earlier one do, under names of the same bytes.
 #[inline(never)]
 fn are_alike(text: &str, tape: &Tape, n: u32, earlier: u32) -> bool
@@ -365,15 +424,20 @@ fn are_alike(text: &str, tape: &Tape, n: u32, earlier: u32) -> bool
     if tape.members(earlier) != tape.members(n) || tape.after(earlier) != end - shift {
         return false;
     }
-    let mut member = n + 1;
-    let mut other = earlier + 1;
-    while member < end {
+    let mut from = n + 1;
+    while from < end {
+        let count = (end - from) as usize;
+        let member = from
+            + leaves_alike(text, tape, from as usize, (from - shift) as usize, count) as u32;
+        if member >= end {
+            return true;
+        }
+        let other = member - shift;
         if !is_same_name(text, tape.label(member), tape.label(other)) {
             return false;
         }
-        member = tape.after(member);
-        other = tape.after(other);
-        if other != member - shift {
+        from = tape.after(member);
+        if tape.after(other) != from - shift {
             return false;
         }
     }

@@ -1,8 +1,8 @@
-use Rattle.std.proofs.Common.{◌∙◌, ◌-◌, ◌+◌, get_or, refl, sym, ap, subst, arith}
+use Rattle.std.proofs.Common.{◌≡◌, ◌∙◌, ◌-◌, ◌+◌, ◌≤◌, length, get_or, refl, sym, ap, subst, arith}
 use Rattle.json_tape.specs.Ordered.{entry_in}
-use Rattle.json_tape.proofs.Spelled.{quoted_at}
+use Rattle.json_tape.specs.declared.tape.Extent.{Extent}
 use Rattle.json_tape.proofs.MembersLeft.{no_entry, same_entry, all_left}
-use Rattle.json_tape.proofs.Abreast.{Abreast, abreast_none, next_here, next_there, abreast_more, abreast_all}
+use Rattle.json_tape.proofs.Abreast.{Abreast, abreast_none, names_inside, abreast_more, abreast_leaves, abreast_past, abreast_all, next_here}
 use Rattle.json_tape.proofs.order.are_alike.Goals as goal
 
 pub overflow_sub-end : goal.overflow_sub-end
@@ -11,8 +11,8 @@ overflow_sub-end c =
     let e = c.after-end.ensures (get_or c.args.tape.now c.args.n no_entry) (same_entry c.args.tape.now c.args.n c.requires.inside) in
     let l = (all_left c.args.text.now c.args.tape.now c.args.n o.0 o.1).ends in omega arith
 
-pub loop-member-init : goal.loop-member-init
-loop-member-init c =
+pub loop-from-init : goal.loop-from-init
+loop-from-init c =
     let tape = c.args.tape.now in
     let n = c.args.n in
     let r = c.requires in
@@ -21,75 +21,109 @@ loop-member-init c =
     let here = same_entry tape n i in
     let there = same_entry tape c.args.earlier (omega arith) in
     let end = c.after-end.ensures (get_or tape n no_entry) here in
-    subst (λ e. Abreast c.args.text.now tape n c.args.earlier (n + 1) (c.args.earlier + 1) e (get_or tape c.args.earlier no_entry).after) (sym end)
+    let other : c.args.earlier + 1 ≡ n + 1 - (n - c.args.earlier) = omega arith in
+    subst (λ k. Abreast c.args.text.now tape n c.args.earlier (n + 1) k c.after-end.result (get_or tape c.args.earlier no_entry).after) other
+    (subst (λ e. Abreast c.args.text.now tape n c.args.earlier (n + 1) (c.args.earlier + 1) e (get_or tape c.args.earlier no_entry).after) (sym end)
     (abreast_none c.args.text.now tape n c.args.earlier r.object r.wide i b
     (sym (c.members.ensures (entry_in tape c.args.earlier) there) ∙ c.if-members.false ∙ c.members-2.ensures (entry_in tape n) here)
-    (sym (c.after.ensures (get_or tape c.args.earlier no_entry) there) ∙ c.if-after-end.false ∙ ap (λ e. e - (n - c.args.earlier)) end))
+    (sym (c.after.ensures (get_or tape c.args.earlier no_entry) there) ∙ c.if-after-end.false ∙ ap (λ e. e - (n - c.args.earlier)) end)))
+
+pub leaves_alike-requires-clause-named : goal.leaves_alike-requires-clause-named
+leaves_alike-requires-clause-named c k h same =
+    names_inside _ _ _ _ (c.loop-from.from + k) _ _ _ (abreast_leaves _ _ _ _ k c.loop-from.from _ _ _ c.loop-from.invariant c.requires.object same (omega arith)) c.requires.object (omega arith)
+
+pub returns-then-member-end : goal.returns-then-member-end
+returns-then-member-end c = λ _.
+    let few = c.leaves_alike.ensures.few in
+    let t = c.loop-from-test.true in
+    let a = abreast_past _ _ _ _ c.leaves_alike.result c.loop-from.from _ _ c.loop-from.invariant c.requires.object c.leaves_alike.ensures.alike (omega arith) in
+    abreast_all _ _ _ _ _ _ _ _ a c.if-member-end.true
 
 pub label-requires : goal.label-requires
 label-requires c =
-    let o = c.requires.object in
-    let x = next_here _ _ _ _ _ _ _ _ c.loop-member.invariant o.0 o.1 c.loop-member-test.true in
-    x.inside
+    let few = c.leaves_alike.ensures.few in
+    let t = c.loop-from-test.true in
+    let a = abreast_past _ _ _ _ c.leaves_alike.result c.loop-from.from _ _ c.loop-from.invariant c.requires.object c.leaves_alike.ensures.alike (omega arith) in
+    let i = names_inside _ _ _ _ _ _ _ _ a c.requires.object (omega arith) in
+    i.0.0
 
-pub label-requires-in-loop-member : goal.label-requires-in-loop-member
-label-requires-in-loop-member c =
-    let o = c.requires.object in
-    let y = next_there _ _ _ _ _ _ _ _ c.loop-member.invariant o.0 o.1 c.loop-member-test.true in
-    y.inside
+pub label-requires-in-loop-from : goal.label-requires-in-loop-from
+label-requires-in-loop-from c =
+    let few = c.leaves_alike.ensures.few in
+    let t = c.loop-from-test.true in
+    let a = abreast_past _ _ _ _ c.leaves_alike.result c.loop-from.from _ _ c.loop-from.invariant c.requires.object c.leaves_alike.ensures.alike (omega arith) in
+    let i = names_inside _ _ _ _ _ _ _ _ a c.requires.object (omega arith) in
+    i.1.0
+
+pub after-from-requires : goal.after-from-requires
+after-from-requires c =
+    let few = c.leaves_alike.ensures.few in
+    let t = c.loop-from-test.true in
+    let a = abreast_past _ _ _ _ c.leaves_alike.result c.loop-from.from _ _ c.loop-from.invariant c.requires.object c.leaves_alike.ensures.alike (omega arith) in
+    let i = names_inside _ _ _ _ _ _ _ _ a c.requires.object (omega arith) in
+    i.0.0
+
+pub after-requires-in-loop-from : goal.after-requires-in-loop-from
+after-requires-in-loop-from c =
+    let few = c.leaves_alike.ensures.few in
+    let t = c.loop-from-test.true in
+    let a = abreast_past _ _ _ _ c.leaves_alike.result c.loop-from.from _ _ c.loop-from.invariant c.requires.object c.leaves_alike.ensures.alike (omega arith) in
+    let i = names_inside _ _ _ _ _ _ _ _ a c.requires.object (omega arith) in
+    i.1.0
 
 pub is_same_name-requires-clause-left : goal.is_same_name-requires-clause-left
 is_same_name-requires-clause-left c =
-    let o = c.requires.object in
-    let x = next_here _ _ _ _ _ _ _ _ c.loop-member.invariant o.0 o.1 c.loop-member-test.true in
-    let l = c.label.ensures (get_or c.args.tape.now c.loop-member.member no_entry) (same_entry c.args.tape.now c.loop-member.member x.inside) in
-    (quoted_at c.args.text.now c.args.text.now _ x.name.source x.name.characters refl (l ∙ x.label) x.lies x.string).1
+    let few = c.leaves_alike.ensures.few in
+    let t = c.loop-from-test.true in
+    let a = abreast_past _ _ _ _ c.leaves_alike.result c.loop-from.from _ _ c.loop-from.invariant c.requires.object c.leaves_alike.ensures.alike (omega arith) in
+    let i = names_inside _ _ _ _ _ _ _ _ a c.requires.object (omega arith) in
+    let l = c.label.ensures _ (same_entry _ _ i.0.0) in
+    subst (λ (x : Extent). x.start + x.len ≤ length c.args.text.now) (sym l) i.0.1
 
 pub is_same_name-requires-clause-right : goal.is_same_name-requires-clause-right
 is_same_name-requires-clause-right c =
-    let o = c.requires.object in
-    let y = next_there _ _ _ _ _ _ _ _ c.loop-member.invariant o.0 o.1 c.loop-member-test.true in
-    let l = c.label-in-loop-member.ensures (get_or c.args.tape.now c.loop-member.other no_entry) (same_entry c.args.tape.now c.loop-member.other y.inside) in
-    (quoted_at c.args.text.now c.args.text.now _ y.name.source y.name.characters refl (l ∙ y.label) y.lies y.string).1
+    let few = c.leaves_alike.ensures.few in
+    let t = c.loop-from-test.true in
+    let a = abreast_past _ _ _ _ c.leaves_alike.result c.loop-from.from _ _ c.loop-from.invariant c.requires.object c.leaves_alike.ensures.alike (omega arith) in
+    let i = names_inside _ _ _ _ _ _ _ _ a c.requires.object (omega arith) in
+    let l = c.label-in-loop-from.ensures _ (same_entry _ _ i.1.0) in
+    subst (λ (x : Extent). x.start + x.len ≤ length c.args.text.now) (sym l) i.1.1
 
-pub after-member-requires : goal.after-member-requires
-after-member-requires c =
+pub overflow_sub-from-in-loop-from : goal.overflow_sub-from-in-loop-from
+overflow_sub-from-in-loop-from c =
+    let few = c.leaves_alike.ensures.few in
+    let t = c.loop-from-test.true in
+    let a = abreast_past _ _ _ _ c.leaves_alike.result c.loop-from.from _ _ c.loop-from.invariant c.requires.object c.leaves_alike.ensures.alike (omega arith) in
+    let i = names_inside _ _ _ _ _ _ _ _ a c.requires.object (omega arith) in
     let o = c.requires.object in
-    let x = next_here _ _ _ _ _ _ _ _ c.loop-member.invariant o.0 o.1 c.loop-member-test.true in
-    x.inside
+    let x = next_here _ _ _ _ _ _ _ _ a o.0 o.1 (omega arith) in
+    let e = c.after-from.ensures _ (same_entry _ _ x.inside) in
+    let later = x.later in
+    let ahead = a.ahead in omega arith
 
-pub after-other-requires : goal.after-other-requires
-after-other-requires c =
+pub loop-from-smaller : goal.loop-from-smaller
+loop-from-smaller c =
+    let few = c.leaves_alike.ensures.few in
+    let t = c.loop-from-test.true in
+    let a = abreast_past _ _ _ _ c.leaves_alike.result c.loop-from.from _ _ c.loop-from.invariant c.requires.object c.leaves_alike.ensures.alike (omega arith) in
+    let i = names_inside _ _ _ _ _ _ _ _ a c.requires.object (omega arith) in
     let o = c.requires.object in
-    let y = next_there _ _ _ _ _ _ _ _ c.loop-member.invariant o.0 o.1 c.loop-member-test.true in
-    y.inside
+    let x = next_here _ _ _ _ _ _ _ _ a o.0 o.1 (omega arith) in
+    let e = c.after-from.ensures _ (same_entry _ _ x.inside) in
+    let later = x.later in
+    omega arith
 
-pub overflow_sub-member : goal.overflow_sub-member
-overflow_sub-member c =
-    let o = c.requires.object in
-    let x = next_here _ _ _ _ _ _ _ _ c.loop-member.invariant o.0 o.1 c.loop-member-test.true in
-    let e = c.after-member.ensures (get_or c.args.tape.now c.loop-member.member no_entry) (same_entry c.args.tape.now c.loop-member.member x.inside) in
-    let l = x.later in let a = c.loop-member.invariant.ahead in omega arith
-
-pub loop-member-smaller : goal.loop-member-smaller
-loop-member-smaller c =
-    let o = c.requires.object in
-    let x = next_here _ _ _ _ _ _ _ _ c.loop-member.invariant o.0 o.1 c.loop-member-test.true in
-    let e = c.after-member.ensures (get_or c.args.tape.now c.loop-member.member no_entry) (same_entry c.args.tape.now c.loop-member.member x.inside) in
-    let l = x.later in let t = c.loop-member-test.true in omega arith
-
-pub loop-member-preserved : goal.loop-member-preserved
-loop-member-preserved c =
-    let o = c.requires.object in
-    let i = c.loop-member.invariant in
-    let t = c.loop-member-test.true in
-    let x = next_here _ _ _ _ _ _ _ _ i o.0 o.1 t in
-    let y = next_there _ _ _ _ _ _ _ _ i o.0 o.1 t in
-    let here = same_entry c.args.tape.now c.loop-member.member x.inside in
-    let there = same_entry c.args.tape.now c.loop-member.other y.inside in
-    abreast_more _ _ _ _ _ _ _ _ i _ _ _ _ (c.label.ensures (get_or c.args.tape.now c.loop-member.member no_entry) here) (c.label-in-loop-member.ensures (get_or c.args.tape.now c.loop-member.other no_entry) there)
-    (c.after-member.ensures (get_or c.args.tape.now c.loop-member.member no_entry) here) (c.after-other.ensures (get_or c.args.tape.now c.loop-member.other no_entry) there)
-    (c.if-not-is_same_name.ensures refl) c.if-other-member.false t o
+pub loop-from-preserved : goal.loop-from-preserved
+loop-from-preserved c =
+    let few = c.leaves_alike.ensures.few in
+    let t = c.loop-from-test.true in
+    let a = abreast_past _ _ _ _ c.leaves_alike.result c.loop-from.from _ _ c.loop-from.invariant c.requires.object c.leaves_alike.ensures.alike (omega arith) in
+    let i = names_inside _ _ _ _ _ _ _ _ a c.requires.object (omega arith) in
+    let here = same_entry _ _ i.0.0 in
+    let there = same_entry _ _ i.1.0 in
+    subst (λ k. Abreast c.args.text.now c.args.tape.now c.args.n c.args.earlier c.after-from.result k c.after-end.result (get_or c.args.tape.now c.args.earlier no_entry).after) c.if-after-from.false
+    (abreast_more _ _ _ _ _ _ _ _ a _ _ _ _ (c.label.ensures _ here) (c.label-in-loop-from.ensures _ there) (c.after-from.ensures _ here) (c.after-in-loop-from.ensures _ there)
+    (c.if-not-is_same_name.ensures refl) c.if-after-from.false (omega arith) c.requires.object)
 
 pub returns : goal.returns
-returns c = λ _. abreast_all _ _ _ _ _ _ _ _ c.loop-member.invariant c.loop-member-test.false
+returns c = λ _. abreast_all _ _ _ _ _ _ _ _ c.loop-from.invariant c.loop-from-test.false

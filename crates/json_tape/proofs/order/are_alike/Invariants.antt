@@ -3,8 +3,8 @@ use Rattle.json_tape.proofs.MembersLeft.{no_entry}
 use Rattle.json_tape.proofs.Abreast.{Abreast}
 use Rattle.json_tape.proofs.order.are_alike.Given as goal
 
-abbrev pub invariant-loop-member : goal.invariant-loop-member
-invariant-loop-member l = Abreast l.text l.tape l.n l.earlier l.member l.other l.end (get_or l.tape l.earlier no_entry).after
+abbrev pub invariant-loop-from : goal.invariant-loop-from
+invariant-loop-from l = Abreast l.text l.tape l.n l.earlier l.from (l.from - (l.n - l.earlier)) l.end (get_or l.tape l.earlier no_entry).after
 
-abbrev pub decreases-loop-member : goal.decreases-loop-member
-decreases-loop-member l = l.end - l.member
+abbrev pub decreases-loop-from : goal.decreases-loop-from
+decreases-loop-from l = l.end - l.from
