@@ -1,4 +1,4 @@
-use Rattle.std.proofs.Common.{◌-◌, refl, arith}
+use Rattle.std.proofs.Common.{◌-◌, arith}
 use Rattle.json_tape.proofs.SameBytes.{same_more}
 use Rattle.json_tape.proofs.order.are_same_few.Goals as goal
 
