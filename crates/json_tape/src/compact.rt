@@ -30,13 +30,13 @@ impl Model for Tape {
     ghost invariant = { λ t. IsTape t.cells.items t.sides.items };
 }
 
-// Whether a name's length is in one byte, and its start alone in its word.
+// Whether a name begins no further than a place, and has its length in one byte.
 #[inline(always)]
-fn has_short_name(cell: Cell) -> bool
-    ensures start { IsTrue result → cell.label < 2 ^ 24 }
+fn has_short_name(cell: Cell, last: u32) -> bool
+    ensures start { IsTrue result → cell.label ≤ last }
     ensures len { IsTrue result → cell.up < 2 ^ 24 }
 {
-    (cell.label < WORD_LIMIT) & (cell.up < WORD_LIMIT)
+    cell.label <= last && cell.up < WORD_LIMIT
 }
 
 impl Tape {
@@ -188,14 +188,16 @@ impl Tape {
         self.cells[n as usize].label()
     }
 
-    /// The names of two values that hold no others, where both are of one length below 256.
+    /// The names of two values that hold no others, where both are of one length below 256 and neither begins behind the last place.
     #[inline(always)]
-    pub fn leaf_names(&self, left: usize, right: usize) -> Option<(Extent, Extent)>
+    pub fn leaf_names(&self, left: usize, right: usize, last: u32) -> Option<(Extent, Extent)>
+        requires last { last < 2 ^ 24 }
         requires left { left < length self.now }
         requires right { right < length self.now }
         ensures left { IfSome result (λ names. (e : Entry) → e ≡ slice_index_or self.now left e → (names.0 ≡ e.label) × (e.after ≡ left + 1)) }
         ensures right { IfSome result (λ names. (e : Entry) → e ≡ slice_index_or self.now right e → (names.1 ≡ e.label) × (e.after ≡ right + 1)) }
         ensures len { IfSome result (λ names. names.0.len ≡ names.1.len) }
+        ensures starts { IfSome result (λ names. (names.0.start ≤ last) × (names.1.start ≤ last)) }
     {
         let here = self.cells[left];
         let there = self.cells[right];
@@ -203,7 +205,7 @@ impl Tape {
         if len != there.span / WORD_LIMIT || here.holds() | there.holds() {
             return None;
         }
-        if has_short_name(here) & has_short_name(there) {
+        if has_short_name(here, last) && has_short_name(there, last) {
             let first = Extent {
                 start: here.label,
                 len,

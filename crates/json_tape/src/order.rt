@@ -9,6 +9,7 @@ ghost use Rattle.json_tape.specs.Limits.{bytes_at};
 ghost use Rattle.json_tape.specs.Ordered.{AreNamed, IsOrderOf, AreKept, IsWide, AreSameFrom, IsLeafAlike, AreLeavesAlike, IsNameInside, AreAlike, entry_in, name_at, name_cmp, name_hash, keyed, key_number, key_hash, word_of, high_half, low_half, sought_name, part, onward};
 
 use crate::again::has_equal_neighbours;
+use crate::cells::WORD_LIMIT;
 use crate::compact::Tape;
 use crate::growth::push;
 use crate::hashes::{hash, mixed};
@@ -371,21 +372,21 @@ fn are_same_few(bytes: &[u8], left: usize, right: usize, len: usize) -> bool
 
 // Whether two values that hold no others stand under the same name, as far as loads tell, none of which begins behind the last place.
 #[inline(always)]
-fn is_leaf_alike(text: &str, last: usize, tape: &Tape, left: usize, right: usize) -> bool
+fn is_leaf_alike(text: &str, last: u32, tape: &Tape, left: usize, right: usize) -> bool
     requires last { last + LANES ≤ length text.now }
+    requires small { last < 2 ^ 24 }
     requires here { IsNameInside text.now tape.now left }
     requires there { IsNameInside text.now tape.now right }
     ensures { IsTrue result → IsLeafAlike text.now tape.now left right }
 {
-    match tape.leaf_names(left, right) {
+    match tape.leaf_names(left, right, last) {
         None => false,
-        Some((first, second)) => {
-            let here = first.start as usize;
-            let there = second.start as usize;
-            here <= last
-                && there <= last
-                && are_same_few(text.as_bytes(), here, there, first.len as usize)
-        }
+        Some((first, second)) => are_same_few(
+            text.as_bytes(),
+            first.start as usize,
+            second.start as usize,
+            first.len as usize,
+        ),
     }
 }
 
@@ -400,7 +401,7 @@ fn leaves_alike(text: &str, tape: &Tape, left: usize, right: usize, count: usize
     if text.len() < LANES {
         return 0;
     }
-    let last = text.len() - LANES;
+    let last = (text.len() - LANES).min(WORD_LIMIT as usize - 1) as u32;
     for k in 0..count {
         if !is_leaf_alike(text, last, tape, left + k, right + k) {
             return k;
