@@ -351,8 +351,8 @@ fn is_same_name(text: &str, left: Extent, right: Extent) -> bool
     have_loads(bytes, here, there) && same_run(bytes, here, there) >= len
 }
 
-// Whether so many bytes from one place on are those from another on, by a load at both, and where they are more than these have, at
-// most twice as many, by one at their ends.
+// Whether so many bytes from one place on are those from another on, where a load stands at both. Few take no loop: they end in it or
+// in the next one.
 #[inline(always)]
 fn are_same_few(bytes: &[u8], left: usize, right: usize, len: usize) -> bool
     requires left { (left + LANES ≤ length bytes.now) × (left + len ≤ length bytes.now) }
@@ -363,8 +363,11 @@ fn are_same_few(bytes: &[u8], left: usize, right: usize, len: usize) -> bool
     if run >= len {
         return true;
     }
-    if run < LANES || len > 2 * LANES {
+    if run < LANES {
         return false;
+    }
+    if len > 2 * LANES {
+        return are_same(bytes, left, right, len);
     }
     let behind = len - LANES;
     is_same_load(bytes, left + behind, right + behind)
