@@ -1,7 +1,7 @@
 -- Comparing a name with scalar values one by one.
-use Rattle.std.proofs.Common.{◌≡◌, ◌≢◌, ℕ, ◌+◌, ◌<◌, true, false, List, [], ◌∷◌, length, get_or, drop, refl, arith}
+use Rattle.std.proofs.Common.{◌≡◌, ◌≢◌, ℕ, ◌+◌, ◌<◌, true, false, List, ◌∷◌, length, get_or, drop, refl, arith}
 use Rattle.std.specs.Prelude.{bytes_eq, eqb}
-use Rattle.std.proofs.lemmas.List.{drop_more, drop_all}
+use Rattle.std.proofs.lemmas.List.{drop_more}
 use Rattle.std.proofs.lemmas.Bool.Decides.{nat_tests}
 
 -- the next scalar value is that of the name, another one, or none
@@ -14,12 +14,3 @@ pub other_next : (name : List ℕ) (i c d : ℕ) (rest : List ℕ) → i < lengt
 other_next name i c d rest h e n =
     let t : eqb (get_or name i d) c ≡ false = grind (arith, nat_tests) in
     rw (drop_more name i d h, t) refl
-
-pub none_next : (name : List ℕ) (i d : ℕ) → i < length name → bytes_eq (drop i name) [] ≡ false
-none_next name i d h = rw (drop_more name i d h) refl
-
-pub end_some : (name : List ℕ) (i c : ℕ) (rest : List ℕ) → length name ≡ i → bytes_eq (drop i name) (c ∷ rest) ≡ false
-end_some name i c rest h = rw (drop_all i name (omega arith)) refl
-
-pub end_none : (name : List ℕ) (i : ℕ) → length name ≡ i → bytes_eq (drop i name) [] ≡ true
-end_none name i h = rw (drop_all i name (omega arith)) refl

@@ -1,5 +1,5 @@
 -- Where a walk goes from one point to another: what each call shows of the tokens that it took.
-use Rattle.std.proofs.Common.{◌≡◌, ◌≢◌, ℕ, suc, ◌+◌, ◌<◌, ◌≤◌, Bool, true, false, cond, List, [], ◌∷◌, ◌++◌, length, drop, Option, Some, None, refl, sym, ap, subst, ◌∙◌, arith}
+use Rattle.std.proofs.Common.{◌≡◌, ◌≢◌, ℕ, suc, ◌+◌, ◌<◌, ◌≤◌, Bool, true, false, IsTrue, cond, List, [], ◌∷◌, ◌++◌, length, drop, Option, Some, None, refl, sym, ap, subst, ◌∙◌, arith}
 use Rattle.std.specs.Prelude.{Result, Ok, Err}
 use Rattle.std.proofs.lemmas.Bool.Decides.{nat_tests}
 use Rattle.std.proofs.lemmas.Option.{cond_some}
@@ -23,7 +23,7 @@ use Rattle.json_tape.specs.Machine.{Token, Opening, Closing, Comma, Between, Tex
 use Rattle.json_tape.specs.Built.{Built, standing}
 use Rattle.json_tape.specs.Lexing.{is_atom, sign_at, IsToken, sign, text, word, Marked}
 use Rattle.json_tape.specs.Walking.{weight}
-use Rattle.json_tape.specs.Walked.{TokenAt, begins_value, is_text, NoneAt, IsNameAt, token_of, end_of, price_of, IsListed, place, byte_at, Point, point, Walked, stays, moves, IsBlocked, refused, Halts, want_at, AsksValue, AsksName, with_sign, without_sign, Grown}
+use Rattle.json_tape.specs.Walked.{TokenAt, begins_value, is_text, NoneAt, IsNameAt, token_of, end_of, price_of, IsListed, place, byte_at, Point, point, Walked, stays, moves, IsBlocked, refused, Halts, want_at, AsksValue, AsksName, with_sign, no_more, Grown}
 use Rattle.json_tape.proofs.Tokens.{refused_all}
 use Rattle.json_tape.proofs.TokensAt.{sign_token, token_size, size, ends_at, no_word_marked}
 use Rattle.json_tape.proofs.Listed.{in_text}
@@ -241,11 +241,12 @@ module _ (bytes items : List ℕ) (listed : IsListed bytes items) where
       one bytes items k now later mark mark (Text x) (standing b w None) (standing b wants.Colon (Some x)) l t (named_step b w x asks.0) (omega (arith, p))
       (no_word_marked bytes (place items k) 34 _ mark (quote_here t.is_token (byte_at bytes items k) (drop (place items k + 1) bytes) (sym (drop_more bytes (place items k) 0 (in_text bytes items listed k l)) ∙ t.stands)) refl)
 
-  pub name_and_colon : (k now between later : ℕ) (mark : Bool) (b : Built) (w : Want) (x : Extent) → k + 1 < length items → AsksName bytes items k w → IsNameAt bytes (place items k) (Some x) → between ≤ now + x.len + 1 → byte_at bytes items (k + 1) ≡ 58 → later ≤ between + 1
+  pub name_and_colon : (k now later : ℕ) (mark : Bool) (b : Built) (w : Want) (x : Extent) → k + 1 < length items → AsksName bytes items k w → IsNameAt bytes (place items k) (Some x) → byte_at bytes items (k + 1) ≡ 58 → later ≤ now + x.len + 6
       → Walked bytes items (point k (standing b w None) now mark) (point (k + 2) (standing b wants.Value (Some x)) later mark)
-  name_and_colon k now between later mark b w x l asks t p q r =
+  name_and_colon k now later mark b w x l asks t q r =
+      let between = now + x.len + 3 in
       let z : k + 1 + 1 ≡ k + 2 = omega arith in
-      walked_more bytes items (over_name k now between mark b w x (omega (arith, l)) asks t (omega (arith, p)))
+      walked_more bytes items (over_name k now between mark b w x (omega (arith, l)) asks t (omega arith))
       (subst (λ n. Walked bytes items (point (k + 1) (standing b wants.Colon (Some x)) between mark) (point n (standing b wants.Value (Some x)) later mark)) z
       (over_sign bytes items (k + 1) 58 between later mark Between (standing b wants.Colon (Some x)) (standing b wants.Value (Some x)) l (in_text bytes items listed (k + 1) l) q refl refl refl (omega (arith, r))))
 
@@ -258,6 +259,11 @@ module _ (bytes items : List ℕ) (listed : IsListed bytes items) where
   no_colon_halts k now later mark b w x l asks t p n =
       halts_more bytes items (over_name k now later mark b w x (omega (arith, l)) asks t p)
       (here_halts bytes items _ (blocked bytes items (k + 1) later mark (standing b wants.Colon (Some x)) l (λ tok at. colon_only tok b (Some x) (λ e. n ((first_byte (k + 1) tok l at).0 e)))))
+
+-- the bytes of a name without a backslash are looked at once, those of any other one have been looked at
+pub looks_paid : (plain : Bool) (now named colon later len : ℕ) → named ≤ now + len + 1 → (IsTrue plain → named ≤ now + 2) → colon ≤ named + 1 → later ≤ colon + len → (plain ≡ false → later ≡ colon) → later ≤ now + len + 6
+looks_paid true now named colon later len a q c s u = let k = q refl in omega (arith, k)
+looks_paid false now named colon later len a q c s u = let k = u refl in omega (arith, k)
 
 -- ---- Values
 
@@ -363,7 +369,7 @@ module _ (bytes items : List ℕ) (listed : IsListed bytes items) where
   opened_walks : (k now later : ℕ) (mark mark' : Bool) (shape inner : Shape) (old new : Built) (w : Want) (name : Option Extent) (l : Lexed) (made : Result (Unit {0}) BuildFault) → k < length items → AsksValue bytes items k w
       → l ≡ lexed.Opens inner → TokenAt bytes (place items k) (token_of (place items k) l) → Marked bytes (place items k) mark (Ok (end_of (place items k) l)) mark' → later ≤ now + price_of l
       → Took (step (Opening inner (place items k)) (standing old wants.Value name)) made (standing new (first_of inner) None)
-      → Grown bytes items (point k (standing old w name) now mark) shape (k + 1) (without_sign made) new later mark'
+      → Grown bytes items (point k (standing old w name) now mark) shape (k + 1) (no_more made) new later mark'
   opened_walks k now later mark mark' shape inner old new w name l (Ok x) inside asks e t m looked took =
       let i = place items k in
       let more = subst (λ x. later ≤ now + price_of x) e looked in
@@ -375,7 +381,7 @@ module _ (bytes items : List ℕ) (listed : IsListed bytes items) where
 
   pub opened_grown : (k now later : ℕ) (mark mark' : Bool) (shape inner : Shape) (old new : Built) (w : Want) (name : Option Extent) (l : Lexed) (made : Result (Unit {0}) BuildFault) (r : Result (Option ℕ) BuildFault) → k < length items → AsksValue bytes items k w
       → l ≡ lexed.Opens inner → TokenAt bytes (place items k) (token_of (place items k) l) → Marked bytes (place items k) mark (Ok (end_of (place items k) l)) mark' → later ≤ now + price_of l
-      → Took (step (Opening inner (place items k)) (standing old wants.Value name)) made (standing new (first_of inner) None) → r ≡ without_sign made
+      → Took (step (Opening inner (place items k)) (standing old wants.Value name)) made (standing new (first_of inner) None) → r ≡ no_more made
       → Grown bytes items (point k (standing old w name) now mark) shape (k + 1) r new later mark'
   opened_grown k now later mark mark' shape inner old new w name l made r inside asks e t m looked took is =
       subst (λ x. Grown bytes items (point k (standing old w name) now mark) shape (k + 1) x new later mark') (sym is)

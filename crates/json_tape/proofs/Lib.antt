@@ -1,11 +1,9 @@
 pub mod Snoc
 pub mod Complete
 pub mod Follows
-pub mod Leaves
 pub mod Lexed
 pub mod Front
 pub mod Walk
-pub mod Change
 pub mod Tokens
 pub mod Steps
 pub mod PlainLanes
@@ -40,7 +38,7 @@ pub mod Comparing
 pub mod Repeats
 pub mod MembersLeft
 pub mod MembersSeen
-pub mod PassedObjects
+pub mod Sifted
 pub mod TwinNames
 pub mod Unique
 pub mod Utf8Order
@@ -55,6 +53,7 @@ pub mod StopBits
 pub mod Joined
 pub mod Sides
 pub mod Keeping
+pub mod Known
 mod Beginnings
 pub mod PlainBlocks
 pub mod PlainFronts
@@ -75,7 +74,6 @@ pub mod KeysLeft
 pub mod HashedWords
 pub mod Stamps
 pub mod PlainStamps
-pub mod SlashRange
 pub mod Runs
 pub mod WideNodes
 pub mod CountedStrings
@@ -85,3 +83,6 @@ pub mod Inside
 pub mod SameBytes
 pub mod Abreast
 pub mod Alike
+pub mod NamesTold
+pub mod NamesApart
+pub mod NamesSteps

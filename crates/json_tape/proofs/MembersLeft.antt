@@ -12,9 +12,8 @@ use Rattle.json_tape.specs.declared.tape.Kind.TheVariants as kinds
 use Rattle.json_tape.specs.declared.tape.Role.TheVariants as roles
 use Rattle.json_tape.proofs.Fits.{Lies, FitMembers, text_fits, part_fits}
 use Rattle.json_tape.proofs.Numbers.{part_at, entry_at, entry_first}
-use Rattle.json_tape.proofs.Judging.{number_below}
 use Rattle.json_tape.proofs.Snoc.{length-tape}
-use Rattle.json_tape.proofs.Entries.{size_positive, label_is, after_is}
+use Rattle.json_tape.proofs.Entries.{size_positive, role_is, label_is, up_is, after_is}
 
 -- what an index past the end gives
 abbrev pub no_entry : Entry
@@ -46,9 +45,6 @@ all_left text tape n ms o =
       ends = ap (λ (x : Entry). x.after) (entry_at tape no_entry o.stands o.is_at);
     }
 
-pub object_inside : (text : List ℕ) (tape : List Entry) (n : ℕ) (ms : Members) → IsObject text tape n ms → n < length tape
-object_inside text tape n ms o = number_below tape o.tree (Obj o.source ms) n o.up o.label o.stands o.is_at
-
 -- the first of those that are left
 pub record Next (text : List ℕ) (tape : List Entry) (up k end : ℕ) (ms : Members) : Type 0 where
   pub name : Name
@@ -56,6 +52,8 @@ pub record Next (text : List ℕ) (tape : List Entry) (up k end : ℕ) (ms : Mem
   pub inside : k < length tape
   pub value : Tree
   pub whole : ms ≡ Member name value others
+  pub role : (get_or tape k no_entry).role ≡ roles.Member
+  pub up_is : (get_or tape k no_entry).up ≡ up
   pub label : (get_or tape k no_entry).label ≡ extent name.source
   pub lies : Lies text name.source
   pub string : IsString name.source.bytes name.characters
@@ -82,6 +80,8 @@ next_left text tape up k end (Member m v ms) l h =
       inside = (let a = ap length whole in let b = length-append l.front (own ++ (rest ++ l.back)) in let c = length-append own (rest ++ l.back) in let g = l.long in omega arith);
       value = v;
       whole = refl;
+      role = ap (λ (x : Entry). x.role) here ∙ role_is v up lab k;
+      up_is = ap (λ (x : Entry). x.up) here ∙ up_is v up lab k;
       label = ap (λ (x : Entry). x.label) here ∙ label_is v up lab k;
       lies = l.fits.0;
       string = l.fits.1;

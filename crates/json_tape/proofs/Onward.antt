@@ -21,7 +21,7 @@ use Rattle.json_tape.specs.declared.second_stage.Spot.{Spot}
 use Rattle.json_tape.specs.Machine.{Token, Opening, Closing, Comma, Between, Text, Word, State, step, put_close, put_comma, closes, after_comma, level_of, first_of, Took, IsSmall}
 use Rattle.json_tape.specs.Built.{Built, standing}
 use Rattle.json_tape.specs.Lexing.{sign_at, is_atom, Taken, Marked}
-use Rattle.json_tape.specs.Walked.{TokenAt, begins_value, is_text, AsksValue, AsksName, IsListed, place, byte_at, Point, point, Walked, stays, moves, Outlasts, few, Halts, want_at, AsksChild, shape_of, width, ending, Grown, Entered, Arrives, spot_behind, no_child, token_of, end_of, price_of, behind, is_whole, spot_after}
+use Rattle.json_tape.specs.Walked.{TokenAt, begins_value, is_text, AsksValue, AsksName, IsListed, place, byte_at, Point, point, Walked, stays, moves, Outlasts, few, Halts, want_at, AsksChild, shape_of, width, ending, Grown, Entered, Arrives, spot_behind, no_more, token_of, end_of, price_of, behind, is_whole, spot_after}
 use Rattle.json_tape.proofs.Going.{unopened, unput, cond_none, not_root, first_byte, blocked, here_halts, halts_more, walked_more, one, over_sign, refused_halts, value_only, name_only, colon_only, value_any, named_step, open_level, leaf_level}
 use Rattle.json_tape.proofs.Listed.{in_text}
 use Rattle.json_tape.proofs.TokensAt.{sign_token}
@@ -140,7 +140,7 @@ module _ (bytes items : List ℕ) (listed : IsListed bytes items) where
   entry_state b shape behind l = ap (λ v. standing b (want_at behind v) None) l
 
   closing_entered : (k next now later : ℕ) (mark : Bool) (behind : Bool) (old new : Built) (shape : Shape) (made : Result (Unit {0}) BuildFault) → next ≡ k + 1 → k < length items → level_of old.opens ≡ Inside shape → byte_at bytes items k ≡ ending shape → Took (step (Closing shape (place items k)) (standing old wants.Next None)) made (standing new wants.Next None) → later ≤ now + 1
-      → Entered bytes items (point k (standing old (want_at behind (level_of old.opens)) None) (now + 1) mark) shape next (no_child made) new later mark
+      → Entered bytes items (point k (standing old (want_at behind (level_of old.opens)) None) (now + 1) mark) shape next (no_more made) new later mark
   closing_entered k next now later mark behind old new shape (Ok x) e l level q took p =
       subst (λ n. Walked bytes items (point k (standing old (want_at behind (level_of old.opens)) None) (now + 1) mark) (point n (standing new wants.Next None) (later + 1) mark)) (sym e)
       (over_sign bytes items k (ending shape) (now + 1) (later + 1) mark (Closing shape (place items k)) _ _ l (in_text bytes items listed k l) q (ending_sign shape (place items k)) (ending_atom shape) (close_any shape (place items k) old behind level ∙ took) (omega (arith, p)))
@@ -148,7 +148,7 @@ module _ (bytes items : List ℕ) (listed : IsListed bytes items) where
       refused_halts bytes items listed k (now + 1) mark (Closing shape (place items k)) _ l (sign_token bytes (place items k) (Closing shape (place items k)) (in_text bytes items listed k l) (ap (sign_at (place items k)) q ∙ ending_sign shape (place items k))) (close_any shape (place items k) old behind level ∙ took)
   closing_entered k next now later mark behind old new shape (Err Memory) e l level q took p = tt
 
-  pub closed_entered : (k next now later : ℕ) (mark : Bool) (behind : Bool) (old new : Built) (shape : Shape) (made : Result (Unit {0}) BuildFault) (r : Result (Option ℕ) BuildFault) → next ≡ k + 1 → k < length items → level_of old.opens ≡ Inside shape → byte_at bytes items k ≡ ending shape → Took (step (Closing shape (place items k)) (standing old wants.Next None)) made (standing new wants.Next None) → later ≤ now + 1 → r ≡ no_child made
+  pub closed_entered : (k next now later : ℕ) (mark : Bool) (behind : Bool) (old new : Built) (shape : Shape) (made : Result (Unit {0}) BuildFault) (r : Result (Option ℕ) BuildFault) → next ≡ k + 1 → k < length items → level_of old.opens ≡ Inside shape → byte_at bytes items k ≡ ending shape → Took (step (Closing shape (place items k)) (standing old wants.Next None)) made (standing new wants.Next None) → later ≤ now + 1 → r ≡ no_more made
       → Entered bytes items (point k (standing old (want_at behind (level_of old.opens)) None) (now + 1) mark) shape next r new later mark
   closed_entered k next now later mark behind old new shape made r e l level q took p is =
       subst (λ x. Entered bytes items (point k (standing old (want_at behind (level_of old.opens)) None) (now + 1) mark) shape next x new later mark) (sym is) (closing_entered k next now later mark behind old new shape made e l level q took p)
@@ -238,10 +238,6 @@ module _ (bytes items : List ℕ) (listed : IsListed bytes items) where
       let next = m.next in
       walked_small c b w (step_small a.number c.number m.taken.tok a.state c.state (omega (arith, next)) m.taken.steps h)
 
-  pub walked_within : (a b : Point) → Walked bytes items a b → a.number ≤ length items → b.number ≤ length items
-  walked_within a b (stays n s x l) h = omega (arith, n, h)
-  walked_within a b (moves {b = c} m w) h = let next = m.next in let inside = m.inside in walked_within c b w (omega (arith, next, inside))
-
   pub grown_more : {a b : Point} (shape : Shape) (k looked : ℕ) (r : Result (Option ℕ) BuildFault) (new : Built) (mark : Bool) → Walked bytes items a b → Grown bytes items b shape k r new looked mark → Grown bytes items a shape k r new looked mark
   grown_more shape k looked (Ok (Some byte)) new mark w h = (walked_more bytes items w h.0, h.1, h.2, h.3)
   grown_more shape k looked (Ok None) new mark w h = (walked_more bytes items w h.0, h.1)
@@ -256,10 +252,6 @@ module _ (bytes items : List ℕ) (listed : IsListed bytes items) where
   pub grown_fault : (a : Point) (shape : Shape) (k looked : ℕ) (fault : BuildFault) (new : Built) (mark : Bool) → Grown bytes items a shape k (Err fault) new looked mark → Arrives bytes items a (Err fault) new looked mark
   grown_fault a shape k looked NotJson new mark h = h
   grown_fault a shape k looked Memory new mark h = tt
-
-  pub entered_fault : (a : Point) (shape : Shape) (k looked : ℕ) (fault : BuildFault) (new : Built) (mark : Bool) → Entered bytes items a shape k (Err fault) new looked mark → Arrives bytes items a (Err fault) new looked mark
-  entered_fault a shape k looked NotJson new mark h = h
-  entered_fault a shape k looked Memory new mark h = tt
 
   -- ---- Too few places
 

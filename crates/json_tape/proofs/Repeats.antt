@@ -1,7 +1,7 @@
 -- Names that come again: step by step, and in order.
 use Rattle.std.proofs.Common.{◌≡◌, ℕ, zero, suc, ◌+◌, ◌<◌, ◌≤◌, true, false, Bool, ◌||◌, List, [], ◌∷◌, length, map, drop, get_or, refl, sym, ap, ◌∙◌, subst, arith}
 use Rattle.std.specs.List.{list_any}
-use Rattle.std.proofs.lemmas.List.{drop_more, drop_all, length-drop}
+use Rattle.std.proofs.lemmas.List.{length-drop}
 use Rattle.std.specs.List.{IsDistinct, AllByRecursion}
 use Rattle.std.specs.List.Sorted.{IsPermutation, IsSorted, IsStrictlySortedBy}
 use Rattle.std.specs.Ordering.{is_eq, is_lt, ordering_reverse, eq_by_cmp}
@@ -13,7 +13,7 @@ use Rattle.std.specs.Prelude.{nat_eq}
 use Rattle.std.specs.Cmp.{IsTotalOrder}
 use Rattle.std.specs.Cmp.Lexicographic.{bytes_decides}
 use Rattle.std.proofs.lemmas.Bool.Decides.{nat_tests}
-use Rattle.json_tape.specs.Repeats.{is_same, repeats_by, begins_by, repeats_next_by, repeats, hashes_repeat}
+use Rattle.json_tape.specs.Repeats.{is_same, repeats_by, repeats_next_by, repeats, hashes_repeat}
 
 -- one whose second part holds
 pub or_right : (a b : Bool) → b ≡ true → (a || b) ≡ true
@@ -26,18 +26,6 @@ neither true b e = absurd (cc)
 neither false b e = (refl, e)
 
 module _ {K : Type 0} (same : K → K → Bool) where
-  -- each with those after it
-  pub repeats_step : (xs : List K) (i : ℕ) (d : K) → i < length xs → repeats_by same (drop i xs) ≡ (list_any (λ y. same y (get_or xs i d)) (drop (i + 1) xs) || repeats_by same (drop (i + 1) xs))
-  repeats_step xs i d h = ap (repeats_by same) (drop_more xs i d h)
-
-  pub repeats_over : (xs : List K) (i : ℕ) → length xs ≤ i → repeats_by same (drop i xs) ≡ false
-  repeats_over xs i h = ap (repeats_by same) (drop_all i xs h)
-
-  -- each with the next one
-  pub next_step : (xs : List K) (i : ℕ) (d e : K) → i + 1 < length xs → repeats_next_by same (drop i xs) ≡ (same (get_or xs i d) (get_or xs (i + 1) e) || repeats_next_by same (drop (i + 1) xs))
-  next_step xs i d e h =
-      ap (repeats_next_by same) (drop_more xs i d (omega arith)) ∙ ap (λ l. begins_by same (get_or xs i d) l || repeats_next_by same (drop (i + 1) xs)) (drop_more xs (i + 1) e h)
-
   pub next_over : (xs : List K) (i : ℕ) → length xs ≤ i + 1 → repeats_next_by same (drop i xs) ≡ false
   next_over xs i h = go (drop i xs) (let l = length-drop i xs in omega arith)
     where

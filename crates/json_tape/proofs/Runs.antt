@@ -2,7 +2,7 @@
 use Rattle.std.proofs.Common.{◌≡◌, ℕ, zero, suc, ◌+◌, ◌-◌, ◌<◌, ◌≤◌, true, false, Bool, cond, inl, inr, List, [], ◌∷◌, ◌++◌, length, map, take, drop, get_or, refl, sym, ap, ◌∙◌, subst, arith, length-append}
 use Rattle.std.specs.Prelude.{nat_eq}
 use Rattle.std.proofs.lemmas.Bool.{cases_lt, cases_Bool, false≢true}
-use Rattle.std.proofs.lemmas.List.{length-map, get_or_append_left, get_or_at, take-append-le, drop-append-le, drop_at, take_all, length-drop, get_or_read}
+use Rattle.std.proofs.lemmas.List.{length-map, get_or_append_left, get_or_at, take-append-le, drop-append-le, drop_at, take_all, length-drop}
 use Rattle.std.specs.List.{All}
 use Rattle.std.proofs.lemmas.List.Elements.{All-from_recursion}
 use Rattle.std.specs.List.Sorted.{IsPermutation, IsSorted, IsStrictlySortedBy}
@@ -99,21 +99,6 @@ module _ (text : List ℕ) (tape : List Entry) where
     room = λ i h. absurd (omega arith);
     each = λ i h. absurd (omega arith);
     all = λ n h w. absurd (omega arith);
-  }
-
-  -- one that is not wide
-  pub kept_same : (n : ℕ) (objects starts hashes members : List ℕ) → AreKept text tape n objects starts hashes members → (IsWide (entry_in tape n) → ⊥) → AreKept text tape (n + 1) objects starts hashes members
-  kept_same n objects starts hashes members k narrow = record {
-    rising = k.rising;
-    under = λ i h. (let u = k.under i h in omega arith);
-    begun = k.begun;
-    long = k.long;
-    room = k.room;
-    each = k.each;
-    all = λ m h w. elim (cases_lt m n) [
-      | inl g ↦ k.all m g w
-      | inr g ↦ (let e : m ≡ n = omega arith in absurd (narrow (subst (λ j. IsWide (entry_in tape j)) e w)))
-    ];
   }
 
   part_left : (start c : ℕ) (xs ys : List ℕ) → start + c ≤ length xs → part start c (xs ++ ys) ≡ part start c xs
@@ -222,13 +207,6 @@ wide_by tape n members m l = let w = members_are (entry_in tape n) (omega arith)
 pub not_wide_by : (tape : List Entry) (n members : ℕ) → members ≡ members_in (entry_in tape n) → members ≤ 16 → IsWide (entry_in tape n) → ⊥
 not_wide_by tape n members m l w = let q = object_members (entry_in tape n) w.0 in let h = w.1 in omega arith
 
--- an entry that is read, and the same entry by its number
-pub wide_there : (tape : List Entry) (n : ℕ) (e : Entry) → e ≡ get_or tape n e → n < length tape → IsWide e → IsWide (entry_in tape n)
-wide_there tape n e q l w = subst IsWide (get_or_read tape n e l q nothing_there) w
-
-pub narrow_there : (tape : List Entry) (n : ℕ) (e : Entry) → e ≡ get_or tape n e → n < length tape → (IsWide e → ⊥) → IsWide (entry_in tape n) → ⊥
-narrow_there tape n e q l h w = h (subst IsWide (sym (get_or_read tape n e l q nothing_there)) w)
-
 -- of a text with the same bytes
 pub kept_of : (text source : List ℕ) (tape : List Entry) (objects starts hashes members : List ℕ) → source ≡ text → AreKept source tape (length tape) objects starts hashes members → AreKept text tape (length tape) objects starts hashes members
 kept_of text source tape objects starts hashes members e k = subst (λ x. AreKept x tape (length tape) objects starts hashes members) e k
@@ -251,9 +229,6 @@ module _ (text : List ℕ) (tape : List Entry) (below : ℕ) (objects starts has
 
   pub place_of : (items : List ℕ) → items ≡ objects → (place : ℕ) → IsBinarySearchResult (λ y. nat_cmp y n) items (Ok place) → (place < length objects) × (get_or objects place 0 ≡ n)
   place_of items q place b = searched objects n (Ok place) (subst (λ xs. IsBinarySearchResult (λ y. nat_cmp y n) xs (Ok place)) q b) kept.rising
-
-  pub run_room : (place c : ℕ) → (place < length objects) × (get_or objects place 0 ≡ n) → c ≡ (entry_in tape n).children → get_or starts place 0 + c ≤ length members
-  run_room place c f e = let r = subst (λ m. get_or starts place 0 + (entry_in tape m).children ≤ length members) f.1 (kept.room place f.0) in omega arith
 
   pub run_is : (place start c : ℕ) (hs ms : List ℕ) → (place < length objects) × (get_or objects place 0 ≡ n) → start ≡ get_or starts place 0 → c ≡ (entry_in tape n).children → hs ≡ hashes → ms ≡ members
       → IsOrderOf text tape n (take (start + c - start) (drop start hs)) (take (start + c - start) (drop start ms))

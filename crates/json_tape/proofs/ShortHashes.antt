@@ -4,12 +4,12 @@ use Rattle.std.specs.Int.{from_be_bytes}
 use Rattle.std.specs.Str.{chars}
 use Rattle.std.proofs.lemmas.Bool.Decides.{nat_tests}
 use Rattle.std.proofs.lemmas.Str.{chars-nil}
-use Rattle.std.proofs.lemmas.List.{get_or-take, get_or-drop, length-take-le, length-drop, drop-drop, drop-take}
+use Rattle.std.proofs.lemmas.List.{get_or-take, get_or-drop, length-take-le, length-drop, drop-drop}
 use Rattle.std.proofs.Math.Seq.{take-add}
 use Rattle.std.proofs.lemmas.Simd.{length-chunk, get_or-chunk}
 use lib.Lanes.{chunk}
 use Rattle.json_tape.specs.Spelling.{scalars_in}
-use Rattle.json_tape.specs.Repeats.{joined, lengthened, more, hash_from, after_words, hash_of, digits, word_of_bytes, IsPlainWord}
+use Rattle.json_tape.specs.Repeats.{joined, lengthened, more, hash_from, after_words, hash_of, digits, IsPlainWord}
 use Rattle.json_tape.specs.declared.hashes.Hashing.{Hashing}
 use Rattle.json_tape.proofs.PlainBytes.{plain_first}
 
@@ -143,33 +143,8 @@ pub word_hashed : (text : List ℕ) (at len word : ℕ) → 1 ≤ len → len �
     → word ≡ hash_of (scalars_in (chars (take len (drop at text))))
 word_hashed text at len word some few room w = joined_first word (subst (λ x. x < 2 ^ 64) (sym w.value) w.fits) ∙ word_ends text at len 0 word some few room w
 
--- the word of fewer bytes than eight
-pub word_of_few : (text : List ℕ) (at len : ℕ) → at + len ≤ length text → len < 8 → digits 0 (take len (drop at text)) ≡ word_of_bytes (take len (drop at text))
-word_of_few text at len room few =
-    let long = length-take-le len (drop at text) (let d = length-drop at text in omega (arith, d)) in
-    let t : ltb (length (take len (drop at text))) 8 ≡ true = grind (arith, nat_tests, long) in
-    rw t refl
-
--- and of eight or more
-pub word_of_many : (text : List ℕ) (at len : ℕ) → at + len ≤ length text → 8 ≤ len
-    → joined (digits 0 (take 8 (drop at text))) (digits 0 (take 8 (drop (at + len - 8) text))) ≡ word_of_bytes (take len (drop at text))
-word_of_many text at len room many =
-    let bs = take len (drop at text) in
-    let long = length-take-le len (drop at text) (let d = length-drop at text in omega (arith, d)) in
-    let t : ltb (length bs) 8 ≡ false = grind (arith, nat_tests, long) in
-    let n = len - 8 in
-    let f : len ≡ n + 8 = omega arith in
-    let g : length bs - 8 ≡ n = omega (arith, long) in
-    let h : at + len - 8 ≡ at + n = omega arith in
-    let first : take 8 bs ≡ take 8 (drop at text) = take_fewer 8 len (drop at text) many in
-    let last : drop (length bs - 8) bs ≡ take 8 (drop (at + len - 8) text) =
-    ap (λ m. drop m bs) g ∙ ap (λ m. drop n (take m (drop at text))) f ∙ drop-take n 8 (drop at text) ∙ ap (take 8) (drop-drop n at text) ∙ ap (λ m. take 8 (drop m text)) (sym h) in
-    let e : joined (digits 0 (take 8 (drop at text))) (digits 0 (take 8 (drop (at + len - 8) text))) ≡ joined (digits 0 (take 8 bs)) (digits 0 (drop (length bs - 8) bs)) =
-    sym (ap (λ l. joined (digits 0 l) (digits 0 (drop (length bs - 8) bs))) first ∙ ap (λ l. joined (digits 0 (take 8 (drop at text))) (digits 0 l)) last) in
-    rw t e
-
 -- a word of bytes, whatever they are
-pub word_value : (text : List ℕ) (at len word : ℕ) → at + 8 ≤ length text → 1 ≤ len → len ≤ 8 → ((k : ℕ) → Fits w8 (get_or text k 0))
+word_value : (text : List ℕ) (at len word : ℕ) → at + 8 ≤ length text → 1 ≤ len → len ≤ 8 → ((k : ℕ) → Fits w8 (get_or text k 0))
     → word ≡ from_be_bytes w64 (chunk at 8 text) → (word / 2 ^ (64 - 8 * len) ≡ digits 0 (take len (drop at text))) × (digits 0 (take len (drop at text)) < 2 ^ 64)
 word_value text at len word room some few fits w =
     let v = chunk at 8 text in

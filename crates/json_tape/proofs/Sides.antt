@@ -1,7 +1,7 @@
 -- Cells and sides, and the entries that they stand for.
-use Rattle.std.proofs.Common.{◌≡◌, inl, inr, ℕ, zero, suc, ◌+◌, ◌*◌, ◌/◌, ◌%◌, ◌-◌, ◌^◌, ◌<◌, ◌≤◌, Bool, true, false, cond, List, [], ◌∷◌, ◌++◌, length, get_or, set, refl, sym, ap, ◌∙◌, subst, arith, length-append, get_or-set_same, get_or-set_other}
-use Rattle.std.proofs.lemmas.List.{get_or_append_left, get_or_default, get_or-append_right, length-set}
-use Rattle.std.proofs.lemmas.Bool.{false≢true, cases_Bool}
+use Rattle.std.proofs.Common.{◌≡◌, inl, inr, ℕ, zero, suc, ◌+◌, ◌*◌, ◌/◌, ◌%◌, ◌-◌, ◌^◌, ◌<◌, ◌≤◌, Bool, true, false, ◌&&◌, leb, cond, List, [], ◌∷◌, ◌++◌, length, get_or, set, refl, sym, ap, ◌∙◌, subst, arith, length-append, get_or-set_same, get_or-set_other}
+use Rattle.std.proofs.lemmas.List.{get_or_append_left, get_or_default, get_or-append_right}
+use Rattle.std.proofs.lemmas.Bool.{false≢true, cases_Bool, cases_lt}
 use Rattle.json_tape.specs.declared.tape.Kind.{Kind}
 use Rattle.json_tape.specs.declared.tape.Kind.TheVariants as kinds
 use Rattle.json_tape.specs.declared.tape.Entry.{Entry}
@@ -10,7 +10,7 @@ use Rattle.json_tape.specs.declared.tape.Seat.{Seat}
 use Rattle.json_tape.specs.declared.cells.Cell.{Cell}
 use Rattle.json_tape.specs.declared.cells.Side.{Side}
 use Rattle.json_tape.specs.Machine.{change_at, closed}
-use Rattle.json_tape.specs.Cells.{low, high, holds, is_container, is_object, members_in, cell_kind, cell_role, cell_label, cell_start, cell_span, cell_up, leaf_entry, open_entry, leaf_seen, container_seen, seen, no_side, entries_from, entries_of, containers, container_at, AreNumbered, IsTape}
+use Rattle.json_tape.specs.Cells.{low, high, holds, is_container, is_object, is_text, is_text_of, HaveNoText, members_in, cell_kind, cell_role, cell_label, cell_start, cell_span, cell_up, leaf_entry, open_entry, leaf_seen, container_seen, seen, no_side, entries_from, entries_of, containers, container_at, AreNumbered, IsTape}
 
 pub length-entries : (k : ℕ) (cells : List Cell) (sides : List Side) → length (entries_from k cells sides) ≡ length cells
 length-entries k [] sides = refl
@@ -252,9 +252,6 @@ pub closing_inside : (cells : List Cell) (sides : List Side) (v : List Entry) (n
 unfolding entries_of
 closing_inside cells sides v n c0 q h = container_there 0 cells sides n c0 (ap (λ l. container_at l n) q ∙ h)
 
-pub side_kept : (cells : List Cell) (sides : List Side) (i : ℕ) (s : Side) → IsTape cells sides → IsTape cells (set sides i s)
-side_kept cells sides i s t = record { numbered = t.numbered; counted = t.counted ∙ sym (length-set sides i s); few = t.few }
-
 pub closing_done : (cells : List Cell) (sides : List Side) (v : List Entry) (n : ℕ) (c : Cell) (place children after end : ℕ) → IsTape cells sides → entries_of cells sides ≡ v → container_at v n ≡ true
     → c ≡ get_or cells n c → end ≡ place + 1 → after ≡ length v
     → entries_of cells (set sides (cell_span c) (record { end = end; children = children; after = after })) ≡ change_at v n (closed place children (length v))
@@ -316,3 +313,41 @@ short_leaf cells sides v n c e len q l f h small short s g =
       short_label c len small short s ∙ ap (λ (x : Entry). x.label) is,
       sym (ap (λ (x : Entry). x.after) is),
     )
+
+-- ---- Strings
+
+no_text_holds : (kind : Kind) → is_container kind ≡ true → is_text kind ≡ false
+no_text_holds kinds.Array h = refl
+no_text_holds kinds.Object h = refl
+no_text_holds kinds.Null h = refl
+no_text_holds (kinds.Bool b) h = refl
+no_text_holds kinds.Number h = refl
+no_text_holds kinds.Text h = absurd (false≢true h)
+
+text_seen : (least k : ℕ) (c : Cell) (s : Side) (b : Bool) → is_container (cell_kind c) ≡ b → is_text_of least (cond b (container_seen c s) (leaf_seen k c)) ≡ (is_text (cell_kind c) && leb least (cell_span c))
+text_seen least k c s false h = refl
+text_seen least k c s true h = let t = no_text_holds (cell_kind c) h in rw t refl
+
+-- what a cell tells of it is so of its entry
+pub text_shown : (least : ℕ) (cells : List Cell) (sides : List Side) (v : List Entry) (n : ℕ) (c : Cell) (e : Entry) → entries_of cells sides ≡ v → n < length cells → c ≡ get_or cells n c → e ≡ get_or v n e
+    → is_text_of least e ≡ (is_text (cell_kind c) && leb least (cell_span c))
+text_shown least cells sides v n c e q l f g =
+    ap (is_text_of least) (g ∙ entry_here cells sides v n c e q l f) ∙ text_seen least n c (get_or sides (cell_span c) no_side) (holds c) (sym (holds_kind c))
+
+-- one more that is none
+pub no_text_more : (least : ℕ) (v : List Entry) (from n : ℕ) → HaveNoText least v from n → ((e : Entry) → e ≡ get_or v n e → is_text_of least e ≡ false) → HaveNoText least v from (n + 1)
+no_text_more least v from n before here k a b e g = elim (cases_lt k n) [
+  | inl x ↦ before k a x e g
+  | inr x ↦ (let same : k ≡ n = omega arith in here e (g ∙ ap (λ i. get_or v i e) same))
+]
+
+kind_text : (kind : Kind) (b : Bool) → (is_text kind && b) ≡ true → kind ≡ kinds.Text
+kind_text kinds.Text b h = refl
+kind_text kinds.Array b h = absurd (false≢true h)
+kind_text kinds.Object b h = absurd (false≢true h)
+kind_text kinds.Null b h = absurd (false≢true h)
+kind_text (kinds.Bool x) b h = absurd (false≢true h)
+kind_text kinds.Number b h = absurd (false≢true h)
+
+pub text_kind : (least : ℕ) (e : Entry) → is_text_of least e ≡ true → e.kind ≡ kinds.Text
+text_kind least e h = kind_text e.kind (leb least e.source.len) h

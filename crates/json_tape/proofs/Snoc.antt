@@ -5,14 +5,6 @@ use Rattle.json_tape.specs.declared.tape.Entry.{Entry}
 use Rattle.json_tape.specs.Tape.{Label, Index, Named, deepest, deepest_element, deepest_member, element_count, member_count, tape_of, tape_of_elements, tape_of_members, extent}
 use Rattle.json_tape.specs.Nodes.{size, size_of_elements, size_of_members}
 
-pub size-then_element : (es : Elements) (t : Tree) → size_of_elements (then_element es t) ≡ size_of_elements es + size t
-size-then_element NoElement t = omega arith
-size-then_element (Element a es) t = omega (arith, size-then_element es t)
-
-pub size-then_member : (ms : Members) (n : Name) (t : Tree) → size_of_members (then_member ms n t) ≡ size_of_members ms + size t
-size-then_member NoMember n t = omega arith
-size-then_member (Member m a ms) n t = omega (arith, size-then_member ms n t)
-
 pub count-then_element : (es : Elements) (t : Tree) → element_count (then_element es t) ≡ element_count es + 1
 count-then_element NoElement t = refl
 count-then_element (Element a es) t = omega (arith, count-then_element es t)

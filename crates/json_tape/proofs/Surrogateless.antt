@@ -2,7 +2,7 @@
 use Rattle.std.proofs.Common.{◌≡◌, ◌≢◌, ℕ, zero, suc, ◌+◌, ◌-◌, ◌*◌, ◌<◌, ◌≤◌, ◌⊎◌, inl, inr, Some, None, List, [], ◌∷◌, ◌++◌, length, take, drop, get_or, refl, sym, ap, subst, ◌∙◌, arith}
 use Rattle.std.proofs.lemmas.Bool.{cases_lt}
 use Rattle.std.proofs.lemmas.List.{get_or_past, get_or_default, length-drop, get_or-drop, get_or-take}
-use Rattle.structural_index.specs.Places.{IsInBlock, AreSlashBlocks}
+use Rattle.structural_index.specs.Places.{AreSlashBlocks}
 use Rattle.memchr.specs.Find.{OccursAt, FindsNeedle}
 use Rattle.json_tape.specs.Tree.{Spelt, Plain, Short, Unit4, Tree, Leaf, Arr, Obj, Null, True, False, Num, Str}
 use Rattle.json_tape.specs.Letters.{IsHexDigit, IsChar, AreChars, IsString}
@@ -10,7 +10,7 @@ use Rattle.json_tape.specs.Meaning.{Means, nothing, plain, short, unit, HasLone}
 use Rattle.json_tape.specs.Grammar.{IsText}
 use Rattle.json_tape.specs.Tape.{extent}
 use Rattle.json_tape.specs.Limits.{bytes_at}
-use Rattle.json_tape.specs.Surrogates.{HasNoSurrogates}
+use Rattle.json_tape.specs.Surrogates.{HasNoSurrogates, NoneInBlock}
 use Rattle.json_tape.specs.Verdict.{SpellsLone}
 use Rattle.json_tape.specs.declared.tape.Extent.{Extent}
 use Rattle.json_tape.proofs.Fits.{Fits, text_fits, part_fits}
@@ -104,10 +104,6 @@ within bs k v e = elim (cases_lt k (length bs)) [
   | inl below ↦ below
   | inr above ↦ absurd (let z = get_or_past bs k 0 above in cc)
 ]
-
--- no escape of a surrogate begins in this block
-abbrev pub NoneInBlock : List ℕ → ℕ → Type 0
-NoneInBlock text b = (k : ℕ) → IsInBlock b k → get_or text k 0 ≡ 92 → get_or text (suc k) 0 ≡ 117 → (get_or text (suc (suc k)) 0 ≢ 68) × (get_or text (suc (suc k)) 0 ≢ 100)
 
 -- where none begins in its bytes with the two behind them
 pub none_in_block : (text : List ℕ) (b end : ℕ) → end ≤ length text → (end < length text → b + 66 ≤ end) → HasNoSurrogates (take (end - b) (drop b text)) → NoneInBlock text b

@@ -88,15 +88,6 @@ word_at bytes bs i k h e r w =
     let same : bs ≡ a.vs = e ∙ ap (λ n. take n (drop i bytes)) (sym back) ∙ a.taken in
     record { bytes = a.vs; rest = a.rest; stands = a.stands; is_token = subst (λ n. IsToken i a.vs (Word (run_at i n) k) a.rest) size (word_is i a.vs a.rest k a.are a.over (subst (λ l. IsWord l k) same w) a.some) }
 
--- the same by the token that a word or a number is said to be
-pub word_token : (bytes bs : List ℕ) (i : ℕ) (k : Kind) → i < length bytes → bs ≡ take (length bs) (drop i bytes) → IsAtomRun bytes i (i + length bs) → IsWord bs k → TokenAt bytes i (token_of i (lexed.Word k (run_at i (length bs))))
-word_token bytes bs i kinds.Text h e r w = absurd w
-word_token bytes bs i kinds.Array h e r w = absurd w
-word_token bytes bs i kinds.Object h e r w = absurd w
-word_token bytes bs i kinds.Null h e r w = word_at bytes bs i kinds.Null h e r w
-word_token bytes bs i (kinds.Bool b) h e r w = word_at bytes bs i (kinds.Bool b) h e r w
-word_token bytes bs i kinds.Number h e r w = word_at bytes bs i kinds.Number h e r w
-
 -- what the machine refuses at first begins no value
 refused_begins : (tok : Token) → step tok start ≡ None → begins_value tok ≡ false
 refused_begins (Opening shape p) h = absurd (cc)

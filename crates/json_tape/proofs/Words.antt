@@ -3,23 +3,13 @@ use Rattle.std.proofs.Common.{Bool, ◌⊎◌, inl, inr, ◌≡◌, ◌≢◌, �
 use Rattle.std.proofs.lemmas.Simd.{length-chunk, get_or-chunk}
 use lib.Lanes.{chunk, zip2, mask_l, top}
 use Rattle.structural_index.proofs.Lanes.{loaded, none as nothing_set}
+use Rattle.structural_index.proofs.Letters.{digits}
 use Rattle.json_tape.proofs.StopBits.{stands_alone}
 use Rattle.std.specs.Prelude.{bytes_eq}
 use Rattle.std.specs.Str.{chars}
 use Rattle.std.proofs.lemmas.Bool.{cases_eq, cases_lt}
 use Rattle.json_tape.specs.Spelling.{scalars_in, SpellPlainly, ArePlainAt, IsWord}
 use Rattle.json_tape.proofs.PlainBytes.{plain_run, plain_other}
-
-lowest : (a b x y : ℕ) → a < 256 → b < 256 → a + x * 256 ≡ b + y * 256 → (a ≡ b) × (x ≡ y)
-lowest a b x y h g e = (omega arith, omega arith)
-
-digits : (word a b c d w x y z : ℕ) → a < 256 → b < 256 → c < 256 → d < 256 → w < 256 → x < 256 → y < 256 → z < 256
-    → word ≡ a + b * 256 + c * 65536 + d * 16777216 → word ≡ w + x * 256 + y * 65536 + z * 16777216 → (a ≡ w) × (b ≡ x) × (c ≡ y) × (d ≡ z)
-digits word a b c d w x y z ha hb hc hd hw hx hy hz e f =
-    let p = lowest a w (b + (c + d * 256) * 256) (x + (y + z * 256) * 256) ha hw (omega arith) in
-    let q = lowest b x (c + d * 256) (y + z * 256) hb hx p.1 in
-    let r = lowest c y d z hc hy q.1 in
-    (p.0, q.0, r.0, r.1)
 
 -- the same word of characters that stand for themselves
 pub same_word : (bytes name : List ℕ) (at word : ℕ) → ((k : ℕ) → Fits w8 (get_or bytes k 0)) → IsWord word name at → ArePlainAt name at → IsWord word bytes at → SpellPlainly bytes name at (at + 4)

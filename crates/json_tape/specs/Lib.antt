@@ -27,5 +27,7 @@ pub mod Building
 pub mod Placing
 pub mod Walked
 pub mod Ordered
+pub mod Told
+pub mod Sifted
 pub mod KeyOrder
 pub mod Counted

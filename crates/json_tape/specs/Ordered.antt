@@ -1,5 +1,5 @@
 -- The order of names in which objects of many members keep them: by a hash, and by the scalar values where hashes meet.
-use Rattle.std.specs.Prelude.{◌≡◌, ℕ, false, ◌+◌, ◌-◌, ◌*◌, ◌/◌, ◌%◌, ◌^◌, ◌<◌, ◌≤◌, List, [], ◌∷◌, length, map, take, drop, get_or}
+use Rattle.std.specs.Prelude.{◌≡◌, ℕ, ◌+◌, ◌-◌, ◌*◌, ◌/◌, ◌%◌, ◌^◌, ◌<◌, ◌≤◌, List, [], ◌∷◌, length, map, take, drop, get_or}
 use Rattle.std.specs.Ordering.{nat_cmp, on, then_cmp}
 use Rattle.std.specs.declared.cmp.Ordering.{Ordering}
 use Rattle.std.specs.declared.cmp.Ordering.TheVariants.{Less}
@@ -11,7 +11,7 @@ use Rattle.json_tape.specs.Meaning.{meaning}
 use Rattle.json_tape.specs.Nodes.{size}
 use Rattle.json_tape.specs.Spelling.{scalars_in, unquoted, IsQuoted}
 use Rattle.json_tape.specs.Limits.{bytes_at}
-use Rattle.json_tape.specs.Repeats.{hash_of, word_of_bytes, repeats, meanings, IsObject}
+use Rattle.json_tape.specs.Repeats.{hash_of, word_of_bytes, IsObject}
 use Rattle.json_tape.specs.declared.tape.Entry.{Entry}
 use Rattle.json_tape.specs.declared.tape.Kind.TheVariants as kinds
 use Rattle.json_tape.specs.declared.tape.Role.TheVariants as roles
@@ -105,12 +105,6 @@ pub record IsOrderOf (text : List ℕ) (tape : List Entry) (n : ℕ) (hashes mem
 
 abbrev pub IsWide : Entry → Type 0
 IsWide e = (e.kind ≡ kinds.Object) × (narrow < e.children)
-
--- of the objects from one number to before another none is wide, and none has two names that mean the same
-pub record ArePassed (text : List ℕ) (tape : List Entry) (from to : ℕ) : Type 0 where
-  pub ahead : from ≤ to
-  pub narrow : (k : ℕ) → from ≤ k → k < to → IsWide (entry_in tape k) → ⊥
-  pub apart : (k : ℕ) (ms : Members) → from ≤ k → k < to → IsObject text tape k ms → repeats (meanings ms) ≡ false
 
 -- so many from a place on
 abbrev pub part : ℕ → ℕ → List ℕ → List ℕ

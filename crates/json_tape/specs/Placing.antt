@@ -1,9 +1,8 @@
 -- What a builder that goes from place to place asks of the text, and what it finds of a string.
-use Rattle.std.specs.Prelude.{◌≡◌, ◌<◌, ◌≤◌, ℕ, suc, ◌+◌, List, drop, length, Option, Some, None, IsUtf8}
+use Rattle.std.specs.Prelude.{◌≡◌, ◌<◌, ◌≤◌, ℕ, suc, ◌+◌, Bool, List, drop, length, Option, Some, None, IsUtf8}
 use Rattle.structural_index.specs.Places.{byte, HasControlInside, AreSlashBlocks}
 use Rattle.structural_index.specs.Seams.{IsSpan, AreSlashless}
 use Rattle.json_tape.specs.declared.slashes.Slashes.{Slashes}
-use Rattle.json_tape.specs.declared.slash_range.SlashRange.{SlashRange}
 use Rattle.json_tape.specs.Lexing.{quote_end}
 use Rattle.json_tape.specs.Bridge.{SpellsString}
 
@@ -14,11 +13,6 @@ pub record HoldSlashes (text : List ℕ) (slashes : Slashes) : Type 0 where
   pub next : slashes.next ≤ length slashes.blocks.now
   pub long : slashes.long ≡ length text
 
--- no backslash of a text stands outside
-pub record StandWithin (text : List ℕ) (range : SlashRange) : Type 0 where
-  pub before : AreSlashless text 0 range.from
-  pub behind : AreSlashless text range.to (length text)
-
 -- what has been shown of a text before its tokens are looked at
 pub record IsIndexed (text : List ℕ) (slashes : Slashes) : Type 0 where
   pub utf8 : IsUtf8 text
@@ -28,6 +22,11 @@ pub record IsIndexed (text : List ℕ) (slashes : Slashes) : Type 0 where
 -- a quote right before the next place closes the string that begins at byte i
 abbrev pub ClosesBefore : List ℕ → (i next : ℕ) → Type 0
 ClosesBefore text i next = (m : ℕ) → next ≡ suc m → i < m → byte text i ≡ 0x22 → byte text m ≡ 0x22 → IsSpan text i m
+
+-- the place at which a string was found to end
+abbrev pub end_in : Option (ℕ × Bool) → Option ℕ
+end_in (Some (end, plain)) = Some end
+end_in None = None
 
 -- the string of the grammar that begins at byte i ends before this place, or there is none
 abbrev pub StringEnds : List ℕ → ℕ → Option ℕ → Type 0

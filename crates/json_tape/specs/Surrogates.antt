@@ -1,5 +1,6 @@
 -- A lone surrogate of a string, byte by byte.
 use Rattle.std.specs.Prelude.{◌≡◌, ◌≢◌, get_or, ℕ, zero, suc, ◌+◌, ◌-◌, ◌*◌, ◌%◌, Bool, true, false, cond, eqb, leb, List, [], ◌∷◌, Option, Some, None}
+use Rattle.structural_index.specs.Places.{IsInBlock}
 use Rattle.json_tape.specs.declared.scan.Mode.{Mode}
 use Rattle.json_tape.specs.declared.scan.Mode.TheVariants.{Between, Escape, Hex}
 use Rattle.json_tape.specs.declared.scan.Surrogates.{Surrogates}
@@ -46,6 +47,14 @@ lone bs = lone_from (standing Between 0 false) bs
 -- no escape of a unit that is a surrogate begins: its first digit is a D, in either case
 abbrev pub HasNoSurrogates : List ℕ → Type 0
 HasNoSurrogates bs = (k : ℕ) → get_or bs k 0 ≡ 92 → get_or bs (suc k) 0 ≡ 117 → (get_or bs (suc (suc k)) 0 ≢ 68) × (get_or bs (suc (suc k)) 0 ≢ 100)
+
+-- no escape of a surrogate begins in this block
+abbrev pub NoneInBlock : List ℕ → ℕ → Type 0
+NoneInBlock text b = (k : ℕ) → IsInBlock b k → get_or text k 0 ≡ 92 → get_or text (suc k) 0 ≡ 117 → (get_or text (suc (suc k)) 0 ≢ 68) × (get_or text (suc (suc k)) 0 ≢ 100)
+
+-- in this block no u stands behind a backslash
+abbrev pub HasNoUnits : List ℕ → ℕ → Type 0
+HasNoUnits text b = (k : ℕ) → IsInBlock b k → get_or text k 0 ≡ 92 → get_or text (suc k) 0 ≢ 117
 
 -- the entry is that of a string with one
 abbrev pub IsLoneValue : List ℕ → Entry → Type 0

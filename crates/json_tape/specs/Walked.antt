@@ -12,6 +12,8 @@ use Rattle.json_tape.specs.declared.tape.Want.TheVariants as wants
 use Rattle.json_tape.specs.declared.tape.BuildFault.{BuildFault}
 use Rattle.json_tape.specs.declared.tape.BuildFault.TheVariants.{NotJson, Memory}
 use Rattle.json_tape.specs.declared.lexing.Lexed.{Lexed}
+use Rattle.json_tape.specs.declared.lexing.Quoted.{Quoted}
+use Rattle.json_tape.specs.declared.apart.Met.{Met}
 use Rattle.json_tape.specs.declared.lexing.Lexed.TheVariants as lexed
 use Rattle.json_tape.specs.declared.second_stage.Spot.{Spot}
 use Rattle.json_tape.specs.Machine.{Token, Opening, Text, Word, State, level_of, first_of, takes_value, takes_name}
@@ -56,6 +58,15 @@ token_of i (lexed.Text x) = Text x
 token_of i (lexed.Number x) = Word x kinds.Number
 token_of i (lexed.Word kind x) = Word x kind
 token_of i (lexed.Opens shape) = Opening shape i
+
+-- the bytes of a string, and of a name that was met
+abbrev pub source_in : Option Quoted → Option Extent
+source_in (Some q) = Some q.source
+source_in None = None
+
+abbrev pub met_source : Option Met → Option Extent
+met_source (Some m) = Some m.source
+met_source None = None
 
 abbrev pub IsValueAt : List ℕ → ℕ → Option Lexed → Type 0
 IsValueAt text i (Some l) = TokenAt text i (token_of i l)
@@ -192,10 +203,10 @@ abbrev pub with_sign : Result (Unit {0}) BuildFault → ℕ → Result (Option �
 with_sign (Ok x) sign = Ok (Some sign)
 with_sign (Err fault) sign = Err fault
 
--- and none, where it was opened
-abbrev pub without_sign : Result (Unit {0}) BuildFault → Result (Option ℕ) BuildFault
-without_sign (Ok x) = Ok None
-without_sign (Err fault) = Err fault
+-- no sign behind a container that was opened, and no child in one that was closed
+abbrev pub no_more : {A : Type 0} → Result (Unit {0}) BuildFault → Result (Option A) BuildFault
+no_more (Ok x) = Ok None
+no_more (Err fault) = Err fault
 
 -- what stands behind the first token of a text
 abbrev pub is_whole : Lexed → Bool
@@ -206,14 +217,10 @@ abbrev pub spot_after : Result (Unit {0}) BuildFault → Lexed → Result Spot B
 spot_after (Ok x) l = Ok (record { number = 1; behind = is_whole l })
 spot_after (Err fault) l = Err fault
 
--- where a container was closed at place number k: what stands behind it, and that no child comes
+-- what stands behind a container that was closed at place number k
 abbrev pub spot_behind : Result (Unit {0}) BuildFault → ℕ → Result Spot BuildFault
 spot_behind (Ok x) k = Ok (record { number = k + 1; behind = true })
 spot_behind (Err fault) k = Err fault
-
-abbrev pub no_child : Result (Unit {0}) BuildFault → Result (Option ℕ) BuildFault
-no_child (Ok x) = Ok None
-no_child (Err fault) = Err fault
 
 -- a name and its colon
 abbrev pub Named : (text items : List ℕ) → Point → Built → ℕ → Option Extent → ℕ → Bool → Type 0

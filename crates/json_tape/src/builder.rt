@@ -1,12 +1,13 @@
 // The tape builder: one call for each value that holds no other, and two for each container. What may come next, and which name waits
 // for its value, is known where the calls are made.
 
-ghost use Rattle.std.specs.Prelude.{◌≡◌, ◌^◌, ◌<◌, None, IfSome, MatchResult, true, false};
+ghost use Rattle.std.specs.Prelude.{◌≡◌, ◌^◌, ◌<◌, None, IfSome, MatchResult, true, false, IsErrOf};
 ghost use Rattle.json_tape.specs.Machine.{Opening, Closing, Word, step, IsSmall, Took, level_of, kind_of_shape, first_of, label_at};
 ghost use Rattle.json_tape.specs.Built.{standing, nothing};
 ghost use Rattle.json_tape.specs.Tape.{role_of, label_spot};
 ghost use Rattle.json_tape.specs.Cells.{IsNear, is_container};
 ghost use Rattle.json_tape.specs.Opened.{HasRoom};
+ghost use Rattle.json_tape.specs.Told.{top_of, depth_of, children_of};
 ghost use Rattle.json_tape.specs.Verdict.{text_limit};
 
 use crate::compact::Tape;
@@ -57,6 +58,30 @@ impl Builder {
             deepest: 0,
             longest: 0,
         })
+    }
+
+    /// The number of the innermost container.
+    #[inline(always)]
+    pub fn number(&self) -> u32
+        ensures { result ≡ top_of self.now.opens }
+    {
+        self.top.entry
+    }
+
+    /// How many levels lie around it: as many as there are containers with it.
+    #[inline(always)]
+    pub fn depth(&self) -> usize
+        ensures { result ≡ depth_of self.now.opens }
+    {
+        self.outer.len()
+    }
+
+    /// How many children it has so far.
+    #[inline(always)]
+    pub fn count(&self) -> u32
+        ensures { result ≡ children_of self.now.opens }
+    {
+        self.top.children
     }
 
     /// What the next value lies in.
@@ -134,7 +159,8 @@ impl Builder {
     pub fn close(&mut self, shape: Shape, place: u32) -> Result<(), BuildFault>
         requires level { level_of self.old.opens ≡ Level.Inside shape }
         requires near { place < 2 ^ 24 }
-        ensures { Took (step (Closing shape place) (standing self.old Want.Next None)) result (standing self.new Want.Next None) }
+        ensures took { Took (step (Closing shape place) (standing self.old Want.Next None)) result (standing self.new Want.Next None) }
+        ensures no_memory { IsErrOf result BuildFault.Memory → ⊥ }
     {
         match self.outer.pop() {
             None => Err(BuildFault::NotJson),

@@ -4,7 +4,7 @@ ghost use Rattle.std.specs.Prelude.{◌≡◌, ◌+◌, ◌<◌, ◌≤◌, leng
 ghost use Rattle.std.specs.Str.{chars};
 ghost use Rattle.json_tape.specs.Limits.{bytes_at};
 ghost use Rattle.json_tape.specs.Spelling.{scalars_in, unquoted as inside, IsQuoted};
-ghost use Rattle.json_tape.specs.Repeats.{joined as word_joined, more, finished, hash_of, digits, word_of_bytes, IsPlainWord};
+ghost use Rattle.json_tape.specs.Repeats.{joined as word_joined, more, finished, hash_of, digits, word_of_bytes, four_at as four, fours_at as fours, IsPlainWord};
 ghost use Rattle.json_tape.specs.Ordered.{mixed as mix};
 
 use crate::scalars::{Scalars, unquoted};
@@ -12,10 +12,15 @@ use crate::tape::Extent;
 use std::simd::prelude::*;
 use structural_index::lanes_before;
 
+const FOUR: usize = 4;
+
+// Words of eight bytes are two of four.
+const HALF: u64 = 4_294_967_296;
+
 const FACTOR: u64 = 0x9E37_79B9_7F4A_7C15;
 
 /// So many scalar values are one word, and so many bytes: their number, the first of them the highest.
-pub const EIGHT: usize = 8;
+const EIGHT: usize = 8;
 
 /// A hash of some scalar values: of those in whole words, and the word of the others with their number.
 #[derive(Clone, Copy)]
@@ -121,33 +126,40 @@ fn plain_word(text: &[u8], at: usize, len: usize) -> Option<u64>
     Some(u64::from_be_bytes(lanes.to_array()) >> (64 - 8 * len))
 }
 
-// The word of so many bytes from a place on, whatever they are.
+// The four bytes from a place on.
 #[inline(always)]
-fn word_at(text: &[u8], at: usize, len: usize) -> u64
-    requires some { 0 < len }
-    requires few { len ≤ EIGHT }
-    requires inside { at + EIGHT ≤ length text.now }
-    ensures { result ≡ digits 0 (take len (drop at text.now)) }
+fn four_at(bytes: &[u8], at: usize) -> u32
+    requires { at + 4 ≤ length bytes.now }
+    ensures { result ≡ four bytes.now at }
 {
-    let bytes = u8x8::from_slice(&text[at..]).to_array();
-    u64::from_be_bytes(bytes) >> (64 - 8 * len)
+    u32::from_le_bytes(u8x4::from_slice(&bytes[at..]).to_array())
 }
 
-/// A word of so many bytes from a place on: of the first eight and the last eight, or of all where they are fewer.
+// The four bytes from a place on, and those from another on, as one word.
 #[inline(always)]
-pub fn bytes_word(text: &[u8], at: usize, len: usize) -> u64
-    requires some { 0 < len }
-    requires inside { at + len ≤ length text.now }
-    requires room { at + EIGHT ≤ length text.now }
-    ensures { result ≡ word_of_bytes (take len (drop at text.now)) }
+fn fours_at(bytes: &[u8], first: usize, last: usize) -> u64
+    requires first { first + 4 ≤ length bytes.now }
+    requires last { last + 4 ≤ length bytes.now }
+    ensures { result ≡ fours bytes.now first last }
 {
-    if len < EIGHT {
-        return word_at(text, at, len);
+    u64::from(four_at(bytes, first)) * HALF + u64::from(four_at(bytes, last))
+}
+
+/// A word of some bytes: of the first eight and the last eight, or of some of fewer.
+#[inline(always)]
+pub fn bytes_word(bytes: &[u8]) -> u64
+    requires { 2 ≤ length bytes.now }
+    ensures { result ≡ word_of_bytes bytes.now }
+{
+    let len = bytes.len();
+    if len < FOUR {
+        return u64::from(bytes[1]);
     }
-    joined(
-        word_at(text, at, EIGHT),
-        word_at(text, at + len - EIGHT, EIGHT),
-    )
+    let ends = fours_at(bytes, 0, len - FOUR);
+    if len < EIGHT {
+        return ends;
+    }
+    joined(ends, fours_at(bytes, FOUR, len - EIGHT))
 }
 
 // The hash of what so many bytes from a place on mean, word by word.

@@ -18,8 +18,8 @@ use escape_runs::escaped;
 use std::alloc::{AllocError, Global};
 use std::simd::prelude::*;
 
-// The length of a string of no more bytes, its quotes included, is counted where it is asked for.
-const SHORT: u32 = 64;
+// The length of a string of fewer bytes, its quotes included, is counted where it is asked for. A power of two is the cheapest to compare with.
+const LONG: u32 = 64;
 
 /// The lengths of long strings.
 #[derive(Drop)]
@@ -34,7 +34,7 @@ pub fn is_long(entry: Entry) -> bool
     ensures { IsTrue result → entry.kind ≡ Kind.Text }
 {
     match entry.kind {
-        Kind::Text => entry.source.len > SHORT,
+        Kind::Text => entry.source.len >= LONG,
         Kind::Null | Kind::Bool(_) | Kind::Number | Kind::Array | Kind::Object => false,
     }
 }
@@ -311,16 +311,15 @@ pub fn count_strings(
 {
     let mut strings = Vec::new(alloc);
     let mut lengths = Vec::new(alloc);
-    if longest <= SHORT {
+    if longest < LONG {
         return Ok(Lengths { strings, lengths });
     }
-    for n in 0..tape.len() {
-        let entry = tape.entry(n);
-        if is_long(entry) {
-            let length = count_string(text, entry.source);
-            strings.push(n)?;
-            lengths.push(length)?;
-        }
+    let mut from = 0;
+    while let Some(n) = tape.next_text(from, LONG) {
+        let length = count_string(text, tape.entry(n).source);
+        strings.push(n)?;
+        lengths.push(length)?;
+        from = n + 1;
     }
     Ok(Lengths { strings, lengths })
 }

@@ -2,11 +2,13 @@
 
 ghost use Rattle.std.specs.Prelude.{◌≡◌, ◌≢◌, ◌+◌, ◌-◌, ◌≤◌, ◌<◌, ◌↔◌, Ok, length, slice_index, IfSome, IsTrue, true, false};
 ghost use Rattle.decimal_order.specs.Number.{IsNumber};
-ghost use Rattle.json_tape.specs.Lexing.{is_blank as blank, WordIs, Marked};
+ghost use Rattle.json_tape.specs.Lexing.{is_blank as blank, AreKnown, IsTold, Marked};
 ghost use Rattle.json_tape.specs.Opened.{HasRoom};
-ghost use Rattle.json_tape.specs.Walked.{IsNameAt, IsValueAt, FitsTape, end_of, price_of};
+ghost use Rattle.json_tape.specs.Walked.{IsNameAt, IsValueAt, FitsTape, source_in, end_of, price_of};
 ghost use Rattle.json_tape.specs.Verdict.{text_limit};
-ghost use Rattle.json_tape.specs.Placing.{IsIndexed, HoldSlashes, ClosesBefore, StringEnds};
+ghost use Rattle.json_tape.specs.Placing.{IsIndexed, HoldSlashes, ClosesBefore, StringEnds, end_in};
+ghost use Rattle.json_tape.specs.Told.{IsPlain};
+ghost use Rattle.structural_index.specs.Seams.{AreSlashless};
 
 use crate::escapes::escapes_hold;
 use crate::judge::has_short_exponent;
@@ -14,7 +16,7 @@ use crate::scan::quote_past;
 use crate::slashes::Slashes;
 use crate::tape::{Extent, Kind, Shape};
 use decimal_order::{late_exponents_keep_limits, scan};
-use structural_index::{Atoms, Looks};
+use structural_index::{Atoms, Known, Looks};
 
 /// What a value begins with: all of it, or the bracket or brace that opens it. Strings and numbers are told apart from other words, so that
 /// the compiler knows their kinds where their entries are made.
@@ -24,6 +26,13 @@ pub enum Lexed {
     Number(Extent),
     Word(Kind, Extent),
     Opens(Shape),
+}
+
+/// A string, and whether it is known to have no backslash.
+#[derive(Clone, Copy)]
+pub struct Quoted {
+    pub source: Extent,
+    pub plain: bool,
 }
 
 // Whether these bytes are these four.
@@ -45,23 +54,54 @@ fn is_number(bytes: &[u8]) -> bool
     scan(bytes).is_some()
 }
 
+// What the bytes of a word or a number are. A long number may be beyond the limits of numbers.
+#[derive(Clone, Copy)]
+pub enum Told {
+    Null,
+    False,
+    True,
+    Number,
+    LongNumber,
+    Nothing,
+}
+
+// What the bytes are. It stands out of line, since few words and numbers take it.
 #[inline(never)]
-fn word_kind(bytes: &[u8]) -> Option<Kind>
-    ensures { WordIs bytes.now result }
+fn told_slowly(bytes: &[u8]) -> Told
+    ensures { IsTold bytes.now result }
 {
     if are_four(bytes, *b"null") {
-        return Some(Kind::Null);
+        return Told::Null;
     }
     if are_four(bytes, *b"true") {
-        return Some(Kind::Bool(true));
+        return Told::True;
     }
     if bytes.len() == 5 && bytes[4] == b'e' && are_four(&bytes[..4], *b"fals") {
-        return Some(Kind::Bool(false));
+        return Told::False;
     }
-    if is_number(bytes) {
-        return Some(Kind::Number);
+    if !is_number(bytes) {
+        return Told::Nothing;
     }
-    None
+    if has_short_exponent(bytes) {
+        Told::Number
+    } else {
+        Told::LongNumber
+    }
+}
+
+// What the bytes are, by what they are known to be.
+#[inline(always)]
+fn told_by(bytes: &[u8], known: Known) -> Told
+    requires { AreKnown bytes.now known }
+    ensures { IsTold bytes.now result }
+{
+    match known {
+        Known::Decimal => Told::Number,
+        Known::Null => Told::Null,
+        Known::False => Told::False,
+        Known::True => Told::True,
+        Known::Other => told_slowly(bytes),
+    }
 }
 
 // Whether a quote other than the one at i stands right before this place.
@@ -81,38 +121,43 @@ fn has_quote_before(looks: &mut Looks<'_>, i: usize, next: usize) -> bool
     looks.at(next - 1) == b'"'
 }
 
-// The place past the string that begins at i, where the place behind it is this one.
+// The place past the string that begins at i, where the place behind it is this one, and whether it is known to have no backslash.
 #[inline(always)]
 fn string_end(
     looks: &mut Looks<'_>,
     i: usize,
     next: usize,
     slashes: &mut Slashes<'_>,
-) -> Option<usize>
+) -> Option<(usize, bool)>
     requires in_text { i < length looks.old.0 }
     requires near { next ≤ length looks.old.0 }
     requires short { length looks.old.0 ≤ text_limit }
     requires quote { slice_index looks.old.0 i ≡ 34 }
     requires indexed { IsIndexed looks.old.0 slashes.old }
     requires closes { ClosesBefore looks.old.0 i next }
-    ensures ends { StringEnds looks.old.0 i result }
-    ensures bound { IfSome result (λ end. (i < end) × (end ≤ length looks.old.0)) }
+    ensures ends { StringEnds looks.old.0 i (end_in result) }
+    ensures bound { IfSome result (λ x. (i < x.0) × (x.0 ≤ length looks.old.0)) }
+    ensures plain { IfSome result (λ x. IsTrue x.1 → (i + 1 < x.0) × AreSlashless looks.old.0 (i + 1) x.0) }
     ensures slashes { HoldSlashes looks.old.0 slashes.new }
     ensures same { looks.new.0 ≡ looks.old.0 }
-    ensures looked { IfSome result (λ end. looks.new.1 + i ≤ looks.old.1 + end) }
+    ensures looked { IfSome result (λ x. looks.new.1 + i ≤ looks.old.1 + x.0) }
+    ensures quick { IfSome result (λ x. IsTrue x.1 → looks.new.1 ≤ looks.old.1 + 1) }
 {
     if !has_quote_before(looks, i, next) {
-        return quote_past(looks, i + 1);
+        return match quote_past(looks, i + 1) {
+            Some(end) => Some((end, false)),
+            None => None,
+        };
     }
     if slashes.spare(i + 1, next) {
-        return Some(next);
+        return Some((next, true));
     }
     slashes.advance(i + 1);
     if slashes.spare(i + 1, next) {
-        return Some(next);
+        return Some((next, true));
     }
     if escapes_hold(looks.part(i + 1, next - 1)) {
-        Some(next)
+        Some((next, false))
     } else {
         None
     }
@@ -120,25 +165,30 @@ fn string_end(
 
 // The string that begins at i.
 #[inline(always)]
-fn string(looks: &mut Looks<'_>, i: usize, next: usize, slashes: &mut Slashes<'_>) -> Option<Extent>
+fn string(looks: &mut Looks<'_>, i: usize, next: usize, slashes: &mut Slashes<'_>) -> Option<Quoted>
     requires in_text { i < length looks.old.0 }
     requires near { next ≤ length looks.old.0 }
     requires short { length looks.old.0 ≤ text_limit }
     requires quote { slice_index looks.old.0 i ≡ 34 }
     requires indexed { IsIndexed looks.old.0 slashes.old }
     requires closes { ClosesBefore looks.old.0 i next }
-    ensures string { IsNameAt looks.old.0 i result }
-    ensures room { IfSome result HasRoom }
+    ensures string { IsNameAt looks.old.0 i (source_in result) }
+    ensures room { IfSome result (λ q. HasRoom q.source) }
     ensures none { result ≡ None → IsValueAt looks.old.0 i None }
+    ensures plain { IfSome result (λ q. IsTrue q.plain → IsPlain looks.old.0 q.source × (2 ≤ q.source.len) × (q.source.start + q.source.len ≤ length looks.old.0)) }
     ensures slashes { HoldSlashes looks.old.0 slashes.new }
     ensures same { looks.new.0 ≡ looks.old.0 }
-    ensures looked { IfSome result (λ x. looks.new.1 ≤ looks.old.1 + x.len) }
+    ensures looked { IfSome result (λ q. looks.new.1 ≤ looks.old.1 + q.source.len) }
+    ensures quick { IfSome result (λ q. IsTrue q.plain → looks.new.1 ≤ looks.old.1 + 1) }
 {
     match string_end(looks, i, next, slashes) {
         None => None,
-        Some(end) => Some(Extent {
-            start: i as u32,
-            len: (end - i) as u32,
+        Some((end, plain)) => Some(Quoted {
+            source: Extent {
+                start: i as u32,
+                len: (end - i) as u32,
+            },
+            plain,
         }),
     }
 }
@@ -150,17 +200,19 @@ pub fn name(
     i: usize,
     next: usize,
     slashes: &mut Slashes<'_>,
-) -> Option<Extent>
+) -> Option<Quoted>
     requires in_text { i < length looks.old.0 }
     requires near { next ≤ length looks.old.0 }
     requires short { length looks.old.0 ≤ text_limit }
     requires indexed { IsIndexed looks.old.0 slashes.old }
     requires closes { ClosesBefore looks.old.0 i next }
-    ensures name { IsNameAt looks.old.0 i result }
-    ensures room { IfSome result HasRoom }
+    ensures name { IsNameAt looks.old.0 i (source_in result) }
+    ensures room { IfSome result (λ q. HasRoom q.source) }
+    ensures plain { IfSome result (λ q. IsTrue q.plain → IsPlain looks.old.0 q.source × (2 ≤ q.source.len) × (q.source.start + q.source.len ≤ length looks.old.0)) }
     ensures slashes { HoldSlashes looks.old.0 slashes.new }
     ensures same { looks.new.0 ≡ looks.old.0 }
-    ensures looked { IfSome result (λ x. looks.new.1 ≤ looks.old.1 + x.len + 1) }
+    ensures looked { IfSome result (λ q. looks.new.1 ≤ looks.old.1 + q.source.len + 1) }
+    ensures quick { IfSome result (λ q. IsTrue q.plain → looks.new.1 ≤ looks.old.1 + 2) }
 {
     if looks.at(i) == b'"' {
         string(looks, i, next, slashes)
@@ -185,18 +237,21 @@ fn word(looks: &mut Looks<'_>, i: usize, may_exceed: &mut bool) -> Option<Lexed>
     ensures looked { IfSome result (λ l. looks.new.1 + 1 ≤ looks.old.1 + price_of l) }
 {
     late_exponents_keep_limits();
-    let Atoms { bytes, decimal } = looks.atoms(i);
+    let Atoms { bytes, known } = looks.atoms(i);
     let source = Extent {
         start: i as u32,
         len: bytes.len() as u32,
     };
-    if decimal {
-        return Some(Lexed::Number(source));
-    }
-    *may_exceed |= !has_short_exponent(bytes);
-    match word_kind(bytes) {
-        None => None,
-        Some(kind) => Some(Lexed::Word(kind, source)),
+    match told_by(bytes, known) {
+        Told::Null => Some(Lexed::Word(Kind::Null, source)),
+        Told::False => Some(Lexed::Word(Kind::Bool(false), source)),
+        Told::True => Some(Lexed::Word(Kind::Bool(true), source)),
+        Told::Number => Some(Lexed::Number(source)),
+        Told::LongNumber => {
+            *may_exceed = true;
+            Some(Lexed::Number(source))
+        }
+        Told::Nothing => None,
     }
 }
 
@@ -225,7 +280,7 @@ pub fn value(
     match looks.at(i) {
         b'"' => match string(looks, i, next, slashes) {
             None => None,
-            Some(source) => Some(Lexed::Text(source)),
+            Some(quoted) => Some(Lexed::Text(quoted.source)),
         },
         b'{' => Some(Lexed::Opens(Shape::Object)),
         b'[' => Some(Lexed::Opens(Shape::Array)),

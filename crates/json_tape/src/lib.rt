@@ -13,6 +13,7 @@
 #![tactic(auto)]
 
 mod again;
+mod apart;
 mod builder;
 mod cells;
 mod children;
@@ -33,7 +34,6 @@ mod plain;
 mod scalars;
 mod scan;
 mod second_stage;
-mod slash_range;
 mod slashes;
 mod sought;
 mod tape;

@@ -58,19 +58,32 @@ pub fn is_wide(entry: Entry) -> bool
 }
 
 impl NameOrder {
-    /// Of no object.
-    pub fn new(alloc: Global) -> NameOrder
-        ensures objects { result.objects.items ≡ [] }
-        ensures starts { result.starts.items ≡ [] }
-        ensures hashes { result.hashes.items ≡ [] }
-        ensures members { result.members.items ≡ [] }
+    /// Of no object, with room for so many members.
+    pub fn new(alloc: Global, room: usize) -> Result<NameOrder, AllocError>
+        ensures objects { IfOk result (λ order. order.objects.items ≡ []) }
+        ensures starts { IfOk result (λ order. order.starts.items ≡ []) }
+        ensures hashes { IfOk result (λ order. order.hashes.items ≡ []) }
+        ensures members { IfOk result (λ order. order.members.items ≡ []) }
     {
-        NameOrder {
+        let hashes = Vec::with_capacity(alloc, room)?;
+        let members = Vec::with_capacity(alloc, room)?;
+        Ok(NameOrder {
             objects: Vec::new(alloc),
             starts: Vec::new(alloc),
-            hashes: Vec::new(alloc),
-            members: Vec::new(alloc),
-        }
+            hashes,
+            members,
+        })
+    }
+
+    /// Gives back the room for more members.
+    pub fn shrink(&mut self)
+        ensures objects { self.new.objects.items ≡ self.old.objects.items }
+        ensures starts { self.new.starts.items ≡ self.old.starts.items }
+        ensures hashes { self.new.hashes.items ≡ self.old.hashes.items }
+        ensures members { self.new.members.items ≡ self.old.members.items }
+    {
+        self.hashes.shrink_to_fit();
+        self.members.shrink_to_fit();
     }
 }
 
@@ -354,7 +367,7 @@ fn is_same_name(text: &str, left: Extent, right: Extent) -> bool
 // Whether so many bytes from one place on are those from another on, where a load stands at both. Few take no loop: they end in it or
 // in the next one.
 #[inline(always)]
-fn are_same_few(bytes: &[u8], left: usize, right: usize, len: usize) -> bool
+fn are_same_loads(bytes: &[u8], left: usize, right: usize, len: usize) -> bool
     requires left { (left + LANES ≤ length bytes.now) × (left + len ≤ length bytes.now) }
     requires right { (right + LANES ≤ length bytes.now) × (right + len ≤ length bytes.now) }
     ensures { IsTrue result → AreSameFrom bytes.now left right len }
@@ -384,7 +397,7 @@ fn is_leaf_alike(text: &str, last: u32, tape: &Tape, left: usize, right: usize) 
 {
     match tape.leaf_names(left, right, last) {
         None => false,
-        Some((first, second)) => are_same_few(
+        Some((first, second)) => are_same_loads(
             text.as_bytes(),
             first.start as usize,
             second.start as usize,

@@ -2,24 +2,27 @@
 //! What may come next is known by where in the code the walk stands, so that only that is looked for: a child, which is a name, a colon
 //! and a value in an object, and behind it the comma or the end.
 
-ghost use Rattle.std.specs.Prelude.{◌≡◌, ◌≢◌, ◌+◌, ◌-◌, ◌^◌, ◌<◌, ◌≤◌, ℕ, List, Bool, None, length, get_or, IfOk, IfSome, IsUtf8, IsErrOf, IsTrue, true, false};
+ghost use Rattle.std.specs.Prelude.{◌≡◌, ◌≢◌, ◌+◌, ◌-◌, ◌^◌, ◌<◌, ◌≤◌, ℕ, List, Bool, None, length, get_or, IfOk, OnOk, IfSome, IsUtf8, IsErrOf, IsTrue, true, false};
 ghost use Rattle.structural_index.specs.Answer.{IsIndexOf};
-ghost use Rattle.json_tape.specs.Machine.{IsSmall, Took, step, level_of};
+ghost use Rattle.json_tape.specs.Machine.{Closing, IsSmall, Took, step, level_of};
 ghost use Rattle.json_tape.specs.Built.{Built, standing, nothing};
 ghost use Rattle.json_tape.specs.Limits.{AreWithinLimits};
 ghost use Rattle.json_tape.specs.Answer.{IsJson, StandsForAll, HasDepth, IsNoJson};
 ghost use Rattle.json_tape.specs.Building.{IsBounded};
 ghost use Rattle.json_tape.specs.Opened.{HasRoom};
+ghost use Rattle.json_tape.specs.Sifted.{AreSifted};
 ghost use Rattle.json_tape.specs.Surrogates.{HasNoSurrogates};
 ghost use Rattle.json_tape.specs.Verdict.{text_limit};
-ghost use Rattle.json_tape.specs.Placing.{HoldSlashes, StandWithin};
-ghost use Rattle.json_tape.specs.Walked.{IsListed, FitsTape, token_of, behind, with_sign, without_sign, spot_after, is_whole as whole_token, spot_behind, no_child, byte_at, ending as ending_of, width as width_of, shape_of, point, at, Arrives, Named, Grown, Entered, AsksName, AsksValue, AsksChild};
+ghost use Rattle.json_tape.specs.Placing.{HoldSlashes};
+ghost use Rattle.json_tape.specs.Told.{IsStamped, IsUnasked, AreTold, IsFresh, IsSameTop, IsSeated, HasTable, top_of, children_of};
+ghost use Rattle.json_tape.specs.Ordered.{narrow};
+ghost use Rattle.json_tape.specs.Walked.{met_source, IsListed, FitsTape, token_of, behind, with_sign, no_more, spot_after, is_whole as whole_token, spot_behind, byte_at, ending as ending_of, width as width_of, shape_of, point, at, Arrives, Named, Grown, Entered, AsksName, AsksValue, AsksChild};
 
+use crate::apart::{Met, NamesMet, Owner, stamped};
 use crate::builder::Builder;
 use crate::compact::Tape;
 use crate::judge::may_be_lone;
 use crate::lexing::{Lexed, name, value};
-use crate::slash_range::SlashRange;
 use crate::slashes::Slashes;
 use crate::tape::{BuildFault, Extent, Kind, Level, Shape, Want};
 use std::alloc::Global;
@@ -82,10 +85,10 @@ fn signed(made: Result<(), BuildFault>, sign: u8) -> Result<Option<u8>, BuildFau
     }
 }
 
-// No sign, where the entry of a container was made.
+// No sign behind a container that was opened, and no child in one that was closed.
 #[inline(always)]
-fn unsigned(made: Result<(), BuildFault>) -> Result<Option<u8>, BuildFault>
-    ensures { result ≡ without_sign made }
+fn nothing_more<T>(made: Result<(), BuildFault>) -> Result<Option<T>, BuildFault>
+    ensures { result ≡ no_more made }
 {
     match made {
         Ok(()) => Ok(None),
@@ -119,24 +122,20 @@ fn put(
 
 // The name at place number k and the colon behind it.
 #[inline(always)]
-fn named(
-    looks: &mut Looks<'_>,
-    places: &[u32],
-    k: usize,
-    slashes: &mut Slashes<'_>,
-) -> Option<Extent>
+fn named(looks: &mut Looks<'_>, places: &[u32], k: usize, slashes: &mut Slashes<'_>) -> Option<Met>
     requires listed { IsListed looks.old.0 places.now }
     requires inside { k + 1 < length places.now }
     requires slashes { HoldSlashes looks.old.0 slashes.old }
     ensures named { (b : Built) (w : Want) (exceeds : Bool) → AsksName looks.old.0 places.now k w
-        → Named looks.old.0 places.now (point k (standing b w None) looks.old.1 exceeds) b (k + 2) result looks.new.1 exceeds }
-    ensures room { IfSome result HasRoom }
+        → Named looks.old.0 places.now (point k (standing b w None) looks.old.1 exceeds) b (k + 2) (met_source result) looks.new.1 exceeds }
+    ensures room { IfSome result (λ m. HasRoom m.source) }
+    ensures stamped { IfSome result (λ m. IsStamped looks.old.0 m.source m.stamp) }
     ensures slashes { HoldSlashes looks.old.0 slashes.new }
     ensures same { looks.new.0 ≡ looks.old.0 }
 {
     let colon = places[k + 1] as usize;
     match name(looks, places[k] as usize, colon, slashes) {
-        Some(name) if looks.at(colon) == b':' => Some(name),
+        Some(name) if looks.at(colon) == b':' => Some(stamped(looks, name)),
         _ => None,
     }
 }
@@ -161,6 +160,8 @@ fn valued<const OBJECT: bool, const COUNT: bool>(
     requires name { IfSome name HasRoom }
     ensures grown { (w : Want) → AsksValue looks.old.0 places.now k w
         → Grown looks.old.0 places.now (point k (standing builder.old w name) looks.old.1 may_exceed.old) (shape_of OBJECT) (k + 1) result builder.new looks.new.1 may_exceed.new }
+    ensures told { IfOk result (λ made. (met : NamesMet) → AreTold looks.old.0 builder.old met → IsFresh looks.old.0 builder.old met name → AreTold looks.old.0 builder.new met) }
+    ensures top { IfOk result (λ made. IfSome made (λ sign. IsSameTop builder.old.opens builder.new.opens)) }
     ensures slashes { HoldSlashes looks.old.0 slashes.new }
     ensures same { looks.new.0 ≡ looks.old.0 }
 {
@@ -169,7 +170,7 @@ fn valued<const OBJECT: bool, const COUNT: bool>(
     let level = Level::Inside(shape::<OBJECT>());
     match value(looks, i as usize, next, slashes, may_exceed) {
         None => Err(BuildFault::NotJson),
-        Some(Lexed::Opens(shape)) => unsigned(builder.open(level, name, shape, i)),
+        Some(Lexed::Opens(shape)) => nothing_more(builder.open(level, name, shape, i)),
         Some(Lexed::Text(source)) => {
             let sign = looks.at(next);
             signed(builder.leaf(level, name, source, Kind::Text), sign)
@@ -194,32 +195,42 @@ fn child<const OBJECT: bool, const COUNT: bool>(
     slashes: &mut Slashes<'_>,
     builder: &mut Builder,
     may_exceed: &mut bool,
+    met: &mut NamesMet,
+    owner: Owner,
 ) -> Result<Option<u8>, BuildFault>
     requires listed { IsListed looks.old.0 places.now }
     requires inside { k + width_of (shape_of OBJECT) < length places.now }
     requires slashes { HoldSlashes looks.old.0 slashes.old }
     requires small { IsSmall k (standing builder.old Want.Next None) }
     requires level { level_of builder.old.opens ≡ Level.Inside (shape_of OBJECT) }
+    requires told { AreTold looks.old.0 builder.old met.old }
+    requires seated { IsTrue OBJECT → IsSeated builder.old owner met.old }
+    requires table { HasTable owner }
     ensures grown { (w : Want) → AsksChild looks.old.0 places.now k (shape_of OBJECT) w
         → Grown looks.old.0 places.now (point k (standing builder.old w None) looks.old.1 may_exceed.old) (shape_of OBJECT) (k + width_of (shape_of OBJECT)) result builder.new looks.new.1 may_exceed.new }
+    ensures told { IfOk result (λ made. AreTold looks.old.0 builder.new met.new) }
+    ensures seated { IfOk result (λ made. IfSome made (λ sign. IsTrue OBJECT → IsSeated builder.new owner met.new)) }
     ensures slashes { HoldSlashes looks.old.0 slashes.new }
     ensures same { looks.new.0 ≡ looks.old.0 }
 {
     if !OBJECT {
         return valued::<OBJECT, COUNT>(looks, places, k, None, slashes, builder, may_exceed);
     }
-    match named(looks, places, k, slashes) {
-        None => Err(BuildFault::NotJson),
-        Some(name) => valued::<OBJECT, COUNT>(
-            looks,
-            places,
-            k + 2,
-            Some(name),
-            slashes,
-            builder,
-            may_exceed,
-        ),
+    let Some(name) = named(looks, places, k, slashes) else {
+        return Err(BuildFault::NotJson);
+    };
+    if met.meet(owner, name.stamp).is_err() {
+        return Err(BuildFault::Memory);
     }
+    valued::<OBJECT, COUNT>(
+        looks,
+        places,
+        k + 2,
+        Some(name.source),
+        slashes,
+        builder,
+        may_exceed,
+    )
 }
 
 // What stands behind a container that was closed at place number k.
@@ -237,13 +248,36 @@ fn closed_at(closed: Result<(), BuildFault>, k: usize) -> Result<Spot, BuildFaul
     }
 }
 
-// No child, where a container was closed.
+// Asks about the innermost container if it is a wide object.
 #[inline(always)]
-fn childless(closed: Result<(), BuildFault>) -> Result<Option<usize>, BuildFault>
-    ensures { result ≡ no_child closed }
+fn ask_if_wide<const OBJECT: bool>(builder: &Builder, met: &mut NamesMet) -> Result<(), BuildFault>
+    ensures told { OnOk result ((text : List ℕ) → AreTold text builder.now met.old → AreTold text builder.now met.new) }
+    ensures few { OnOk result (shape_of OBJECT ≡ Shape.Object → IsUnasked met.new (top_of builder.now.opens) → children_of builder.now.opens ≤ narrow) }
+    ensures memory { IsErrOf result BuildFault.NotJson → ⊥ }
 {
-    match closed {
-        Ok(()) => Ok(None),
+    if !OBJECT {
+        return Ok(());
+    }
+    match met.ask_if_wide(builder) {
+        Ok(()) => Ok(()),
+        Err(_) => Err(BuildFault::Memory),
+    }
+}
+
+// Closes the innermost container, which is asked about if it is a wide object.
+#[inline(always)]
+fn shut<const OBJECT: bool>(
+    builder: &mut Builder,
+    place: u32,
+    met: &mut NamesMet,
+) -> Result<(), BuildFault>
+    requires level { level_of builder.old.opens ≡ Level.Inside (shape_of OBJECT) }
+    requires near { place < 2 ^ 24 }
+    ensures took { Took (step (Closing (shape_of OBJECT) place) (standing builder.old Want.Next None)) result (standing builder.new Want.Next None) }
+    ensures told { OnOk result ((text : List ℕ) → AreTold text builder.old met.old → AreTold text builder.new met.new) }
+{
+    match ask_if_wide::<OBJECT>(builder, met) {
+        Ok(()) => builder.close(shape::<OBJECT>(), place),
         Err(fault) => Err(fault),
     }
 }
@@ -255,6 +289,7 @@ fn ended<const OBJECT: bool>(
     k: usize,
     sign: u8,
     builder: &mut Builder,
+    met: &mut NamesMet,
 ) -> Result<Spot, BuildFault>
     requires inside { k < length places.now }
     requires near { get_or places.now k 0 < 2 ^ 24 }
@@ -263,11 +298,12 @@ fn ended<const OBJECT: bool>(
     ensures arrives { (text : List ℕ) (looked : ℕ) (exceeds : Bool) → IsListed text places.now → sign ≡ byte_at text places.now k
         → Arrives text places.now (point k (standing builder.old Want.Next None) looked exceeds) result builder.new looked exceeds }
     ensures behind { IfOk result (λ next. (next.number ≡ k + 1) × (next.behind ≡ true)) }
+    ensures told { IfOk result (λ next. (text : List ℕ) → AreTold text builder.old met.old → AreTold text builder.new met.new) }
 {
     if sign != ending::<OBJECT>() {
         return Err(BuildFault::NotJson);
     }
-    closed_at(builder.close(shape::<OBJECT>(), places[k]), k)
+    closed_at(shut::<OBJECT>(builder, places[k], met), k)
 }
 
 // What the walk finds where it enters a container, or comes back to it: the number of the place at which the next child has to begin, or
@@ -278,11 +314,13 @@ fn entered<const OBJECT: bool>(
     places: &[u32],
     spot: Spot,
     builder: &mut Builder,
+    met: &mut NamesMet,
 ) -> Result<Option<usize>, BuildFault>
     requires listed { IsListed looks.old.0 places.now }
     requires level { level_of builder.old.opens ≡ Level.Inside (shape_of OBJECT) }
     ensures entered { (exceeds : Bool) → Entered looks.old.0 places.now (at spot builder.old looks.old.1 exceeds) (shape_of OBJECT) (spot.number + 1) result builder.new looks.new.1 exceeds }
     ensures inside { IfOk result (λ next. spot.number < length places.now) }
+    ensures told { IfOk result (λ next. (text : List ℕ) → AreTold text builder.old met.old → AreTold text builder.new met.new) }
     ensures same { looks.new.0 ≡ looks.old.0 }
 {
     if spot.number >= places.len() {
@@ -290,7 +328,7 @@ fn entered<const OBJECT: bool>(
     }
     let sign = looks.at(places[spot.number] as usize);
     if sign == ending::<OBJECT>() {
-        return childless(builder.close(shape::<OBJECT>(), places[spot.number]));
+        return nothing_more(shut::<OBJECT>(builder, places[spot.number], met));
     }
     if !spot.behind {
         return Ok(Some(spot.number));
@@ -299,6 +337,26 @@ fn entered<const OBJECT: bool>(
         Ok(Some(spot.number + 1))
     } else {
         Err(BuildFault::NotJson)
+    }
+}
+
+// The table for the names of the innermost container, which an array does not use.
+#[inline(always)]
+fn seat<const OBJECT: bool>(builder: &Builder, met: &mut NamesMet) -> Result<Owner, BuildFault>
+    ensures seated { IfOk result (λ owner. IsTrue OBJECT → IsSeated builder.now owner met.new) }
+    ensures told { IfOk result (λ owner. (text : List ℕ) → AreTold text builder.now met.old → AreTold text builder.now met.new) }
+    ensures table { IfOk result HasTable }
+    ensures memory { IsErrOf result BuildFault.NotJson → ⊥ }
+{
+    if !OBJECT {
+        return Ok(Owner {
+            number: 0,
+            table: 0,
+        });
+    }
+    match met.seat(builder) {
+        Ok(owner) => Ok(owner),
+        Err(_) => Err(BuildFault::Memory),
     }
 }
 
@@ -311,18 +369,21 @@ fn run<const OBJECT: bool, const COUNT: bool>(
     slashes: &mut Slashes<'_>,
     builder: &mut Builder,
     may_exceed: &mut bool,
+    met: &mut NamesMet,
 ) -> Result<Spot, BuildFault>
     requires listed { IsListed looks.old.0 places.now }
     requires slashes { HoldSlashes looks.old.0 slashes.old }
     requires small { IsSmall spot.number (standing builder.old Want.Next None) }
     requires level { level_of builder.old.opens ≡ Level.Inside (shape_of OBJECT) }
+    requires told { AreTold looks.old.0 builder.old met.old }
     ensures arrives { Arrives looks.old.0 places.now (at spot builder.old looks.old.1 may_exceed.old) result builder.new looks.new.1 may_exceed.new }
     ensures further { IfOk result (λ next. (spot.number < next.number) × (next.number ≤ length places.now)) }
     ensures opened { IfOk result (λ next. next.behind ≡ false → level_of builder.new.opens ≡ Level.Root → ⊥) }
+    ensures told { IfOk result (λ next. AreTold looks.old.0 builder.new met.new) }
     ensures slashes { HoldSlashes looks.old.0 slashes.new }
     ensures same { looks.new.0 ≡ looks.old.0 }
 {
-    let first = match entered::<OBJECT>(looks, places, spot, builder) {
+    let first = match entered::<OBJECT>(looks, places, spot, builder, met) {
         Err(fault) => return Err(fault),
         Ok(None) => {
             return Ok(Spot {
@@ -332,9 +393,13 @@ fn run<const OBJECT: bool, const COUNT: bool>(
         }
         Ok(Some(first)) => first,
     };
+    let owner = match seat::<OBJECT>(builder, met) {
+        Ok(owner) => owner,
+        Err(fault) => return Err(fault),
+    };
     let mut k = first;
     while k + width::<OBJECT>() < places.len() {
-        match child::<OBJECT, COUNT>(looks, places, k, slashes, builder, may_exceed) {
+        match child::<OBJECT, COUNT>(looks, places, k, slashes, builder, may_exceed, met, owner) {
             Err(fault) => return Err(fault),
             Ok(None) => {
                 return Ok(Spot {
@@ -343,7 +408,9 @@ fn run<const OBJECT: bool, const COUNT: bool>(
                 });
             }
             Ok(Some(b',')) => k += width::<OBJECT>() + 1,
-            Ok(Some(sign)) => return ended::<OBJECT>(places, k + width::<OBJECT>(), sign, builder),
+            Ok(Some(sign)) => {
+                return ended::<OBJECT>(places, k + width::<OBJECT>(), sign, builder, met);
+            }
         }
     }
     Err(BuildFault::NotJson)
@@ -359,20 +426,23 @@ fn children<const COUNT: bool>(
     slashes: &mut Slashes<'_>,
     builder: &mut Builder,
     may_exceed: &mut bool,
+    met: &mut NamesMet,
 ) -> Result<Spot, BuildFault>
     requires listed { IsListed looks.old.0 places.now }
     requires slashes { HoldSlashes looks.old.0 slashes.old }
     requires small { IsSmall spot.number (standing builder.old Want.Next None) }
     requires level { level_of builder.old.opens ≡ Level.Inside shape }
+    requires told { AreTold looks.old.0 builder.old met.old }
     ensures arrives { Arrives looks.old.0 places.now (at spot builder.old looks.old.1 may_exceed.old) result builder.new looks.new.1 may_exceed.new }
     ensures further { IfOk result (λ next. (spot.number < next.number) × (next.number ≤ length places.now)) }
     ensures opened { IfOk result (λ next. next.behind ≡ false → level_of builder.new.opens ≡ Level.Root → ⊥) }
+    ensures told { IfOk result (λ next. AreTold looks.old.0 builder.new met.new) }
     ensures slashes { HoldSlashes looks.old.0 slashes.new }
     ensures same { looks.new.0 ≡ looks.old.0 }
 {
     match shape {
-        Shape::Array => run::<false, COUNT>(looks, places, spot, slashes, builder, may_exceed),
-        Shape::Object => run::<true, COUNT>(looks, places, spot, slashes, builder, may_exceed),
+        Shape::Array => run::<false, COUNT>(looks, places, spot, slashes, builder, may_exceed, met),
+        Shape::Object => run::<true, COUNT>(looks, places, spot, slashes, builder, may_exceed, met),
     }
 }
 
@@ -385,20 +455,25 @@ fn containers<const COUNT: bool>(
     slashes: &mut Slashes<'_>,
     builder: &mut Builder,
     may_exceed: &mut bool,
+    met: &mut NamesMet,
 ) -> Result<Spot, BuildFault>
     requires listed { IsListed looks.old.0 places.now }
     requires slashes { HoldSlashes looks.old.0 slashes.old }
     requires inside { spot.number ≤ length places.now }
     requires small { IsSmall spot.number (standing builder.old Want.Next None) }
     requires opened { spot.behind ≡ false → level_of builder.old.opens ≡ Level.Root → ⊥ }
+    requires told { AreTold looks.old.0 builder.old met.old }
     ensures arrives { Arrives looks.old.0 places.now (at spot builder.old looks.old.1 may_exceed.old) result builder.new looks.new.1 may_exceed.new }
     ensures over { IfOk result (λ next. (level_of builder.new.opens ≡ Level.Root) × (next.behind ≡ true)) }
+    ensures told { IfOk result (λ next. AreTold looks.old.0 builder.new met.new) }
     ensures slashes { HoldSlashes looks.old.0 slashes.new }
     ensures same { looks.new.0 ≡ looks.old.0 }
 {
     let mut next = spot;
     while let Level::Inside(shape) = builder.level() {
-        match children::<COUNT>(looks, places, next, shape, slashes, builder, may_exceed) {
+        match children::<COUNT>(
+            looks, places, next, shape, slashes, builder, may_exceed, met,
+        ) {
             Ok(spot) => next = spot,
             Err(fault) => return Err(fault),
         }
@@ -444,6 +519,7 @@ fn whole<const COUNT: bool>(
     requires slashes { HoldSlashes looks.old.0 slashes.old }
     requires first { builder.old ≡ nothing }
     ensures arrives { Arrives looks.old.0 places.now (point 0 (standing builder.old Want.Value None) looks.old.1 may_exceed.old) result builder.new looks.new.1 may_exceed.new }
+    ensures told { IfOk result (λ next. (met : NamesMet) → AreTold looks.old.0 builder.old met → AreTold looks.old.0 builder.new met) }
     ensures further { IfOk result (λ next. next.number ≤ length places.now) }
     ensures opened { IfOk result (λ next. next.behind ≡ false → level_of builder.new.opens ≡ Level.Root → ⊥) }
     ensures slashes { HoldSlashes looks.old.0 slashes.new }
@@ -461,15 +537,16 @@ fn whole<const COUNT: bool>(
 }
 
 /// What reading a text found: its tape, how many containers lie in one another at most, whether a number may be beyond the limits,
-/// whether a surrogate may be lone, where backslashes stand, and the most bytes of a value that is a string.
+/// whether a surrogate may be lone, and the most bytes of a value that is a string. `asked` has the numbers of the objects that are to be
+/// looked at more closely, in no order; in all others names were told apart.
 #[derive(Drop)]
 pub struct Reading {
     pub tape: Tape,
     pub depth: usize,
     pub may_exceed: bool,
     pub may_be_lone: bool,
-    pub slashes: SlashRange,
     pub longest: u32,
+    pub asked: Vec<u32>,
 }
 
 /// The tape of a text and its marks, or why there is none, by the places of its index. The walk is made for one caller whose looks count
@@ -494,6 +571,7 @@ fn walk<const COUNT: bool>(
     // Unless memory runs out, a text is refused only where it spells no tree.
     ensures refused { IsErrOf result BuildFault.NotJson → IsNoJson looks.old.0 }
     ensures looked { IfOk result (λ reading. IsBounded looks.old.0 looks.old.1 looks.new.1) }
+    ensures sifted { IfOk result (λ reading. AreSifted looks.old.0 reading.tape reading.asked.items) }
 {
     if index.unclosed || index.control_inside {
         return Err(BuildFault::NotJson);
@@ -502,6 +580,7 @@ fn walk<const COUNT: bool>(
     let mut slashes = Slashes::new(index.slashes.as_slice(), looks.length());
     let mut builder = Builder::new(alloc, places.len() / 2 + 1)?;
     let mut may_exceed = false;
+    let mut met = NamesMet::new(alloc);
     let first = match whole::<COUNT>(looks, places, &mut slashes, &mut builder, &mut may_exceed) {
         Ok(first) => first,
         Err(fault) => return Err(fault),
@@ -513,6 +592,7 @@ fn walk<const COUNT: bool>(
         &mut slashes,
         &mut builder,
         &mut may_exceed,
+        &mut met,
     ) {
         Ok(last) => last,
         Err(fault) => return Err(fault),
@@ -527,8 +607,8 @@ fn walk<const COUNT: bool>(
         depth,
         may_exceed,
         may_be_lone: true,
-        slashes: SlashRange::anywhere(),
         longest,
+        asked: met.asked,
     })
 }
 
@@ -568,7 +648,7 @@ pub fn read(alloc: Global, text: &[u8]) -> Result<(Reading, Vec<u8>), BuildFault
     ensures depth { IfOk result (λ r. HasDepth text.now r.0.depth) }
     ensures numbers { IfOk result (λ r. r.0.may_exceed ≡ false → AreWithinLimits text.now r.0.tape) }
     ensures lone { IfOk result (λ r. r.0.may_be_lone ≡ false → HasNoSurrogates text.now) }
-    ensures slashes { IfOk result (λ r. StandWithin text.now r.0.slashes) }
+    ensures sifted { IfOk result (λ r. AreSifted text.now r.0.tape r.0.asked.items) }
     ensures copy { IfOk result (λ r. r.1.items ≡ text.now) }
     // Unless memory runs out, a text is refused only where it spells no tree.
     ensures refused { IsErrOf result BuildFault.NotJson → IsNoJson text.now }
@@ -581,7 +661,6 @@ pub fn read(alloc: Global, text: &[u8]) -> Result<(Reading, Vec<u8>), BuildFault
         Ok(reading) => {
             let whole = Reading {
                 may_be_lone: may_be_lone(text, blocks),
-                slashes: SlashRange::of(blocks, text.len()),
                 ..reading
             };
             Ok((whole, copy))

@@ -6,7 +6,7 @@ ghost use Rattle.structural_index.specs.Seams.{AreSlashless};
 ghost use Rattle.json_tape.specs.Placing.{HoldSlashes};
 
 /// How many bytes a block has.
-pub const BLOCK: usize = 64;
+const BLOCK: usize = 64;
 
 /// A gap, from one place to before another, in which no backslash of a text stands, and the number of the first block behind it of
 /// those in which backslashes stand.

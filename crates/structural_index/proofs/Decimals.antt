@@ -1,5 +1,5 @@
 -- The bytes of a number without an exponent, and small letters, are those of numbers and words.
-use Rattle.std.proofs.Common.{◌≡◌, ℕ, ◌+◌, ◌-◌, ◌<◌, ◌≤◌, inl, inr, true, List, length, get_or, refl, sym, ap, ◌∙◌, arith}
+use Rattle.std.proofs.Common.{◌≡◌, ℕ, ◌+◌, ◌-◌, ◌≤◌, inl, inr, true, List, length, get_or, refl, sym, ap, ◌∙◌, arith}
 use Rattle.std.proofs.lemmas.Bool.{cases_lt}
 use Rattle.std.proofs.lemmas.Bool.Decides.{nat_tests}
 use Rattle.std.proofs.lemmas.List.{get_or_default}
@@ -8,9 +8,6 @@ use Rattle.structural_index.specs.Decimals.{IsDecimal}
 
 digit_atom : (b : ℕ) → (48 ≤ b) × (b ≤ 57) → is_plain_atom b ≡ true
 digit_atom b h = let low = h.0 in let high = h.1 in grind (arith, nat_tests)
-
-pub letter_atom : (b : ℕ) → (97 ≤ b) × (b < 123) → is_plain_atom b ≡ true
-letter_atom b h = let low = h.0 in let high = h.1 in grind (arith, nat_tests)
 
 known_atom : (b x : ℕ) → b ≡ x → is_plain_atom x ≡ true → is_plain_atom b ≡ true
 known_atom b x e h = ap is_plain_atom e ∙ h

@@ -1,12 +1,14 @@
 use Rattle.std.proofs.Common.{◌≡◌, ◌+◌, ◌-◌, ◌∙◌, subst, drop}
 use Rattle.json_tape.specs.Lexing.{quote_end}
+use Rattle.json_tape.specs.Placing.{StringEnds}
 use Rattle.json_tape.proofs.Placing.{scanned_string, scanned_part, plain_before, held_before, unheld_before}
 use Rattle.json_tape.proofs.lexing.string_end.Goals as goal
 
-pub returns-then-not-has_quote_before-clause-ends : goal.returns-then-not-has_quote_before-clause-ends
-returns-then-not-has_quote_before-clause-ends c =
-    scanned_string c.args.looks.now.0 c.args.i c.quote_past.result c.requires.indexed.utf8 c.requires.in_text c.requires.quote
-    (subst (λ b. c.quote_past.result ≡ quote_end (c.args.i + 1) (drop (c.args.i + 1) b)) c.has_quote_before.ensures.same c.quote_past.ensures.value)
+pub returns-in-Some-clause-ends : goal.returns-in-Some-clause-ends
+returns-in-Some-clause-ends c =
+    subst (StringEnds c.args.looks.now.0 c.args.i) c.in-Some.is
+    (scanned_string c.args.looks.now.0 c.args.i c.quote_past.result c.requires.indexed.utf8 c.requires.in_text c.requires.quote
+    (subst (λ b. c.quote_past.result ≡ quote_end (c.args.i + 1) (drop (c.args.i + 1) b)) c.has_quote_before.ensures.same c.quote_past.ensures.value))
 
 pub returns-then-spare-clause-ends : goal.returns-then-spare-clause-ends
 returns-then-spare-clause-ends c =

@@ -1,35 +1,61 @@
-use Rattle.std.proofs.Common.{length, refl, arith, true}
-use Rattle.json_tape.specs.declared.tape.Kind.TheVariants.{Number}
-use Rattle.json_tape.proofs.TokensAt.{word_at, word_token, no_value_at}
-use Rattle.json_tape.proofs.Marks.{unmarked, word_marked}
-use Rattle.json_tape.proofs.Wholes.{decimal_is}
+use Rattle.std.proofs.Common.{true, false, arith}
+use Rattle.std.specs.Prelude.{codes}
+use Rattle.json_tape.specs.declared.tape.Kind.TheVariants.{Null, Bool, Number}
+use Rattle.json_tape.proofs.TokensAt.{word_at, no_value_at}
+use Rattle.json_tape.proofs.Known.{known_here, limited_marked, spelt_marked}
 use Rattle.json_tape.proofs.lexing.word.Goals as goal
 
-pub returns-then-decimal-clause-value : goal.returns-then-decimal-clause-value
-returns-then-decimal-clause-value c =
-    let is = c.atoms-decimal in
-    word_at c.args.looks.now.0 is.result.bytes.now c.args.i Number c.requires.in_text is.ensures.value is.ensures.run
-    (decimal_is c.args.looks.now.0 is.result.bytes.now c.args.i is.ensures.value (is.ensures.decimal c.if-decimal.true)).0
+pub told_by-requires : goal.told_by-requires
+told_by-requires c =
+    let is = c.atoms-known in
+    known_here c.late_exponents_keep_limits.ensures c.args.looks.now.0 is.result.bytes.now c.args.i is.result.known is.ensures.value is.ensures.known
 
-pub returns-then-decimal-clause-marked : goal.returns-then-decimal-clause-marked
-returns-then-decimal-clause-marked c =
-    let is = c.atoms-decimal in
-    word_marked c.args.looks.now.0 is.result.bytes.now c.args.i c.args.may_exceed.now true c.args.may_exceed.now is.ensures.value (λ _.
-    let bytes = is.result.bytes.now in
-    let few = (is.ensures.decimal c.if-decimal.true).few in
-    c.late_exponents_keep_limits.ensures bytes (length bytes) (omega (arith, few)) (omega (arith, few)) (decimal_is c.args.looks.now.0 bytes c.args.i is.ensures.value (is.ensures.decimal c.if-decimal.true)).1) (unmarked c.args.may_exceed.now)
+pub returns-in-Null-clause-value : goal.returns-in-Null-clause-value
+returns-in-Null-clause-value c =
+    let is = c.atoms-known in
+    word_at c.args.looks.now.0 is.result.bytes.now c.args.i Null c.requires.in_text is.ensures.value is.ensures.run c.in-Null.ensures
 
-pub returns-in-None-clause-value : goal.returns-in-None-clause-value
-returns-in-None-clause-value c =
-    let is = c.atoms-decimal in
-    no_value_at c.args.looks.now.0 is.result.bytes.now c.args.i c.requires.in_text c.requires.no_string c.requires.no_array c.requires.no_object is.ensures.value is.ensures.run c.in-None.ensures
+pub returns-in-Null-clause-marked : goal.returns-in-Null-clause-marked
+returns-in-Null-clause-marked c =
+    let is = c.atoms-known in
+    spelt_marked c.late_exponents_keep_limits.ensures c.args.looks.now.0 is.result.bytes.now c.args.i c.args.may_exceed.now (codes "null") is.ensures.value c.in-Null.ensures (omega arith)
 
-pub returns-in-Some-clause-value : goal.returns-in-Some-clause-value
-returns-in-Some-clause-value c =
-    let is = c.atoms-decimal in
-    word_token c.args.looks.now.0 is.result.bytes.now c.args.i c.in-Some.kind c.requires.in_text is.ensures.value is.ensures.run c.in-Some.ensures
+pub returns-in-False-clause-value : goal.returns-in-False-clause-value
+returns-in-False-clause-value c =
+    let is = c.atoms-known in
+    word_at c.args.looks.now.0 is.result.bytes.now c.args.i (Bool false) c.requires.in_text is.ensures.value is.ensures.run c.in-False.ensures
 
-pub returns-in-Some-clause-marked : goal.returns-in-Some-clause-marked
-returns-in-Some-clause-marked c =
-    let is = c.atoms-decimal in
-    word_marked c.args.looks.now.0 is.result.bytes.now c.args.i c.args.may_exceed.now c.has_short_exponent.result _ is.ensures.value c.has_short_exponent.ensures refl
+pub returns-in-False-clause-marked : goal.returns-in-False-clause-marked
+returns-in-False-clause-marked c =
+    let is = c.atoms-known in
+    spelt_marked c.late_exponents_keep_limits.ensures c.args.looks.now.0 is.result.bytes.now c.args.i c.args.may_exceed.now (codes "false") is.ensures.value c.in-False.ensures (omega arith)
+
+pub returns-in-True-clause-value : goal.returns-in-True-clause-value
+returns-in-True-clause-value c =
+    let is = c.atoms-known in
+    word_at c.args.looks.now.0 is.result.bytes.now c.args.i (Bool true) c.requires.in_text is.ensures.value is.ensures.run c.in-True.ensures
+
+pub returns-in-True-clause-marked : goal.returns-in-True-clause-marked
+returns-in-True-clause-marked c =
+    let is = c.atoms-known in
+    spelt_marked c.late_exponents_keep_limits.ensures c.args.looks.now.0 is.result.bytes.now c.args.i c.args.may_exceed.now (codes "true") is.ensures.value c.in-True.ensures (omega arith)
+
+pub returns-in-Number-clause-value : goal.returns-in-Number-clause-value
+returns-in-Number-clause-value c =
+    let is = c.atoms-known in
+    word_at c.args.looks.now.0 is.result.bytes.now c.args.i Number c.requires.in_text is.ensures.value is.ensures.run c.in-Number.ensures.0
+
+pub returns-in-Number-clause-marked : goal.returns-in-Number-clause-marked
+returns-in-Number-clause-marked c =
+    let is = c.atoms-known in
+    limited_marked c.args.looks.now.0 is.result.bytes.now c.args.i c.args.may_exceed.now is.ensures.value c.in-Number.ensures.1
+
+pub returns-in-LongNumber-clause-value : goal.returns-in-LongNumber-clause-value
+returns-in-LongNumber-clause-value c =
+    let is = c.atoms-known in
+    word_at c.args.looks.now.0 is.result.bytes.now c.args.i Number c.requires.in_text is.ensures.value is.ensures.run c.in-LongNumber.ensures
+
+pub returns-in-Nothing-clause-value : goal.returns-in-Nothing-clause-value
+returns-in-Nothing-clause-value c =
+    let is = c.atoms-known in
+    no_value_at c.args.looks.now.0 is.result.bytes.now c.args.i c.requires.in_text c.requires.no_string c.requires.no_array c.requires.no_object is.ensures.value is.ensures.run c.in-Nothing.ensures

@@ -1,17 +1,21 @@
-use Rattle.std.proofs.Common.{◌∙◌, refl, subst}
+use Rattle.std.proofs.Common.{◌∙◌, refl, sym, subst}
 use Rattle.std.specs.Prelude.{Ok, Err}
 use Rattle.json_tape.specs.Walked.{at}
 use Rattle.json_tape.specs.Placing.{HoldSlashes}
+use Rattle.json_tape.specs.Told.{AreTold}
 use Rattle.json_tape.proofs.Going.{here}
 use Rattle.json_tape.proofs.Onward.{walked_small, small_state, arrives_same}
 use Rattle.json_tape.proofs.second_stage.containers.Goals as goal
 
 pub loop-shape-init : goal.loop-shape-init
-loop-shape-init g c = record { same = refl; slashes = c.requires.slashes; walked = here c.args.looks.now.0 c.args.places.now _; to = c.requires.inside; opened = c.requires.opened }
+loop-shape-init g c = record { same = refl; slashes = c.requires.slashes; walked = here c.args.looks.now.0 c.args.places.now _; to = c.requires.inside; told = c.requires.told; opened = c.requires.opened }
 
 pub children-requires-clause-small : goal.children-requires-clause-small
 children-requires-clause-small g c =
     small_state _ _ _ _ _ _ (walked_small c.args.looks.now.0 c.args.places.now c.requires.listed _ _ c.loop-shape.invariant.walked (small_state _ _ _ _ _ _ c.requires.small))
+
+pub children-requires-clause-told : goal.children-requires-clause-told
+children-requires-clause-told g c = subst (λ b. AreTold b c.loop-shape.builder c.loop-shape.met) (sym c.loop-shape.invariant.same) c.loop-shape.invariant.told
 
 pub loop-shape-preserved : goal.loop-shape-preserved
 loop-shape-preserved g c =
@@ -22,6 +26,7 @@ loop-shape-preserved g c =
       slashes = subst (λ b. HoldSlashes b c.children.new.slashes) kept.same found.slashes;
       walked = arrives_same c.args.looks.now.0 c.args.places.now c.requires.listed c.loop-shape.looks.0 _ (at c.loop-shape.next c.loop-shape.builder c.loop-shape.looks.1 c.loop-shape.may_exceed) c.children.new.looks.1 (Ok c.in-Ok.spot) c.children.new.builder c.children.new.may_exceed kept.same kept.walked found.arrives;
       to = found.further.1;
+      told = subst (λ b. AreTold b c.children.new.builder c.children.new.met) kept.same found.told;
       opened = found.opened;
     }
 

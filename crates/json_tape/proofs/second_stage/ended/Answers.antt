@@ -1,5 +1,4 @@
-use Rattle.std.proofs.Common.{◌∙◌, sym, ap, arith}
-use Rattle.json_tape.specs.Walked.{ending}
+use Rattle.std.proofs.Common.{◌∙◌, arith}
 use Rattle.json_tape.proofs.Onward.{no_sign_halts, ended_arrives, closed_behind}
 use Rattle.json_tape.proofs.second_stage.ended.Goals as goal
 
@@ -12,8 +11,8 @@ returns-then-sign-ending-clause-arrives g c = λ text looked exceeds listed is.
 pub returns-clause-arrives : goal.returns-clause-arrives
 returns-clause-arrives g c = λ text looked exceeds listed is.
     let same = c.if-sign-ending.false in
-    let end = c.ending.ensures ∙ ap ending (sym c.shape.ensures) in
-    ended_arrives text c.args.places.now listed c.args.k looked exceeds c.args.builder.now c.close.new.self c.shape.result c.close.result c.closed_at.result c.requires.inside (omega (arith, is, same, end)) c.close.ensures c.closed_at.ensures
+    let end = c.ending.ensures in
+    ended_arrives text c.args.places.now listed c.args.k looked exceeds c.args.builder.now c.shut.new.builder _ c.shut.result c.closed_at.result c.requires.inside (omega (arith, is, same, end)) c.shut.ensures.took c.closed_at.ensures
 
 pub returns-clause-behind : goal.returns-clause-behind
-returns-clause-behind g c = closed_behind c.args.k c.close.result c.closed_at.result c.closed_at.ensures
+returns-clause-behind g c = closed_behind c.args.k c.shut.result c.closed_at.result c.closed_at.ensures

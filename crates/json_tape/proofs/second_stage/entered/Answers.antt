@@ -1,7 +1,4 @@
-use Rattle.std.proofs.Common.{◌+◌, ℕ, List, get_or, None, subst, sym, ap, refl, arith}
-use Rattle.json_tape.specs.declared.tape.Want.TheVariants.{Next}
-use Rattle.json_tape.specs.Machine.{Closing, step, Took}
-use Rattle.json_tape.specs.Built.{standing}
+use Rattle.std.proofs.Common.{◌+◌, ℕ, List, sym, ap, refl, arith}
 use Rattle.json_tape.proofs.Listed.{in_text}
 use Rattle.json_tape.proofs.Onward.{over_halts, closed_entered, first_entered, comma_entered, none_entered}
 use Rattle.json_tape.proofs.second_stage.entered.Goals as goal
@@ -26,8 +23,8 @@ returns-then-sign-ending-clause-entered g c = λ exceeds.
     let end = c.ending.ensures in
     let byte = c.at-sign.ensures.value in
     let counted = ap (λ (p : List ℕ × ℕ). p.1) c.at-sign.ensures.counted in
-    closed_entered bytes items c.requires.listed k (k + 1) c.args.looks.now.1 c.at-sign.new.self.1 exceeds c.args.spot.behind c.args.builder.now c.close.new.self _ c.close.result c.childless.result refl (omega (arith, inside)) c.requires.level (omega (arith, same, end, byte))
-    (subst (λ x. Took (step (Closing x (get_or items k 0)) (standing c.args.builder.now Next None)) c.close.result (standing c.close.new.self Next None)) c.shape.ensures c.close.ensures) (omega (arith, counted)) c.childless.ensures
+    closed_entered bytes items c.requires.listed k (k + 1) c.args.looks.now.1 c.at-sign.new.self.1 exceeds c.args.spot.behind c.args.builder.now c.shut.new.builder _ c.shut.result c.nothing_more.result refl (omega (arith, inside)) c.requires.level (omega (arith, same, end, byte))
+    c.shut.ensures.took (omega (arith, counted)) c.nothing_more.ensures
 
 pub returns-then-not-spot-clause-entered : goal.returns-then-not-spot-clause-entered
 returns-then-not-spot-clause-entered g c = λ exceeds.

@@ -1,7 +1,9 @@
-use Rattle.std.proofs.Common.{◌≡◌, ◌+◌, ℕ, List, None, get_or, subst, ap, length, arith}
-use Rattle.json_tape.specs.Walked.{IsNameAt}
+use Rattle.std.proofs.Common.{◌+◌, ℕ, List, None, Some, sym, get_or, subst, ap, length, arith}
+use Rattle.json_tape.specs.Walked.{IsNameAt, source_in, Walked, point}
+use Rattle.json_tape.specs.Built.{standing}
+use Rattle.json_tape.specs.declared.tape.Want.TheVariants.{Value}
 use Rattle.json_tape.proofs.Listed.{in_text, closes_before, next_is}
-use Rattle.json_tape.proofs.Going.{name_and_colon, no_name_halts, no_colon_halts}
+use Rattle.json_tape.proofs.Going.{looks_paid, name_and_colon, no_name_halts, no_colon_halts}
 use Rattle.json_tape.proofs.second_stage.named.Goals as goal
 
 pub name-requires-clause-in_text : goal.name-requires-clause-in_text
@@ -31,7 +33,9 @@ returns-in-Some-clause-named c = λ b w exceeds asks.
     let same = ap (λ (b : List ℕ). get_or b (get_or items (k + 1) 0) 0) c.name.ensures.same in
     let value = c.at.ensures.value in
     let colon = c.if-at-eq58.true in
-    name_and_colon bytes items c.requires.listed k c.args.looks.now.1 c.name.new.looks.1 c.at.new.self.1 exceeds b w c.in-Some.name c.requires.inside asks c.in-Some.ensures.name (omega (arith, looked)) (omega (arith, same, value, colon)) (omega (arith, counted))
+    let paid = looks_paid c.in-Some.name.plain c.args.looks.now.1 c.name.new.looks.1 c.at.new.self.1 c.stamped.new.looks.1 c.in-Some.name.source.len looked c.in-Some.ensures.quick (omega (arith, counted)) c.stamped.ensures.looked c.stamped.ensures.unlooked in
+    subst (λ x. Walked bytes items (point k (standing b w None) c.args.looks.now.1 exceeds) (point (k + 2) (standing b Value (Some x)) c.stamped.new.looks.1 exceeds)) (sym c.stamped.ensures.source)
+    (name_and_colon bytes items c.requires.listed k c.args.looks.now.1 c.stamped.new.looks.1 exceeds b w c.in-Some.name.source c.requires.inside asks c.in-Some.ensures.name (omega (arith, same, value, colon)) paid)
 
 pub returns-in_default-clause-named : goal.returns-in_default-clause-named
 returns-in_default-clause-named c = λ b w exceeds asks.
@@ -42,10 +46,10 @@ returns-in_default-clause-named c = λ b w exceeds asks.
     let same = ap (λ (b : List ℕ). get_or b (get_or items (k + 1) 0) 0) c.name.ensures.same in
     let value = c.at.ensures.value in
     let other = c.if-at-eq58.false in
-    no_colon_halts bytes items c.requires.listed k c.args.looks.now.1 c.name.new.looks.1 exceeds b w c.in-Some.name c.requires.inside asks c.in-Some.ensures.name (omega (arith, looked)) (λ e. omega (arith, same, value, other, e))
+    no_colon_halts bytes items c.requires.listed k c.args.looks.now.1 c.name.new.looks.1 exceeds b w c.in-Some.name.source c.requires.inside asks c.in-Some.ensures.name (omega (arith, looked)) (λ e. omega (arith, same, value, other, e))
 
 pub returns-in_default-2-clause-named : goal.returns-in_default-2-clause-named
 returns-in_default-2-clause-named c = λ b w exceeds asks.
     let l = c.requires.inside in
-    let none : c.name.result ≡ None = c.in_default.is in
+    let none = ap source_in c.in_default.is in
     no_name_halts c.args.looks.now.0 c.args.places.now c.requires.listed c.args.k c.args.looks.now.1 exceeds b w (omega (arith, l)) asks (subst (IsNameAt c.args.looks.now.0 (get_or c.args.places.now c.args.k 0)) none c.name.ensures.name)

@@ -2,9 +2,11 @@ use Rattle.std.proofs.Common.{◌∙◌, ◌+◌, None, Some, sym, ap, subst, ar
 use Rattle.std.specs.Prelude.{Ok}
 use Rattle.json_tape.specs.Walked.{IsListed, at}
 use Rattle.json_tape.specs.Placing.{HoldSlashes}
+use Rattle.json_tape.specs.Told.{AreTold}
 use Rattle.json_tape.proofs.Listed.{near, number_below}
 use Rattle.json_tape.proofs.Onward.{entered_none, entered_some, may_grow, child_grown, next_may_grow, grown_ended, child_fault, few_halts, walked_small, walked_onward, small_state, if_ok}
 use Rattle.json_tape.proofs.Going.{halts_more}
+use Rattle.json_tape.proofs.NamesSteps.{where_some}
 use Rattle.json_tape.proofs.second_stage.run.Goals as goal
 
 pub returns-in-Ok-None-clause-arrives : goal.returns-in-Ok-None-clause-arrives
@@ -21,6 +23,8 @@ loop-k-init g c =
       level = entered.0 ∙ sym c.requires.level;
       grows = may_grow c.args.looks.now.0 c.args.places.now c.requires.listed _ _ _ _ _ _ _ c.requires.level entered.2;
       to = omega (arith, inside, next);
+      told = c.in-Ok.ensures.told c.args.looks.now.0 (c.in-Ok-Some.ensures.told c.args.looks.now.0 c.requires.told);
+      seated = c.in-Ok.ensures.seated;
     }
 
 pub overflow_add-k : goal.overflow_add-k
@@ -43,6 +47,12 @@ pub child-requires-clause-small : goal.child-requires-clause-small
 child-requires-clause-small g c =
     let grows = c.loop-k.invariant.grows _ c.requires.level in
     small_state _ _ _ _ _ _ (walked_small c.args.looks.now.0 c.args.places.now c.requires.listed _ _ grows.2 (small_state _ _ _ _ _ _ c.requires.small))
+
+pub child-requires-clause-told : goal.child-requires-clause-told
+child-requires-clause-told g c = subst (λ b. AreTold b c.loop-k.builder c.loop-k.met) (sym c.loop-k.invariant.same) c.loop-k.invariant.told
+
+pub child-requires-clause-seated : goal.child-requires-clause-seated
+child-requires-clause-seated g c = c.loop-k.invariant.seated
 
 pub returns-in-Err-child-clause-slashes : goal.returns-in-Err-child-clause-slashes
 returns-in-Err-child-clause-slashes g c = subst (λ b. HoldSlashes b c.child.new.slashes) c.loop-k.invariant.same c.in-Err-child.ensures.slashes
@@ -101,6 +111,8 @@ loop-k-preserved g c =
       level = found.1 ∙ sym c.requires.level;
       grows = next_may_grow bytes items c.requires.listed a n _ c.child.new.looks.1 c.child.new.may_exceed _ _ c.child.new.builder c.in-Ok-Some-eq44.field-0-0 c.requires.level (let t = c.in-Ok-Some-eq44.field-0-0-test in omega (arith, t)) (omega arith) found;
       to = omega (arith, same, test);
+      told = subst (λ b. AreTold b c.child.new.builder c.child.new.met) c.loop-k.invariant.same c.in-Ok-Some-eq44.ensures.told;
+      seated = where_some _ c.in-Ok-Some-eq44.field-0 c.in-Ok-Some-eq44.field-0-0 c.in-Ok-Some-eq44.field-0-is c.in-Ok-Some-eq44.ensures.seated;
     }
 
 pub ended-requires-clause-near : goal.ended-requires-clause-near

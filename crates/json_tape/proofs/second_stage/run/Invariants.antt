@@ -1,7 +1,8 @@
-use Rattle.std.proofs.Common.{◌≡◌, ◌≤◌, ◌-◌, length}
+use Rattle.std.proofs.Common.{◌≡◌, ◌≤◌, ◌-◌, length, IsTrue, not, eqb}
 use Rattle.json_tape.specs.Machine.{level_of}
 use Rattle.json_tape.specs.Placing.{HoldSlashes}
 use Rattle.json_tape.specs.Walked.{at}
+use Rattle.json_tape.specs.Told.{AreTold, IsSeated}
 use Rattle.json_tape.proofs.Onward.{MayGrow}
 use Rattle.json_tape.proofs.second_stage.run.Given as goal
 
@@ -12,6 +13,8 @@ invariant-loop-k g l = record {
   level : level_of l.builder.opens ≡ level_of l.fn.builder.opens;
   grows : MayGrow l.fn.looks.0 l.places (at l.fn.spot l.fn.builder l.fn.looks.1 l.fn.may_exceed) l.k (level_of l.fn.builder.opens) l.builder l.looks.1 l.may_exceed;
   to : l.k ≤ length l.places;
+  told : AreTold l.fn.looks.0 l.builder l.met;
+  seated : IsTrue (not (eqb g.row.OBJECT 0)) → IsSeated l.builder l.owner l.met;
 }
 
 abbrev pub decreases-loop-k : goal.decreases-loop-k

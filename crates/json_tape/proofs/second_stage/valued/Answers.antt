@@ -2,6 +2,9 @@ use Rattle.std.proofs.Common.{◌+◌, ℕ, List, get_or, ap, length, refl, arit
 use Rattle.json_tape.specs.declared.lexing.Lexed.TheVariants as lexed
 use Rattle.json_tape.proofs.Listed.{in_text, closes_before, next_is, no_blank, near, small_enough}
 use Rattle.json_tape.proofs.Going.{lexed_grown, opened_grown, no_value_halts}
+use Rattle.json_tape.specs.declared.tape.Want.TheVariants.{Next}
+use Rattle.json_tape.specs.declared.tape.Kind.TheVariants as kinds
+use Rattle.json_tape.proofs.NamesSteps.{leaf_told, leaf_top, open_told, by_sign, top_by_sign, by_none}
 use Rattle.json_tape.proofs.second_stage.valued.Goals as goal
 
 pub value-requires-clause-in_text : goal.value-requires-clause-in_text
@@ -35,8 +38,8 @@ returns-in-Some-Opens-clause-grown g c = λ w asks.
     let items = c.args.places.now in
     let l = c.requires.inside in
     let value = c.in-Some-Opens.ensures in
-    opened_grown bytes items c.requires.listed c.args.k c.args.looks.now.1 c.value.new.looks.1 c.args.may_exceed.now c.value.new.may_exceed _ c.in-Some-Opens.shape c.args.builder.now c.open.new.self w c.args.name c.in-Some-Opens.field-0 c.open.result c.unsigned.result
-    (omega (arith, l)) asks c.in-Some-Opens.field-0-is value.value value.marked value.looked c.open.ensures c.unsigned.ensures
+    opened_grown bytes items c.requires.listed c.args.k c.args.looks.now.1 c.value.new.looks.1 c.args.may_exceed.now c.value.new.may_exceed _ c.in-Some-Opens.shape c.args.builder.now c.open.new.self w c.args.name c.in-Some-Opens.field-0 c.open.result c.nothing_more.result
+    (omega (arith, l)) asks c.in-Some-Opens.field-0-is value.value value.marked value.looked c.open.ensures c.nothing_more.ensures
 
 pub at-sign-requires : goal.at-sign-requires
 at-sign-requires g c =
@@ -100,3 +103,38 @@ returns-in-Some-Word-clause-grown g c = λ w asks.
     let byte = c.at-sign-in-Some-Word.ensures.value in
     lexed_grown bytes items c.requires.listed k c.args.looks.now.1 c.value.new.looks.1 c.at-sign-in-Some-Word.new.self.1 c.at-sign-in-Some-Word.result c.args.may_exceed.now c.value.new.may_exceed _ c.args.builder.now c.leaf-in-Some-Word.new.self w c.args.name c.in-Some-Word.field-0 (lexed.Word c.in-Some-Word.kind c.in-Some-Word.source) c.leaf-in-Some-Word.result c.signed-in-Some-Word.result
     c.requires.inside c.requires.level asks c.in-Some-Word.field-0-is value.value value.marked value.looked refl (omega arith) c.leaf-in-Some-Word.ensures (omega (arith, counted)) (omega (arith, same, byte)) c.signed-in-Some-Word.ensures
+
+pub returns-in-Some-Opens-clause-told : goal.returns-in-Some-Opens-clause-told
+returns-in-Some-Opens-clause-told g c =
+    by_none _ c.open.result c.nothing_more.result c.nothing_more.ensures
+    (open_told c.args.looks.now.0 c.args.builder.now c.open.new.self c.args.name c.in-Some-Opens.shape _ _ c.open.result c.open.ensures)
+
+pub returns-in-Some-Text-clause-told : goal.returns-in-Some-Text-clause-told
+returns-in-Some-Text-clause-told g c =
+    by_sign _ c.leaf.result c.at-sign.result c.signed.result c.signed.ensures
+    (leaf_told c.args.looks.now.0 c.args.builder.now c.leaf.new.self c.args.name c.in-Some-Text.source kinds.Text Next c.leaf.result c.leaf.ensures)
+
+pub returns-in-Some-Text-clause-top : goal.returns-in-Some-Text-clause-top
+returns-in-Some-Text-clause-top g c =
+    top_by_sign _ c.leaf.result c.at-sign.result c.signed.result c.signed.ensures
+    (leaf_top c.args.builder.now c.leaf.new.self c.args.name c.in-Some-Text.source kinds.Text Next c.leaf.result c.leaf.ensures)
+
+pub returns-in-Some-Number-clause-told : goal.returns-in-Some-Number-clause-told
+returns-in-Some-Number-clause-told g c =
+    by_sign _ c.leaf-in-Some-Number.result c.at-sign-in-Some-Number.result c.signed-in-Some-Number.result c.signed-in-Some-Number.ensures
+    (leaf_told c.args.looks.now.0 c.args.builder.now c.leaf-in-Some-Number.new.self c.args.name c.in-Some-Number.source kinds.Number Next c.leaf-in-Some-Number.result c.leaf-in-Some-Number.ensures)
+
+pub returns-in-Some-Number-clause-top : goal.returns-in-Some-Number-clause-top
+returns-in-Some-Number-clause-top g c =
+    top_by_sign _ c.leaf-in-Some-Number.result c.at-sign-in-Some-Number.result c.signed-in-Some-Number.result c.signed-in-Some-Number.ensures
+    (leaf_top c.args.builder.now c.leaf-in-Some-Number.new.self c.args.name c.in-Some-Number.source kinds.Number Next c.leaf-in-Some-Number.result c.leaf-in-Some-Number.ensures)
+
+pub returns-in-Some-Word-clause-told : goal.returns-in-Some-Word-clause-told
+returns-in-Some-Word-clause-told g c =
+    by_sign _ c.leaf-in-Some-Word.result c.at-sign-in-Some-Word.result c.signed-in-Some-Word.result c.signed-in-Some-Word.ensures
+    (leaf_told c.args.looks.now.0 c.args.builder.now c.leaf-in-Some-Word.new.self c.args.name c.in-Some-Word.source c.in-Some-Word.kind Next c.leaf-in-Some-Word.result c.leaf-in-Some-Word.ensures)
+
+pub returns-in-Some-Word-clause-top : goal.returns-in-Some-Word-clause-top
+returns-in-Some-Word-clause-top g c =
+    top_by_sign _ c.leaf-in-Some-Word.result c.at-sign-in-Some-Word.result c.signed-in-Some-Word.result c.signed-in-Some-Word.ensures
+    (leaf_top c.args.builder.now c.leaf-in-Some-Word.new.self c.args.name c.in-Some-Word.source c.in-Some-Word.kind Next c.leaf-in-Some-Word.result c.leaf-in-Some-Word.ensures)

@@ -8,6 +8,9 @@ use Rattle.json_tape.specs.Walked.{IsListed}
 use Rattle.json_tape.proofs.Onward.{walked_small, small_state, arrives_same}
 use Rattle.json_tape.proofs.Arrived.{began, fault_none, more_none, arrived, first_point}
 use Rattle.json_tape.proofs.Walking.{unclosed_none, control_none}
+use Rattle.json_tape.specs.Told.{AreTold}
+use Rattle.json_tape.specs.Sifted.{AreSifted}
+use Rattle.json_tape.proofs.NamesApart.{told_sifted}
 use Rattle.json_tape.proofs.second_stage.walk.Goals.{then-index-via-then-index, then-index-via-else-index+then-index-2}
 use Rattle.json_tape.proofs.second_stage.walk.Goals as goal
 
@@ -192,3 +195,13 @@ returns-clause-looked g c =
     let done = c.if-last-places.false in
     let found = arrived bytes items listed before c.in-Ok-containers.last c.containers.new.builder c.containers.new.looks.1 c.containers.new.may_exceed last over.0 over.1 (omega (arith, done)) in
     found.bounded
+
+pub containers-requires-clause-told : goal.containers-requires-clause-told
+containers-requires-clause-told g c =
+    subst (λ b. AreTold b c.whole.new.builder c.new-met.result) (sym c.in-Ok.ensures.same)
+    (c.in-Ok.ensures.told c.new-met.result (subst (λ b. AreTold c.args.looks.now.0 b c.new-met.result) (sym c.in_ok-builder.ensures) (c.new-met.ensures c.args.looks.now.0)))
+
+pub returns-clause-sifted : goal.returns-clause-sifted
+returns-clause-sifted g c =
+    subst (λ tape. AreSifted c.args.looks.now.0 tape c.containers.new.met.asked.items) (sym c.into_tape.ensures)
+    (told_sifted c.args.looks.now.0 c.containers.new.builder c.containers.new.met (subst (λ b. AreTold b c.containers.new.builder c.containers.new.met) c.in-Ok.ensures.same c.in-Ok-containers.ensures.told))

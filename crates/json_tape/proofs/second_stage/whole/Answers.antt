@@ -5,6 +5,7 @@ use Rattle.json_tape.specs.declared.tape.Want.TheVariants.{Value}
 use Rattle.json_tape.proofs.Listed.{in_text, closes_before, no_blank, near, place_in}
 use Rattle.json_tape.proofs.Going.{no_value_halts}
 use Rattle.json_tape.proofs.Onward.{whole_arrives, spot_one, nothing_halts}
+use Rattle.json_tape.proofs.NamesSteps.{whole_told}
 use Rattle.json_tape.proofs.second_stage.whole.Goals as goal
 
 pub returns-then-is_empty-clause-arrives : goal.returns-then-is_empty-clause-arrives
@@ -49,3 +50,6 @@ returns-clause-opened g c =
 
 pub returns-clause-further : goal.returns-clause-further
 returns-clause-further g c = spot_one c.args.looks.now.0 c.args.places.now c.requires.listed c.put.result c.in-Some.lexed c.first_spot.result (let e = c.if-is_empty.ensures in grind (arith, nat_tests)) c.first_spot.ensures
+
+pub returns-clause-told : goal.returns-clause-told
+returns-clause-told g c = whole_told c.args.looks.now.0 _ c.in-Some.lexed c.args.builder.now c.put.new.builder c.put.result c.first_spot.result c.put.ensures c.first_spot.ensures

@@ -1,0 +1,12 @@
+-- What the walk leaves to be looked at, of names that come again.
+use Rattle.std.specs.Prelude.{◌≡◌, ℕ, false, List}
+use Rattle.std.specs.List.{Contains}
+use Rattle.json_tape.specs.Tree.{Members}
+use Rattle.json_tape.specs.Repeats.{IsObject, repeats, meanings}
+use Rattle.json_tape.specs.Ordered.{IsWide, entry_in}
+use Rattle.json_tape.specs.declared.tape.Entry.{Entry}
+
+-- of the objects that are not on the list none is wide, and none has two names that mean the same
+pub record AreSifted (text : List ℕ) (tape : List Entry) (asked : List ℕ) : Type 0 where
+  pub narrow : (n : ℕ) → (Contains asked n → ⊥) → IsWide (entry_in tape n) → ⊥
+  pub apart : (n : ℕ) (ms : Members) → (Contains asked n → ⊥) → IsObject text tape n ms → repeats (meanings ms) ≡ false
