@@ -86,6 +86,7 @@ ROWS = {
     "index_of_arrays": Row(bytes([0, 1, 2, 3, 4, 5]), refused=("AllocError", b"")),
     "index_and_copy": Row(bytes([0, 1, 2, 3, 4, 5]) + b"[[],1]", refused=("AllocError", b"")),
     "read": Row(number(6)),
+    "read_owned": Row(number(6)),
     "read_of_arrays": Row(number(3)),
     "build": Row(b""),
     "parse": Row((2).to_bytes(8, "big")),

@@ -1,6 +1,6 @@
 //! Documents seen through every reader.
 
-use json_tape::{Document, Kind, Lead, NodeId, Scalars};
+use json_tape::{Document, Kind, Lead, NodeId, Scalars, TextFault};
 use std::test::Fail;
 
 const SAMPLE: &[u8] = b"{\"a\":[1,{\"b\":\"\\u00e9\\ud83d\\ude00\"}],\"c\":-1.5e+3}";
@@ -64,6 +64,29 @@ fn shows_values(rt: HostRuntime) -> Result<(), Fail> {
     assert!(rt; is(&document, 3, Kind::Object, inner, Some(1), Lead::Index(1)));
     assert!(rt; is(&document, 4, Kind::Text, text, Some(2), Lead::Name));
     assert!(rt; is(&document, 5, Kind::Number, b"-1.5e+3", None, Lead::Name));
+    Ok(())
+}
+
+#[test]
+fn keeps_a_text_of_its_own(rt: HostRuntime) -> Result<(), Fail> {
+    let text = Vec::from_slice(rt.alloc(), SAMPLE)?;
+    let document = Document::read_owned(rt.alloc(), text)?;
+    assert!(rt; document.source() == SAMPLE);
+    assert!(rt; document.node_count() == 6);
+    let cut = Vec::from_slice(rt.alloc(), &SAMPLE[1..])?;
+    assert!(rt;
+        matches!(
+            Document::read_owned(rt.alloc(), cut),
+            Err(TextFault::NotJson)
+        )
+    );
+    let broken = Vec::from_slice(rt.alloc(), b"\"\xff\"")?;
+    assert!(rt;
+        matches!(
+            Document::read_owned(rt.alloc(), broken),
+            Err(TextFault::NotUtf8)
+        )
+    );
     Ok(())
 }
 

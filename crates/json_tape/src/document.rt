@@ -1,18 +1,22 @@
 //! A text that was read, and the readers of its values.
 
-ghost use Rattle.std.specs.Prelude.{IfSome, ◌≡◌, ◌∷◌, [], ℕ, List, ◌^◌, ◌<◌, ◌≤◌, ◌+◌, ◌-◌, ◌↔◌, length, MatchResult, MatchOption, IsTrue, slice_index_or};
+ghost use Rattle.std.specs.Prelude.{false, IfSome, ◌≡◌, ◌∷◌, [], ℕ, List, ◌^◌, ◌<◌, ◌≤◌, ◌+◌, ◌-◌, ◌↔◌, length, MatchResult, MatchOption, IsUtf8, IsTrue, slice_index_or};
 ghost use Rattle.std.specs.List.{Contains, All};
 ghost use Rattle.std.specs.Str.{chars};
 ghost use Rattle.json_tape.specs.Spelling.{scalars_in, AreWordsOf};
 ghost use Rattle.decimal_order.specs.Number.{IsNumber};
 ghost use Rattle.decimal_order.specs.Limits.{IsWithinLimits};
-ghost use Rattle.json_tape.specs.Answer.{Explains};
+ghost use Rattle.json_tape.specs.Answer.{Explains, IsJson, StandsForAll, HasDepth};
 ghost use Rattle.json_tape.specs.Tree.{source_of};
-ghost use Rattle.json_tape.specs.Verdict.{text_limit, IsAccepted};
+ghost use Rattle.json_tape.specs.Verdict.{text_limit, IsAccepted, IsFaultless};
+ghost use Rattle.json_tape.specs.Limits.{AreWithinLimits};
+ghost use Rattle.json_tape.specs.Surrogates.{HasNoSurrogates};
+ghost use Rattle.json_tape.specs.Sifted.{AreSifted};
+ghost use Rattle.json_tape.specs.Counted.{AreCounted};
 ghost use Rattle.json_tape.specs.Nodes.{size, children, visit, is_named, first_where};
 ghost use Rattle.json_tape.specs.Tape.{Top, tape_of};
 ghost use Rattle.json_tape.specs.Siblings.{numbered};
-ghost use Rattle.json_tape.specs.Ordered.{IsOrderOf, IsWide, entry_in, sought_name};
+ghost use Rattle.json_tape.specs.Ordered.{AreKept, IsOrderOf, IsWide, entry_in, sought_name};
 ghost use Rattle.json_tape.specs.Document.{tree_of, count, node_at, later, seen, following, single, root_of, counting, IsIn, IsDocument, IsMember, HasName, LeadIs, ParentIs, StandsIn, kind_of, length_of, string_meaning};
 
 use crate::children::Children;
@@ -22,7 +26,7 @@ use crate::lengths::{Lengths, count_of, count_strings, is_long};
 use crate::order::{NameOrder, Run, is_wide, member_in};
 use crate::plain::{Words, is_meant_by, is_meant_plainly, words_of};
 use crate::scalars::{Scalars, unquoted};
-use crate::second_stage::read;
+use crate::second_stage::{Reading, read, read_in_place};
 use crate::sought::{Sought, is_sought};
 use crate::tape::{BuildFault, Entry, Kind, Lead, NodeId, Role, TextFault};
 use std::alloc::Global;
@@ -56,6 +60,44 @@ impl Model for Document {
         × AreCounted (record { text = string_bytes d.text; entries = d.tape }) d.lengths.strings.items d.lengths.lengths.items };
 }
 
+// The characters of a text that is not too long.
+fn characters(text: &[u8]) -> Result<&str, TextFault>
+    ensures { MatchResult result (λ characters. (characters.now ≡ text.now) × (length text.now ≤ text_limit) × IsUtf8 text.now) (λ f. Explains text.now f) }
+{
+    if text.len() > TEXT_LIMIT {
+        return Err(TextFault::TooLong);
+    }
+    match simdutf8::basic::from_utf8(text) {
+        Ok(characters) => Ok(characters),
+        Err(_) => Err(TextFault::NotUtf8),
+    }
+}
+
+// The order of the members of wide objects and the lengths of long strings, or the first fault of a text that has a tape.
+fn judge(alloc: Global, text: &str, reading: &Reading) -> Result<(NameOrder, Lengths), TextFault>
+    requires short { length text.now ≤ text_limit }
+    requires spelt { IsJson text.now }
+    requires stands { StandsForAll text.now reading.now.tape }
+    requires few { length reading.now.tape < 2 ^ 31 }
+    requires depth { HasDepth text.now reading.now.depth }
+    requires numbers { reading.now.may_exceed ≡ false → AreWithinLimits text.now reading.now.tape }
+    requires lone { reading.now.may_be_lone ≡ false → HasNoSurrogates text.now }
+    requires sifted { AreSifted text.now reading.now.tape reading.now.asked.items }
+    ensures { MatchResult result (λ r. IsFaultless text.now
+        × AreKept text.now reading.now.tape (length reading.now.tape) r.0.objects.items r.0.starts.items r.0.hashes.items r.0.members.items
+        × AreCounted (record { text = text.now; entries = reading.now.tape }) r.1.strings.items r.1.lengths.items)
+        (λ fault. Explains text.now fault) }
+{
+    let names = match judge_tape(alloc, text, reading) {
+        Ok(names) => names,
+        Err(fault) => return Err(fault),
+    };
+    match count_strings(alloc, text, &reading.tape, reading.longest) {
+        Ok(lengths) => Ok((names, lengths)),
+        Err(_) => Err(TextFault::Memory),
+    }
+}
+
 impl Document {
     /// Reads a text (RFC 8259).
     ///
@@ -67,26 +109,48 @@ impl Document {
     pub fn read(alloc: Global, text: &[u8]) -> Result<Document, TextFault>
         ensures { MatchResult result (λ d. (d.text ≡ text.now) × IsAccepted text.now (tree_of d)) (λ f. Explains text.now f) }
     {
-        if text.len() > TEXT_LIMIT {
-            return Err(TextFault::TooLong);
-        }
-        let Ok(checked) = simdutf8::basic::from_utf8(text) else {
-            return Err(TextFault::NotUtf8);
+        let checked = match characters(text) {
+            Ok(checked) => checked,
+            Err(fault) => return Err(fault),
         };
         let (reading, copy) = match read(alloc, text) {
             Ok(done) => done,
             Err(BuildFault::NotJson) => return Err(TextFault::NotJson),
             Err(BuildFault::Memory) => return Err(TextFault::Memory),
         };
-        let names = match judge_tape(alloc, checked, &reading) {
-            Ok(names) => names,
+        let (names, lengths) = match judge(alloc, checked, &reading) {
+            Ok(judged) => judged,
             Err(fault) => return Err(fault),
-        };
-        let Ok(lengths) = count_strings(alloc, checked, &reading.tape, reading.longest) else {
-            return Err(TextFault::Memory);
         };
         Ok(Document {
             text: unsafe { String::from_utf8_unchecked(copy) },
+            tape: reading.tape,
+            names,
+            lengths,
+        })
+    }
+
+    /// Reads a text that is in a list of its own, which becomes the document's. What is refused, and in which order, is as [`Document::read`]
+    /// has it.
+    pub fn read_owned(alloc: Global, text: Vec<u8>) -> Result<Document, TextFault>
+        ensures { MatchResult result (λ d. (d.text ≡ text.items) × IsAccepted text.items (tree_of d)) (λ f. Explains text.items f) }
+    {
+        let bytes = text.as_slice();
+        let checked = match characters(bytes) {
+            Ok(checked) => checked,
+            Err(fault) => return Err(fault),
+        };
+        let reading = match read_in_place(alloc, bytes) {
+            Ok(done) => done,
+            Err(BuildFault::NotJson) => return Err(TextFault::NotJson),
+            Err(BuildFault::Memory) => return Err(TextFault::Memory),
+        };
+        let (names, lengths) = match judge(alloc, checked, &reading) {
+            Ok(judged) => judged,
+            Err(fault) => return Err(fault),
+        };
+        Ok(Document {
+            text: unsafe { String::from_utf8_unchecked(text) },
             tape: reading.tape,
             names,
             lengths,

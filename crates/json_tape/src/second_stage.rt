@@ -4,6 +4,7 @@
 
 ghost use Rattle.std.specs.Prelude.{◌≡◌, ◌≢◌, ◌+◌, ◌-◌, ◌^◌, ◌<◌, ◌≤◌, ℕ, List, Bool, None, length, get_or, IfOk, OnOk, IfSome, IsUtf8, IsErrOf, IsTrue, true, false};
 ghost use Rattle.structural_index.specs.Answer.{IsIndexOf};
+ghost use Rattle.structural_index.specs.Places.{AreSlashBlocks};
 ghost use Rattle.json_tape.specs.Machine.{Closing, IsSmall, Took, step, level_of};
 ghost use Rattle.json_tape.specs.Built.{Built, standing, nothing};
 ghost use Rattle.json_tape.specs.Limits.{AreWithinLimits};
@@ -26,7 +27,15 @@ use crate::lexing::{Lexed, name, value};
 use crate::slashes::Slashes;
 use crate::tape::{BuildFault, Extent, Kind, Level, Shape, Want};
 use std::alloc::Global;
-use structural_index::{Index, Looks, index_and_copy};
+use structural_index::{Index, Looks, index, index_and_copy};
+
+// For whom a walk is made: each has a copy of its own, so that all of it is put in line, and a count of looks that nobody asks for costs
+// nothing.
+const BUILT: u8 = 0;
+
+const COPIED: u8 = 1;
+
+const OWNED: u8 = 2;
 
 /// How far a walk has come: the number of the next place, and whether a value stands before it. If none does, it is that of a first child.
 #[derive(Clone, Copy)]
@@ -143,7 +152,7 @@ fn named(looks: &mut Looks<'_>, places: &[u32], k: usize, slashes: &mut Slashes<
 // The value at place number k, which has one behind it: an element, or a member of this name. Gives the sign behind it, which is looked
 // at before the entry is written, or nothing where a container was opened.
 #[inline(always)]
-fn valued<const OBJECT: bool, const COUNT: bool>(
+fn valued<const OBJECT: bool, const CALLER: u8>(
     looks: &mut Looks<'_>,
     places: &[u32],
     k: usize,
@@ -188,7 +197,7 @@ fn valued<const OBJECT: bool, const COUNT: bool>(
 
 // The child at place number k, which has as many places as one needs, and one behind them.
 #[inline(always)]
-fn child<const OBJECT: bool, const COUNT: bool>(
+fn child<const OBJECT: bool, const CALLER: u8>(
     looks: &mut Looks<'_>,
     places: &[u32],
     k: usize,
@@ -214,7 +223,7 @@ fn child<const OBJECT: bool, const COUNT: bool>(
     ensures same { looks.new.0 ≡ looks.old.0 }
 {
     if !OBJECT {
-        return valued::<OBJECT, COUNT>(looks, places, k, None, slashes, builder, may_exceed);
+        return valued::<OBJECT, CALLER>(looks, places, k, None, slashes, builder, may_exceed);
     }
     let Some(name) = named(looks, places, k, slashes) else {
         return Err(BuildFault::NotJson);
@@ -222,7 +231,7 @@ fn child<const OBJECT: bool, const COUNT: bool>(
     if met.meet(owner, name.stamp).is_err() {
         return Err(BuildFault::Memory);
     }
-    valued::<OBJECT, COUNT>(
+    valued::<OBJECT, CALLER>(
         looks,
         places,
         k + 2,
@@ -362,7 +371,7 @@ fn seat<const OBJECT: bool>(builder: &Builder, met: &mut NamesMet) -> Result<Own
 
 // The children of the innermost container from here on, up to one that holds others or to the end of the container.
 #[inline(always)]
-fn run<const OBJECT: bool, const COUNT: bool>(
+fn run<const OBJECT: bool, const CALLER: u8>(
     looks: &mut Looks<'_>,
     places: &[u32],
     spot: Spot,
@@ -399,7 +408,7 @@ fn run<const OBJECT: bool, const COUNT: bool>(
     };
     let mut k = first;
     while k + width::<OBJECT>() < places.len() {
-        match child::<OBJECT, COUNT>(looks, places, k, slashes, builder, may_exceed, met, owner) {
+        match child::<OBJECT, CALLER>(looks, places, k, slashes, builder, may_exceed, met, owner) {
             Err(fault) => return Err(fault),
             Ok(None) => {
                 return Ok(Spot {
@@ -418,7 +427,7 @@ fn run<const OBJECT: bool, const COUNT: bool>(
 
 // The same for the shape that the container has.
 #[inline(always)]
-fn children<const COUNT: bool>(
+fn children<const CALLER: u8>(
     looks: &mut Looks<'_>,
     places: &[u32],
     spot: Spot,
@@ -441,14 +450,18 @@ fn children<const COUNT: bool>(
     ensures same { looks.new.0 ≡ looks.old.0 }
 {
     match shape {
-        Shape::Array => run::<false, COUNT>(looks, places, spot, slashes, builder, may_exceed, met),
-        Shape::Object => run::<true, COUNT>(looks, places, spot, slashes, builder, may_exceed, met),
+        Shape::Array => run::<false, CALLER>(
+            looks, places, spot, slashes, builder, may_exceed, met,
+        ),
+        Shape::Object => run::<true, CALLER>(
+            looks, places, spot, slashes, builder, may_exceed, met,
+        ),
     }
 }
 
 // What lies in the containers that are open here, up to the end of the outermost one.
 #[inline(always)]
-fn containers<const COUNT: bool>(
+fn containers<const CALLER: u8>(
     looks: &mut Looks<'_>,
     places: &[u32],
     spot: Spot,
@@ -471,7 +484,7 @@ fn containers<const COUNT: bool>(
 {
     let mut next = spot;
     while let Level::Inside(shape) = builder.level() {
-        match children::<COUNT>(
+        match children::<CALLER>(
             looks, places, next, shape, slashes, builder, may_exceed, met,
         ) {
             Ok(spot) => next = spot,
@@ -508,7 +521,7 @@ fn is_whole(lexed: Lexed) -> bool
 
 // The value of the whole text, or the bracket or brace that opens it.
 #[inline(always)]
-fn whole<const COUNT: bool>(
+fn whole<const CALLER: u8>(
     looks: &mut Looks<'_>,
     places: &[u32],
     slashes: &mut Slashes<'_>,
@@ -552,7 +565,7 @@ pub struct Reading {
 /// The tape of a text and its marks, or why there is none, by the places of its index. The walk is made for one caller whose looks count
 /// and one whose do not, since a count that nobody asks for costs nothing where all is put in line.
 #[inline(always)]
-fn walk<const COUNT: bool>(
+fn walk<const CALLER: u8>(
     alloc: Global,
     index: &Index,
     looks: &mut Looks<'_>,
@@ -581,11 +594,11 @@ fn walk<const COUNT: bool>(
     let mut builder = Builder::new(alloc, places.len() / 2 + 1)?;
     let mut may_exceed = false;
     let mut met = NamesMet::new(alloc);
-    let first = match whole::<COUNT>(looks, places, &mut slashes, &mut builder, &mut may_exceed) {
+    let first = match whole::<CALLER>(looks, places, &mut slashes, &mut builder, &mut may_exceed) {
         Ok(first) => first,
         Err(fault) => return Err(fault),
     };
-    let last = match containers::<COUNT>(
+    let last = match containers::<CALLER>(
         looks,
         places,
         first,
@@ -629,7 +642,7 @@ pub fn build(alloc: Global, index: &Index, looks: &mut Looks<'_>) -> Result<Tape
     // At most three looks for each place, and one for each source byte of a string, a number or a word.
     ensures looked { IfOk result (λ tape. IsBounded looks.old.0 looks.old.1 looks.new.1) }
 {
-    match walk::<true>(alloc, index, looks) {
+    match walk::<BUILT>(alloc, index, looks) {
         Ok(reading) => Ok(reading.tape),
         Err(fault) => Err(fault),
     }
@@ -656,15 +669,50 @@ pub fn read(alloc: Global, text: &[u8]) -> Result<(Reading, Vec<u8>), BuildFault
     let Ok((found, copy)) = index_and_copy(alloc, text) else {
         return Err(BuildFault::Memory);
     };
-    let blocks = found.slashes.as_slice();
-    match walk::<false>(alloc, &found, &mut Looks::new(text)) {
-        Ok(reading) => {
-            let whole = Reading {
-                may_be_lone: may_be_lone(text, blocks),
-                ..reading
-            };
-            Ok((whole, copy))
-        }
+    match walk::<COPIED>(alloc, &found, &mut Looks::new(text)) {
+        Ok(reading) => Ok((with_lone(reading, text, found.slashes.as_slice()), copy)),
+        Err(fault) => Err(fault),
+    }
+}
+
+// The same reading, which says whether a surrogate of the text may be lone.
+#[inline(always)]
+fn with_lone(reading: Reading, text: &[u8], blocks: &[u32]) -> Reading
+    requires { AreSlashBlocks text.now blocks.now }
+    ensures tape { result.tape ≡ reading.tape }
+    ensures depth { result.depth ≡ reading.depth }
+    ensures numbers { result.may_exceed ≡ reading.may_exceed }
+    ensures asked { result.asked ≡ reading.asked }
+    ensures lone { result.may_be_lone ≡ false → HasNoSurrogates text.now }
+{
+    Reading {
+        may_be_lone: may_be_lone(text, blocks),
+        ..reading
+    }
+}
+
+/// The tape of a text, by its index, or why there is none.
+#[inline(never)]
+pub fn read_in_place(alloc: Global, text: &[u8]) -> Result<Reading, BuildFault>
+    requires long { length text.now ≤ text_limit }
+    requires utf8 { IsUtf8 text.now }
+    // A tape is given only where the text is JSON.
+    ensures spelt { IfOk result (λ r. IsJson text.now) }
+    // It stands for each tree that the text spells, so there is only one.
+    ensures stands { IfOk result (λ r. StandsForAll text.now r.tape) }
+    ensures short { IfOk result (λ r. length r.tape < 2 ^ 31) }
+    ensures depth { IfOk result (λ r. HasDepth text.now r.depth) }
+    ensures numbers { IfOk result (λ r. r.may_exceed ≡ false → AreWithinLimits text.now r.tape) }
+    ensures lone { IfOk result (λ r. r.may_be_lone ≡ false → HasNoSurrogates text.now) }
+    ensures sifted { IfOk result (λ r. AreSifted text.now r.tape r.asked.items) }
+    // Unless memory runs out, a text is refused only where it spells no tree.
+    ensures refused { IsErrOf result BuildFault.NotJson → IsNoJson text.now }
+{
+    let Ok(found) = index(alloc, text) else {
+        return Err(BuildFault::Memory);
+    };
+    match walk::<OWNED>(alloc, &found, &mut Looks::new(text)) {
+        Ok(reading) => Ok(with_lone(reading, text, found.slashes.as_slice())),
         Err(fault) => Err(fault),
     }
 }

@@ -36,3 +36,18 @@ pub fn find(alloc: Global, query: &[u8], document: &[u8]) -> Result<Found, Query
         nodes: selected.nodes,
     })
 }
+
+/// The same of a text in a list of its own, which becomes the document's.
+pub fn find_in(alloc: Global, query: &[u8], document: Vec<u8>) -> Result<Found, QueryTextFault>
+    ensures answered { IfOk result (λ found. Answers query.now document.items [] (lines_of (map hit_of (nodes_of found.document found.nodes.items)))) }
+    ensures inside { IfOk result (λ found. All (λ node. node.0 < count found.document) found.nodes.items) }
+    ensures refused { IfErr result (λ fault. Refuses query.now document.items fault) }
+{
+    let document = Document::read_owned(alloc, document)?;
+    let query = compile(alloc, query)?;
+    let chosen = select(alloc, &query, &document, BUDGET)?;
+    Ok(Found {
+        document,
+        nodes: chosen.nodes,
+    })
+}

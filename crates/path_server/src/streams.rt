@@ -4,7 +4,7 @@ ghost use Rattle.std.specs.Prelude.{OnOk, IfErr};
 ghost use Rattle.path_server.specs.QueryStream.{AnswersStream, FailsStream};
 
 use crate::fault::QueryTextFault;
-use crate::found::find;
+use crate::found::find_in;
 use crate::pieces::{PieceFault, write_pieces};
 use json_tape::TEXT_LIMIT;
 use standard_streams::{ReadFault, WriteFault, read_past};
@@ -45,7 +45,7 @@ pub fn query_stream<R: Read + Drop, W: Write>(
         Ok(document) => document,
         Err(fault) => return Err(QueryStreamFault::Read(fault)),
     };
-    let found = match find(alloc, query, document.as_slice()) {
+    let found = match find_in(alloc, query, document) {
         Ok(found) => found,
         Err(fault) => return Err(QueryStreamFault::Refused(fault)),
     };

@@ -30,6 +30,7 @@ pub fn make<R: Print + AllocGlobal>(rt: &R, name: &str) -> io::Result<bool> {
         "index_and_copy" => index_and_copy_twice(rt, ARRAYS.as_bytes())?,
         "read" => read_twice(rt, OBJECT),
         "read_of_arrays" => read_twice(rt, ARRAYS.as_bytes()),
+        "read_owned" => read_owned_twice(rt)?,
         "build" => build_twice(rt)?,
         "parse" => parse_twice(rt)?,
         "select" => select_twice(rt)?,
@@ -96,6 +97,21 @@ fn read_twice<R: Print + AllocGlobal>(rt: &R, text: &[u8]) {
             Err(fault) => tell_fault(rt, &fault, b""),
         }
     }
+}
+
+// The number of entries.
+fn read_owned_twice<R: Print + AllocGlobal>(rt: &R) -> io::Result<()> {
+    for _ in 0..2 {
+        let text = Vec::from_slice(rt.alloc(), OBJECT)?;
+        begins(rt);
+        let came = Document::read_owned(rt.alloc(), text);
+        ends(rt);
+        match came {
+            Ok(document) => tell(rt, "Ok", &document.node_count().to_be_bytes()),
+            Err(fault) => tell_fault(rt, &fault, b""),
+        }
+    }
+    Ok(())
 }
 
 // Nothing: a tape has no readers of its own.
