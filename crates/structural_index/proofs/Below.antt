@@ -9,7 +9,7 @@ use lib.Bits.{bit_or, and_le_l, and_le_r, or_add_and}
 use Rattle.bit_words.specs.Words.{is_set, HasBits}
 use Rattle.bit_words.proofs.Bits.{is_set-zero}
 use Rattle.byte_masks.specs.Classes.{control_byte}
-use Rattle.structural_index.specs.Places.{byte, is_interior, HasControlInside}
+use Rattle.structural_index.specs.Places.{byte, is_interior, HasControlInsideTo}
 use Rattle.structural_index.specs.Blocks.{any_below, is_control_inside}
 
 -- ---- tests
@@ -123,8 +123,8 @@ module _ (text : List ℕ) where
   control_end at h =
       any_end (is_control_inside text) (length text) at h (λ i. ap (λ c. is_interior text (length text + i) && control_byte c) (space i) ∙ and-false (is_interior text (length text + i)))
 
-  pub control_whole : (flag : Bool) → flag ≡ any_below (is_control_inside text) (length text) → IsTrue flag ↔ HasControlInside text
-  control_whole flag e = (
-    λ t. (let w = any_where (is_control_inside text) (length text) (sym e ∙ t) in let p = both (is_interior text w.0) (control_byte (byte text w.0)) w.2 in (w.0, w.1, p.0, p.1)),
-    λ w. e ∙ any_found (is_control_inside text) (length text) w.0 w.1 (ap₂ (λ x y. x && y) w.2 w.3),
+  pub control_told : (n : ℕ) (flag : Bool) → flag ≡ any_below (is_control_inside text) n → IsTrue flag ↔ HasControlInsideTo text n
+  control_told n flag e = (
+    λ t. (let w = any_where (is_control_inside text) n (sym e ∙ t) in let p = both (is_interior text w.0) (control_byte (byte text w.0)) w.2 in (w.0, w.1, p.0, p.1)),
+    λ w. e ∙ any_found (is_control_inside text) n w.0 w.1 (ap₂ (λ x y. x && y) w.2 w.3),
   )
