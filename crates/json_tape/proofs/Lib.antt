@@ -26,6 +26,7 @@ pub mod Holders
 pub mod Lones
 pub mod EscapeSteps
 pub mod Gaps
+pub mod Reach
 pub mod Surrogateless
 pub mod Entries
 pub mod Parts
@@ -65,6 +66,8 @@ pub mod PlaceWalk
 pub mod Placing
 pub mod TokensAt
 pub mod Listed
+pub mod Windows
+pub mod Paused
 pub mod Going
 pub mod Onward
 pub mod Arrived

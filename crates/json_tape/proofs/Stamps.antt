@@ -14,7 +14,7 @@ use Rattle.json_tape.proofs.MembersLeft.{no_entry, Next, IsMet, met_none, met_mo
 abbrev AreOwned : ℕ → List ℕ → List ℕ → Type 0
 AreOwned owner owners places = AllByRecursion (λ p. get_or owners p 0 ≡ owner) places
 
-neither_is : (a b : Bool) → a ≡ false → b ≡ false → (a || b) ≡ false
+pub neither_is : (a b : Bool) → a ≡ false → b ≡ false → (a || b) ≡ false
 neither_is true b e f = absurd (cc)
 neither_is false b e f = f
 

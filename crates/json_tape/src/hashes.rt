@@ -19,7 +19,7 @@ const HALF: u64 = 4_294_967_296;
 
 const FACTOR: u64 = 0x9E37_79B9_7F4A_7C15;
 
-/// So many scalar values are one word, and so many bytes: their number, the first of them the highest.
+// So many scalar values are one word, and so many bytes: their number, the first of them the highest.
 const EIGHT: usize = 8;
 
 /// A hash of some scalar values: of those in whole words, and the word of the others with their number.

@@ -12,6 +12,7 @@ ghost use Rattle.json_tape.specs.Counted.{AreCounted, IsPlain, StandAlone, begin
 
 use crate::compact::Tape;
 use crate::scalars::{Scalars, unquoted};
+use crate::slashes::BLOCK;
 use crate::tape::{Entry, Extent, Kind};
 use byte_masks::tail;
 use escape_runs::escaped;
@@ -167,9 +168,6 @@ pub fn count_of(mut scalars: Scalars<'_>) -> u32
     }
     count as u32
 }
-
-// So many bytes are looked at in one block.
-const BLOCK: usize = 64;
 
 // What stands in a block of a string.
 #[derive(Clone, Copy)]

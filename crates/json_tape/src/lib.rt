@@ -36,7 +36,9 @@ mod scan;
 mod second_stage;
 mod slashes;
 mod sought;
+mod stretched;
 mod tape;
+mod window;
 
 pub use children::Children;
 pub use compact::Tape;

@@ -2,9 +2,9 @@
 //! What may come next is known by where in the code the walk stands, so that only that is looked for: a child, which is a name, a colon
 //! and a value in an object, and behind it the comma or the end.
 
-ghost use Rattle.std.specs.Prelude.{◌≡◌, ◌≢◌, ◌+◌, ◌-◌, ◌^◌, ◌<◌, ◌≤◌, ℕ, List, Bool, None, length, get_or, IfOk, OnOk, IfSome, IsUtf8, IsErrOf, IsTrue, true, false};
+ghost use Rattle.std.specs.Prelude.{◌≡◌, ◌≢◌, ◌+◌, ◌-◌, ◌^◌, ◌<◌, ◌≤◌, ℕ, List, Bool, None, length, get_or, IfOk, IfErr, OnOk, IfSome, IsUtf8, IsErrOf, IsTrue, true, false};
 ghost use Rattle.structural_index.specs.Answer.{IsIndexOf};
-ghost use Rattle.structural_index.specs.Places.{AreSlashBlocks};
+ghost use Rattle.structural_index.specs.Places.{places, AreSlashBlocks};
 ghost use Rattle.json_tape.specs.Machine.{Closing, IsSmall, Took, step, level_of};
 ghost use Rattle.json_tape.specs.Built.{Built, standing, nothing};
 ghost use Rattle.json_tape.specs.Limits.{AreWithinLimits};
@@ -17,31 +17,39 @@ ghost use Rattle.json_tape.specs.Verdict.{text_limit};
 ghost use Rattle.json_tape.specs.Placing.{HoldSlashes};
 ghost use Rattle.json_tape.specs.Told.{IsStamped, IsUnasked, AreTold, IsFresh, IsSameTop, IsSeated, HasTable, top_of, children_of};
 ghost use Rattle.json_tape.specs.Ordered.{narrow};
-ghost use Rattle.json_tape.specs.Walked.{met_source, IsListed, FitsTape, token_of, behind, with_sign, no_more, spot_after, is_whole as whole_token, spot_behind, byte_at, ending as ending_of, width as width_of, shape_of, point, at, Arrives, Named, Grown, Entered, AsksName, AsksValue, AsksChild};
+ghost use Rattle.json_tape.specs.Walked.{met_source, IsListed, FitsTape, token_of, behind, behind_of, with_sign, no_more, spot_after, is_whole as whole_token, spot_behind, place, byte_at, ending as ending_of, width as width_of, shape_of, point, at, Arrives, Named, Grown, Entered, AsksName, AsksValue, AsksChild};
+ghost use Rattle.json_tape.specs.Windows.{IsWindow};
 
 use crate::apart::{Met, NamesMet, Owner, stamped};
 use crate::builder::Builder;
 use crate::compact::Tape;
-use crate::judge::may_be_lone;
 use crate::lexing::{Lexed, name, value};
 use crate::slashes::Slashes;
 use crate::tape::{BuildFault, Extent, Kind, Level, Shape, Want};
+use crate::window::Window;
 use std::alloc::Global;
-use structural_index::{Index, Looks, index, index_and_copy};
+use structural_index::{Index, Looks};
 
-// For whom a walk is made: each has a copy of its own, so that all of it is put in line, and a count of looks that nobody asks for costs
+// For whom a text is walked: each has a copy of its own, so that all of it is put in line, and a count of looks that nobody asks for costs
 // nothing.
 const BUILT: u8 = 0;
 
-const COPIED: u8 = 1;
+/// For a document that is read.
+pub const READ: u8 = 1;
 
-const OWNED: u8 = 2;
+/// What stands before a spot of a walk: the sign that opened the container around it, if any did, a value, or the comma behind one.
+#[derive(Clone, Copy)]
+pub enum Before {
+    Opening,
+    Value,
+    Comma,
+}
 
-/// How far a walk has come: the number of the next place, and whether a value stands before it. If none does, it is that of a first child.
+/// How far a walk has come: the number of the next place, and what stands before it.
 #[derive(Clone, Copy)]
 pub struct Spot {
     pub number: usize,
-    pub behind: bool,
+    pub before: Before,
 }
 
 // An object or an array. The functions that are made for each of them take it as a constant, and are two copies each.
@@ -70,16 +78,30 @@ fn ending<const OBJECT: bool>() -> u8
     if OBJECT { b'}' } else { b']' }
 }
 
-// The place behind place number k, or the end of the text.
+// Whether a value stands before a spot, where no comma does.
 #[inline(always)]
-fn place_behind(places: &[u32], k: usize, end: usize) -> usize
-    requires { k < length places.now }
-    ensures { result ≡ get_or places.now (k + 1) end }
+fn behind_value(before: Before) -> Option<bool>
+    ensures { result ≡ behind_of before }
 {
-    if k + 1 < places.len() {
-        places[k + 1] as usize
+    match before {
+        Before::Opening => Some(false),
+        Before::Value => Some(true),
+        Before::Comma => None,
+    }
+}
+
+// The place behind the first one, or the end of the text.
+#[inline(always)]
+fn second_place(looks: &Looks<'_>, window: Window<'_>) -> usize
+    requires window { IsWindow looks.now.0 window }
+    requires first { window.first ≡ 0 }
+    requires ready { 0 < window.pause }
+    ensures { result ≡ get_or (places looks.now.0) 1 (length looks.now.0) }
+{
+    if 1 < window.end {
+        window.place(looks, 1) as usize
     } else {
-        end
+        looks.length()
     }
 }
 
@@ -129,53 +151,59 @@ fn put(
     }
 }
 
-// The name at place number k and the colon behind it.
+// The name at the place with this number among those at hand, and the colon behind it. It is place number k of the text.
 #[inline(always)]
-fn named(looks: &mut Looks<'_>, places: &[u32], k: usize, slashes: &mut Slashes<'_>) -> Option<Met>
-    requires listed { IsListed looks.old.0 places.now }
-    requires inside { k + 1 < length places.now }
-    requires slashes { HoldSlashes looks.old.0 slashes.old }
-    ensures named { (b : Built) (w : Want) (exceeds : Bool) → AsksName looks.old.0 places.now k w
-        → Named looks.old.0 places.now (point k (standing b w None) looks.old.1 exceeds) b (k + 2) (met_source result) looks.new.1 exceeds }
+fn named(
+    looks: &mut Looks<'_>,
+    window: Window<'_>,
+    j: usize,
+    slashes: &mut Slashes<'_>,
+) -> Option<Met>
+    requires window { IsWindow looks.old.0 window }
+    requires inside { j + 1 < length window.places.now }
+    requires slashes { HoldSlashes looks.old.0 window.reach slashes.old }
+    ensures named { (k : ℕ) → k ≡ window.entry.first + j → (b : Built) (w : Want) (exceeds : Bool) → AsksName looks.old.0 (places looks.old.0) k w
+        → Named looks.old.0 (places looks.old.0) (point k (standing b w None) looks.old.1 exceeds) b (k + 2) (met_source result) looks.new.1 exceeds }
     ensures room { IfSome result (λ m. HasRoom m.source) }
     ensures stamped { IfSome result (λ m. IsStamped looks.old.0 m.source m.stamp) }
-    ensures slashes { HoldSlashes looks.old.0 slashes.new }
+    ensures slashes { HoldSlashes looks.old.0 window.entry.reach slashes.new }
     ensures same { looks.new.0 ≡ looks.old.0 }
 {
-    let colon = places[k + 1] as usize;
-    match name(looks, places[k] as usize, colon, slashes) {
+    let start = window.nth(looks, j) as usize;
+    let colon = window.nth(looks, j + 1) as usize;
+    match name(looks, start, colon, slashes) {
         Some(name) if looks.at(colon) == b':' => Some(stamped(looks, name)),
         _ => None,
     }
 }
 
-// The value at place number k, which has one behind it: an element, or a member of this name. Gives the sign behind it, which is looked
+// The value at the place with this number among those at hand, which has one behind it: an element, or a member of this name. Gives the sign behind it, which is looked
 // at before the entry is written, or nothing where a container was opened.
 #[inline(always)]
 fn valued<const OBJECT: bool, const CALLER: u8>(
     looks: &mut Looks<'_>,
-    places: &[u32],
-    k: usize,
+    window: Window<'_>,
+    j: usize,
     name: Option<Extent>,
     slashes: &mut Slashes<'_>,
     builder: &mut Builder,
     may_exceed: &mut bool,
 ) -> Result<Option<u8>, BuildFault>
-    requires listed { IsListed looks.old.0 places.now }
-    requires inside { k + 1 < length places.now }
-    requires slashes { HoldSlashes looks.old.0 slashes.old }
-    requires small { IsSmall k (standing builder.old Want.Next None) }
+    requires window { IsWindow looks.old.0 window }
+    requires inside { j + 1 < length window.places.now }
+    requires slashes { HoldSlashes looks.old.0 window.reach slashes.old }
+    requires small { IsSmall (window.first + j) (standing builder.old Want.Next None) }
     requires level { level_of builder.old.opens ≡ Level.Inside (shape_of OBJECT) }
     requires name { IfSome name HasRoom }
-    ensures grown { (w : Want) → AsksValue looks.old.0 places.now k w
-        → Grown looks.old.0 places.now (point k (standing builder.old w name) looks.old.1 may_exceed.old) (shape_of OBJECT) (k + 1) result builder.new looks.new.1 may_exceed.new }
+    ensures grown { (k : ℕ) → k ≡ window.entry.first + j → (w : Want) → AsksValue looks.old.0 (places looks.old.0) k w
+        → Grown looks.old.0 (places looks.old.0) (point k (standing builder.old w name) looks.old.1 may_exceed.old) (shape_of OBJECT) (k + 1) result builder.new looks.new.1 may_exceed.new }
     ensures told { IfOk result (λ made. (met : NamesMet) → AreTold looks.old.0 builder.old met → IsFresh looks.old.0 builder.old met name → AreTold looks.old.0 builder.new met) }
     ensures top { IfOk result (λ made. IfSome made (λ sign. IsSameTop builder.old.opens builder.new.opens)) }
-    ensures slashes { HoldSlashes looks.old.0 slashes.new }
+    ensures slashes { HoldSlashes looks.old.0 window.entry.reach slashes.new }
     ensures same { looks.new.0 ≡ looks.old.0 }
 {
-    let i = places[k];
-    let next = places[k + 1] as usize;
+    let i = window.nth(looks, j);
+    let next = window.nth(looks, j + 1) as usize;
     let level = Level::Inside(shape::<OBJECT>());
     match value(looks, i as usize, next, slashes, may_exceed) {
         None => Err(BuildFault::NotJson),
@@ -195,37 +223,37 @@ fn valued<const OBJECT: bool, const CALLER: u8>(
     }
 }
 
-// The child at place number k, which has as many places as one needs, and one behind them.
+// The child at the place with this number among those at hand, which has as many places as one needs, and one behind them.
 #[inline(always)]
 fn child<const OBJECT: bool, const CALLER: u8>(
     looks: &mut Looks<'_>,
-    places: &[u32],
-    k: usize,
+    window: Window<'_>,
+    j: usize,
     slashes: &mut Slashes<'_>,
     builder: &mut Builder,
     may_exceed: &mut bool,
     met: &mut NamesMet,
     owner: Owner,
 ) -> Result<Option<u8>, BuildFault>
-    requires listed { IsListed looks.old.0 places.now }
-    requires inside { k + width_of (shape_of OBJECT) < length places.now }
-    requires slashes { HoldSlashes looks.old.0 slashes.old }
-    requires small { IsSmall k (standing builder.old Want.Next None) }
+    requires window { IsWindow looks.old.0 window }
+    requires inside { j + width_of (shape_of OBJECT) < length window.places.now }
+    requires slashes { HoldSlashes looks.old.0 window.reach slashes.old }
+    requires small { IsSmall (window.first + j) (standing builder.old Want.Next None) }
     requires level { level_of builder.old.opens ≡ Level.Inside (shape_of OBJECT) }
     requires told { AreTold looks.old.0 builder.old met.old }
     requires seated { IsTrue OBJECT → IsSeated builder.old owner met.old }
     requires table { HasTable owner }
-    ensures grown { (w : Want) → AsksChild looks.old.0 places.now k (shape_of OBJECT) w
-        → Grown looks.old.0 places.now (point k (standing builder.old w None) looks.old.1 may_exceed.old) (shape_of OBJECT) (k + width_of (shape_of OBJECT)) result builder.new looks.new.1 may_exceed.new }
+    ensures grown { (k : ℕ) → k ≡ window.entry.first + j → (w : Want) → AsksChild looks.old.0 (places looks.old.0) k (shape_of OBJECT) w
+        → Grown looks.old.0 (places looks.old.0) (point k (standing builder.old w None) looks.old.1 may_exceed.old) (shape_of OBJECT) (k + width_of (shape_of OBJECT)) result builder.new looks.new.1 may_exceed.new }
     ensures told { IfOk result (λ made. AreTold looks.old.0 builder.new met.new) }
     ensures seated { IfOk result (λ made. IfSome made (λ sign. IsTrue OBJECT → IsSeated builder.new owner met.new)) }
-    ensures slashes { HoldSlashes looks.old.0 slashes.new }
+    ensures slashes { HoldSlashes looks.old.0 window.entry.reach slashes.new }
     ensures same { looks.new.0 ≡ looks.old.0 }
 {
     if !OBJECT {
-        return valued::<OBJECT, CALLER>(looks, places, k, None, slashes, builder, may_exceed);
+        return valued::<OBJECT, CALLER>(looks, window, j, None, slashes, builder, may_exceed);
     }
-    let Some(name) = named(looks, places, k, slashes) else {
+    let Some(name) = named(looks, window, j, slashes) else {
         return Err(BuildFault::NotJson);
     };
     if met.meet(owner, name.stamp).is_err() {
@@ -233,8 +261,8 @@ fn child<const OBJECT: bool, const CALLER: u8>(
     }
     valued::<OBJECT, CALLER>(
         looks,
-        places,
-        k + 2,
+        window,
+        j + 2,
         Some(name.source),
         slashes,
         builder,
@@ -251,7 +279,7 @@ fn closed_at(closed: Result<(), BuildFault>, k: usize) -> Result<Spot, BuildFaul
     match closed {
         Ok(()) => Ok(Spot {
             number: k + 1,
-            behind: true,
+            before: Before::Value,
         }),
         Err(fault) => Err(fault),
     }
@@ -291,28 +319,28 @@ fn shut<const OBJECT: bool>(
     }
 }
 
-// The end of the container, if this sign at place number k is its end. A comma is not.
+// The end of the container, if this sign, at the place with number k, is its end. A comma is not.
 #[inline(always)]
 fn ended<const OBJECT: bool>(
-    places: &[u32],
+    end: u32,
     k: usize,
     sign: u8,
     builder: &mut Builder,
     met: &mut NamesMet,
 ) -> Result<Spot, BuildFault>
-    requires inside { k < length places.now }
-    requires near { get_or places.now k 0 < 2 ^ 24 }
+    requires far { k < 2 ^ 63 }
+    requires near { end < 2 ^ 24 }
     requires level { level_of builder.old.opens ≡ Level.Inside (shape_of OBJECT) }
     requires no_comma { sign ≢ 44 }
-    ensures arrives { (text : List ℕ) (looked : ℕ) (exceeds : Bool) → IsListed text places.now → sign ≡ byte_at text places.now k
-        → Arrives text places.now (point k (standing builder.old Want.Next None) looked exceeds) result builder.new looked exceeds }
-    ensures behind { IfOk result (λ next. (next.number ≡ k + 1) × (next.behind ≡ true)) }
+    ensures arrives { (text : List ℕ) (looked : ℕ) (exceeds : Bool) → IsListed text (places text) → k < length (places text) → end ≡ place (places text) k → sign ≡ byte_at text (places text) k
+        → Arrives text (places text) (point k (standing builder.old Want.Next None) looked exceeds) result builder.new looked exceeds }
+    ensures behind { IfOk result (λ next. (next.number ≡ k + 1) × (next.before ≡ Before.Value)) }
     ensures told { IfOk result (λ next. (text : List ℕ) → AreTold text builder.old met.old → AreTold text builder.new met.new) }
 {
     if sign != ending::<OBJECT>() {
         return Err(BuildFault::NotJson);
     }
-    closed_at(shut::<OBJECT>(builder, places[k], met), k)
+    closed_at(shut::<OBJECT>(builder, end, met), k)
 }
 
 // What the walk finds where it enters a container, or comes back to it: the number of the place at which the next child has to begin, or
@@ -320,26 +348,33 @@ fn ended<const OBJECT: bool>(
 #[inline(always)]
 fn entered<const OBJECT: bool>(
     looks: &mut Looks<'_>,
-    places: &[u32],
+    window: Window<'_>,
     spot: Spot,
     builder: &mut Builder,
     met: &mut NamesMet,
 ) -> Result<Option<usize>, BuildFault>
-    requires listed { IsListed looks.old.0 places.now }
+    requires window { IsWindow looks.old.0 window }
+    requires from { window.first ≤ spot.number }
+    requires ready { spot.number < window.pause }
     requires level { level_of builder.old.opens ≡ Level.Inside (shape_of OBJECT) }
-    ensures entered { (exceeds : Bool) → Entered looks.old.0 places.now (at spot builder.old looks.old.1 exceeds) (shape_of OBJECT) (spot.number + 1) result builder.new looks.new.1 exceeds }
-    ensures inside { IfOk result (λ next. spot.number < length places.now) }
+    ensures entered { (exceeds : Bool) → Entered looks.old.0 (places looks.old.0) (at spot builder.old looks.old.1 exceeds) (shape_of OBJECT) (spot.number + 1) result builder.new looks.new.1 exceeds }
+    ensures inside { IfOk result (λ next. spot.number < window.entry.end) }
+    ensures not_before { IfOk result (λ next. IfSome next (λ first. spot.number ≤ first)) }
     ensures told { IfOk result (λ next. (text : List ℕ) → AreTold text builder.old met.old → AreTold text builder.new met.new) }
     ensures same { looks.new.0 ≡ looks.old.0 }
 {
-    if spot.number >= places.len() {
+    if spot.number >= window.end {
         return Err(BuildFault::NotJson);
     }
-    let sign = looks.at(places[spot.number] as usize);
+    let Some(behind) = behind_value(spot.before) else {
+        return Ok(Some(spot.number));
+    };
+    let place = window.place(looks, spot.number);
+    let sign = looks.at(place as usize);
     if sign == ending::<OBJECT>() {
-        return nothing_more(shut::<OBJECT>(builder, places[spot.number], met));
+        return nothing_more(shut::<OBJECT>(builder, place, met));
     }
-    if !spot.behind {
+    if !behind {
         return Ok(Some(spot.number));
     }
     if sign == b',' {
@@ -369,35 +404,53 @@ fn seat<const OBJECT: bool>(builder: &Builder, met: &mut NamesMet) -> Result<Own
     }
 }
 
+// Where a container's places run out behind a comma, before place number k: the walk pauses there, unless all are at hand.
+#[inline(always)]
+fn left_off(looks: &Looks<'_>, window: Window<'_>, k: usize) -> Result<Spot, BuildFault>
+    ensures spot { IfOk result (λ next. next ≡ record { number = k; before = Before.Comma }) }
+    ensures more { IfOk result (λ next. window.entry.reach ≢ length looks.now.0) }
+    ensures none { IfErr result (λ fault. (fault ≡ BuildFault.NotJson) × (window.entry.reach ≡ length looks.now.0)) }
+{
+    if window.reach == looks.length() {
+        return Err(BuildFault::NotJson);
+    }
+    Ok(Spot {
+        number: k,
+        before: Before::Comma,
+    })
+}
+
 // The children of the innermost container from here on, up to one that holds others or to the end of the container.
 #[inline(always)]
 fn run<const OBJECT: bool, const CALLER: u8>(
     looks: &mut Looks<'_>,
-    places: &[u32],
+    window: Window<'_>,
     spot: Spot,
     slashes: &mut Slashes<'_>,
     builder: &mut Builder,
     may_exceed: &mut bool,
     met: &mut NamesMet,
 ) -> Result<Spot, BuildFault>
-    requires listed { IsListed looks.old.0 places.now }
-    requires slashes { HoldSlashes looks.old.0 slashes.old }
+    requires window { IsWindow looks.old.0 window }
+    requires slashes { HoldSlashes looks.old.0 window.reach slashes.old }
+    requires from { window.first ≤ spot.number }
+    requires ready { spot.number < window.pause }
     requires small { IsSmall spot.number (standing builder.old Want.Next None) }
     requires level { level_of builder.old.opens ≡ Level.Inside (shape_of OBJECT) }
     requires told { AreTold looks.old.0 builder.old met.old }
-    ensures arrives { Arrives looks.old.0 places.now (at spot builder.old looks.old.1 may_exceed.old) result builder.new looks.new.1 may_exceed.new }
-    ensures further { IfOk result (λ next. (spot.number < next.number) × (next.number ≤ length places.now)) }
-    ensures opened { IfOk result (λ next. next.behind ≡ false → level_of builder.new.opens ≡ Level.Root → ⊥) }
+    ensures arrives { Arrives looks.old.0 (places looks.old.0) (at spot builder.old looks.old.1 may_exceed.old) result builder.new looks.new.1 may_exceed.new }
+    ensures further { IfOk result (λ next. (spot.number < next.number) × (next.number ≤ window.entry.end)) }
+    ensures whole { IfOk result (λ next. level_of builder.new.opens ≡ Level.Root → next.before ≡ Before.Value) }
     ensures told { IfOk result (λ next. AreTold looks.old.0 builder.new met.new) }
-    ensures slashes { HoldSlashes looks.old.0 slashes.new }
+    ensures slashes { HoldSlashes looks.old.0 window.entry.reach slashes.new }
     ensures same { looks.new.0 ≡ looks.old.0 }
 {
-    let first = match entered::<OBJECT>(looks, places, spot, builder, met) {
+    let first = match entered::<OBJECT>(looks, window, spot, builder, met) {
         Err(fault) => return Err(fault),
         Ok(None) => {
             return Ok(Spot {
                 number: spot.number + 1,
-                behind: true,
+                before: Before::Value,
             });
         }
         Ok(Some(first)) => first,
@@ -406,30 +459,32 @@ fn run<const OBJECT: bool, const CALLER: u8>(
         Ok(owner) => owner,
         Err(fault) => return Err(fault),
     };
-    let mut k = first;
-    while k + width::<OBJECT>() < places.len() {
-        match child::<OBJECT, CALLER>(looks, places, k, slashes, builder, may_exceed, met, owner) {
+    let mut j = first - window.first;
+    while j + width::<OBJECT>() < window.len() {
+        match child::<OBJECT, CALLER>(looks, window, j, slashes, builder, may_exceed, met, owner) {
             Err(fault) => return Err(fault),
             Ok(None) => {
                 return Ok(Spot {
-                    number: k + width::<OBJECT>(),
-                    behind: false,
+                    number: window.first + j + width::<OBJECT>(),
+                    before: Before::Opening,
                 });
             }
-            Ok(Some(b',')) => k += width::<OBJECT>() + 1,
+            Ok(Some(b',')) => j += width::<OBJECT>() + 1,
             Ok(Some(sign)) => {
-                return ended::<OBJECT>(places, k + width::<OBJECT>(), sign, builder, met);
+                let last = j + width::<OBJECT>();
+                let end = window.nth(looks, last);
+                return ended::<OBJECT>(end, window.first + last, sign, builder, met);
             }
         }
     }
-    Err(BuildFault::NotJson)
+    left_off(looks, window, window.first + j)
 }
 
 // The same for the shape that the container has.
 #[inline(always)]
 fn children<const CALLER: u8>(
     looks: &mut Looks<'_>,
-    places: &[u32],
+    window: Window<'_>,
     spot: Spot,
     shape: Shape,
     slashes: &mut Slashes<'_>,
@@ -437,55 +492,63 @@ fn children<const CALLER: u8>(
     may_exceed: &mut bool,
     met: &mut NamesMet,
 ) -> Result<Spot, BuildFault>
-    requires listed { IsListed looks.old.0 places.now }
-    requires slashes { HoldSlashes looks.old.0 slashes.old }
+    requires window { IsWindow looks.old.0 window }
+    requires slashes { HoldSlashes looks.old.0 window.reach slashes.old }
+    requires from { window.first ≤ spot.number }
+    requires ready { spot.number < window.pause }
     requires small { IsSmall spot.number (standing builder.old Want.Next None) }
     requires level { level_of builder.old.opens ≡ Level.Inside shape }
     requires told { AreTold looks.old.0 builder.old met.old }
-    ensures arrives { Arrives looks.old.0 places.now (at spot builder.old looks.old.1 may_exceed.old) result builder.new looks.new.1 may_exceed.new }
-    ensures further { IfOk result (λ next. (spot.number < next.number) × (next.number ≤ length places.now)) }
-    ensures opened { IfOk result (λ next. next.behind ≡ false → level_of builder.new.opens ≡ Level.Root → ⊥) }
+    ensures arrives { Arrives looks.old.0 (places looks.old.0) (at spot builder.old looks.old.1 may_exceed.old) result builder.new looks.new.1 may_exceed.new }
+    ensures further { IfOk result (λ next. (spot.number < next.number) × (next.number ≤ window.entry.end)) }
+    ensures whole { IfOk result (λ next. level_of builder.new.opens ≡ Level.Root → next.before ≡ Before.Value) }
     ensures told { IfOk result (λ next. AreTold looks.old.0 builder.new met.new) }
-    ensures slashes { HoldSlashes looks.old.0 slashes.new }
+    ensures slashes { HoldSlashes looks.old.0 window.entry.reach slashes.new }
     ensures same { looks.new.0 ≡ looks.old.0 }
 {
     match shape {
         Shape::Array => run::<false, CALLER>(
-            looks, places, spot, slashes, builder, may_exceed, met,
+            looks, window, spot, slashes, builder, may_exceed, met,
         ),
         Shape::Object => run::<true, CALLER>(
-            looks, places, spot, slashes, builder, may_exceed, met,
+            looks, window, spot, slashes, builder, may_exceed, met,
         ),
     }
 }
 
-// What lies in the containers that are open here, up to the end of the outermost one.
+// What lies in the containers that are open here, up to the end of the outermost one, or to where the walk pauses.
 #[inline(always)]
-fn containers<const CALLER: u8>(
+pub fn containers<const CALLER: u8>(
     looks: &mut Looks<'_>,
-    places: &[u32],
+    window: Window<'_>,
     spot: Spot,
     slashes: &mut Slashes<'_>,
     builder: &mut Builder,
     may_exceed: &mut bool,
     met: &mut NamesMet,
 ) -> Result<Spot, BuildFault>
-    requires listed { IsListed looks.old.0 places.now }
-    requires slashes { HoldSlashes looks.old.0 slashes.old }
-    requires inside { spot.number ≤ length places.now }
+    requires window { IsWindow looks.old.0 window }
+    requires slashes { HoldSlashes looks.old.0 window.reach slashes.old }
+    requires from { window.first ≤ spot.number }
+    requires inside { spot.number ≤ window.end }
     requires small { IsSmall spot.number (standing builder.old Want.Next None) }
-    requires opened { spot.behind ≡ false → level_of builder.old.opens ≡ Level.Root → ⊥ }
+    requires whole { level_of builder.old.opens ≡ Level.Root → spot.before ≡ Before.Value }
     requires told { AreTold looks.old.0 builder.old met.old }
-    ensures arrives { Arrives looks.old.0 places.now (at spot builder.old looks.old.1 may_exceed.old) result builder.new looks.new.1 may_exceed.new }
-    ensures over { IfOk result (λ next. (level_of builder.new.opens ≡ Level.Root) × (next.behind ≡ true)) }
+    ensures arrives { Arrives looks.old.0 (places looks.old.0) (at spot builder.old looks.old.1 may_exceed.old) result builder.new looks.new.1 may_exceed.new }
+    ensures over { IfOk result (λ next. next.number < window.entry.pause → level_of builder.new.opens ≡ Level.Root) }
+    ensures whole { IfOk result (λ next. level_of builder.new.opens ≡ Level.Root → next.before ≡ Before.Value) }
+    ensures inside { IfOk result (λ next. (spot.number ≤ next.number) × (next.number ≤ window.entry.end)) }
     ensures told { IfOk result (λ next. AreTold looks.old.0 builder.new met.new) }
-    ensures slashes { HoldSlashes looks.old.0 slashes.new }
+    ensures slashes { HoldSlashes looks.old.0 window.entry.reach slashes.new }
     ensures same { looks.new.0 ≡ looks.old.0 }
 {
     let mut next = spot;
     while let Level::Inside(shape) = builder.level() {
+        if next.number >= window.pause {
+            return Ok(next);
+        }
         match children::<CALLER>(
-            looks, places, next, shape, slashes, builder, may_exceed, met,
+            looks, window, next, shape, slashes, builder, may_exceed, met,
         ) {
             Ok(spot) => next = spot,
             Err(fault) => return Err(fault),
@@ -502,7 +565,11 @@ fn first_spot(made: Result<(), BuildFault>, lexed: Lexed) -> Result<Spot, BuildF
     match made {
         Ok(()) => Ok(Spot {
             number: 1,
-            behind: is_whole(lexed),
+            before: if is_whole(lexed) {
+                Before::Value
+            } else {
+                Before::Opening
+            },
         }),
         Err(fault) => Err(fault),
     }
@@ -521,28 +588,30 @@ fn is_whole(lexed: Lexed) -> bool
 
 // The value of the whole text, or the bracket or brace that opens it.
 #[inline(always)]
-fn whole<const CALLER: u8>(
+pub fn whole<const CALLER: u8>(
     looks: &mut Looks<'_>,
-    places: &[u32],
+    window: Window<'_>,
     slashes: &mut Slashes<'_>,
     builder: &mut Builder,
     may_exceed: &mut bool,
 ) -> Result<Spot, BuildFault>
-    requires listed { IsListed looks.old.0 places.now }
-    requires slashes { HoldSlashes looks.old.0 slashes.old }
+    requires window { IsWindow looks.old.0 window }
+    requires begins { window.first ≡ 0 }
+    requires ready { 0 < window.pause }
+    requires slashes { HoldSlashes looks.old.0 window.reach slashes.old }
     requires first { builder.old ≡ nothing }
-    ensures arrives { Arrives looks.old.0 places.now (point 0 (standing builder.old Want.Value None) looks.old.1 may_exceed.old) result builder.new looks.new.1 may_exceed.new }
+    ensures arrives { Arrives looks.old.0 (places looks.old.0) (point 0 (standing builder.old Want.Value None) looks.old.1 may_exceed.old) result builder.new looks.new.1 may_exceed.new }
     ensures told { IfOk result (λ next. (met : NamesMet) → AreTold looks.old.0 builder.old met → AreTold looks.old.0 builder.new met) }
-    ensures further { IfOk result (λ next. next.number ≤ length places.now) }
-    ensures opened { IfOk result (λ next. next.behind ≡ false → level_of builder.new.opens ≡ Level.Root → ⊥) }
-    ensures slashes { HoldSlashes looks.old.0 slashes.new }
+    ensures further { IfOk result (λ next. next.number ≤ window.entry.end) }
+    ensures whole { IfOk result (λ next. level_of builder.new.opens ≡ Level.Root → next.before ≡ Before.Value) }
+    ensures slashes { HoldSlashes looks.old.0 window.entry.reach slashes.new }
     ensures same { looks.new.0 ≡ looks.old.0 }
 {
-    if places.is_empty() {
+    if window.end == 0 {
         return Err(BuildFault::NotJson);
     }
-    let i = places[0];
-    let next = place_behind(places, 0, looks.length());
+    let i = window.place(looks, 0);
+    let next = second_place(looks, window);
     let Some(lexed) = value(looks, i as usize, next, slashes, may_exceed) else {
         return Err(BuildFault::NotJson);
     };
@@ -560,6 +629,25 @@ pub struct Reading {
     pub may_be_lone: bool,
     pub longest: u32,
     pub asked: Vec<u32>,
+}
+
+// All places of a text, unless its index shows that it is no JSON.
+#[inline(always)]
+fn all_of<'a>(index: &'a Index, looks: &Looks<'_>) -> Option<Window<'a>>
+    requires short { length looks.now.0 ≤ text_limit }
+    requires utf8 { IsUtf8 looks.now.0 }
+    requires index { IsIndexOf index.now looks.now.0 }
+    ensures window { IfSome result (λ w. IsWindow looks.now.0 w) }
+    ensures first { IfSome result (λ w. w.first ≡ 0) }
+    ensures end { IfSome result (λ w. w.end ≡ length (places looks.now.0)) }
+    ensures reach { IfSome result (λ w. w.reach ≡ length looks.now.0) }
+    ensures pause { IfSome result (λ w. w.end < w.pause) }
+    ensures none { result ≡ None → IsNoJson looks.now.0 }
+{
+    if index.unclosed || index.control_inside {
+        return None;
+    }
+    Some(Window::new(index.places.as_slice(), 0, looks.length(), true))
 }
 
 /// The tape of a text and its marks, or why there is none, by the places of its index. The walk is made for one caller whose looks count
@@ -586,21 +674,20 @@ fn walk<const CALLER: u8>(
     ensures looked { IfOk result (λ reading. IsBounded looks.old.0 looks.old.1 looks.new.1) }
     ensures sifted { IfOk result (λ reading. AreSifted looks.old.0 reading.tape reading.asked.items) }
 {
-    if index.unclosed || index.control_inside {
+    let Some(window) = all_of(index, looks) else {
         return Err(BuildFault::NotJson);
-    }
-    let places = index.places.as_slice();
-    let mut slashes = Slashes::new(index.slashes.as_slice(), looks.length());
-    let mut builder = Builder::new(alloc, places.len() / 2 + 1)?;
+    };
+    let mut slashes = Slashes::new(index.slashes.as_slice(), 0, looks.length());
+    let mut builder = Builder::new(alloc, index.places.len() / 2 + 1)?;
     let mut may_exceed = false;
     let mut met = NamesMet::new(alloc);
-    let first = match whole::<CALLER>(looks, places, &mut slashes, &mut builder, &mut may_exceed) {
+    let first = match whole::<CALLER>(looks, window, &mut slashes, &mut builder, &mut may_exceed) {
         Ok(first) => first,
         Err(fault) => return Err(fault),
     };
     let last = match containers::<CALLER>(
         looks,
-        places,
+        window,
         first,
         &mut slashes,
         &mut builder,
@@ -610,7 +697,7 @@ fn walk<const CALLER: u8>(
         Ok(last) => last,
         Err(fault) => return Err(fault),
     };
-    if last.number < places.len() {
+    if last.number < window.end {
         return Err(BuildFault::NotJson);
     }
     let depth = builder.deepest();
@@ -644,75 +731,6 @@ pub fn build(alloc: Global, index: &Index, looks: &mut Looks<'_>) -> Result<Tape
 {
     match walk::<BUILT>(alloc, index, looks) {
         Ok(reading) => Ok(reading.tape),
-        Err(fault) => Err(fault),
-    }
-}
-
-/// The tape of a text, by its index, and a copy of the text, or why there is none.
-#[inline(never)]
-pub fn read(alloc: Global, text: &[u8]) -> Result<(Reading, Vec<u8>), BuildFault>
-    requires long { length text.now ≤ text_limit }
-    requires utf8 { IsUtf8 text.now }
-    // A tape is given only where the text is JSON.
-    ensures spelt { IfOk result (λ r. IsJson text.now) }
-    // It stands for each tree that the text spells, so there is only one.
-    ensures stands { IfOk result (λ r. StandsForAll text.now r.0.tape) }
-    ensures short { IfOk result (λ r. length r.0.tape < 2 ^ 31) }
-    ensures depth { IfOk result (λ r. HasDepth text.now r.0.depth) }
-    ensures numbers { IfOk result (λ r. r.0.may_exceed ≡ false → AreWithinLimits text.now r.0.tape) }
-    ensures lone { IfOk result (λ r. r.0.may_be_lone ≡ false → HasNoSurrogates text.now) }
-    ensures sifted { IfOk result (λ r. AreSifted text.now r.0.tape r.0.asked.items) }
-    ensures copy { IfOk result (λ r. r.1.items ≡ text.now) }
-    // Unless memory runs out, a text is refused only where it spells no tree.
-    ensures refused { IsErrOf result BuildFault.NotJson → IsNoJson text.now }
-{
-    let Ok((found, copy)) = index_and_copy(alloc, text) else {
-        return Err(BuildFault::Memory);
-    };
-    match walk::<COPIED>(alloc, &found, &mut Looks::new(text)) {
-        Ok(reading) => Ok((with_lone(reading, text, found.slashes.as_slice()), copy)),
-        Err(fault) => Err(fault),
-    }
-}
-
-// The same reading, which says whether a surrogate of the text may be lone.
-#[inline(always)]
-fn with_lone(reading: Reading, text: &[u8], blocks: &[u32]) -> Reading
-    requires { AreSlashBlocks text.now blocks.now }
-    ensures tape { result.tape ≡ reading.tape }
-    ensures depth { result.depth ≡ reading.depth }
-    ensures numbers { result.may_exceed ≡ reading.may_exceed }
-    ensures asked { result.asked ≡ reading.asked }
-    ensures lone { result.may_be_lone ≡ false → HasNoSurrogates text.now }
-{
-    Reading {
-        may_be_lone: may_be_lone(text, blocks),
-        ..reading
-    }
-}
-
-/// The tape of a text, by its index, or why there is none.
-#[inline(never)]
-pub fn read_in_place(alloc: Global, text: &[u8]) -> Result<Reading, BuildFault>
-    requires long { length text.now ≤ text_limit }
-    requires utf8 { IsUtf8 text.now }
-    // A tape is given only where the text is JSON.
-    ensures spelt { IfOk result (λ r. IsJson text.now) }
-    // It stands for each tree that the text spells, so there is only one.
-    ensures stands { IfOk result (λ r. StandsForAll text.now r.tape) }
-    ensures short { IfOk result (λ r. length r.tape < 2 ^ 31) }
-    ensures depth { IfOk result (λ r. HasDepth text.now r.depth) }
-    ensures numbers { IfOk result (λ r. r.may_exceed ≡ false → AreWithinLimits text.now r.tape) }
-    ensures lone { IfOk result (λ r. r.may_be_lone ≡ false → HasNoSurrogates text.now) }
-    ensures sifted { IfOk result (λ r. AreSifted text.now r.tape r.asked.items) }
-    // Unless memory runs out, a text is refused only where it spells no tree.
-    ensures refused { IsErrOf result BuildFault.NotJson → IsNoJson text.now }
-{
-    let Ok(found) = index(alloc, text) else {
-        return Err(BuildFault::Memory);
-    };
-    match walk::<OWNED>(alloc, &found, &mut Looks::new(text)) {
-        Ok(reading) => Ok(with_lone(reading, text, found.slashes.as_slice())),
         Err(fault) => Err(fault),
     }
 }

@@ -1,0 +1,72 @@
+use Rattle.std.proofs.Common.{◌≡◌, ◌∙◌, length, refl, sym, ap, subst, arith}
+use Rattle.std.specs.Prelude.{Err}
+use Rattle.json_tape.specs.declared.tape.BuildFault.TheVariants.{NotJson}
+use Rattle.json_tape.specs.Answer.{StandsForAll}
+use Rattle.json_tape.specs.Limits.{AreWithinLimits}
+use Rattle.json_tape.specs.Sifted.{AreSifted}
+use Rattle.json_tape.proofs.NamesApart.{told_sifted}
+use Rattle.json_tape.proofs.Paused.{empty_none, end_none, end_found}
+use Rattle.json_tape.proofs.stretched.read_stretches.Goals as goal
+
+pub returns-then-not-is_some-clause-refused : goal.returns-then-not-is_some-clause-refused
+returns-then-not-is_some-clause-refused g c =
+    λ e. (
+    let text = c.args.text.now in
+    let over = c.loop-stretches.invariant.over (c.is_whole-in-loop-stretches.ensures.0 c.loop-stretches-test.false ∙ ap length c.loop-stretches.invariant.text) in
+    end_none text (record { list = refl; short = c.requires.short; utf8 = c.requires.utf8 }) c.loop-stretches.walk.spot c.loop-stretches.walk.builder (sym c.is_some.ensures ∙ c.if-not-is_some.true) over)
+
+pub returns-clause-spelt : goal.returns-clause-spelt
+returns-clause-spelt g c =
+    let text = c.args.text.now in
+    let over = c.loop-stretches.invariant.over (c.is_whole-in-loop-stretches.ensures.0 c.loop-stretches-test.false ∙ ap length c.loop-stretches.invariant.text) in
+    let found = end_found text (record { list = refl; short = c.requires.short; utf8 = c.requires.utf8 }) c.loop-stretches.walk.spot c.loop-stretches.walk.builder 0 c.loop-stretches.walk.may_exceed (sym c.is_some.ensures ∙ c.if-not-is_some.false) c.loop-stretches.invariant.come over in
+    found.json
+
+pub returns-clause-stands : goal.returns-clause-stands
+returns-clause-stands g c =
+    let text = c.args.text.now in
+    let over = c.loop-stretches.invariant.over (c.is_whole-in-loop-stretches.ensures.0 c.loop-stretches-test.false ∙ ap length c.loop-stretches.invariant.text) in
+    let found = end_found text (record { list = refl; short = c.requires.short; utf8 = c.requires.utf8 }) c.loop-stretches.walk.spot c.loop-stretches.walk.builder 0 c.loop-stretches.walk.may_exceed (sym c.is_some.ensures ∙ c.if-not-is_some.false) c.loop-stretches.invariant.come over in
+    subst (StandsForAll text) (sym c.found.ensures.tape) found.stands
+
+pub returns-clause-few : goal.returns-clause-few
+returns-clause-few g c =
+    let text = c.args.text.now in
+    let over = c.loop-stretches.invariant.over (c.is_whole-in-loop-stretches.ensures.0 c.loop-stretches-test.false ∙ ap length c.loop-stretches.invariant.text) in
+    let found = end_found text (record { list = refl; short = c.requires.short; utf8 = c.requires.utf8 }) c.loop-stretches.walk.spot c.loop-stretches.walk.builder 0 c.loop-stretches.walk.may_exceed (sym c.is_some.ensures ∙ c.if-not-is_some.false) c.loop-stretches.invariant.come over in
+    let short = found.short in
+    let same = ap length c.found.ensures.tape in
+    omega (arith, short, same)
+
+pub returns-clause-depth : goal.returns-clause-depth
+returns-clause-depth g c =
+    let text = c.args.text.now in
+    let over = c.loop-stretches.invariant.over (c.is_whole-in-loop-stretches.ensures.0 c.loop-stretches-test.false ∙ ap length c.loop-stretches.invariant.text) in
+    let found = end_found text (record { list = refl; short = c.requires.short; utf8 = c.requires.utf8 }) c.loop-stretches.walk.spot c.loop-stretches.walk.builder 0 c.loop-stretches.walk.may_exceed (sym c.is_some.ensures ∙ c.if-not-is_some.false) c.loop-stretches.invariant.come over in
+    λ t x. c.found.ensures.depth ∙ found.depth t x
+
+pub returns-clause-numbers : goal.returns-clause-numbers
+returns-clause-numbers g c =
+    let text = c.args.text.now in
+    let over = c.loop-stretches.invariant.over (c.is_whole-in-loop-stretches.ensures.0 c.loop-stretches-test.false ∙ ap length c.loop-stretches.invariant.text) in
+    let found = end_found text (record { list = refl; short = c.requires.short; utf8 = c.requires.utf8 }) c.loop-stretches.walk.spot c.loop-stretches.walk.builder 0 c.loop-stretches.walk.may_exceed (sym c.is_some.ensures ∙ c.if-not-is_some.false) c.loop-stretches.invariant.come over in
+    λ m. subst (AreWithinLimits text) (sym c.found.ensures.tape) (found.numbers (sym c.found.ensures.numbers ∙ m))
+
+pub returns-clause-sifted : goal.returns-clause-sifted
+returns-clause-sifted g c =
+    subst (λ tape. AreSifted c.args.text.now tape c.found.result.asked.items) (sym c.found.ensures.tape)
+    (subst (λ asked. AreSifted c.args.text.now c.loop-stretches.walk.builder.entries asked) (sym (ap (λ v. v.items) c.found.ensures.asked))
+    (told_sifted c.args.text.now c.loop-stretches.walk.builder c.loop-stretches.met c.loop-stretches.invariant.told))
+
+pub returns-in-Err-over-clause-refused : goal.returns-in-Err-over-clause-refused
+returns-in-Err-over-clause-refused g c = λ e. c.in-Err-over.ensures.refused (let f : c.in-Err-over.fault ≡ NotJson = cc in ap Err f)
+
+pub returns-in-Err-over-2-clause-refused : goal.returns-in-Err-over-2-clause-refused
+returns-in-Err-over-2-clause-refused g c = λ e. c.in-Err-over-2.ensures.refused (let f : c.in-Err-over-2.fault ≡ NotJson = cc in ap Err f)
+
+pub returns-then-is_whole-clause-refused : goal.returns-then-is_whole-clause-refused
+returns-then-is_whole-clause-refused g c = λ e.
+    let whole = c.is_whole.ensures.0 c.if-is_whole.true in
+    let long = ap length c.requires.text in
+    let begins = c.requires.begins in
+    empty_none c.args.text.now (record { list = refl; short = c.requires.short; utf8 = c.requires.utf8 }) (omega (arith, whole, long, begins))
