@@ -1,5 +1,5 @@
 -- The paths of hits, asked as queries on the same text.
-use Rattle.std.proofs.Common.{◌≡◌, ℕ, ◌≤◌, true, false, List, [], ◌∷◌, ◌++◌, length, map, refl, ap, ◌∙◌, arith, append-nil}
+use Rattle.std.proofs.Common.{◌≡◌, ℕ, ◌≤◌, true, List, [], ◌∷◌, ◌++◌, length, map, refl, ap, ◌∙◌, arith, append-nil}
 use Rattle.std.proofs.lemmas.List.Elements.{All-from_recursion, recursion_from_All}
 use Rattle.std.specs.List.{AllByRecursion}
 use Rattle.json_tape.specs.Tree.{Tree}
@@ -11,7 +11,6 @@ use Rattle.path_grammar.specs.Tree.{Segments}
 use Rattle.path_grammar.specs.Laws.{HaveOneTree}
 use Rattle.path_types.specs.Validity.{is_valid}
 use Rattle.path_types.specs.Verdict.{query_limit}
-use Rattle.tape_select.specs.Budget.{budget}
 use Rattle.tape_select.specs.Charge.{charge}
 use Rattle.tape_select.specs.Evaluation.{nodes_selected}
 use Rattle.path_law.specs.Law as law

@@ -1,13 +1,17 @@
--- The refusals of a query's text are those of the whole.
+-- The refusals of a text are those of a query on it.
 use Rattle.std.proofs.Common.{List, ℕ}
-use Rattle.path_types.specs.Verdict.{RefusesQueryText}
-use Rattle.path_types.specs.declared.query_text.QueryFault.{QueryFault}
-use Rattle.path_types.specs.declared.query_text.QueryFault.TheVariants as verdict
-use Rattle.path_server.specs.QueryText.{IsDocument, Refuses}
-use Rattle.path_server.specs.Faults.{of_query}
+use Rattle.json_tape.specs.Answer.{Explains}
+use Rattle.json_tape.specs.declared.tape.TextFault.{TextFault}
+use Rattle.json_tape.specs.declared.tape.TextFault.TheVariants as text
+use Rattle.path_server.specs.QueryText.{Refuses}
+use Rattle.path_server.specs.Faults.{of_text}
 
-pub query_refuses : (query document : List ℕ) (e : QueryFault) → IsDocument document → RefusesQueryText query e → Refuses query document (of_query e)
-query_refuses query document verdict.QueryTooLong a r = (a, r)
-query_refuses query document verdict.NotWellFormed a r = (a, r)
-query_refuses query document verdict.NotValid a r = (a, r)
-query_refuses query document verdict.Memory a r = tt
+pub text_refuses : (query document : List ℕ) (e : TextFault) → Explains document e → Refuses query document (of_text e)
+text_refuses query document text.TooLong r = r
+text_refuses query document text.NotUtf8 r = r
+text_refuses query document text.NotJson r = r
+text_refuses query document text.TooDeep r = r
+text_refuses query document text.NumberLimit r = r
+text_refuses query document text.LoneSurrogate r = r
+text_refuses query document text.DuplicateName r = r
+text_refuses query document text.Memory r = tt

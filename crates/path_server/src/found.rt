@@ -1,8 +1,9 @@
-//! What a query finds in a text.
+//! What a query finds in a document.
 
 ghost use Rattle.std.specs.Prelude.{◌<◌, [], IfErr, IfOk, map};
 ghost use Rattle.std.specs.List.{All};
-ghost use Rattle.json_tape.specs.Document.{count};
+ghost use Rattle.json_tape.specs.Document.{count, tree_of};
+ghost use Rattle.json_tape.specs.Verdict.{IsAccepted};
 ghost use Rattle.tape_select.specs.Nodelists.{nodes_of};
 ghost use Rattle.tenant_store.specs.Hits.{hit_of};
 ghost use Rattle.path_server.specs.Lines.{lines_of};
@@ -21,33 +22,18 @@ pub struct Found {
     pub nodes: Vec<NodeId>,
 }
 
-/// Reads a text and a query, and finds the nodes that the query selects, or why one of the two is refused: what
-/// [`crate::query_text`] refuses, in its order.
-pub fn find(alloc: Global, query: &[u8], document: &[u8]) -> Result<Found, QueryTextFault>
-    ensures answered { IfOk result (λ found. Answers query.now document.now [] (lines_of (map hit_of (nodes_of found.document found.nodes.items)))) }
+/// Finds the nodes that a query selects from a document whose text is accepted, or why the query is refused: what
+/// [`crate::query_text`] refuses once it has read its text, in its order.
+pub fn find(alloc: Global, query: &[u8], document: Document) -> Result<Found, QueryTextFault>
+    requires accepted { IsAccepted document.text (tree_of document) }
+    ensures answered { IfOk result (λ found. Answers query.now document.text [] (lines_of (map hit_of (nodes_of found.document found.nodes.items)))) }
     ensures inside { IfOk result (λ found. All (λ node. node.0 < count found.document) found.nodes.items) }
-    ensures refused { IfErr result (λ fault. Refuses query.now document.now fault) }
+    ensures refused { IfErr result (λ fault. Refuses query.now document.text fault) }
 {
-    let document = Document::read(alloc, document)?;
     let query = compile(alloc, query)?;
     let selected = select(alloc, &query, &document, BUDGET)?;
     Ok(Found {
         document,
         nodes: selected.nodes,
-    })
-}
-
-/// The same of a text in a list of its own, which becomes the document's.
-pub fn find_in(alloc: Global, query: &[u8], document: Vec<u8>) -> Result<Found, QueryTextFault>
-    ensures answered { IfOk result (λ found. Answers query.now document.items [] (lines_of (map hit_of (nodes_of found.document found.nodes.items)))) }
-    ensures inside { IfOk result (λ found. All (λ node. node.0 < count found.document) found.nodes.items) }
-    ensures refused { IfErr result (λ fault. Refuses query.now document.items fault) }
-{
-    let document = Document::read_owned(alloc, document)?;
-    let query = compile(alloc, query)?;
-    let chosen = select(alloc, &query, &document, BUDGET)?;
-    Ok(Found {
-        document,
-        nodes: chosen.nodes,
     })
 }

@@ -4,9 +4,9 @@ ghost use Rattle.std.specs.Prelude.{OnOk, IfErr};
 ghost use Rattle.path_server.specs.QueryStream.{AnswersStream, FailsStream};
 
 use crate::fault::QueryTextFault;
-use crate::found::find_in;
+use crate::found::find;
 use crate::pieces::{PieceFault, write_pieces};
-use json_tape::TEXT_LIMIT;
+use json_tape::{Document, TEXT_LIMIT};
 use standard_streams::{ReadFault, WriteFault, read_past};
 use std::alloc::Global;
 use std::io::{Read, Write};
@@ -41,11 +41,15 @@ pub fn query_stream<R: Read + Drop, W: Write>(
     ensures answered { OnOk result (AnswersStream query.now (R.remaining reader) (W.contents writer.old) (W.contents writer.new)) }
     ensures failed { IfErr result (λ fault. FailsStream query.now (R.remaining reader) (W.contents writer.old) (W.contents writer.new) fault) }
 {
-    let document = match read_past(alloc, reader, TEXT_LIMIT as u64) {
-        Ok(document) => document,
+    let text = match read_past(alloc, reader, TEXT_LIMIT as u64) {
+        Ok(text) => text,
         Err(fault) => return Err(QueryStreamFault::Read(fault)),
     };
-    let found = match find_in(alloc, query, document) {
+    let document = match Document::read_owned(alloc, text) {
+        Ok(document) => document,
+        Err(fault) => return Err(QueryStreamFault::Refused(fault.into())),
+    };
+    let found = match find(alloc, query, document) {
         Ok(found) => found,
         Err(fault) => return Err(QueryStreamFault::Refused(fault)),
     };

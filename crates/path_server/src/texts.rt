@@ -8,6 +8,7 @@ use crate::fault::QueryTextFault;
 use crate::found::find;
 use crate::laws::hits_lead_back;
 use crate::lines::write_lines;
+use json_tape::Document;
 use std::alloc::Global;
 
 /// Appends a line for each node that a query selects from a text, in the query's order: the normalized path (RFC 9535,
@@ -29,6 +30,7 @@ pub fn query_text(
     ensures unchanged { OnErr result (out.new.items ≡ out.old.items) }
 {
     hits_lead_back();
+    let document = Document::read(alloc, document)?;
     let found = find(alloc, query, document)?;
     write_lines(alloc, &found.document, found.nodes.as_slice(), out)?;
     Ok(())
