@@ -90,7 +90,7 @@ class Function:
             return found[1] == self.file and self.first <= int(found[2]) <= self.last
         parts = Path(found[3] or found[4]).parts[1:-1]
         module = Path(self.file).stem
-        return self.name in parts and (module in ("lib", "main") or module in parts)
+        return parts[-1:] == (self.name,) and (module in ("lib", "main") or module in parts[:-1])
 
 
 def functions_of(file, text):

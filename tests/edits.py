@@ -71,6 +71,7 @@ OPEN = {
     "note: `returns` of proofs/made/Two/three/Answers.antt must prove: c.result ≡ 30": ["three"],
     "./proofs/made/Two/two/Answers.antt:3:1: error: `returns`: expected type `a`": ["two"],
     "./proofs/made/Two/two/Answers.antt:3:1: error: `c.args` has no field `gone`": [],
+    "./proofs/two/three/Answers.antt:3:1: error: `returns`: expected type `a`": [],
     "./proofs/other/Two/two/Answers.antt:3:1: error: `returns`: expected type `a`": [],
     "note: src/other.rt:13:9: it is not proved that this sum fits (`add`)": [],
     "./proofs/Lemmas.antt:3:1: error: `shorter`: expected type `a`": [],
