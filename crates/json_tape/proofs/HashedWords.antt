@@ -98,7 +98,10 @@ module _ (text : List ℕ) (tape : List Entry) (short : length tape < 2 ^ 31) wh
   highs [] h = refl
   highs (x ∷ ks) h = let i = h.0.inside in ap (λ k. k ∷ map high_half (map word_of ks)) (high_is (key_hash x) x.number (omega arith)) ∙ ap (λ l. key_hash x ∷ l) (highs ks h.1)
 
-  module _ (n : ℕ) (xs ys : List ℕ) (collected : (ms : Members) → IsObject text tape n ms → xs ≡ map word_of (keyed ms (n + 1))) (moved : IsPermutation xs ys) (sorted : IsSorted nat_cmp ys) (apart : repeats_next_by (on high_half nat_eq) ys ≡ false) where
+  module _ (n : ℕ) (ys : List ℕ) (moved : (ms : Members) → IsObject text tape n ms → IsPermutation (map word_of (keyed ms (n + 1))) ys) (sorted : IsSorted nat_cmp ys) (apart : repeats_next_by (on high_half nat_eq) ys ≡ false) where
+    abbrev words : Members → List ℕ
+    words ms = map word_of (keyed ms (n + 1))
+
     good_keys : (ms : Members) → IsObject text tape n ms → AllByRecursion (IsGood text tape) (keyed ms (n + 1))
     good_keys ms o = recursion_from_All (IsGood text tape) (keyed ms (n + 1)) (all_good text tape n ms o)
 
@@ -107,19 +110,18 @@ module _ (text : List ℕ) (tape : List Entry) (short : length tape < 2 ^ 31) wh
 
     pub none_again : (ms : Members) → IsObject text tape n ms → false ≡ repeats (meanings ms)
     none_again ms o =
-        let again = sorted_repeats nat_eq nat_cmp unsigned_ties (λ x y. nat_eq_equiv.symm x y) nat_cmp_total (map high_half xs) (map high_half ys) (IsPermutation-map high_half xs ys moved) (highs_sorted ys sorted) in
-        let all : map high_half xs ≡ map name_hash (meanings ms) = ap (map high_half) (collected ms o) ∙ highs (keyed ms (n + 1)) (good_keys ms o) ∙ hashes_named ms (n + 1) in
+        let again = sorted_repeats nat_eq nat_cmp unsigned_ties (λ x y. nat_eq_equiv.symm x y) nat_cmp_total (map high_half (words ms)) (map high_half ys) (IsPermutation-map high_half (words ms) ys (moved ms o)) (highs_sorted ys sorted) in
+        let all : map high_half (words ms) ≡ map name_hash (meanings ms) = highs (keyed ms (n + 1)) (good_keys ms o) ∙ hashes_named ms (n + 1) in
         sym (hashes_apart name_hash (meanings ms) (sym (ap (repeats_by nat_eq) all) ∙ sym again ∙ highs_apart))
 
     counted : (ms : Members) → IsObject text tape n ms → length (map low_half ys) ≡ (entry_in tape n).children
     counted ms o =
-        length-map ys low_half ∙ length_permutation xs ys moved ∙ ap length (collected ms o) ∙ length-map (keyed ms (n + 1)) word_of ∙ length_keyed ms (n + 1)
+        length-map ys low_half ∙ length_permutation (words ms) ys (moved ms o) ∙ length-map (keyed ms (n + 1)) word_of ∙ length_keyed ms (n + 1)
         ∙ sym (ap (λ (e : Entry). e.children) (entry_at tape nothing_there o.stands o.is_at))
 
     good : (ms : Members) → IsObject text tape n ms → All (IsGoodWord text tape) ys
     good ms o =
-        All-permutation (IsGoodWord text tape) xs ys moved
-        (subst (All (IsGoodWord text tape)) (sym (collected ms o)) (All-from_recursion (IsGoodWord text tape) (map word_of (keyed ms (n + 1))) (good_words (keyed ms (n + 1)) (good_keys ms o))))
+        All-permutation (IsGoodWord text tape) (words ms) ys (moved ms o) (All-from_recursion (IsGoodWord text tape) (words ms) (good_words (keyed ms (n + 1)) (good_keys ms o)))
 
     ordered : (ms : Members) → IsObject text tape n ms → IsOrderOf text tape n (map high_half ys) (map low_half ys)
     ordered ms o = record {
@@ -134,7 +136,7 @@ module _ (text : List ℕ) (tape : List Entry) (short : length tape < 2 ^ 31) wh
             (ap (λ x. nat_cmp x (name_hash (named k))) (sym (hash_is j i)) ∙ ap (nat_cmp (get_or (map high_half ys) j 0)) (sym (hash_is k m))
             ∙ in_order nat_cmp (map high_half ys) 0 (strict nat_eq nat_cmp unsigned_ties (λ x y. nat_eq_equiv.symm x y) nat_cmp_total 0 (map high_half ys) (highs_sorted ys sorted) highs_apart) j k h (let a = length-map ys high_half in let b = length-map ys low_half in omega arith)));
       };
-      all = λ ms' o'. subst (λ l. IsPermutation l (map low_half ys)) (ap (map low_half) (collected ms' o') ∙ lows (keyed ms' (n + 1)) (good_keys ms' o')) (IsPermutation-map low_half xs ys moved);
+      all = λ ms' o'. subst (λ l. IsPermutation l (map low_half ys)) (lows (keyed ms' (n + 1)) (good_keys ms' o')) (IsPermutation-map low_half (words ms') ys (moved ms' o'));
     }
       where
         inner : (k : ℕ) → k < length (map low_half ys) → k < length ys

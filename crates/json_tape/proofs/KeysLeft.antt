@@ -15,42 +15,15 @@ use Rattle.json_tape.specs.declared.tape.Entry.{Entry}
 use Rattle.json_tape.proofs.Entries.{size_positive}
 use Rattle.json_tape.proofs.MembersLeft.{no_entry, Left, Next, all_left, next_left}
 
--- those that were met, and behind them those that are left, are all
-abbrev pub IsKeyed : List ℕ → List Entry → ℕ → ℕ → ℕ → List Keyed → Type 0
-IsKeyed text tape n k end met = (ms : Members) → IsObject text tape n ms → (left : Members) × Left text tape n k end left × (met ++ keyed left k ≡ keyed ms (n + 1))
-
-pub keyed_none : (text : List ℕ) (tape : List Entry) (n : ℕ) → IsKeyed text tape n (n + 1) (get_or tape n no_entry).after []
-keyed_none text tape n ms o = (ms, all_left text tape n ms o, refl)
-
-pub keyed_more : (text : List ℕ) (tape : List Entry) (n k end : ℕ) (met : List Keyed) (one : Keyed) → k < end
-    → ((ms : Members) → IsObject text tape n ms → (left : Members) → (x : Next text tape n k end left) → one ≡ record { number = k; name = meaning x.name.characters })
-    → IsKeyed text tape n k end met → IsKeyed text tape n (get_or tape k no_entry).after end (met ++ one ∷ [])
-keyed_more text tape n k end met one h same before ms o =
-    let b = before ms o in
-    let x = next_left text tape n k end b.0 b.1 h in (
-      x.others,
-      x.left,
-      append_assoc met (one ∷ []) (keyed x.others (get_or tape k no_entry).after) ∙ ap (λ y. met ++ (y ∷ keyed x.others (get_or tape k no_entry).after)) (same ms o b.0 x)
-          ∙ ap (λ j. met ++ (record { number = k; name = meaning x.name.characters } ∷ keyed x.others j)) x.past
-          ∙ ap (λ l. met ++ keyed l k) (sym x.whole) ∙ b.2,
-    )
-
-pub keyed_all : (text : List ℕ) (tape : List Entry) (n k end : ℕ) (met : List Keyed) → end ≤ k → IsKeyed text tape n k end met → (ms : Members) → IsObject text tape n ms → met ≡ keyed ms (n + 1)
-keyed_all text tape n k end met h before ms o = let b = before ms o in go b.0 b.1 b.2
-  where
-    go : (left : Members) → Left text tape n k end left → met ++ keyed left k ≡ keyed ms (n + 1) → met ≡ keyed ms (n + 1)
-    go NoMember l e = sym (append-nil met) ∙ e
-    go (Member m v others) l e = absurd (let z = size_positive v in let f = l.ends in omega arith)
-
--- the same of what each member gives
-module _ (f : Keyed → ℕ) where
-  abbrev pub IsGiven : List ℕ → List Entry → ℕ → ℕ → ℕ → List ℕ → Type 0
+-- what the members that were met give, and behind it what those that are left give, is what all give
+module _ {A : Type 0} (f : Keyed → A) where
+  abbrev pub IsGiven : List ℕ → List Entry → ℕ → ℕ → ℕ → List A → Type 0
   IsGiven text tape n k end met = (ms : Members) → IsObject text tape n ms → (left : Members) × Left text tape n k end left × (met ++ map f (keyed left k) ≡ map f (keyed ms (n + 1)))
 
   pub given_none : (text : List ℕ) (tape : List Entry) (n : ℕ) → IsGiven text tape n (n + 1) (get_or tape n no_entry).after []
   given_none text tape n ms o = (ms, all_left text tape n ms o, refl)
 
-  pub given_more : (text : List ℕ) (tape : List Entry) (n k end : ℕ) (met : List ℕ) (one : ℕ) → k < end
+  pub given_more : (text : List ℕ) (tape : List Entry) (n k end : ℕ) (met : List A) (one : A) → k < end
       → ((ms : Members) → IsObject text tape n ms → (left : Members) → (x : Next text tape n k end left) → one ≡ f (record { number = k; name = meaning x.name.characters }))
       → IsGiven text tape n k end met → IsGiven text tape n (get_or tape k no_entry).after end (met ++ one ∷ [])
   given_more text tape n k end met one h same before ms o =
@@ -63,7 +36,7 @@ module _ (f : Keyed → ℕ) where
             ∙ ap (λ l. met ++ map f (keyed l k)) (sym x.whole) ∙ b.2,
       )
 
-  pub given_all : (text : List ℕ) (tape : List Entry) (n k end : ℕ) (met : List ℕ) → end ≤ k → IsGiven text tape n k end met → (ms : Members) → IsObject text tape n ms → met ≡ map f (keyed ms (n + 1))
+  pub given_all : (text : List ℕ) (tape : List Entry) (n k end : ℕ) (met : List A) → end ≤ k → IsGiven text tape n k end met → (ms : Members) → IsObject text tape n ms → met ≡ map f (keyed ms (n + 1))
   given_all text tape n k end met h before ms o = let b = before ms o in go b.0 b.1 b.2
     where
       go : (left : Members) → Left text tape n k end left → met ++ map f (keyed left k) ≡ map f (keyed ms (n + 1)) → met ≡ map f (keyed ms (n + 1))

@@ -75,7 +75,6 @@ pub mod LoneSteps
 pub mod Halving
 pub mod KeysLeft
 pub mod HashedWords
-pub mod Stamps
 pub mod PlainStamps
 pub mod Runs
 pub mod WideNodes

@@ -1,5 +1,5 @@
 -- The members of an object, from one entry to the next.
-use Rattle.std.proofs.Common.{◌≡◌, ℕ, ◌+◌, ◌<◌, ◌≤◌, List, [], ◌∷◌, ◌++◌, length, map, get_or, refl, sym, ap, ◌∙◌, subst, arith, append_assoc, length-append}
+use Rattle.std.proofs.Common.{◌≡◌, ℕ, ◌+◌, ◌<◌, List, [], ◌∷◌, ◌++◌, length, map, get_or, refl, sym, ap, ◌∙◌, subst, arith, append_assoc, length-append}
 use Rattle.std.proofs.lemmas.List.{get_or_at, get_or_default}
 use Rattle.json_tape.specs.Tree.{Name, Tree, Obj, Members, NoMember, Member}
 use Rattle.json_tape.specs.Letters.{IsString}
@@ -103,36 +103,6 @@ module _ {A : Type 0} (each : List ℕ → A) where
   given NoMember = []
   given (Member n t ms) = each (meaning n.characters) ∷ given ms
 
-  -- what the names that were met gave, with what those of the members that are left give, is what all names give
-  abbrev pub IsMet : List ℕ → List Entry → ℕ → ℕ → ℕ → List A → Type 0
-  IsMet text tape n k end met = (ms : Members) → IsObject text tape n ms → (left : Members) × Left text tape n k end left × (met ++ given left ≡ given ms)
-
-  pub met_none : (text : List ℕ) (tape : List Entry) (n : ℕ) → IsMet text tape n (n + 1) (get_or tape n no_entry).after []
-  met_none text tape n ms o = (ms, all_left text tape n ms o, refl)
-
-  pub met_more : (text : List ℕ) (tape : List Entry) (n k end : ℕ) (met : List A) (one : A) → k < end
-      → ((ms : Members) → IsObject text tape n ms → (left : Members) → (x : Next text tape n k end left) → one ≡ each (meaning x.name.characters))
-      → IsMet text tape n k end met → IsMet text tape n (get_or tape k no_entry).after end (met ++ one ∷ [])
-  met_more text tape n k end met one h same before ms o =
-      let b = before ms o in
-      let x = next_left text tape n k end b.0 b.1 h in
-      (x.others, x.left, append_assoc met (one ∷ []) (given x.others) ∙ ap (λ y. met ++ (y ∷ given x.others)) (same ms o b.0 x) ∙ ap (λ l. met ++ given l) (sym x.whole) ∙ b.2)
-
-  pub met_all : (text : List ℕ) (tape : List Entry) (n k end : ℕ) (met : List A) → end ≤ k → IsMet text tape n k end met → (ms : Members) → IsObject text tape n ms → met ≡ given ms
-  met_all text tape n k end met h before ms o = let b = before ms o in go b.0 b.1 b.2
-    where
-      append_nothing : (xs : List A) → xs ++ [] ≡ xs
-      append_nothing [] = refl
-      append_nothing (x ∷ xs) = ap (λ ys. x ∷ ys) (append_nothing xs)
-
-      go : (left : Members) → Left text tape n k end left → met ++ given left ≡ given ms → met ≡ given ms
-      go NoMember l e = sym (append_nothing met) ∙ e
-      go (Member m v others) l e = absurd (let z = size_positive v in let f = l.ends in omega arith)
-
   pub given_is : (ms : Members) → given ms ≡ map each (meanings ms)
   given_is NoMember = refl
   given_is (Member n t ms) = ap (λ xs. each (meaning n.characters) ∷ xs) (given_is ms)
-
-pub given_names : (ms : Members) → given (λ x. x) ms ≡ meanings ms
-given_names NoMember = refl
-given_names (Member n t ms) = ap (λ xs. meaning n.characters ∷ xs) (given_names ms)

@@ -15,11 +15,10 @@ use Rattle.json_tape.specs.Built.{Built}
 use Rattle.json_tape.specs.declared.tape.Entry.{Entry}
 use Rattle.json_tape.specs.declared.apart.NamesMet.{NamesMet}
 use Rattle.json_tape.specs.Told.{stamp_at, IsMemberOf, AreApart, AreTold}
-use Rattle.json_tape.proofs.Stamps.{neither_is}
 use Rattle.json_tape.proofs.Entries.{size_positive}
 use Rattle.json_tape.proofs.MembersLeft.{no_entry, Left, Next, next_left, all_left, given, given_is}
 use Rattle.json_tape.proofs.PlainStamps.{spelt_stamp, stamp_is}
-use Rattle.json_tape.proofs.Repeats.{hashes_apart}
+use Rattle.json_tape.proofs.Repeats.{neither_is, hashes_apart}
 use Rattle.json_tape.proofs.Runs.{not_wide_by}
 
 module _ (text : List ℕ) (tape : List Entry) (n : ℕ) (a : AreApart text tape n) where

@@ -25,6 +25,10 @@ pub neither : (a b : Bool) → (a || b) ≡ false → (a ≡ false) × (b ≡ fa
 neither true b e = absurd (cc)
 neither false b e = (refl, e)
 
+pub neither_is : (a b : Bool) → a ≡ false → b ≡ false → (a || b) ≡ false
+neither_is true b e f = absurd (cc)
+neither_is false b e f = f
+
 module _ {K : Type 0} (same : K → K → Bool) where
   pub next_over : (xs : List K) (i : ℕ) → length xs ≤ i + 1 → repeats_next_by same (drop i xs) ≡ false
   next_over xs i h = go (drop i xs) (let l = length-drop i xs in omega arith)

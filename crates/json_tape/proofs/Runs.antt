@@ -17,7 +17,7 @@ use Rattle.std.specs.declared.cmp.Ordering.{Ordering}
 use Rattle.std.specs.declared.cmp.Ordering.TheVariants.{Less}
 use Rattle.json_tape.specs.Tree.{Members}
 use Rattle.json_tape.specs.Spelling.{IsQuoted}
-use Rattle.json_tape.specs.Repeats.{IsObject, repeats, meanings, repeats_by, repeats_next_by}
+use Rattle.json_tape.specs.Repeats.{IsObject, repeats, meanings, repeats_next_by}
 use Rattle.json_tape.specs.Ordered.{Keyed, keyed, key_name, key_number, key_hash, name_cmp, name_hash, name_at, entry_in, nothing_there, IsOrderOf, AreKept, IsWide, part}
 use Rattle.json_tape.specs.KeyOrder.{keys_equiv, keys_total, keys_tie}
 use Rattle.json_tape.specs.declared.tape.Entry.{Entry}
@@ -51,17 +51,17 @@ abbrev pub key_cmp : Keyed → Keyed → Ordering
 key_cmp = on key_name name_cmp
 
 -- the members of an object that were sorted
-module _ (text : List ℕ) (tape : List Entry) (n : ℕ) (xs ys : List Keyed) (collected : (ms : Members) → IsObject text tape n ms → xs ≡ keyed ms (n + 1)) (moved : IsPermutation xs ys) (sorted : IsSorted key_cmp ys) where
+module _ (text : List ℕ) (tape : List Entry) (n : ℕ) (ys : List Keyed) (moved : (ms : Members) → IsObject text tape n ms → IsPermutation (keyed ms (n + 1)) ys) (sorted : IsSorted key_cmp ys) where
   pub found_again : (t : Bool) → t ≡ repeats_next_by same_key ys → (ms : Members) → IsObject text tape n ms → t ≡ repeats (meanings ms)
   found_again t e ms o =
-      e ∙ sorted_repeats same_key key_cmp keys_tie (λ x y. keys_equiv.symm x y) keys_total xs ys moved sorted ∙ ap (repeats_by same_key) (collected ms o) ∙ repeats_keyed (pointwise nat_eq) ms (n + 1)
+      e ∙ sorted_repeats same_key key_cmp keys_tie (λ x y. keys_equiv.symm x y) keys_total (keyed ms (n + 1)) ys (moved ms o) sorted ∙ repeats_keyed (pointwise nat_eq) ms (n + 1)
 
   pub counted : (ms : Members) → IsObject text tape n ms → length ys ≡ (entry_in tape n).children
   counted ms o =
-      length_permutation xs ys moved ∙ ap length (collected ms o) ∙ length_keyed ms (n + 1) ∙ sym (ap (λ (e : Entry). e.children) (entry_at tape nothing_there o.stands o.is_at))
+      length_permutation (keyed ms (n + 1)) ys (moved ms o) ∙ length_keyed ms (n + 1) ∙ sym (ap (λ (e : Entry). e.children) (entry_at tape nothing_there o.stands o.is_at))
 
   good : (ms : Members) → IsObject text tape n ms → All (IsGood text tape) ys
-  good ms o = All-permutation (IsGood text tape) xs ys moved (subst (All (IsGood text tape)) (sym (collected ms o)) (all_good text tape n ms o))
+  good ms o = All-permutation (IsGood text tape) (keyed ms (n + 1)) ys (moved ms o) (all_good text tape n ms o)
 
   pub ordered : (ms : Members) → IsObject text tape n ms → repeats_next_by same_key ys ≡ false → IsOrderOf text tape n (map key_hash ys) (map key_number ys)
   ordered ms o none = record {
@@ -75,7 +75,7 @@ module _ (text : List ℕ) (tape : List Entry) (n : ℕ) (xs ys : List Keyed) (c
           let i : j < length ys = omega arith in
           ap (λ x. name_cmp x (name_at text tape (get_or (map key_number ys) k 0))) (name_is j i) ∙ ap (name_cmp (get_or ys j no_key).name) (name_is k l) ∙ in_order key_cmp ys no_key apart j k h l);
     };
-    all = λ ms' o'. subst (λ zs. IsPermutation (map key_number zs) (map key_number ys)) (collected ms' o') (IsPermutation-map key_number xs ys moved);
+    all = λ ms' o'. IsPermutation-map key_number (keyed ms' (n + 1)) ys (moved ms' o');
   }
     where
       inner : (k : ℕ) → k < length (map key_number ys) → k < length ys
@@ -172,13 +172,13 @@ module _ (text : List ℕ) (tape : List Entry) where
       Turn i m s e f x = rw (e, f) x
 
 -- the lists with the members of one more object, which were sorted
-pub kept_as : (text : List ℕ) (tape : List Entry) (n : ℕ) (objects starts hashes members : List ℕ) (xs ys : List Keyed) (collected : (ms : Members) → IsObject text tape n ms → xs ≡ keyed ms (n + 1)) → IsPermutation xs ys → IsSorted key_cmp ys
+pub kept_as : (text : List ℕ) (tape : List Entry) (n : ℕ) (objects starts hashes members : List ℕ) (ys : List Keyed) → ((ms : Members) → IsObject text tape n ms → IsPermutation (keyed ms (n + 1)) ys) → IsSorted key_cmp ys
     → AreKept text tape n objects starts hashes members → (ms : Members) × IsObject text tape n ms → repeats_next_by same_key ys ≡ false
     → (objects' starts' hashes' members' : List ℕ) → objects' ≡ objects ++ n ∷ [] → starts' ≡ starts ++ length members ∷ [] → hashes' ≡ hashes ++ map key_hash ys → members' ≡ members ++ map key_number ys
     → AreKept text tape (n + 1) objects' starts' hashes' members'
-kept_as text tape n objects starts hashes members xs ys got moved sorted kept (ms, o) none objects' starts' hashes' members' a b c d =
+kept_as text tape n objects starts hashes members ys moved sorted kept (ms, o) none objects' starts' hashes' members' a b c d =
     rw (a, b, c, d) (kept_more text tape n objects starts hashes members (map key_hash ys) (map key_number ys) kept
-    (length-map ys key_number ∙ counted text tape n xs ys got moved sorted ms o) (ordered text tape n xs ys got moved sorted ms o none))
+    (length-map ys key_number ∙ counted text tape n ys moved sorted ms o) (ordered text tape n ys moved sorted ms o none))
 
 -- what the number of its members tells of an object
 object_kind : (kind : Kind) → is_object kind ≡ true → kind ≡ kinds.Object

@@ -34,10 +34,7 @@ name_hash cs = mixed (hash_of cs)
 unfoldable pub stamp : ℕ → ℕ
 stamp half = half / 4194304
 
-abbrev pub name_stamp : List ℕ → ℕ
-name_stamp cs = stamp (name_hash cs)
-
--- The same of bytes. No fact of a text rests on which stamp it is.
+-- No fact of a text rests on which stamp it is.
 abbrev pub bytes_stamp : List ℕ → ℕ
 bytes_stamp bs = stamp (mixed (word_of_bytes bs))
 

@@ -10,14 +10,8 @@ ghost use Rattle.json_tape.specs.Sifted.{AreSifted};
 ghost use Rattle.json_tape.specs.Cells.{members_in};
 ghost use Rattle.json_tape.specs.declared.tape.TextFault.TheVariants.{LoneSurrogate, DuplicateName};
 
-use crate::again::has_repeated;
-use crate::apart::{STAMPS, stamp_of};
 use crate::compact::Tape;
-use crate::growth::push;
-use crate::hashes::{hash, mixed};
-use crate::names::Name;
-use crate::order::{NARROW, NameOrder, SIZES, order_members};
-use crate::scalars::unquoted;
+use crate::order::{NARROW, NameOrder, SIZES, order_members, repeats_in};
 use std::alloc::{AllocError, Global};
 
 /// The order of the members of wide objects; `None` where two names of one object mean the same. Of a text without lone
@@ -39,24 +33,14 @@ pub fn order_names(
 {
     let mut sorted = Vec::from_slice(alloc, asked)?;
     sorted.sort_unstable();
-    let mut hashes = Vec::new(alloc);
-    let mut owners = [u8::MAX; STAMPS];
+    let mut words = Vec::new(alloc);
     let mut latest = [0; SIZES];
     let mut order = NameOrder::new(alloc, room_for(tape, &sorted))?;
     // No object before it is left.
     let mut from = 0;
     for &n in &sorted {
         if is_left(tape, n, from) {
-            let found = repeats_at(
-                alloc,
-                text,
-                tape,
-                n,
-                &mut owners,
-                &mut hashes,
-                &mut latest,
-                &mut order,
-            )?;
+            let found = repeats_at(alloc, text, tape, n, &mut words, &mut latest, &mut order)?;
             if found {
                 return Ok(None);
             }
@@ -87,14 +71,14 @@ fn is_left(tape: &Tape, n: u32, from: u32) -> bool
     n >= from && n < tape.len() && tape.members(n) > 1
 }
 
-// Whether two names of the object with this number mean the same. Where it is wide, its members are kept in order.
+// Whether two names of the object with this number mean the same. Where it is wide, its members are kept in order. The words are room to work
+// in.
 fn repeats_at(
     alloc: Global,
     text: &str,
     tape: &Tape,
     n: u32,
-    owners: &mut [u8; STAMPS],
-    hashes: &mut Vec<u64>,
+    words: &mut Vec<u64>,
     latest: &mut [usize; SIZES],
     order: &mut NameOrder,
 ) -> Result<bool, AllocError>
@@ -106,98 +90,8 @@ fn repeats_at(
     ensures kept { IfOk result (λ found. found ≡ false → AreKept text.now tape.now (n + 1) order.new.objects.items order.new.starts.items order.new.hashes.items order.new.members.items) }
 {
     if tape.members(n) > NARROW {
-        order_members(alloc, text, tape, n, hashes, latest, order)
-    } else if are_apart(text, tape, n, owners) {
-        Ok(false)
+        order_members(alloc, text, tape, n, words, latest, order)
     } else {
-        repeats_in(alloc, text, tape, n, hashes)
+        repeats_in(alloc, text, tape, n, words)
     }
-}
-
-// Whether the names of the object with this number have a stamp each, so that none comes again. The last byte of the number is left
-// at the stamps that were met; where another object left the same one, `false` says no more than that the names
-// are to be compared.
-#[inline(never)]
-fn are_apart(text: &str, tape: &Tape, n: u32, owners: &mut [u8; STAMPS]) -> bool
-    requires inside { n < length tape.now }
-    requires object { (ms : Members) × IsObject text.now tape.now n ms }
-    requires short { length tape.now < 2 ^ 31 }
-    ensures { IsTrue result → (ms : Members) → IsObject text.now tape.now n ms → repeats (meanings ms) ≡ false }
-{
-    let end = tape.after(n);
-    let owner = (n % 256) as u8;
-    let mut member = n + 1;
-    while member < end {
-        let place = stamp_of(mixed(hash(text, tape.label(member))));
-        if owners[place] == owner {
-            return false;
-        }
-        owners[place] = owner;
-        member = tape.after(member);
-    }
-    true
-}
-
-// Whether two names of the object with this number mean the same. The names are looked at only where a hash comes again.
-#[inline(never)]
-fn repeats_in(
-    alloc: Global,
-    text: &str,
-    tape: &Tape,
-    n: u32,
-    hashes: &mut Vec<u64>,
-) -> Result<bool, AllocError>
-    requires inside { n < length tape.now }
-    requires object { (ms : Members) × IsObject text.now tape.now n ms }
-    requires short { length tape.now < 2 ^ 31 }
-    ensures { IfOk result (λ found. (ms : Members) → IsObject text.now tape.now n ms → found ≡ repeats (meanings ms)) }
-{
-    collect_hashes(text, tape, n, hashes)?;
-    if has_repeated(hashes.as_mut_slice()) {
-        let mut names = Vec::new(alloc);
-        collect(text, tape, n, &mut names)?;
-        Ok(has_repeated(names.as_mut_slice()))
-    } else {
-        Ok(false)
-    }
-}
-
-// The hashes of the names of the object with this number, in place of those that were there.
-fn collect_hashes(text: &str, tape: &Tape, n: u32, hashes: &mut Vec<u64>) -> Result<(), AllocError>
-    requires inside { n < length tape.now }
-    requires object { (ms : Members) × IsObject text.now tape.now n ms }
-    requires short { length tape.now < 2 ^ 31 }
-    ensures { OnOk result ((ms : Members) → IsObject text.now tape.now n ms → hashes.new.items ≡ map hash_of (meanings ms)) }
-{
-    hashes.clear();
-    let end = tape.after(n);
-    let mut next = n + 1;
-    while next < end {
-        push(hashes, hash(text, tape.label(next)))?;
-        next = tape.after(next);
-    }
-    Ok(())
-}
-
-// The names of the object with this number, in place of those that were there.
-fn collect<'a>(
-    text: &'a str,
-    tape: &Tape,
-    n: u32,
-    names: &mut Vec<Name<'a>>,
-) -> Result<(), AllocError>
-    requires inside { n < length tape.now }
-    requires object { (ms : Members) × IsObject text.now tape.now n ms }
-    requires short { length tape.now < 2 ^ 31 }
-    ensures { OnOk result ((ms : Members) → IsObject text.now tape.now n ms → names.new.items ≡ meanings ms) }
-{
-    names.clear();
-    let end = tape.entry(n).after;
-    let mut k = n + 1;
-    while k < end {
-        let entry = tape.entry(k);
-        names.push(Name::new(unquoted(text, entry.label)))?;
-        k = entry.after;
-    }
-    Ok(())
 }

@@ -12,7 +12,6 @@
 //! they mean where a hash comes again.
 #![tactic(auto)]
 
-mod again;
 mod apart;
 mod builder;
 mod cells;

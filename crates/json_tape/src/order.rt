@@ -2,13 +2,14 @@
 
 ghost use Rattle.std.specs.Prelude.{◌≡◌, ℕ, ◌+◌, ◌*◌, ◌<◌, ◌≤◌, ◌^◌, ◌++◌, ◌∷◌, [], length, map, IfSome, OnOk, get_or, IfOk, IsTrue, ◌↔◌, None, false, nat_eq};
 ghost use Rattle.std.specs.List.{Contains};
-ghost use Rattle.std.specs.Ordering.{on};
+ghost use Rattle.std.specs.List.Sorted.{IsPermutation, IsSorted};
+ghost use Rattle.std.specs.Ordering.{nat_cmp, on};
+ghost use Rattle.std.specs.Cmp.Lexicographic.{pointwise};
 ghost use Rattle.json_tape.specs.Tree.{Members};
 ghost use Rattle.json_tape.specs.Repeats.{repeats, repeats_next_by, meanings, IsObject};
 ghost use Rattle.json_tape.specs.Limits.{bytes_at};
-ghost use Rattle.json_tape.specs.Ordered.{AreNamed, IsOrderOf, AreKept, IsWide, AreSameFrom, IsLeafAlike, AreLeavesAlike, IsNameInside, AreAlike, entry_in, name_at, name_cmp, name_hash, keyed, key_number, key_hash, word_of, high_half, low_half, sought_name, part, onward};
+ghost use Rattle.json_tape.specs.Ordered.{AreNamed, IsOrderOf, AreKept, IsWide, AreSameFrom, IsLeafAlike, AreLeavesAlike, IsNameInside, AreAlike, entry_in, name_at, name_cmp, name_hash, keyed, key_name, key_number, key_hash, word_of, high_half, low_half, sought_name, part, onward};
 
-use crate::again::has_equal_neighbours;
 use crate::cells::WORD_LIMIT;
 use crate::compact::Tape;
 use crate::growth::push;
@@ -131,8 +132,8 @@ pub fn member_in(text: &str, tape: &Tape, run: Run<'_>, sought: Sought<'_>) -> O
     None
 }
 
-// The members of the object with this number.
-fn collect_keys<'a>(
+// The members of the object with this number in the order of their names.
+fn sorted_keys<'a>(
     alloc: Global,
     text: &'a str,
     tape: &Tape,
@@ -141,7 +142,8 @@ fn collect_keys<'a>(
     requires inside { n < length tape.now }
     requires object { (ms : Members) × IsObject text.now tape.now n ms }
     requires short { length tape.now < 2 ^ 31 }
-    ensures { IfOk result (λ keys. (ms : Members) → IsObject text.now tape.now n ms → keys.items ≡ keyed ms (n + 1)) }
+    ensures all { IfOk result (λ keys. (ms : Members) → IsObject text.now tape.now n ms → IsPermutation (keyed ms (n + 1)) keys.items) }
+    ensures sorted { IfOk result (λ keys. IsSorted (on key_name name_cmp) keys.items) }
 {
     let mut keys = Vec::new(alloc);
     let end = tape.entry(n).after;
@@ -151,7 +153,20 @@ fn collect_keys<'a>(
         keys.push(Key::new(k, text, entry.label))?;
         k = entry.after;
     }
+    keys.as_mut_slice().sort_unstable();
     Ok(keys)
+}
+
+// Whether the name of one of the keys is that of the next one.
+fn names_meet(keys: &[Key<'_>]) -> bool
+    ensures { result ≡ repeats_next_by (on key_name (pointwise nat_eq)) keys.now }
+{
+    for i in 1..keys.len() {
+        if keys[i - 1] == keys[i] {
+            return true;
+        }
+    }
+    false
 }
 
 // The same, of keys.
@@ -194,12 +209,13 @@ fn number_in(word: u64) -> u32
     (word % HALF) as u32
 }
 
-// The members of the object with this number, each as a word, in place of the words that were there.
-fn collect_words(text: &str, tape: &Tape, n: u32, words: &mut Vec<u64>) -> Result<(), AllocError>
+// The members of the object with this number as words in the order of their hashes, in place of the words that were there.
+fn sort_words(text: &str, tape: &Tape, n: u32, words: &mut Vec<u64>) -> Result<(), AllocError>
     requires inside { n < length tape.now }
     requires object { (ms : Members) × IsObject text.now tape.now n ms }
     requires short { length tape.now < 2 ^ 31 }
-    ensures { OnOk result ((ms : Members) → IsObject text.now tape.now n ms → words.new.items ≡ map word_of (keyed ms (n + 1))) }
+    ensures all { OnOk result ((ms : Members) → IsObject text.now tape.now n ms → IsPermutation (map word_of (keyed ms (n + 1))) words.new.items) }
+    ensures sorted { OnOk result (IsSorted nat_cmp words.new.items) }
 {
     words.clear();
     let end = tape.after(n);
@@ -208,6 +224,7 @@ fn collect_words(text: &str, tape: &Tape, n: u32, words: &mut Vec<u64>) -> Resul
         push(words, word(mixed(hash(text, tape.label(k))), k))?;
         k = tape.after(k);
     }
+    words.as_mut_slice().sort_unstable();
     Ok(())
 }
 
@@ -235,6 +252,29 @@ fn add_words(words: &[u64], hashes: &mut Vec<u32>, members: &mut Vec<u32>) -> Re
     Ok(())
 }
 
+/// Whether two names of the object with this number mean the same. They are looked at only where hashes of theirs meet. The words are room
+/// to work in.
+#[inline(never)]
+pub fn repeats_in(
+    alloc: Global,
+    text: &str,
+    tape: &Tape,
+    n: u32,
+    words: &mut Vec<u64>,
+) -> Result<bool, AllocError>
+    requires inside { n < length tape.now }
+    requires object { (ms : Members) × IsObject text.now tape.now n ms }
+    requires short { length tape.now < 2 ^ 31 }
+    ensures { IfOk result (λ found. (ms : Members) → IsObject text.now tape.now n ms → found ≡ repeats (meanings ms)) }
+{
+    sort_words(text, tape, n, words)?;
+    if hashes_meet(words.as_slice()) {
+        let keys = sorted_keys(alloc, text, tape, n)?;
+        return Ok(names_meet(keys.as_slice()));
+    }
+    Ok(false)
+}
+
 // The same, where hashes meet.
 fn order_by_names(
     alloc: Global,
@@ -251,9 +291,8 @@ fn order_by_names(
     ensures found { IfOk result (λ found. (ms : Members) → IsObject text.now tape.now n ms → found ≡ repeats (meanings ms)) }
     ensures kept { IfOk result (λ found. found ≡ false → AreKept text.now tape.now (n + 1) order.new.objects.items order.new.starts.items order.new.hashes.items order.new.members.items) }
 {
-    let mut keys = collect_keys(alloc, text, tape, n)?;
-    keys.as_mut_slice().sort_unstable();
-    if has_equal_neighbours(keys.as_slice()) {
+    let keys = sorted_keys(alloc, text, tape, n)?;
+    if names_meet(keys.as_slice()) {
         return Ok(true);
     }
     order.objects.push(n)?;
@@ -279,8 +318,7 @@ fn order_by_hashes(
     ensures found { IfOk result (λ found. (ms : Members) → IsObject text.now tape.now n ms → found ≡ repeats (meanings ms)) }
     ensures kept { IfOk result (λ found. found ≡ false → AreKept text.now tape.now (n + 1) order.new.objects.items order.new.starts.items order.new.hashes.items order.new.members.items) }
 {
-    collect_words(text, tape, n, words)?;
-    words.as_mut_slice().sort_unstable();
+    sort_words(text, tape, n, words)?;
     if hashes_meet(words.as_slice()) {
         return order_by_names(alloc, text, tape, n, order);
     }

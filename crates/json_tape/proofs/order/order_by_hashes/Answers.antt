@@ -1,5 +1,4 @@
-use Rattle.std.proofs.Common.{◌≡◌, ◌∙◌, ◌++◌, ◌∷◌, [], sym, ap, arith, map, false}
-use Rattle.std.proofs.lemmas.List.{take_at}
+use Rattle.std.proofs.Common.{◌∙◌, ◌++◌, ◌∷◌, [], sym, ap, arith, map}
 use Rattle.std.specs.Prelude.{nat_eq}
 use Rattle.std.specs.Ordering.{on}
 use Rattle.json_tape.specs.Ordered.{high_half, low_half}
@@ -9,17 +8,14 @@ use Rattle.json_tape.proofs.order.order_by_hashes.Goals as goal
 
 pub returns-clause-found : goal.returns-clause-found
 returns-clause-found c =
-    let all = c.as_slice.ensures.value ∙ take_at c.sort_unstable.new.self _ _ (omega (arith, c.sort_unstable.ensures.len, c.as_mut_slice.ensures.len)) in
-    let none : repeats_next_by (on high_half nat_eq) c.sort_unstable.new.self ≡ false = ap (repeats_next_by (on high_half nat_eq)) (sym all) ∙ sym c.hashes_meet.ensures ∙ c.if-hashes_meet.false in
-    none_again c.args.text.now c.args.tape.now c.requires.short c.args.n c.as_mut_slice.result.now c.sort_unstable.new.self (λ ms o. c.as_mut_slice.ensures.value ∙ c.in_ok-collect_words.ensures ms o) c.sort_unstable.ensures.permutation c.sort_unstable.ensures.sorted none
+    none_again c.args.text.now c.args.tape.now c.requires.short c.args.n _ c.in_ok-sort_words.ensures.all c.in_ok-sort_words.ensures.sorted
+    (ap (repeats_next_by (on high_half nat_eq)) (sym c.as_slice.ensures.value) ∙ sym c.hashes_meet.ensures ∙ c.if-hashes_meet.false)
 
 pub returns-clause-kept : goal.returns-clause-kept
 returns-clause-kept c = λ _.
-    let all = c.as_slice.ensures.value ∙ take_at c.sort_unstable.new.self _ _ (omega (arith, c.sort_unstable.ensures.len, c.as_mut_slice.ensures.len)) in
-    let all-2 = c.as_slice-2.ensures.value ∙ take_at c.sort_unstable.new.self _ _ (omega (arith, c.sort_unstable.ensures.len, c.as_mut_slice.ensures.len)) in
-    let none : repeats_next_by (on high_half nat_eq) c.sort_unstable.new.self ≡ false = ap (repeats_next_by (on high_half nat_eq)) (sym all) ∙ sym c.hashes_meet.ensures ∙ c.if-hashes_meet.false in
-    kept_words c.args.text.now c.args.tape.now c.requires.short c.args.n c.as_mut_slice.result.now c.sort_unstable.new.self (λ ms o. c.as_mut_slice.ensures.value ∙ c.in_ok-collect_words.ensures ms o) c.sort_unstable.ensures.permutation c.sort_unstable.ensures.sorted none
+    kept_words c.args.text.now c.args.tape.now c.requires.short c.args.n _ c.in_ok-sort_words.ensures.all c.in_ok-sort_words.ensures.sorted
+    (ap (repeats_next_by (on high_half nat_eq)) (sym c.as_slice.ensures.value) ∙ sym c.hashes_meet.ensures ∙ c.if-hashes_meet.false)
     c.args.order.now.objects.items c.args.order.now.starts.items c.args.order.now.hashes.items c.args.order.now.members.items c.requires.kept c.requires.object _ _ _ _
     c.in_ok-push.ensures.items (c.in_ok-push-2.ensures.items ∙ ap (λ x. c.args.order.now.starts.items ++ x ∷ []) (omega (arith, c.len.ensures, c.args.order.now.members.ok.0)))
-    (c.in_ok-add_words.ensures.hashes ∙ ap (λ l. c.args.order.now.hashes.items ++ map high_half l) all-2)
-    (c.in_ok-add_words.ensures.members ∙ ap (λ l. c.args.order.now.members.items ++ map low_half l) all-2)
+    (c.in_ok-add_words.ensures.hashes ∙ ap (λ l. c.args.order.now.hashes.items ++ map high_half l) c.as_slice-2.ensures.value)
+    (c.in_ok-add_words.ensures.members ∙ ap (λ l. c.args.order.now.members.items ++ map low_half l) c.as_slice-2.ensures.value)

@@ -1,10 +1,15 @@
+use Rattle.std.specs.List.Sorted.{IsPermutation, IsSorted}
+use Rattle.std.proofs.lemmas.List.{take_at}
+use Rattle.std.specs.Ordering.{nat_cmp}
+use Rattle.std.proofs.Common.{map}
+use Rattle.json_tape.specs.Ordered.{keyed}
 use Rattle.std.proofs.Common.{◌∙◌, ◌+◌, ◌*◌, ◌∷◌, ◌++◌, [], get_or, refl, sym, ap, subst, arith}
 use Rattle.json_tape.specs.Repeats.{hash_of}
 use Rattle.json_tape.specs.Ordered.{word_of, mixed as mix}
 use Rattle.json_tape.proofs.KeysLeft.{IsGiven, given_none, given_more, given_all}
 use Rattle.json_tape.proofs.Spelled.{quoted_at, scalars_at}
 use Rattle.json_tape.proofs.MembersLeft.{no_entry, same_entry, next_left}
-use Rattle.json_tape.proofs.order.collect_words.Goals as goal
+use Rattle.json_tape.proofs.order.sort_words.Goals as goal
 
 pub loop-k-init : goal.loop-k-init
 loop-k-init c =
@@ -53,5 +58,10 @@ loop-k-preserved c =
     (λ ms o left x. c.word.ensures ∙ ap (λ h. h * 4294967296 + c.loop-k.k) (c.mixed.ensures ∙ ap mix (c.hash.ensures ∙ ap hash_of (scalars_at c.args.text.now c.args.text.now _ x.name.source x.name.characters refl (l ∙ x.label) x.lies x.string))))
     c.loop-k.invariant))
 
-pub returns : goal.returns
-returns c = λ ms o. given_all word_of c.args.text.now c.args.tape.now c.args.n c.loop-k.k _ c.loop-k.words.items c.loop-k-test.false c.loop-k.invariant ms o
+pub returns-clause-all : goal.returns-clause-all
+returns-clause-all c = λ ms o.
+    subst (IsPermutation (map word_of (keyed ms (c.args.n + 1)))) (sym (take_at c.sort_unstable.new.self _ _ (omega (arith, c.sort_unstable.ensures.len, c.as_mut_slice.ensures.len))))
+    (subst (λ xs. IsPermutation xs c.sort_unstable.new.self) (c.as_mut_slice.ensures.value ∙ given_all word_of c.args.text.now c.args.tape.now c.args.n c.loop-k.k _ c.loop-k.words.items c.loop-k-test.false c.loop-k.invariant ms o) c.sort_unstable.ensures.permutation)
+
+pub returns-clause-sorted : goal.returns-clause-sorted
+returns-clause-sorted c = subst (IsSorted nat_cmp) (sym (take_at c.sort_unstable.new.self _ _ (omega (arith, c.sort_unstable.ensures.len, c.as_mut_slice.ensures.len)))) c.sort_unstable.ensures.sorted
