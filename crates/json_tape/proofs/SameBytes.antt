@@ -1,6 +1,7 @@
 -- Two places of a text from which the same bytes stand.
-use Rattle.std.proofs.Common.{◌≡◌, ℕ, ◌+◌, ◌-◌, inl, inr, ◌%◌, ◌^◌, ◌<◌, ◌≤◌, eqb, cond, not, List, map, get_or, sym, ap, ◌∙◌, arith}
+use Rattle.std.proofs.Common.{◌≡◌, ℕ, ◌+◌, ◌-◌, inl, inr, ◌%◌, ◌^◌, ◌<◌, ◌≤◌, eqb, cond, not, List, map, take, drop, get_or, sym, ap, ◌∙◌, arith}
 use Rattle.std.specs.Int.{bit_at}
+use Rattle.std.proofs.lemmas.List.{get_or-drop, get_or-take}
 use Rattle.std.proofs.lemmas.Bool.{cases_lt, not-false}
 use Rattle.std.proofs.lemmas.Bool.Decides.{nat_tests}
 use lib.Lanes.{zip2, mask_l, top}
@@ -26,3 +27,10 @@ same_more text l r k run before more i h = elim (cases_lt i k) [
       let b : r + k + j ≡ r + i = omega arith in
       sym (ap (λ m. get_or text m 0) a) ∙ more j (omega arith) ∙ ap (λ m. get_or text m 0) b)
 ]
+
+-- two parts of a text that are the same
+pub same_parts : (text : List ℕ) (l r n : ℕ) → take n (drop l text) ≡ take n (drop r text) → AreSameFrom text l r n
+same_parts text l r n same i h = at l ∙ ap (λ part. get_or part i 0) same ∙ sym (at r)
+  where
+    at : (k : ℕ) → get_or text (k + i) 0 ≡ get_or (take n (drop k text)) i 0
+    at k = sym (get_or-take n (drop k text) i 0 h ∙ get_or-drop k text i 0)

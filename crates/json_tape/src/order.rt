@@ -14,6 +14,7 @@ use crate::cells::WORD_LIMIT;
 use crate::compact::Tape;
 use crate::growth::push;
 use crate::hashes::{hash, mixed};
+use crate::judge::part_at;
 use crate::keys::Key;
 use crate::sought::{Sought, compare_sought, sought_hash};
 use crate::tape::{Entry, Extent, Kind};
@@ -344,84 +345,16 @@ fn same_run(bytes: &[u8], left: usize, right: usize) -> usize
     lanes_before(here.simd_ne(there).to_bitmask(), LANES)
 }
 
-// Whether a load of 16 stands at both places.
-#[inline(always)]
-fn have_loads(bytes: &[u8], left: usize, right: usize) -> bool
-    ensures { IsTrue result → (left + LANES ≤ length bytes.now) × (right + LANES ≤ length bytes.now) }
-{
-    bytes.len() >= LANES && left <= bytes.len() - LANES && right <= bytes.len() - LANES
-}
-
-// Whether two loads of 16 are the same.
-#[inline(always)]
-fn is_same_load(bytes: &[u8], left: usize, right: usize) -> bool
-    requires left { left + LANES ≤ length bytes.now }
-    requires right { right + LANES ≤ length bytes.now }
-    ensures { IsTrue result → AreSameFrom bytes.now left right LANES }
-{
-    same_run(bytes, left, right) >= LANES
-}
-
-// Whether so many bytes from one place on are those from another on, by loads of 16, of which the last one begins among the bytes
-// that were seen.
+// Whether so many bytes from one place on are those from another on, where a load stands at both. Most are no more than the loads.
 #[inline(always)]
 fn are_same(bytes: &[u8], left: usize, right: usize, len: usize) -> bool
-    requires left { left + len ≤ length bytes.now }
-    requires right { right + len ≤ length bytes.now }
-    requires long { LANES ≤ len }
-    ensures { IsTrue result → AreSameFrom bytes.now left right len }
-{
-    let last = len - LANES;
-    let mut k = 0;
-    while k < last {
-        if !is_same_load(bytes, left + k, right + k) {
-            return false;
-        }
-        k += LANES;
-    }
-    is_same_load(bytes, left + last, right + last)
-}
-
-// Whether two names are spelt by the same bytes, as far as loads tell.
-#[inline(always)]
-fn is_same_name(text: &str, left: Extent, right: Extent) -> bool
-    requires left { left.start + left.len ≤ length text.now }
-    requires right { right.start + right.len ≤ length text.now }
-    ensures { IsTrue result → bytes_at text.now left ≡ bytes_at text.now right }
-{
-    if left.len != right.len {
-        return false;
-    }
-    let bytes = text.as_bytes();
-    let here = left.start as usize;
-    let there = right.start as usize;
-    let len = left.len as usize;
-    if len >= LANES {
-        return are_same(bytes, here, there, len);
-    }
-    have_loads(bytes, here, there) && same_run(bytes, here, there) >= len
-}
-
-// Whether so many bytes from one place on are those from another on, where a load stands at both. Few take no loop: they end in it or
-// in the next one.
-#[inline(always)]
-fn are_same_loads(bytes: &[u8], left: usize, right: usize, len: usize) -> bool
     requires left { (left + LANES ≤ length bytes.now) × (left + len ≤ length bytes.now) }
     requires right { (right + LANES ≤ length bytes.now) × (right + len ≤ length bytes.now) }
     ensures { IsTrue result → AreSameFrom bytes.now left right len }
 {
     let run = same_run(bytes, left, right);
-    if run >= len {
-        return true;
-    }
-    if run < LANES {
-        return false;
-    }
-    if len > 2 * LANES {
-        return are_same(bytes, left, right, len);
-    }
-    let behind = len - LANES;
-    is_same_load(bytes, left + behind, right + behind)
+    run >= len
+        || run >= LANES && bytes[left + LANES..left + len] == bytes[right + LANES..right + len]
 }
 
 // Whether two values that hold no others stand under the same name, as far as loads tell, none of which begins behind the last place.
@@ -435,7 +368,7 @@ fn is_leaf_alike(text: &str, last: u32, tape: &Tape, left: usize, right: usize) 
 {
     match tape.leaf_names(left, right, last) {
         None => false,
-        Some((first, second)) => are_same_loads(
+        Some((first, second)) => are_same(
             text.as_bytes(),
             first.start as usize,
             second.start as usize,
@@ -474,6 +407,7 @@ fn are_alike(text: &str, tape: &Tape, n: u32, earlier: u32) -> bool
     requires before { earlier < n }
     ensures { IsTrue result → AreAlike text.now tape.now n earlier }
 {
+    let bytes = text.as_bytes();
     let shift = n - earlier;
     let end = tape.after(n);
     if tape.members(earlier) != tape.members(n) || tape.after(earlier) != end - shift {
@@ -488,7 +422,7 @@ fn are_alike(text: &str, tape: &Tape, n: u32, earlier: u32) -> bool
             return true;
         }
         let other = member - shift;
-        if !is_same_name(text, tape.label(member), tape.label(other)) {
+        if part_at(bytes, tape.label(member)) != part_at(bytes, tape.label(other)) {
             return false;
         }
         from = tape.after(member);

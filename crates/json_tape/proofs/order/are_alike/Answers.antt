@@ -1,4 +1,8 @@
-use Rattle.std.proofs.Common.{◌≡◌, ◌∙◌, ◌-◌, ◌+◌, ◌≤◌, length, get_or, refl, sym, ap, subst, arith}
+use Rattle.std.proofs.lemmas.Bool.{not-false}
+use Rattle.std.specs.Prelude.{nat_eq}
+use Rattle.std.specs.Cmp.Lexicographic.{pointwise, bytes_decides}
+use Rattle.json_tape.specs.Limits.{bytes_at}
+use Rattle.std.proofs.Common.{◌≡◌, ◌∙◌, ◌-◌, ◌+◌, ◌≤◌, length, get_or, sym, ap, subst, arith, true}
 use Rattle.json_tape.specs.Ordered.{entry_in}
 use Rattle.json_tape.specs.declared.tape.Extent.{Extent}
 use Rattle.json_tape.proofs.MembersLeft.{no_entry, same_entry, all_left}
@@ -71,23 +75,23 @@ after-requires-in-loop-from c =
     let i = names_inside _ _ _ _ _ _ _ _ a c.requires.object (omega arith) in
     i.1.0
 
-pub is_same_name-requires-clause-left : goal.is_same_name-requires-clause-left
-is_same_name-requires-clause-left c =
+pub part_at-requires : goal.part_at-requires
+part_at-requires c =
     let few = c.leaves_alike.ensures.few in
     let t = c.loop-from-test.true in
     let a = abreast_past _ _ _ _ c.leaves_alike.result c.loop-from.from _ _ c.loop-from.invariant c.requires.object c.leaves_alike.ensures.alike (omega arith) in
     let i = names_inside _ _ _ _ _ _ _ _ a c.requires.object (omega arith) in
     let l = c.label.ensures _ (same_entry _ _ i.0.0) in
-    subst (λ (x : Extent). x.start + x.len ≤ length c.args.text.now) (sym l) i.0.1
+    subst (λ b. c.label.result.start + c.label.result.len ≤ length b) (sym c.as_bytes-bytes.ensures.value) (subst (λ (x : Extent). x.start + x.len ≤ length c.args.text.now) (sym l) i.0.1)
 
-pub is_same_name-requires-clause-right : goal.is_same_name-requires-clause-right
-is_same_name-requires-clause-right c =
+pub part_at-requires-in-loop-from : goal.part_at-requires-in-loop-from
+part_at-requires-in-loop-from c =
     let few = c.leaves_alike.ensures.few in
     let t = c.loop-from-test.true in
     let a = abreast_past _ _ _ _ c.leaves_alike.result c.loop-from.from _ _ c.loop-from.invariant c.requires.object c.leaves_alike.ensures.alike (omega arith) in
     let i = names_inside _ _ _ _ _ _ _ _ a c.requires.object (omega arith) in
     let l = c.label-in-loop-from.ensures _ (same_entry _ _ i.1.0) in
-    subst (λ (x : Extent). x.start + x.len ≤ length c.args.text.now) (sym l) i.1.1
+    subst (λ b. c.label-in-loop-from.result.start + c.label-in-loop-from.result.len ≤ length b) (sym c.as_bytes-bytes.ensures.value) (subst (λ (x : Extent). x.start + x.len ≤ length c.args.text.now) (sym l) i.1.1)
 
 pub overflow_sub-from-in-loop-from : goal.overflow_sub-from-in-loop-from
 overflow_sub-from-in-loop-from c =
@@ -121,9 +125,11 @@ loop-from-preserved c =
     let i = names_inside _ _ _ _ _ _ _ _ a c.requires.object (omega arith) in
     let here = same_entry _ _ i.0.0 in
     let there = same_entry _ _ i.1.0 in
+    let equal : pointwise nat_eq c.part_at.result.now c.part_at-in-loop-from.result.now ≡ true = not-false _ (sym c.ne.ensures ∙ c.if-ne.false) in
+    let same = sym c.part_at.ensures ∙ (bytes_decides c.part_at.result.now c.part_at-in-loop-from.result.now).0 equal ∙ c.part_at-in-loop-from.ensures in
     subst (λ k. Abreast c.args.text.now c.args.tape.now c.args.n c.args.earlier c.after-from.result k c.after-end.result (get_or c.args.tape.now c.args.earlier no_entry).after) c.if-after-from.false
     (abreast_more _ _ _ _ _ _ _ _ a _ _ _ _ (c.label.ensures _ here) (c.label-in-loop-from.ensures _ there) (c.after-from.ensures _ here) (c.after-in-loop-from.ensures _ there)
-    (c.if-not-is_same_name.ensures refl) c.if-after-from.false (omega arith) c.requires.object)
+    (subst (λ b. bytes_at b c.label.result ≡ bytes_at b c.label-in-loop-from.result) c.as_bytes-bytes.ensures.value same) c.if-after-from.false (omega arith) c.requires.object)
 
 pub returns : goal.returns
 returns c = λ _. abreast_all _ _ _ _ _ _ _ _ c.loop-from.invariant c.loop-from-test.false

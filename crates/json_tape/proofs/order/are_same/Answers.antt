@@ -1,14 +1,14 @@
-use Rattle.std.proofs.Common.{◌-◌, refl, arith}
-use Rattle.json_tape.proofs.SameBytes.{same_more}
+use Rattle.std.proofs.Common.{◌≡◌, ◌∙◌, ◌-◌, ◌+◌, ℕ, List, take, drop, true, sym, ap, arith}
+use Rattle.std.specs.Prelude.{nat_eq}
+use Rattle.std.specs.Cmp.Lexicographic.{pointwise, bytes_decides}
+use Rattle.json_tape.proofs.SameBytes.{same_more, same_parts}
 use Rattle.json_tape.proofs.order.are_same.Goals as goal
 
-pub loop-k-preserved : goal.loop-k-preserved
-loop-k-preserved c =
-    let t = c.loop-k-test.true in
-    (omega arith, same_more c.args.bytes.now c.args.left c.args.right c.loop-k.k 16 c.loop-k.invariant.1 (c.if-not-is_same_load.ensures refl))
-
-pub returns : goal.returns
-returns c t i h =
-    let past = c.loop-k-test.false in
-    let long = c.requires.long in
-    same_more c.args.bytes.now c.args.left c.args.right (c.args.len - 16) 16 (λ j g. c.loop-k.invariant.1 j (omega arith)) (c.is_same_load-2.ensures t) i (omega arith)
+pub returns-then-run-ge-LANES : goal.returns-then-run-ge-LANES
+returns-then-run-ge-LANES c t i h =
+    let behind : ℕ → ℕ → List ℕ = λ n k. take n (drop (k + 16) c.args.bytes.now) in
+    let cut : ℕ → ℕ = λ k. k + c.args.len - (k + 16) in
+    let long : (k : ℕ) → behind (cut k) k ≡ behind (c.args.len - 16) k = λ k. ap (λ n. behind n k) (omega arith) in
+    let same : pointwise nat_eq (behind (cut c.args.left) c.args.left) (behind (cut c.args.right) c.args.right) ≡ true = sym c.eq.ensures ∙ t in
+    same_more c.args.bytes.now c.args.left c.args.right 16 (c.args.len - 16) (λ j g. c.same_run-run.ensures.same j (omega (arith, g, c.if-run-ge-LANES.true)))
+    (same_parts c.args.bytes.now (c.args.left + 16) (c.args.right + 16) (c.args.len - 16) (sym (long c.args.left) ∙ (bytes_decides _ _).0 same ∙ long c.args.right)) i (omega (arith, h))
