@@ -1,6 +1,6 @@
 -- What the names of an object mean, and whether one of them comes again.
 use Rattle.std.specs.Prelude.{◌≡◌, ◌≢◌, ℕ, ◌+◌, ◌-◌, ◌*◌, ◌%◌, ◌^◌, ◌<◌, ◌≤◌, Bool, false, cond, ltb, eqb, ◌||◌, List, [], ◌∷◌, length, take, drop, get_or, nat_eq}
-use Rattle.std.specs.Int.{from_le_bytes, w32}
+use Rattle.structural_index.specs.Known.{word_at}
 use Rattle.std.specs.List.{list_any}
 use Rattle.std.specs.Cmp.Lexicographic.{pointwise}
 use Rattle.json_tape.specs.Tree.{Source, Tree, Obj, Members, NoMember, Member}
@@ -74,11 +74,8 @@ digits w [] = w
 digits w (b ∷ bs) = digits (w * 256 + b) bs
 
 -- the four bytes from a place on, and those from another on, as one word
-abbrev pub four_at : List ℕ → ℕ → ℕ
-four_at bs i = from_le_bytes w32 (get_or bs i 0 ∷ get_or bs (i + 1) 0 ∷ get_or bs (i + 2) 0 ∷ get_or bs (i + 3) 0 ∷ [])
-
 abbrev pub fours_at : List ℕ → (i j : ℕ) → ℕ
-fours_at bs i j = four_at bs i * 2 ^ 32 + four_at bs j
+fours_at bs i j = word_at bs i * 2 ^ 32 + word_at bs j
 
 -- the first eight bytes and the last eight, or the first four and the last four of fewer, or the second one of fewer than four, as one
 -- word. No fact of a text rests on which word it is.

@@ -3,7 +3,7 @@ use Rattle.std.specs.Prelude.{◌≡◌, ◌≢◌, ◌<◌, ◌≤◌, get_or, 
 use Rattle.std.specs.List.{list_any}
 use Rattle.std.specs.Str.{chars}
 use Rattle.std.specs.Char.{digit_value}
-use Rattle.std.specs.Int.{from_le_bytes, w32}
+use Rattle.structural_index.specs.Known.{word_at}
 use Rattle.json_tape.specs.Tree.{Spelt, Plain, Short, Unit4}
 use Rattle.json_tape.specs.Meaning.{meaning_after}
 use Rattle.json_tape.specs.declared.tape.Extent.{Extent}
@@ -54,7 +54,7 @@ ArePlainAt xs at = (k : ℕ) → at ≤ k → k < at + 4 → (get_or xs k 0 < 12
 
 -- the four from a place on, as the bytes of one word
 abbrev pub IsWord : ℕ → List ℕ → ℕ → Type 0
-IsWord word xs at = word ≡ from_le_bytes w32 (get_or xs at 0 ∷ get_or xs (at + 1) 0 ∷ get_or xs (at + 2) 0 ∷ get_or xs (at + 3) 0 ∷ [])
+IsWord word xs at = word ≡ word_at xs at
 
 -- the words of four characters from each of two places on, all of which stand for themselves
 abbrev pub AreWords : Words → List ℕ → ℕ → ℕ → Type 0

@@ -4,13 +4,13 @@ ghost use Rattle.std.specs.Prelude.{◌≡◌, ◌+◌, ◌<◌, ◌≤◌, leng
 ghost use Rattle.std.specs.Str.{chars};
 ghost use Rattle.json_tape.specs.Limits.{bytes_at};
 ghost use Rattle.json_tape.specs.Spelling.{scalars_in, unquoted as inside, IsQuoted};
-ghost use Rattle.json_tape.specs.Repeats.{joined as word_joined, more, finished, hash_of, digits, word_of_bytes, four_at as four, fours_at as fours, IsPlainWord};
+ghost use Rattle.json_tape.specs.Repeats.{joined as word_joined, more, finished, hash_of, digits, word_of_bytes, fours_at as fours, IsPlainWord};
 ghost use Rattle.json_tape.specs.Ordered.{mixed as mix};
 
 use crate::scalars::{Scalars, unquoted};
 use crate::tape::Extent;
 use std::simd::prelude::*;
-use structural_index::lanes_before;
+use structural_index::{four_bytes, lanes_before};
 
 const FOUR: usize = 4;
 
@@ -126,15 +126,6 @@ fn plain_word(text: &[u8], at: usize, len: usize) -> Option<u64>
     Some(u64::from_be_bytes(lanes.to_array()) >> (64 - 8 * len))
 }
 
-// The four bytes from a place on.
-#[inline(always)]
-fn four_at(bytes: &[u8], at: usize) -> u32
-    requires { at + 4 ≤ length bytes.now }
-    ensures { result ≡ four bytes.now at }
-{
-    u32::from_le_bytes(u8x4::from_slice(&bytes[at..]).to_array())
-}
-
 // The four bytes from a place on, and those from another on, as one word.
 #[inline(always)]
 fn fours_at(bytes: &[u8], first: usize, last: usize) -> u64
@@ -142,7 +133,7 @@ fn fours_at(bytes: &[u8], first: usize, last: usize) -> u64
     requires last { last + 4 ≤ length bytes.now }
     ensures { result ≡ fours bytes.now first last }
 {
-    u64::from(four_at(bytes, first)) * HALF + u64::from(four_at(bytes, last))
+    u64::from(four_bytes(bytes, first)) * HALF + u64::from(four_bytes(bytes, last))
 }
 
 /// A word of some bytes: of the first eight and the last eight, or of some of fewer.
