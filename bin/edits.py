@@ -13,6 +13,8 @@ FUNCTION = re.compile(r"( *)(?:pub(?:\([a-z]+\))? )?(?:const )?(?:unsafe )?fn (\
 OPEN = re.compile(r"note: (?:\./)?(src/\S+?):(\d+):\d+: it is not proved that|note: `[^`]+` of (proofs/\S+) must prove|(?:\./)?(proofs/\S+?):\d+:\d+: error: ")
 # of these, a proof that names what is gone
 NAMES = re.compile(r"(?:\./)?proofs/.*(has no field|is not in scope|has no `|was not admitted)")
+# what says so in a line of its own
+CONTINUED = re.compile(r" +(has no field|is not in scope|has no `|was not admitted)")
 
 
 class Misfit(Exception):
@@ -65,6 +67,17 @@ def apply(pairs, crate, texts):
         if old == new:
             raise Misfit(f"it puts the same text in place of: {old}")
         texts[file] = texts[file].replace(old, new)
+
+
+def joined(lines):
+    """The lines of a check, where what a proof lacks stands in one line with the proof."""
+    found = []
+    for line in lines:
+        if found and CONTINUED.match(line):
+            found[-1] += " " + line.strip()
+        else:
+            found.append(line)
+    return found
 
 
 def is_open(line):

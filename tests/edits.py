@@ -8,7 +8,7 @@ from pathlib import Path
 
 CHECK = Path(__file__).resolve().parent.parent / "bin/check-edits"
 sys.path.insert(0, str(CHECK.parent))
-from edits import Edit, functions_of, in_groups
+from edits import Edit, functions_of, in_groups, joined
 SOURCE = "fn one() -> u8 {\n    1\n}\nfn two() -> u8 {\n    2\n}\n"
 FITTING = {
     "must-fail/turned": "file: src/lib.rt\nold:     1\nnew:     3\n",
@@ -71,6 +71,7 @@ OPEN = {
     "note: `returns` of proofs/made/Two/three/Answers.antt must prove: c.result ≡ 30": ["three"],
     "./proofs/made/Two/two/Answers.antt:3:1: error: `returns`: expected type `a`": ["two"],
     "./proofs/made/Two/two/Answers.antt:3:1: error: `c.args` has no field `gone`": [],
+    "./proofs/made/Two/two/Answers.antt:3:1: error: `returns`: record `A` (nearest: .going)\n  has no field `gone`": [],
     "./proofs/two/three/Answers.antt:3:1: error: `returns`: expected type `a`": [],
     "./proofs/other/Two/two/Answers.antt:3:1: error: `returns`: expected type `a`": [],
     "note: src/other.rt:13:9: it is not proved that this sum fits (`add`)": [],
@@ -88,8 +89,9 @@ def test_groups(crate):
     assert [name for name, edit in edits.items() if not edit.function] == ["limit"], edits
     groups = [[it.name.split(".")[0] for it in group] for group in in_groups([edit for edit in edits.values() if edit.function], crate)]
     assert groups == [["three_a", "one"], ["two", "three_b"]], groups
-    for line, wanted in OPEN.items():
-        assert [it.name for it in functions_of("src/made.rt", CALLS) if it.is_at(line)] == wanted, line
+    for lines, wanted in OPEN.items():
+        (line,) = joined(lines.split("\n"))
+        assert [it.name for it in functions_of("src/made.rt", CALLS) if it.is_at(line)] == wanted, lines
 
 
 def main():
