@@ -37,9 +37,6 @@ module _ (text : List ℕ) (w : Window) (h : IsWindow text w) where
   pub listed : IsListed text (places text)
   listed = record { list = refl; short = h.short; utf8 = h.utf8 }
 
-  pub indexed : (slashes : Slashes) → HoldSlashes text w.reach slashes → IsIndexed text w.reach slashes
-  indexed slashes s = record { utf8 = h.utf8; controls = h.controls; escapes = s }
-
   abbrev rest : List ℕ
   rest = filter (is_place text) (range_with_len (0 + w.reach) (length text - w.reach))
 
