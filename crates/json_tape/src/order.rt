@@ -170,22 +170,6 @@ fn names_meet(keys: &[Key<'_>]) -> bool
     false
 }
 
-// The same, of keys.
-fn add_all(
-    keys: &[Key<'_>],
-    hashes: &mut Vec<u32>,
-    members: &mut Vec<u32>,
-) -> Result<(), AllocError>
-    ensures hashes { OnOk result (hashes.new.items ≡ hashes.old.items ++ map key_hash keys.now) }
-    ensures members { OnOk result (members.new.items ≡ members.old.items ++ map key_number keys.now) }
-{
-    for key in keys {
-        hashes.push(key.hash())?;
-        members.push(key.number())?;
-    }
-    Ok(())
-}
-
 // A member as a word, in the order of the hashes.
 #[inline(always)]
 fn word(hash: u32, number: u32) -> u64
@@ -253,6 +237,22 @@ fn add_words(words: &[u64], hashes: &mut Vec<u32>, members: &mut Vec<u32>) -> Re
     Ok(())
 }
 
+// The same, of keys.
+fn add_all(
+    keys: &[Key<'_>],
+    hashes: &mut Vec<u32>,
+    members: &mut Vec<u32>,
+) -> Result<(), AllocError>
+    ensures hashes { OnOk result (hashes.new.items ≡ hashes.old.items ++ map key_hash keys.now) }
+    ensures members { OnOk result (members.new.items ≡ members.old.items ++ map key_number keys.now) }
+{
+    for key in keys {
+        hashes.push(key.hash())?;
+        members.push(key.number())?;
+    }
+    Ok(())
+}
+
 /// Whether two names of the object with this number mean the same. They are looked at only where hashes of theirs meet. The words are room
 /// to work in.
 #[inline(never)]
@@ -276,7 +276,7 @@ pub fn repeats_in(
     Ok(false)
 }
 
-// The same, where hashes meet.
+// Keeps the order of the members of one more object by their names, or finds one that comes again.
 fn order_by_names(
     alloc: Global,
     text: &str,
@@ -302,7 +302,7 @@ fn order_by_names(
     Ok(false)
 }
 
-// Keeps the order of the members of one more object by sorting, or finds a name that comes again. The words are room to work in.
+// The same by their hashes, as far as none of them meet. The words are room to work in.
 fn order_by_hashes(
     alloc: Global,
     text: &str,
