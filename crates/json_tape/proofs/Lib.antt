@@ -88,3 +88,4 @@ pub mod Alike
 pub mod NamesTold
 pub mod NamesApart
 pub mod NamesSteps
+pub mod Pairs

@@ -127,18 +127,12 @@ pub on_both : {A E : Type 0} (r : Result A E) (a b c : Built) (m n : NamesMet) �
 on_both (Ok u) a b c m n f h = λ text told. h text (f text told)
 on_both (Err e) a b c m n f h = tt
 
-pub leaf_top : (old new : Built) (name : Option Extent) (x : Extent) (kind : Kind) (want : Want) {A : Type 0} (r : Result A BuildFault) → Took (step (Word x kind) (standing old wants.Value name)) r (standing new want None)
-    → IfOk r (λ made. IsSameTop old.opens new.opens)
-leaf_top old new name x kind want (Ok u) h = leaf_top_is old new name want x kind old.opens h
-leaf_top old new name x kind want (Err f) h = tt
+abbrev Leaf : (text : List ℕ) (old new : Built) (name : Option Extent) → Result (Option ℕ) BuildFault → Type 0
+Leaf text old new name r = IfOk r (λ made. (met : NamesMet) → AreTold text old met → IsFresh text old met name → AreTold text new met) × IfOk r (λ made. IfSome made (λ sign. IsSameTop old.opens new.opens))
 
-pub by_sign : (P : Type 0) (r : Result (Unit {0}) BuildFault) (sign : ℕ) (s : Result (Option ℕ) BuildFault) → s ≡ with_sign r sign → IfOk r (λ u. P) → IfOk s (λ made. P)
-by_sign P (Ok u) sign s e h = subst (λ t. IfOk t (λ made. P)) (sym e) h
-by_sign P (Err f) sign s e h = subst (λ t. IfOk t (λ made. P)) (sym e) tt
-
-pub top_by_sign : (P : Type 0) (r : Result (Unit {0}) BuildFault) (sign : ℕ) (s : Result (Option ℕ) BuildFault) → s ≡ with_sign r sign → IfOk r (λ u. P) → IfOk s (λ made. IfSome made (λ sign. P))
-top_by_sign P (Ok u) sign s e h = subst (λ t. IfOk t (λ made. IfSome made (λ sign. P))) (sym e) h
-top_by_sign P (Err f) sign s e h = subst (λ t. IfOk t (λ made. IfSome made (λ sign. P))) (sym e) tt
+pub leaf_signed : (text : List ℕ) (old new : Built) (name : Option Extent) (x : Extent) (kind : Kind) (sign : ℕ) (made : Result (Unit {0}) BuildFault) (r : Result (Option ℕ) BuildFault) → r ≡ with_sign made sign → Took (step (Word x kind) (standing old wants.Value name)) made (standing new wants.Next None) → Leaf text old new name r
+leaf_signed text old new name x kind sign (Ok u) r e h = subst (Leaf text old new name) (sym e) (leaf_told text old new name x kind wants.Next (Ok u) h, leaf_top_is old new name wants.Next x kind old.opens h)
+leaf_signed text old new name x kind sign (Err f) r e h = subst (Leaf text old new name) (sym e) (tt, tt)
 
 pub by_none : (P : Type 0) (r : Result (Unit {0}) BuildFault) (s : Result (Option ℕ) BuildFault) → s ≡ no_more r → IfOk r (λ u. P) → IfOk s (λ made. P)
 by_none P (Ok u) s e h = subst (λ t. IfOk t (λ made. P)) (sym e) h
