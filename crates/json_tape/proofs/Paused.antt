@@ -1,5 +1,5 @@
 -- What is shown of a text where its walk pauses between two stretches, and where it comes to the end.
-use Rattle.std.proofs.Common.{◌≡◌, ℕ, ◌+◌, ◌<◌, ◌≤◌, ◌^◌, Bool, true, false, List, length, Option, Some, None, refl, subst, arith}
+use Rattle.std.proofs.Common.{◌≡◌, ℕ, ◌+◌, ◌<◌, ◌≤◌, Bool, true, false, List, length, Option, Some, None, refl, subst, arith}
 use Rattle.std.specs.Prelude.{Result, Ok, Err}
 use Rattle.std.specs.Option.{is_some}
 use Rattle.structural_index.specs.Places.{places}
@@ -9,27 +9,17 @@ use Rattle.json_tape.specs.declared.tape.Level.TheVariants.{Root}
 use Rattle.json_tape.specs.declared.tape.Want.TheVariants as wants
 use Rattle.json_tape.specs.declared.second_stage.Spot.{Spot}
 use Rattle.json_tape.specs.declared.second_stage.Before.TheVariants as befores
-use Rattle.json_tape.specs.Answer.{IsJson, StandsForAll, HasDepth, IsNoJson}
-use Rattle.json_tape.specs.Limits.{AreWithinLimits}
-use Rattle.json_tape.specs.declared.tape.Entry.{Entry}
+use Rattle.json_tape.specs.Answer.{IsNoJson}
 use Rattle.json_tape.specs.Built.{Built, standing, nothing}
 use Rattle.json_tape.specs.Machine.{level_of, IsSmall}
 use Rattle.json_tape.specs.Pauses.{HasCome, IsOver}
 use Rattle.json_tape.specs.Walked.{IsListed, point, at, Arrives}
-use Rattle.json_tape.proofs.Arrived.{arrived, fault_none, halts_none, more_none, first_point}
+use Rattle.json_tape.proofs.Arrived.{Arrived, arrived, fault_none, halts_none, more_none, first_point}
 use Rattle.json_tape.proofs.Listed.{number_below}
 use Rattle.json_tape.proofs.Going.{walked_paid}
 use Rattle.json_tape.proofs.Onward.{arrives_more, nothing_halts, walked_small}
 
 module _ (text : List ℕ) (listed : IsListed text (places text)) where
-  -- what the whole walk finds
-  pub record Found (entries : List Entry) (deep : ℕ) (mark : Bool) : Type 0 where
-    pub json : IsJson text
-    pub stands : StandsForAll text entries
-    pub short : length entries < 2 ^ 31
-    pub depth : HasDepth text deep
-    pub numbers : mark ≡ false → AreWithinLimits text entries
-
   -- the first token is refused
   pub begin_none : (spot : Option Spot) (b : Built) (looked : ℕ) (exceeds : Bool) (fault : BuildFault) (new : Built) (later : ℕ) (mark : Bool) → is_some spot ≡ false → HasCome text spot b looked exceeds
       → Arrives text (places text) (point 0 (standing b wants.Value None) looked exceeds) (Err fault) new later mark → fault ≡ NotJson → IsNoJson text
@@ -69,11 +59,6 @@ module _ (text : List ℕ) (listed : IsListed text (places text)) where
   pub come_past : (spot : Spot) (b : Built) (looked : ℕ) (exceeds : Bool) → HasCome text (Some spot) b looked exceeds → level_of b.opens ≡ Root → spot.number < length (places text) → IsNoJson text
   come_past spot b looked exceeds (paid, l, w, whole) root more = more_none text (places text) listed 0 spot b paid exceeds w root (whole root) more
 
-  come_over : (spot : Spot) (b : Built) (looked : ℕ) (exceeds : Bool) → HasCome text (Some spot) b looked exceeds → IsOver text (Some spot) b → Found b.entries b.deep exceeds
-  come_over spot b looked exceeds (paid, l, w, whole) over =
-      let h = arrived text (places text) listed 0 spot b paid exceeds w over.0 (whole over.0) over.1 in
-      record { json = h.json; stands = h.stands; short = h.short; depth = h.depth; numbers = h.numbers }
-
   -- a text without a byte
   pub empty_none : length text ≡ 0 → IsNoJson text
   empty_none e =
@@ -84,6 +69,6 @@ module _ (text : List ℕ) (listed : IsListed text (places text)) where
   end_none (Some spot) b none over = absurd (cc)
   end_none None b none over = empty_none over
 
-  pub end_found : (spot : Option Spot) (b : Built) (looked : ℕ) (exceeds : Bool) → is_some spot ≡ true → HasCome text spot b looked exceeds → IsOver text spot b → Found b.entries b.deep exceeds
-  end_found (Some spot) b looked exceeds some come over = come_over spot b looked exceeds come over
+  pub end_found : (spot : Option Spot) (b : Built) (looked : ℕ) (exceeds : Bool) → is_some spot ≡ true → HasCome text spot b looked exceeds → IsOver text spot b → (paid : ℕ) × Arrived text (places text) listed 0 b.entries b.deep paid exceeds
+  end_found (Some spot) b looked exceeds some (paid, l, w, whole) over = (paid, arrived text (places text) listed 0 spot b paid exceeds w over.0 (whole over.0) over.1)
   end_found None b looked exceeds some come over = absurd (cc)
