@@ -1,8 +1,8 @@
-use Rattle.std.proofs.Common.{refl, ◌-◌, not, eqb, ◌≡◌, ◌≢◌, ◌∙◌, ◌≤◌, ◌+◌, length, None, Some, sym, ap, subst, arith}
-use Rattle.std.specs.Prelude.{Ok, IfSome}
+use Rattle.std.proofs.Common.{refl, ◌-◌, not, eqb, ◌≡◌, ◌≢◌, ◌∙◌, ◌<◌, ◌≤◌, ◌+◌, length, None, Some, sym, ap, subst, arith}
+use Rattle.std.specs.Prelude.{ℕ, Option, Result, Ok, IfSome}
 use Rattle.std.proofs.Math.Arith.{lt_of_le-ne}
 use Rattle.structural_index.specs.Places.{places}
-use Rattle.json_tape.specs.Walked.{place, at, width, shape_of}
+use Rattle.json_tape.specs.Walked.{Grown, place, at, width, shape_of}
 use Rattle.json_tape.specs.Windows.{IsWindow}
 use Rattle.json_tape.proofs.Windows.{listed, inside, number_at, end_below, end_whole}
 use Rattle.json_tape.specs.Machine.{level_of}
@@ -12,7 +12,10 @@ use Rattle.json_tape.proofs.Listed.{near, number_below}
 use Rattle.json_tape.proofs.Onward.{entered_none, entered_some, may_grow, child_grown, next_may_grow, next_may_pause, paused, left_arrives, left_further, MayGrow, MayPause, grown_ended, child_fault, few_halts, walked_small, walked_onward, small_state, if_ok}
 use Rattle.json_tape.proofs.Going.{halts_more}
 use Rattle.json_tape.proofs.NamesSteps.{where_some}
+use Rattle.json_tape.specs.declared.tape.BuildFault.{BuildFault}
+use Rattle.json_tape.proofs.second_stage.run.Given.{Over}
 use Rattle.json_tape.proofs.second_stage.run.Goals as goal
+use Rattle.json_tape.proofs.second_stage.run.Goals.{After-child}
 
 pub returns-in-Ok-None-clause-arrives : goal.returns-in-Ok-None-clause-arrives
 returns-in-Ok-None-clause-arrives g c = entered_none c.args.looks.now.0 (places c.args.looks.now.0) (listed c.args.looks.now.0 c.args.window c.requires.window) _ _ _ _ c.in-Ok-None.field-0 _ _ c.in-Ok-None.field-0-is (c.in-Ok-None.ensures.entered c.args.may_exceed.now)
@@ -81,54 +84,41 @@ returns-in-Err-child-clause-arrives g c =
     child_fault c.args.looks.now.0 (places c.args.looks.now.0) (listed c.args.looks.now.0 c.args.window c.requires.window) c.loop-j.looks.0 (places c.loop-j.looks.0) (at c.args.spot c.args.builder.now c.args.looks.now.1 c.args.may_exceed.now) (c.args.window.first + c.loop-j.j) c.loop-j.looks.1 c.child.new.looks.1 c.loop-j.may_exceed c.child.new.may_exceed _ _ c.loop-j.builder c.child.new.builder c.child.result c.in-Err-child.fault
     c.requires.level c.loop-j.invariant.same (ap places c.loop-j.invariant.same) c.loop-j.invariant.grows c.in-Err-child.is (c.child.ensures.grown (c.args.window.first + c.loop-j.j) refl)
 
+-- what a child shows, by what it gave
+grown : (g : Over) (c : After-child g) (n : ℕ) (r : Result (Option ℕ) BuildFault) → c.child.result ≡ r → n ≡ c.args.window.first + c.loop-j.j + width (shape_of (not (eqb g.row.OBJECT 0)))
+    → Grown c.args.looks.now.0 (places c.args.looks.now.0) (at c.args.spot c.args.builder.now c.args.looks.now.1 c.args.may_exceed.now) (shape_of (not (eqb g.row.OBJECT 0))) n r c.child.new.builder c.child.new.looks.1 c.child.new.may_exceed
+grown g c n r is size =
+    child_grown c.args.looks.now.0 (places c.args.looks.now.0) (listed c.args.looks.now.0 c.args.window c.requires.window) c.loop-j.looks.0 (places c.loop-j.looks.0) _ (c.args.window.first + c.loop-j.j) n c.loop-j.looks.1 c.child.new.looks.1 c.loop-j.may_exceed c.child.new.may_exceed _ _ c.loop-j.builder c.child.new.builder c.child.result r
+    c.requires.level c.loop-j.invariant.same (ap places c.loop-j.invariant.same) c.loop-j.invariant.grows is size (c.child.ensures.grown (c.args.window.first + c.loop-j.j) refl)
+
 pub returns-in-Ok-None-child-clause-arrives : goal.returns-in-Ok-None-child-clause-arrives
 returns-in-Ok-None-child-clause-arrives g c =
-    let bytes = c.args.looks.now.0 in
-    let items = places bytes in
-    let k = (c.args.window.first + c.loop-j.j) in
-    let a = at c.args.spot c.args.builder.now c.args.looks.now.1 c.args.may_exceed.now in
-    let n = k + c.width-in-Ok-None-child.result in
-    let size = ap (λ x. k + x) c.width-in-Ok-None-child.ensures.value in
-    (child_grown bytes items (listed c.args.looks.now.0 c.args.window c.requires.window) c.loop-j.looks.0 (places c.loop-j.looks.0) a k n c.loop-j.looks.1 c.child.new.looks.1 c.loop-j.may_exceed c.child.new.may_exceed _ _ c.loop-j.builder c.child.new.builder c.child.result (Ok None) c.requires.level c.loop-j.invariant.same (ap places c.loop-j.invariant.same) c.loop-j.invariant.grows (c.in-Ok-None-child.is ∙ ap Ok c.in-Ok-None-child.field-0-is) size (c.child.ensures.grown (c.args.window.first + c.loop-j.j) refl)).0
+    (grown g (goal.at.returns-in-Ok-None-child-clause-arrives g c).After-child _ _ (c.in-Ok-None-child.is ∙ ap Ok c.in-Ok-None-child.field-0-is) (ap (λ x. c.args.window.first + c.loop-j.j + x) c.width-in-Ok-None-child.ensures.value)).0
 
 pub returns-in-Ok-None-child-clause-whole : goal.returns-in-Ok-None-child-clause-whole
 returns-in-Ok-None-child-clause-whole g c = λ root.
-    let bytes = c.args.looks.now.0 in
-    let items = places bytes in
-    let k = (c.args.window.first + c.loop-j.j) in
-    let a = at c.args.spot c.args.builder.now c.args.looks.now.1 c.args.may_exceed.now in
-    let n = k + c.width-in-Ok-None-child.result in
-    let size = ap (λ x. k + x) c.width-in-Ok-None-child.ensures.value in
-    absurd ((child_grown bytes items (listed c.args.looks.now.0 c.args.window c.requires.window) c.loop-j.looks.0 (places c.loop-j.looks.0) a k n c.loop-j.looks.1 c.child.new.looks.1 c.loop-j.may_exceed c.child.new.may_exceed _ _ c.loop-j.builder c.child.new.builder c.child.result (Ok None) c.requires.level c.loop-j.invariant.same (ap places c.loop-j.invariant.same) c.loop-j.invariant.grows (c.in-Ok-None-child.is ∙ ap Ok c.in-Ok-None-child.field-0-is) size (c.child.ensures.grown (c.args.window.first + c.loop-j.j) refl)).1 root)
+    absurd ((grown g (goal.at.returns-in-Ok-None-child-clause-whole g c).After-child _ _ (c.in-Ok-None-child.is ∙ ap Ok c.in-Ok-None-child.field-0-is) (ap (λ x. c.args.window.first + c.loop-j.j + x) c.width-in-Ok-None-child.ensures.value)).1 root)
 
 pub returns-in-Ok-None-child-clause-further : goal.returns-in-Ok-None-child-clause-further
 returns-in-Ok-None-child-clause-further g c =
     let grows = c.loop-j.invariant.grows _ c.requires.level in
     let on = walked_onward c.args.looks.now.0 (places c.args.looks.now.0) (listed c.args.looks.now.0 c.args.window c.requires.window) _ _ grows.2 in
-    let some = c.width-in-Ok-None-child.ensures.some in
-    let same = c.width-in-Ok-None-child.ensures.value ∙ sym c.width.ensures.value in
-    let test = c.loop-j-test.true in
-    (omega (arith, on, some), omega (arith, same, test))
+    (omega (arith, on, c.width-in-Ok-None-child.ensures.some), omega (arith, c.width-in-Ok-None-child.ensures.value, c.width.ensures.value, c.loop-j-test.true))
 
 pub loop-j-preserved : goal.loop-j-preserved
 loop-j-preserved g c =
-    let bytes = c.args.looks.now.0 in
-    let items = places bytes in
-    let k = (c.args.window.first + c.loop-j.j) in
-    let a = at c.args.spot c.args.builder.now c.args.looks.now.1 c.args.may_exceed.now in
-    let n = k + c.width-in-Ok-Some-eq44.result in
-    let size = ap (λ x. k + x) c.width-in-Ok-Some-eq44.ensures.value in
-    let same = c.width-in-Ok-Some-eq44.ensures.value ∙ sym c.width.ensures.value in
-    let test = c.loop-j-test.true in
-    let found = child_grown bytes items (listed c.args.looks.now.0 c.args.window c.requires.window) c.loop-j.looks.0 (places c.loop-j.looks.0) a k n c.loop-j.looks.1 c.child.new.looks.1 c.loop-j.may_exceed c.child.new.may_exceed _ _ c.loop-j.builder c.child.new.builder c.child.result (Ok (Some c.in-Ok-Some-eq44.field-0-0)) c.requires.level c.loop-j.invariant.same (ap places c.loop-j.invariant.same) c.loop-j.invariant.grows (c.in-Ok-Some-eq44.is ∙ ap Ok c.in-Ok-Some-eq44.field-0-is) size (c.child.ensures.grown (c.args.window.first + c.loop-j.j) refl) in
+    let n = c.args.window.first + c.loop-j.j + c.width-in-Ok-Some-eq44.result in
+    let size = ap (λ x. c.args.window.first + c.loop-j.j + x) c.width-in-Ok-Some-eq44.ensures.value in
+    let found = grown g (goal.at.loop-j-preserved g c).After-child n _ (c.in-Ok-Some-eq44.is ∙ ap Ok c.in-Ok-Some-eq44.field-0-is) size in
+    let text = listed c.args.looks.now.0 c.args.window c.requires.window in
     record {
       same = c.in-Ok-Some-eq44.ensures.same ∙ c.loop-j.invariant.same;
       slashes = subst (λ b. HoldSlashes b c.args.window.reach c.child.new.slashes) c.loop-j.invariant.same c.in-Ok-Some-eq44.ensures.slashes;
       level = found.1 ∙ sym c.requires.level;
-      grows = next_may_grow bytes items (listed c.args.looks.now.0 c.args.window c.requires.window) a n _ c.child.new.looks.1 c.child.new.may_exceed _ _ c.child.new.builder c.in-Ok-Some-eq44.field-0-0 c.requires.level (let t = c.in-Ok-Some-eq44.field-0-0-test in omega (arith, t)) (omega arith) found;
-      pauses = λ l. next_may_pause bytes items (listed c.args.looks.now.0 c.args.window c.requires.window) a n _ c.child.new.looks.1 c.child.new.may_exceed _ _ c.child.new.builder c.in-Ok-Some-eq44.field-0-0 c.requires.level (let t = c.in-Ok-Some-eq44.field-0-0-test in omega (arith, t)) (omega arith) found;
-      from = (let from = c.loop-j.invariant.from in omega (arith, from));
-      to = omega (arith, same, test);
+      grows = next_may_grow _ _ text _ n _ c.child.new.looks.1 c.child.new.may_exceed _ _ c.child.new.builder c.in-Ok-Some-eq44.field-0-0 c.requires.level (omega (arith, c.in-Ok-Some-eq44.field-0-0-test)) (omega arith) found;
+      pauses = λ l. next_may_pause _ _ text _ n _ c.child.new.looks.1 c.child.new.may_exceed _ _ c.child.new.builder c.in-Ok-Some-eq44.field-0-0 c.requires.level (omega (arith, c.in-Ok-Some-eq44.field-0-0-test)) (omega arith) found;
+      from = omega (arith, c.loop-j.invariant.from);
+      to = omega (arith, c.width-in-Ok-Some-eq44.ensures.value, c.width.ensures.value, c.loop-j-test.true);
       told = subst (λ b. AreTold b c.child.new.builder c.child.new.met) c.loop-j.invariant.same c.in-Ok-Some-eq44.ensures.told;
       seated = where_some _ c.in-Ok-Some-eq44.field-0 c.in-Ok-Some-eq44.field-0-0 c.in-Ok-Some-eq44.field-0-is c.in-Ok-Some-eq44.ensures.seated;
     }
@@ -136,10 +126,8 @@ loop-j-preserved g c =
 pub ended-requires-clause-far : goal.ended-requires-clause-far
 ended-requires-clause-far g c =
     let n = c.args.window.first + (c.loop-j.j + c.width-in-Ok-Some-child.result) in
-    let same = c.width-in-Ok-Some-child.ensures.value ∙ sym c.width.ensures.value in
-    let test = c.loop-j-test.true in
-    let long = c.len.ensures in
-    let all = inside c.args.looks.now.0 c.args.window c.requires.window n (number_at c.args.looks.now.0 c.args.window c.requires.window (c.loop-j.j + c.width-in-Ok-Some-child.result) (omega (arith, same, test, long))) in
+    let within : c.loop-j.j + c.width-in-Ok-Some-child.result < length c.args.window.places.now = omega (arith, c.width-in-Ok-Some-child.ensures.value, c.width.ensures.value, c.loop-j-test.true, c.len.ensures) in
+    let all = inside c.args.looks.now.0 c.args.window c.requires.window n (number_at c.args.looks.now.0 c.args.window c.requires.window (c.loop-j.j + c.width-in-Ok-Some-child.result) within) in
     let below = number_below c.args.looks.now.0 (places c.args.looks.now.0) (listed c.args.looks.now.0 c.args.window c.requires.window) n (omega (arith, all)) in
     let short = c.requires.window.short in
     omega (arith, below, short)
@@ -147,41 +135,25 @@ ended-requires-clause-far g c =
 pub ended-requires-clause-near : goal.ended-requires-clause-near
 ended-requires-clause-near g c =
     let n = c.args.window.first + (c.loop-j.j + c.width-in-Ok-Some-child.result) in
-    let same = c.width-in-Ok-Some-child.ensures.value ∙ sym c.width.ensures.value in
-    let test = c.loop-j-test.true in
-    let long = c.len.ensures in
-    let below = near c.args.looks.now.0 (places c.args.looks.now.0) (listed c.args.looks.now.0 c.args.window c.requires.window) n (inside c.args.looks.now.0 c.args.window c.requires.window n (number_at c.args.looks.now.0 c.args.window c.requires.window (c.loop-j.j + c.width-in-Ok-Some-child.result) (omega (arith, same, test, long)))) in
+    let within : c.loop-j.j + c.width-in-Ok-Some-child.result < length c.args.window.places.now = omega (arith, c.width-in-Ok-Some-child.ensures.value, c.width.ensures.value, c.loop-j-test.true, c.len.ensures) in
+    let below = near c.args.looks.now.0 (places c.args.looks.now.0) (listed c.args.looks.now.0 c.args.window c.requires.window) n (inside c.args.looks.now.0 c.args.window c.requires.window n (number_at c.args.looks.now.0 c.args.window c.requires.window (c.loop-j.j + c.width-in-Ok-Some-child.result) within)) in
     let here = c.nth-end.ensures n refl ∙ ap (λ t. place (places t) n) (c.in-Ok-Some-child.ensures.same ∙ c.loop-j.invariant.same) in
     omega (arith, below, here)
 
 pub ended-requires-clause-level : goal.ended-requires-clause-level
-ended-requires-clause-level g c =
-    let bytes = c.args.looks.now.0 in
-    let items = places bytes in
-    let k = (c.args.window.first + c.loop-j.j) in
-    let a = at c.args.spot c.args.builder.now c.args.looks.now.1 c.args.may_exceed.now in
-    let n = c.args.window.first + (c.loop-j.j + c.width-in-Ok-Some-child.result) in
-    let size : n ≡ k + width (shape_of (not (eqb g.row.OBJECT 0))) = (let value = c.width-in-Ok-Some-child.ensures.value in omega (arith, value)) in
-    (child_grown bytes items (listed c.args.looks.now.0 c.args.window c.requires.window) c.loop-j.looks.0 (places c.loop-j.looks.0) a k n c.loop-j.looks.1 c.child.new.looks.1 c.loop-j.may_exceed c.child.new.may_exceed _ _ c.loop-j.builder c.child.new.builder c.child.result (Ok (Some c.in-Ok-Some-child.sign)) c.requires.level c.loop-j.invariant.same (ap places c.loop-j.invariant.same) c.loop-j.invariant.grows (c.in-Ok-Some-child.is ∙ ap Ok c.in-Ok-Some-child.field-0-is) size (c.child.ensures.grown (c.args.window.first + c.loop-j.j) refl)).1
+ended-requires-clause-level g c = (grown g (goal.at.ended-requires-clause-level g c).After-child (c.args.window.first + (c.loop-j.j + c.width-in-Ok-Some-child.result)) _ (c.in-Ok-Some-child.is ∙ ap Ok c.in-Ok-Some-child.field-0-is) (omega (arith, c.width-in-Ok-Some-child.ensures.value))).1
 
 pub returns-in-Ok-Some-child-clause-arrives : goal.returns-in-Ok-Some-child-clause-arrives
 returns-in-Ok-Some-child-clause-arrives g c =
-    let bytes = c.args.looks.now.0 in
-    let items = places bytes in
-    let k = (c.args.window.first + c.loop-j.j) in
-    let a = at c.args.spot c.args.builder.now c.args.looks.now.1 c.args.may_exceed.now in
     let n = c.args.window.first + (c.loop-j.j + c.width-in-Ok-Some-child.result) in
-    let size : n ≡ k + width (shape_of (not (eqb g.row.OBJECT 0))) = (let value = c.width-in-Ok-Some-child.ensures.value in omega (arith, value)) in
-    let found = child_grown bytes items (listed c.args.looks.now.0 c.args.window c.requires.window) c.loop-j.looks.0 (places c.loop-j.looks.0) a k n c.loop-j.looks.1 c.child.new.looks.1 c.loop-j.may_exceed c.child.new.may_exceed _ _ c.loop-j.builder c.child.new.builder c.child.result (Ok (Some c.in-Ok-Some-child.sign)) c.requires.level c.loop-j.invariant.same (ap places c.loop-j.invariant.same) c.loop-j.invariant.grows (c.in-Ok-Some-child.is ∙ ap Ok c.in-Ok-Some-child.field-0-is) size (c.child.ensures.grown (c.args.window.first + c.loop-j.j) refl) in
-    grown_ended bytes items (listed c.args.looks.now.0 c.args.window c.requires.window) a n c.child.new.looks.1 c.child.new.may_exceed _ c.child.new.builder c.ended.new.builder c.in-Ok-Some-child.sign c.ended.result found (c.ended.ensures.arrives bytes c.child.new.looks.1 c.child.new.may_exceed (listed c.args.looks.now.0 c.args.window c.requires.window) found.3 (c.nth-end.ensures n refl ∙ ap (λ t. place (places t) n) (c.in-Ok-Some-child.ensures.same ∙ c.loop-j.invariant.same)))
+    let found = grown g (goal.at.returns-in-Ok-Some-child-clause-arrives g c).After-child n _ (c.in-Ok-Some-child.is ∙ ap Ok c.in-Ok-Some-child.field-0-is) (omega (arith, c.width-in-Ok-Some-child.ensures.value)) in
+    grown_ended _ _ (listed c.args.looks.now.0 c.args.window c.requires.window) _ n c.child.new.looks.1 c.child.new.may_exceed _ c.child.new.builder c.ended.new.builder c.in-Ok-Some-child.sign c.ended.result found (c.ended.ensures.arrives c.args.looks.now.0 c.child.new.looks.1 c.child.new.may_exceed (listed c.args.looks.now.0 c.args.window c.requires.window) found.3 (c.nth-end.ensures n refl ∙ ap (λ t. place (places t) n) (c.in-Ok-Some-child.ensures.same ∙ c.loop-j.invariant.same)))
 
 pub returns-in-Ok-Some-child-clause-further : goal.returns-in-Ok-Some-child-clause-further
 returns-in-Ok-Some-child-clause-further g c =
     let grows = c.loop-j.invariant.grows _ c.requires.level in
     let on = walked_onward c.args.looks.now.0 (places c.args.looks.now.0) (listed c.args.looks.now.0 c.args.window c.requires.window) _ _ grows.2 in
-    let same = c.width-in-Ok-Some-child.ensures.value ∙ sym c.width.ensures.value in
-    let test = c.loop-j-test.true in
-    if_ok c.ended.result (λ next h. (let e = h.0 in omega (arith, on, e), let e = h.0 in omega (arith, e, same, test))) c.ended.ensures.behind
+    if_ok c.ended.result (λ next h. (omega (arith, on, h.0), omega (arith, h.0, c.width-in-Ok-Some-child.ensures.value, c.width.ensures.value, c.loop-j-test.true))) c.ended.ensures.behind
 
 pub returns-in-Ok-Some-child-clause-whole : goal.returns-in-Ok-Some-child-clause-whole
 returns-in-Ok-Some-child-clause-whole g c = if_ok c.ended.result (λ next h root. h.1) c.ended.ensures.behind
