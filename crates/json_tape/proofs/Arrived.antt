@@ -47,13 +47,12 @@ way_begun (token {vs = vs} {rest = rest} {tok = tok} {s' = s'} e f i st w) b cs 
 
 -- behind the value of a whole text nothing is taken
 no_root_close : (shape : Shape) (p : ℕ) (es : List Entry) (os : List Open) (d : ℕ) → level_of os ≡ Root → put_close shape p es os wants.Next None d ≡ None
-no_root_close shape p es [] d l = refl
-no_root_close shape p es (o ∷ []) d l = refl
 no_root_close shape p es (o ∷ o' ∷ os) d l = cond_none (closes shape o.level wants.Next) _ (ap (λ x. closes shape x wants.Next) l ∙ no_root shape)
   where
     no_root : (shape : Shape) → closes shape Root wants.Next ≡ false
     no_root Array = refl
     no_root Object = refl
+no_root_close shape p es _ d l = refl
 
 nothing_more : (tok : Token) (b : Built) → level_of b.opens ≡ Root → step tok (standing b wants.Next None) ≡ None
 nothing_more (Opening other p) b l = unopened other p b.entries b.opens wants.Next None b.deep refl

@@ -8,8 +8,7 @@ use Rattle.json_tape.proofs.Fits.{Lies, Fits}
 
 pub size_positive : (t : Tree) → 0 < size t
 size_positive (Leaf s c) = omega arith
-size_positive (Arr s es) = omega arith
-size_positive (Obj s ms) = omega arith
+size_positive _ = omega arith
 
 -- how many elements or members there are
 abbrev pub child_count : Tree → ℕ
@@ -19,38 +18,31 @@ child_count (Obj s ms) = member_count ms
 
 pub kind_is : (t : Tree) (up : ℕ) (label : Label) (k : ℕ) → (entry_of t up label k).kind ≡ kind_of t
 kind_is (Leaf s c) up label k = refl
-kind_is (Arr s es) up label k = refl
-kind_is (Obj s ms) up label k = refl
+kind_is _ up label k = refl
 
 pub source_is : (t : Tree) (up : ℕ) (label : Label) (k : ℕ) → (entry_of t up label k).source ≡ extent (source_of t)
 source_is (Leaf s c) up label k = refl
-source_is (Arr s es) up label k = refl
-source_is (Obj s ms) up label k = refl
+source_is _ up label k = refl
 
 pub role_is : (t : Tree) (up : ℕ) (label : Label) (k : ℕ) → (entry_of t up label k).role ≡ role_of label
 role_is (Leaf s c) up label k = refl
-role_is (Arr s es) up label k = refl
-role_is (Obj s ms) up label k = refl
+role_is _ up label k = refl
 
 pub label_is : (t : Tree) (up : ℕ) (label : Label) (k : ℕ) → (entry_of t up label k).label ≡ label_spot label
 label_is (Leaf s c) up label k = refl
-label_is (Arr s es) up label k = refl
-label_is (Obj s ms) up label k = refl
+label_is _ up label k = refl
 
 pub up_is : (t : Tree) (up : ℕ) (label : Label) (k : ℕ) → (entry_of t up label k).up ≡ up
 up_is (Leaf s c) up label k = refl
-up_is (Arr s es) up label k = refl
-up_is (Obj s ms) up label k = refl
+up_is _ up label k = refl
 
 pub children_is : (t : Tree) (up : ℕ) (label : Label) (k : ℕ) → (entry_of t up label k).children ≡ child_count t
 children_is (Leaf s c) up label k = refl
-children_is (Arr s es) up label k = refl
-children_is (Obj s ms) up label k = refl
+children_is _ up label k = refl
 
 pub after_is : (t : Tree) (up : ℕ) (label : Label) (k : ℕ) → (entry_of t up label k).after ≡ k + size t
 after_is (Leaf s c) up label k = omega arith
-after_is (Arr s es) up label k = omega arith
-after_is (Obj s ms) up label k = omega arith
+after_is _ up label k = omega arith
 
 -- the bytes of a part of the text's tree stand in the text at its place
 pub lies_in : (text : List ℕ) (t : Tree) → Fits text t → Lies text (source_of t)

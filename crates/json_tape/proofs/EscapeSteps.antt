@@ -74,9 +74,7 @@ module _ (text : List ℕ) (k : ℕ) (inside : k < length text) (slash : get_or 
 
   all_four : (a b c d x : Bool) → (a && (b && (c && (d && x)))) ≡ ((((a && b) && c) && d) && x)
   all_four true true true d x = refl
-  all_four true true false d x = refl
-  all_four true false c d x = refl
-  all_four false b c d x = refl
+  all_four _ _ _ d x = refl
 
   unit_is : k + 6 ≤ length text → is_short (get_or text (k + 1) 0) ≡ false → get_or text (k + 1) 0 ≡ 117 → held Between k ≡ (are_four && held Between (k + 6))
   unit_is l t u =

@@ -70,9 +70,8 @@ cond_none false x e = refl
 
 -- nothing is closed where the test says so
 unclosed : (shape : Shape) (p : ℕ) (es : List Entry) (os : List Open) (w : Want) (name : Option Extent) (d : ℕ) → ((l : Level) → closes shape l w ≡ false) → put_close shape p es os w name d ≡ None
-unclosed shape p es [] w name d n = refl
-unclosed shape p es (o ∷ []) w name d n = refl
 unclosed shape p es (o ∷ o' ∷ os) w name d n = cond_none (closes shape o.level w) _ (n o.level)
+unclosed shape p es _ w name d n = refl
 
 -- a comma comes behind a value alone
 no_comma : (l : Level) (w : Want) → (w ≡ wants.Next → ⊥) → after_comma l w ≡ None
@@ -116,7 +115,6 @@ colon_only (Word x kind) b name n = unput x kind b.entries b.opens wants.Colon n
 
 -- where a name has to come, nothing but a string or the end of an empty object
 pub name_only : (tok : Token) (b : Built) (w : Want) → takes_name w ≡ true → is_text tok ≡ false → (w ≡ wants.FirstName → (p : ℕ) → tok ≡ Closing Object p → ⊥) → step tok (standing b w None) ≡ None
-name_only (Text x) b w t n c = absurd (cc)
 name_only (Opening shape p) b wants.Name t n c = unopened shape p b.entries b.opens wants.Name None b.deep refl
 name_only (Opening shape p) b wants.FirstName t n c = unopened shape p b.entries b.opens wants.FirstName None b.deep refl
 name_only (Closing shape p) b wants.Name t n c = unclosed shape p b.entries b.opens wants.Name None b.deep (no_named_close shape)
@@ -128,16 +126,10 @@ name_only Between b wants.Name t n c = refl
 name_only Between b wants.FirstName t n c = refl
 name_only (Word x kind) b wants.Name t n c = unput x kind b.entries b.opens wants.Name None b.deep refl
 name_only (Word x kind) b wants.FirstName t n c = unput x kind b.entries b.opens wants.FirstName None b.deep refl
-name_only tok b wants.Value t n c = absurd (cc)
-name_only tok b wants.FirstValue t n c = absurd (cc)
-name_only tok b wants.Colon t n c = absurd (cc)
-name_only tok b wants.Next t n c = absurd (cc)
+name_only _ b _ t n c = absurd (cc)
 
 -- where a value has to come, nothing but its beginning or the end of an empty array
 pub value_only : (tok : Token) (b : Built) (w : Want) (name : Option Extent) → takes_value w ≡ true → begins_value tok ≡ false → (w ≡ wants.FirstValue → (p : ℕ) → tok ≡ Closing Array p → ⊥) → step tok (standing b w name) ≡ None
-value_only (Text x) b w name t n c = absurd (cc)
-value_only (Word x kind) b w name t n c = absurd (cc)
-value_only (Opening shape p) b w name t n c = absurd (cc)
 value_only (Closing shape p) b wants.Value name t n c = unclosed shape p b.entries b.opens wants.Value name b.deep (no_close shape)
 value_only (Closing Object p) b wants.FirstValue name t n c = unclosed Object p b.entries b.opens wants.FirstValue name b.deep no_first_close
 value_only (Closing Array p) b wants.FirstValue name t n c = absurd (c refl p refl)
@@ -145,10 +137,7 @@ value_only Comma b wants.Value name t n c = uncommaed b wants.Value name (λ e. 
 value_only Comma b wants.FirstValue name t n c = uncommaed b wants.FirstValue name (λ e. cc)
 value_only Between b wants.Value name t n c = refl
 value_only Between b wants.FirstValue name t n c = refl
-value_only tok b wants.Name name t n c = absurd (cc)
-value_only tok b wants.FirstName name t n c = absurd (cc)
-value_only tok b wants.Colon name t n c = absurd (cc)
-value_only tok b wants.Next name t n c = absurd (cc)
+value_only _ b _ name t n c = absurd (cc)
 
 -- ---- Points
 
@@ -206,10 +195,7 @@ module _ (bytes items : List ℕ) where
 pub named_step : (b : Built) (w : Want) (x : Extent) → takes_name w ≡ true → step (Text x) (standing b w None) ≡ Some (standing b wants.Colon (Some x))
 named_step b wants.Name x t = refl
 named_step b wants.FirstName x t = refl
-named_step b wants.Value x t = absurd (cc)
-named_step b wants.FirstValue x t = absurd (cc)
-named_step b wants.Colon x t = absurd (cc)
-named_step b wants.Next x t = absurd (cc)
+named_step b _ x t = absurd (cc)
 
 sign_token_byte : (p b : ℕ) (tok : Token) → sign_at p b ≡ Some tok → (tok ≡ Between → b ≡ 58) × ((q : ℕ) → tok ≡ Closing Object q → b ≡ 125) × ((q : ℕ) → tok ≡ Closing Array q → b ≡ 93) × (tok ≡ Comma → b ≡ 44)
 sign_token_byte p b (Opening shape q) h = ((λ e. absurd (cc)), (λ r e. absurd (cc)), (λ r e. absurd (cc)), (λ e. absurd (cc)))
@@ -281,13 +267,7 @@ value_any tok b wants.Value name t v = refl
 value_any (Opening shape p) b wants.FirstValue name t v = open_any shape p b.entries b.opens name b.deep
 value_any (Text x) b wants.FirstValue name t v = leaf_any x kinds.Text b.entries b.opens name b.deep
 value_any (Word x kind) b wants.FirstValue name t v = leaf_any x kind b.entries b.opens name b.deep
-value_any (Closing shape p) b wants.FirstValue name t v = absurd (cc)
-value_any Comma b wants.FirstValue name t v = absurd (cc)
-value_any Between b wants.FirstValue name t v = absurd (cc)
-value_any tok b wants.Name name t v = absurd (cc)
-value_any tok b wants.FirstName name t v = absurd (cc)
-value_any tok b wants.Colon name t v = absurd (cc)
-value_any tok b wants.Next name t v = absurd (cc)
+value_any _ b _ name t v = absurd (cc)
 
 pub leaf_level : (x : Extent) (kind : Kind) (es : List Entry) (os : List Open) (name : Option Extent) (d : ℕ) (s : State) → put_leaf x kind es os wants.Value name d ≡ Some s → level_of s.opens ≡ level_of os
 leaf_level x kind es [] name d s e = absurd (cc)
@@ -306,18 +286,12 @@ is_leaf _ = false
 leaf_begins : (tok : Token) → is_leaf tok ≡ true → begins_value tok ≡ true
 leaf_begins (Text x) h = refl
 leaf_begins (Word x kind) h = refl
-leaf_begins (Opening shape p) h = absurd (cc)
-leaf_begins (Closing shape p) h = absurd (cc)
-leaf_begins Comma h = absurd (cc)
-leaf_begins Between h = absurd (cc)
+leaf_begins _ h = absurd (cc)
 
 leaf_keeps : (tok : Token) (b : Built) (name : Option Extent) (s : State) → is_leaf tok ≡ true → step tok (standing b wants.Value name) ≡ Some s → level_of s.opens ≡ level_of b.opens
 leaf_keeps (Text x) b name s h e = leaf_level x kinds.Text b.entries b.opens name b.deep s e
 leaf_keeps (Word x kind) b name s h e = leaf_level x kind b.entries b.opens name b.deep s e
-leaf_keeps (Opening shape p) b name s h e = absurd (cc)
-leaf_keeps (Closing shape p) b name s h e = absurd (cc)
-leaf_keeps Comma b name s h e = absurd (cc)
-leaf_keeps Between b name s h e = absurd (cc)
+leaf_keeps _ b name s h e = absurd (cc)
 
 pub not_root : {l : Level} {shape : Shape} → l ≡ Inside shape → l ≡ Root → ⊥
 not_root e f = let g = sym e ∙ f in cc

@@ -60,9 +60,8 @@ highs_sorted ys s k d z h =
     at i l = get_or_default (map high_half ys) i d 0 l ∙ get_map high_half ys i 0 (let long = length-map ys high_half in omega arith)
 
 next_map : (f : ℕ → ℕ) (ys : List ℕ) → repeats_next_by (on f nat_eq) ys ≡ repeats_next_by nat_eq (map f ys)
-next_map f [] = refl
-next_map f (x ∷ []) = refl
 next_map f (x ∷ y ∷ ys) = ap (λ b. nat_eq (f x) (f y) || b) (next_map f (y ∷ ys))
+next_map f _ = refl
 
 hashes_named : (ms : Members) (k : ℕ) → map key_hash (keyed ms k) ≡ map name_hash (meanings ms)
 hashes_named NoMember k = refl

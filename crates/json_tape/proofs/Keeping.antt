@@ -27,11 +27,9 @@ container_here [] e = refl
 container_here (a ∷ es) e = container_here es e
 
 container_changed : (es : List Entry) (i : ℕ) (f : Entry → Entry) (n : ℕ) → ((e : Entry) → (f e).kind ≡ e.kind) → container_at (change_at es i f) n ≡ container_at es n
-container_changed [] i f n h = refl
 container_changed (e ∷ es) zero f zero h = ap is_container (h e)
-container_changed (e ∷ es) zero f (suc n) h = refl
-container_changed (e ∷ es) (suc i) f zero h = refl
 container_changed (e ∷ es) (suc i) f (suc n) h = container_changed es i f n h
+container_changed _ _ f _ h = refl
 
 pub opened_more : (es xs : List Entry) (os : List Open) → AreOpened es os → AreOpened (es ++ xs) os
 opened_more es xs [] h = tt

@@ -174,13 +174,11 @@ unit_meant u cs false e ih = by_low (is_low u) refl
     by_low false l = by_high (is_high u) refl l
 
 meant : (cs : List Spelt) (high : Bool) → lone_chars high cs ≡ false → Meant high cs
-meant [] true e = absurd (cc)
 meant [] false e = ([], nothing)
-meant (Plain c ∷ cs) true e = absurd (cc)
 meant (Plain c ∷ cs) false e = let r = meant cs false e in (c ∷ r.0, plain r.1)
-meant (Short l ∷ cs) true e = absurd (cc)
 meant (Short l ∷ cs) false e = let r = meant cs false e in (short_value l ∷ r.0, short r.1)
 meant (Unit4 u ∷ cs) high e = unit_meant u cs high e (λ g. meant cs g)
+meant _ true e = absurd (cc)
 
 -- what has no lone surrogate means what the function gives
 pub means_unless : (cs : List Spelt) → (HasLone cs → ⊥) → Means cs (meaning cs)

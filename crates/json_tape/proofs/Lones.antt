@@ -2,7 +2,7 @@
 use Rattle.std.proofs.Common.{◌≡◌, ℕ, ◌+◌, ◌<◌, inl, inr, true, List, length, get_or, refl, sym, ap, ◌∙◌, subst}
 use Rattle.json_tape.specs.Tree.{Null, True, False, Num, Str, Tree, Leaf, Arr, Obj}
 use Rattle.json_tape.specs.Grammar.{IsText}
-use Rattle.json_tape.specs.Tape.{Label, Top, Index, Named, Stands, IsAt, in_object, entry_of, extent, role_of}
+use Rattle.json_tape.specs.Tape.{Label, Top, Named, Stands, IsAt, in_object, entry_of, extent, role_of}
 use Rattle.json_tape.specs.Limits.{bytes_at}
 use Rattle.json_tape.specs.Verdict.{SpellsLone}
 use Rattle.json_tape.specs.Parts.{HasPart}
@@ -36,13 +36,12 @@ value_found text tape t h e i d l b =
     value_part text t p.tree i p.up' p.label' (part_fits p.is_at text (text_fits text t h)) (part_of_at p.is_at) (subst (IsLoneValue text) (entry_at tape d e p.is_at) b)
 
 name_part : (text : List ℕ) (t s : Tree) (n up : ℕ) (label : Label) → IsText text t → IsAt t 0 Top 0 n up label s → role_of label ≡ roles.Member → lone (bytes_at text (entry_of s up label n).label) ≡ true → HasLonePart t
-name_part text t s n up Top h a r b = absurd (cc)
-name_part text t s n up (Index i) h a r b = absurd (cc)
 name_part text t s n up (Named x) h a r b = elim (holder a x refl) [
   | inl f ↦ absurd (cc)
   | inr o ↦ let f = name_fits o.has text (part_fits o.is_at text (text_fits text t h)).1 in
       (Obj o.source o.members, part_of_at o.is_at, (o.name, o.has, lone_sound o.name.source.bytes o.name.characters f.1 (ap lone f.0 ∙ ap (λ y. lone (bytes_at text y)) (sym o.is) ∙ sym (ap (λ y. lone (bytes_at text y)) (label_is s up (Named x) n)) ∙ b)))
 ]
+name_part text t s n up _ h a r b = absurd (cc)
 
 pub name_found : (text : List ℕ) (tape : List Entry) (t : Tree) → IsText text t → Stands tape t → (i : ℕ) (d : Entry) → i < length tape → IsLoneName text (get_or tape i d) → HasLonePart t
 name_found text tape t h e i d l b =

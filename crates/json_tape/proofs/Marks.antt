@@ -59,11 +59,8 @@ open_more es e (o ∷ os) h = (go o.level h.0, open_more es e os h.1)
 
 module _ (p children after : ℕ) where
   kind_closed : (es : List Entry) (i n : ℕ) → kind_at (change_at es i (closed p children after)) n ≡ kind_at es n
-  kind_closed [] i n = refl
-  kind_closed (e ∷ es) zero zero = refl
-  kind_closed (e ∷ es) zero (suc n) = refl
-  kind_closed (e ∷ es) (suc i) zero = refl
   kind_closed (e ∷ es) (suc i) (suc n) = kind_closed es i n
+  kind_closed _ _ _ = refl
 
   open_closed : (es : List Entry) (i : ℕ) (os : List Open) → AreOpen es os → AreOpen (change_at es i (closed p children after)) os
   open_closed es i [] h = tt
@@ -113,11 +110,10 @@ module _ (bytes : List ℕ) (exceeds : Bool) where
       subst (Kept bytes exceeds) k.1 (record { opened = (kind_last es _, open_more es _ (t ∷ os) o); good = (λ m. good_more bytes es _ (h m) (λ n. absurd (no_number shape n))) })
 
   close_kept : (shape : Shape) (p : ℕ) (es : List Entry) (os : List Open) (w : Want) (name : Option Extent) (d : ℕ) (s' : State) → put_close shape p es os w name d ≡ Some s' → AreOpen es os → (exceeds ≡ false → AreWithinLimits bytes es) → Kept bytes exceeds s'
-  close_kept shape p es [] w name d s' e o h = absurd (cc)
-  close_kept shape p es (t ∷ []) w name d s' e o h = absurd (cc)
   close_kept shape p es (t ∷ t' ∷ os) w name d s' e o h =
       let k = cond_some (closes shape t.level w) _ s' e in
       subst (Kept bytes exceeds) k.1 (record { opened = open_closed p t.children (length es) es t.entry (t' ∷ os) o.1; good = (λ m. good_closed p t.children (length es) bytes es t.entry (closed_number es t.entry shape t.level w k.0 o.0) (h m)) })
+  close_kept shape p es _ w name d s' e o h = absurd (cc)
 
   comma_kept : (es : List Entry) (os : List Open) (r : Option Want) (d : ℕ) (s' : State) → put_comma es os r d ≡ Some s' → AreOpen es os → (exceeds ≡ false → AreWithinLimits bytes es) → Kept bytes exceeds s'
   comma_kept es os None d s' e o h = absurd (cc)
@@ -158,12 +154,8 @@ module _ (bytes : List ℕ) (exceeds : Bool) where
   word_fits (sign {p = p} {b = b'} {tok = tok} h) b cs e f = by_sign tok h
     where
       by_sign : (tok : Token) → sign_at p b' ≡ Some tok → WordFits bytes exceeds tok
-      by_sign (Opening shape q) h = tt
-      by_sign (Closing shape q) h = tt
-      by_sign Comma h = tt
-      by_sign Between h = tt
-      by_sign (Text x) h = tt
       by_sign (Word x kind) h = absurd (grind (arith, nat_tests))
+      by_sign _ h = tt
   word_fits (text cs' h) b cs e f = tt
   word_fits (word {b = b'} {vs = vs} at over k) b cs e f = λ m. f m (atom_of b (let g : b ≡ b' = cc in ap class g ∙ at.0))
 

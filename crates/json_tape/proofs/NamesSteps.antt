@@ -7,9 +7,9 @@ use Rattle.json_tape.specs.declared.tape.Extent.{Extent}
 use Rattle.json_tape.specs.declared.tape.Kind.{Kind}
 use Rattle.json_tape.specs.declared.tape.Role.TheVariants as roles
 use Rattle.json_tape.specs.declared.tape.Shape.{Shape}
-use Rattle.json_tape.specs.declared.tape.Shape.TheVariants.{Array, Object}
+use Rattle.json_tape.specs.declared.tape.Shape.TheVariants.{Object}
 use Rattle.json_tape.specs.declared.tape.Level.{Level}
-use Rattle.json_tape.specs.declared.tape.Level.TheVariants.{Root, Inside}
+use Rattle.json_tape.specs.declared.tape.Level.TheVariants.{Inside}
 use Rattle.json_tape.specs.declared.tape.Want.{Want}
 use Rattle.json_tape.specs.declared.tape.Want.TheVariants as wants
 use Rattle.json_tape.specs.declared.tape.Open.{Open}
@@ -50,10 +50,8 @@ few_of e h = go (is_object e.kind)
 -- the label of a member is its name
 new_of : (text : List ℕ) (es : List Entry) (met : NamesMet) (n depth children : ℕ) (l : Level) (name : Option Extent) → ((x : Extent) → name ≡ Some x → IsUnasked met n → IsNew text es met n depth x)
     → role_of (label_at l children name) ≡ roles.Member → IsInside l × (IsUnasked met n → IsNew text es met n depth (label_spot (label_at l children name)))
-new_of text es met n depth children Root name f r = absurd (cc)
-new_of text es met n depth children (Inside Array) name f r = absurd (cc)
-new_of text es met n depth children (Inside Object) None f r = absurd (cc)
 new_of text es met n depth children (Inside Object) (Some x) f r = (tt, f x refl)
+new_of text es met n depth children _ _ f r = absurd (cc)
 
 module _ (text : List ℕ) (met : NamesMet) (old : Built) (name : Option Extent) (told : AreTold text old met) (fresh : IsFresh text old met name) where
   told_as : (o : Open) (os : List Open) → old.opens ≡ o ∷ os → AreTold text (record { entries = old.entries; opens = o ∷ os; deep = old.deep }) met
@@ -96,14 +94,13 @@ chosen false s t h = absurd (cc)
 
 close_shut : (text : List ℕ) (met : NamesMet) (old new : Built) (shape : Shape) (p : ℕ) (os : List Open) → old.opens ≡ os → level_of os ≡ Inside shape → (shape ≡ Object → IsUnasked met (top_of os) → children_of os ≤ narrow)
     → put_close shape p old.entries os wants.Next None old.deep ≡ Some (standing new wants.Next None) → AreTold text old met → AreTold text new met
-close_shut text met old new shape p [] is level few h told = absurd (cc)
-close_shut text met old new shape p (o ∷ []) is level few h told = absurd (cc)
 close_shut text met old new shape p (o ∷ o' ∷ os) is level few h told =
     let made : Built = record { entries = change_at old.entries o.entry (closed p o.children (length old.entries)); opens = o' ∷ os; deep = old.deep } in
     let same = chosen (closes shape o.level wants.Next) (standing made wants.Next None) (standing new wants.Next None) h in
     told_same text met made new (ap (λ (s : State). s.entries) same) (ap (λ (s : State). s.opens) same)
     (told_shut text old.entries o.entry p o.children (length old.entries) met o (o' ∷ os) old.deep shape level refl few
     (told_same text met old (record { entries = old.entries; opens = o ∷ o' ∷ os; deep = old.deep }) refl is told))
+close_shut text met old new shape p _ is level few h told = absurd (cc)
 
 -- ---- The calls
 
@@ -155,8 +152,7 @@ seated_same old new owner met top s = record {
 
 pub seated_on : (P : Type 0) (old new : Built) (owner : Owner) (met : NamesMet) {E : Type 0} (r : Result (Option ℕ) E) → IfOk r (λ made. IfSome made (λ sign. IsSameTop old.opens new.opens)) → (P → IsSeated old owner met) → IfOk r (λ made. IfSome made (λ sign. P → IsSeated new owner met))
 seated_on P old new owner met (Ok (Some sign)) top s = λ p. seated_same old new owner met top (s p)
-seated_on P old new owner met (Ok None) top s = tt
-seated_on P old new owner met (Err f) top s = tt
+seated_on _ old new owner met _ top s = tt
 
 pub where_some : {A : Type 0} (P : Type 0) (o : Option A) (x : A) → o ≡ Some x → IfSome o (λ y. P) → P
 where_some P o x e h = subst (λ k. IfSome k (λ y. P)) e h

@@ -331,18 +331,14 @@ module _ (text : List ℕ) (es : List Entry) (e : Entry) (met : NamesMet) where
 
 -- what no change is made of
 same_part : {A : Type 0} (part : Entry → A) (es : List Entry) (i : ℕ) (f : Entry → Entry) → ((e : Entry) → part (f e) ≡ part e) → (k : ℕ) → part (entry_in (change_at es i f) k) ≡ part (entry_in es k)
-same_part part [] i f h k = refl
 same_part part (e ∷ es) zero f h zero = h e
-same_part part (e ∷ es) zero f h (suc k) = refl
-same_part part (e ∷ es) (suc i) f h zero = refl
 same_part part (e ∷ es) (suc i) f h (suc k) = same_part part es i f h k
+same_part part _ _ f h _ = refl
 
 same_other : (es : List Entry) (i : ℕ) (f : Entry → Entry) (k : ℕ) → k ≢ i → entry_in (change_at es i f) k ≡ entry_in es k
-same_other [] i f k h = refl
 same_other (e ∷ es) zero f zero h = absurd (h refl)
-same_other (e ∷ es) zero f (suc k) h = refl
-same_other (e ∷ es) (suc i) f zero h = refl
 same_other (e ∷ es) (suc i) f (suc k) h = same_other es i f k (λ q. h (ap suc q))
+same_other _ _ f _ h = refl
 
 changed : (es : List Entry) (i : ℕ) (f : Entry → Entry) → i < length es → entry_in (change_at es i f) i ≡ f (entry_in es i)
 changed [] i f h = absurd (omega arith)

@@ -34,17 +34,11 @@ scalar_one _ _ bs e h g = absurd (cc)
 
 no_array_kind : (c : Scalar) → kind_of_scalar c ≡ kinds.Array → ⊥
 no_array_kind Null e = cc
-no_array_kind True e = cc
-no_array_kind False e = cc
-no_array_kind Num e = cc
-no_array_kind (Str cs) e = cc
+no_array_kind _ e = cc
 
-no_object_kind : (c : Scalar) → kind_of_scalar c ≡ kinds.Object → ⊥
+pub no_object_kind : (c : Scalar) → kind_of_scalar c ≡ kinds.Object → ⊥
 no_object_kind Null e = cc
-no_object_kind True e = cc
-no_object_kind False e = cc
-no_object_kind Num e = cc
-no_object_kind (Str cs) e = cc
+no_object_kind _ e = cc
 
 source_one : (bytes : List ℕ) (s s' : Source) → Lies bytes s → Lies bytes s' → extent s ≡ extent s' → s ≡ s'
 source_one bytes s s' h g e =
@@ -102,19 +96,16 @@ module _ (bytes : List ℕ) where
 
     pub same_elements : (es es' : Elements) (up up' i k : ℕ) (r r' : List Entry) → element_count es ≡ element_count es' → FitElements bytes es → FitElements bytes es' → tape_of_elements es up i k ++ r ≡ tape_of_elements es' up' i k ++ r' → (es ≡ es') × (r ≡ r')
     same_elements NoElement NoElement up up' i k r r' c f f' e = (refl, e)
-    same_elements NoElement (Element t' es') up up' i k r r' c f f' e = absurd (omega arith)
-    same_elements (Element t es) NoElement up up' i k r r' c f f' e = absurd (omega arith)
     same_elements (Element t es) (Element t' es') up up' i k r r' c f f' e =
         let a = sym (append_assoc (tape_of t up (Index i) k) (tape_of_elements es up (i + 1) (k + size t)) r) ∙ e ∙ append_assoc (tape_of t' up' (Index i) k) (tape_of_elements es' up' (i + 1) (k + size t')) r' in
         let x = same_tree t t' up up' (Index i) (Index i) k _ _ f.0 f'.0 a in
         let b = x.1 ∙ ap (λ n. tape_of_elements es' up' (i + 1) (k + size n) ++ r') (sym x.0) in
         let z = same_elements es es' up up' (i + 1) (k + size t) r r' (omega arith) f.1 f'.1 b in
         (ap (λ y. Element y es) x.0 ∙ ap (Element t') z.0, z.1)
+    same_elements _ _ up up' i k r r' c f f' e = absurd (omega arith)
 
     pub same_members : (ms ms' : Members) (up up' k : ℕ) (r r' : List Entry) → member_count ms ≡ member_count ms' → FitMembers bytes ms → FitMembers bytes ms' → tape_of_members ms up k ++ r ≡ tape_of_members ms' up' k ++ r' → (ms ≡ ms') × (r ≡ r')
     same_members NoMember NoMember up up' k r r' c f f' e = (refl, e)
-    same_members NoMember (Member n' t' ms') up up' k r r' c f f' e = absurd (omega arith)
-    same_members (Member n t ms) NoMember up up' k r r' c f f' e = absurd (omega arith)
     same_members (Member n t ms) (Member n' t' ms') up up' k r r' c f f' e =
         let a = sym (append_assoc (tape_of t up (Named (extent n.source)) k) (tape_of_members ms up (k + size t)) r) ∙ e ∙ append_assoc (tape_of t' up' (Named (extent n'.source)) k) (tape_of_members ms' up' (k + size t')) r' in
         let x = same_tree t t' up up' (Named (extent n.source)) (Named (extent n'.source)) k _ _ f.2 f'.2 a in
@@ -123,6 +114,7 @@ module _ (bytes : List ℕ) where
         let src = source_one bytes n.source n'.source f.0 f'.0 (name_first t t' up up' (extent n.source) (extent n'.source) k _ _ a) in
         let chars = string_one n.characters n'.characters n.source.bytes f.1 (subst (λ y. IsString y.bytes n'.characters) (sym src) f'.1) in
         (ap (λ y. Member n t y) z.0 ∙ ap (λ y. Member y t ms') (name_one n n' src chars) ∙ ap (λ y. Member n' y ms') x.0, z.1)
+    same_members _ _ up up' k r r' c f f' e = absurd (omega arith)
 
 -- two ways over one text end alike
 goes_same : {p q q' : ℕ} {bs : List ℕ} {s s1 s2 : State} → Goes p bs s q [] s1 → Goes p bs s q' [] s2 → s1 ≡ s2

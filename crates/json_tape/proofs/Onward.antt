@@ -1,5 +1,5 @@
 -- Where a walk enters a container, goes from child to child, and leaves it.
-use Rattle.std.proofs.Common.{◌≡◌, ◌≢◌, ℕ, zero, suc, ◌+◌, ◌<◌, ◌≤◌, ◌⊎◌, inl, inr, Bool, true, false, not, cond, List, [], ◌∷◌, length, Option, Some, None, refl, sym, ap, subst, ◌∙◌, arith}
+use Rattle.std.proofs.Common.{◌≡◌, ◌≢◌, ℕ, zero, suc, ◌+◌, ◌<◌, ◌≤◌, ◌⊎◌, inl, inr, Bool, true, false, not, cond, List, ◌∷◌, length, Option, Some, None, refl, sym, ap, subst, ◌∙◌, arith}
 use Rattle.std.specs.Prelude.{Result, Ok, Err, IfOk, IfErr, eqb}
 use Rattle.std.proofs.lemmas.Option.{none-some, same_Some}
 use Rattle.std.proofs.lemmas.Bool.Decides.{nat_tests}
@@ -40,14 +40,12 @@ is_behind false e = absurd (cc)
 
 other_close : (shape other : Shape) → (other ≡ shape → ⊥) → closes other (Inside shape) wants.Next ≡ false
 other_close Array Array n = absurd (n refl)
-other_close Array Object n = refl
-other_close Object Array n = refl
 other_close Object Object n = absurd (n refl)
+other_close _ _ n = refl
 
 close_other : (shape other : Shape) (p : ℕ) (es : List Entry) (os : List Open) (d : ℕ) → level_of os ≡ Inside shape → (other ≡ shape → ⊥) → put_close other p es os wants.Next None d ≡ None
-close_other shape other p es [] d l n = refl
-close_other shape other p es (o ∷ []) d l n = refl
 close_other shape other p es (o ∷ o' ∷ os) d l n = cond_none (closes other o.level wants.Next) _ (ap (λ x. closes other x wants.Next) l ∙ other_close shape other n)
+close_other shape other p es _ d l n = refl
 
 same_closing : (p : ℕ) (shape other : Shape) → other ≡ shape → Closing other p ≡ Closing shape p
 same_closing p shape other e = ap (λ x. Closing x p) e
@@ -69,9 +67,8 @@ cond_same : {A : Type 0} (b c : Bool) (x : A) → b ≡ c → cond b (Some x) No
 cond_same b c x e = ap (λ y. cond y (Some x) None) e
 
 close_first : (shape : Shape) (p : ℕ) (es : List Entry) (os : List Open) (d : ℕ) → level_of os ≡ Inside shape → put_close shape p es os (first_of shape) None d ≡ put_close shape p es os wants.Next None d
-close_first shape p es [] d l = refl
-close_first shape p es (o ∷ []) d l = refl
 close_first shape p es (o ∷ o' ∷ os) d l = cond_same (closes shape o.level (first_of shape)) (closes shape o.level wants.Next) _ (ap (λ y. closes shape y (first_of shape)) l ∙ first_close shape ∙ sym (ap (λ y. closes shape y wants.Next) l))
+close_first shape p es _ d l = refl
 
 -- a container is closed at its first child's place as it is behind a value
 close_any : (shape : Shape) (p : ℕ) (b : Built) (behind : Bool) → level_of b.opens ≡ Inside shape → step (Closing shape p) (standing b (want_behind behind (level_of b.opens)) None) ≡ step (Closing shape p) (standing b wants.Next None)
@@ -93,9 +90,8 @@ want_same befores.Value behind l e = let f : true ≡ behind = cc in ap (λ x. w
 want_same befores.Comma behind l e = absurd (cc)
 
 want_comma : (before : Before) (shape : Shape) → behind_of before ≡ None → next_of shape ≡ want_at before (Inside shape)
-want_comma befores.Opening shape e = absurd (cc)
-want_comma befores.Value shape e = absurd (cc)
 want_comma befores.Comma shape e = refl
+want_comma _ shape e = absurd (cc)
 
 comma_step : (b : Built) (shape : Shape) → level_of b.opens ≡ Inside shape → step Comma (standing b wants.Next None) ≡ Some (standing b (next_of shape) None)
 comma_step b Array l = ap (λ x. put_comma b.entries b.opens (after_comma x wants.Next) b.deep) l
@@ -261,9 +257,7 @@ value_level : (tok : Token) (b : Built) (shape : Shape) (name : Option Extent) (
 value_level (Opening other p) b shape name s l v e = not_root (open_level other p b.entries b.opens name b.deep s e)
 value_level (Text x) b shape name s l v e = not_root (leaf_level x kinds.Text b.entries b.opens name b.deep s e ∙ l)
 value_level (Word x kind) b shape name s l v e = not_root (leaf_level x kind b.entries b.opens name b.deep s e ∙ l)
-value_level (Closing other p) b shape name s l v e = absurd (cc)
-value_level Comma b shape name s l v e = absurd (cc)
-value_level Between b shape name s l v e = absurd (cc)
+value_level _ b shape name s l v e = absurd (cc)
 
 module _ (bytes items : List ℕ) (listed : IsListed bytes items) where
   pub walked_small : (a b : Point) → Walked bytes items a b → IsSmall a.number a.state → IsSmall b.number b.state
@@ -351,10 +345,9 @@ module _ (bytes items : List ℕ) (listed : IsListed bytes items) where
   member_grown other others false k now between later mark mark' old new w x r e same these named valued asks = absurd (cc)
 
   same_inside : (s t : Shape) → Inside s ≡ Inside t → s ≡ t
-  same_inside Array Array e = refl
-  same_inside Object Object e = refl
   same_inside Array Object e = absurd (cc)
   same_inside Object Array e = absurd (cc)
+  same_inside _ _ e = refl
 
   pub may_grow : (a : Point) (k : ℕ) (level : Level) (shape : Shape) (b : Built) (looked : ℕ) (mark : Bool) → level ≡ Inside shape → (w : Want) × AsksChild bytes items k shape w × Walked bytes items a (point k (standing b w None) looked mark) → MayGrow bytes items a k level b looked mark
   may_grow a k level shape b looked mark e (w, asks, walked) = λ other f. (w, subst (λ s. AsksChild bytes items k s w) (same_inside shape other (sym e ∙ f)) asks, walked)

@@ -53,11 +53,10 @@ scan_behind [] ys m k d e h g = let l = scan_past ys m (k + d) e g in omega arit
 scan_behind (b ∷ xs) ys m k d e h g = go (λ n h g. scan_behind xs ys n (k + 1) d e h g) (turn m b) h g
   where
     go : ((n : Mode) → string_end n (k + 1) xs ≡ None → string_end n (k + 1 + d) (xs ++ ys) ≡ Some e → k + 1 + d + length xs < e) → (t : Turn) → next_of t (k + 1) (λ n. string_end n (k + 1) xs) ≡ None → next_of t (k + d + 1) (λ n. string_end n (k + d + 1) (xs ++ ys)) ≡ Some e → k + d + suc (length xs) < e
-    go ih Stop h g = absurd (cc)
-    go ih Fail h g = absurd (cc)
     go ih (Go n) h g =
         let f : k + d + 1 ≡ k + 1 + d = omega arith in
         let l = ih n h (subst (λ x. string_end n x (xs ++ ys) ≡ Some e) f g) in omega arith
+    go ih _ h g = absurd (cc)
 
 -- ---- Strings
 

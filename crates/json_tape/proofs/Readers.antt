@@ -48,11 +48,9 @@ counted f pre (x ∷ mid) post d k e =
     rw (here, more') refl
 
 childless : (way : List Step) (k : ℕ) (t : Tree) → child_count t ≡ 0 → children_of way k t ≡ []
-childless way k (Leaf s c) e = refl
-childless way k (Arr s NoElement) e = refl
 childless way k (Arr s (Element t es)) e = absurd (omega (arith, e))
-childless way k (Obj s NoMember) e = refl
 childless way k (Obj s (Member m t ms)) e = absurd (omega (arith, e))
+childless way k _ e = refl
 
 next_past : (all pre : List Spot) (x : Spot) (xs post : List Spot) (d : Spot) (k : ℕ) → all ≡ pre ++ (x ∷ xs ++ post) → length pre ≡ k → (y : Spot) (ys : List Spot) → xs ++ post ≡ y ∷ ys → (get_or all (k + 1) d ≡ y) × (k + 1 < length all)
 next_past all pre x xs post d k e l y ys q =
@@ -244,8 +242,7 @@ module _ (d : Doc) (s : IsDocument d) where
       child_total (Leaf s False) h = elim h [ inl y ↦ absurd (cc) | inr y ↦ absurd (cc) ]
       child_total (Leaf s Num) h = elim h [ inl y ↦ absurd (cc) | inr y ↦ absurd (cc) ]
       child_total (Leaf s (Str cs)) h = elim h [ inl y ↦ absurd (cc) | inr y ↦ absurd (cc) ]
-      child_total (Arr s es) h = refl
-      child_total (Obj s ms) h = refl
+      child_total _ h = refl
 
   -- how the entry shows what leads to its node
   pub way_is : (n : ℕ) → n < count d → (e : Entry) → e ≡ get_or d.entries n e
@@ -283,18 +280,16 @@ module _ (d : Doc) (s : IsDocument d) where
       go : (label : Label) → role_of label ≡ roles.Whole → WayIn d.text (spots d) (none_there d) n e.up label (node_at d n).way_up → (node_at d n).way_up ≡ []
       go Top r (inl a) = a.1
       go Top r (inr a) = absurd a.1
-      go (Index i) r w = absurd (cc)
-      go (Named x) r w = absurd (cc)
+      go _ r w = absurd (cc)
 
   pub index_lead : (n : ℕ) → n < count d → (e : Entry) → e ≡ get_or d.entries n e → e.role ≡ roles.Element → (rest : List Step) × ((node_at d n).way_up ≡ place e.label.start ∷ rest)
   index_lead n h e q r = let w = way_is n h e q in go w.0 (sym w.1 ∙ r) w.2 w.3
     where
       go : (label : Label) → role_of label ≡ roles.Element → e.label ≡ label_spot label → WayIn d.text (spots d) (none_there d) n e.up label (node_at d n).way_up
           → (rest : List Step) × ((node_at d n).way_up ≡ place e.label.start ∷ rest)
-      go Top r l w = absurd (cc)
       go (Index i) r l (inl a) = absurd (let b = a.0 in cc)
       go (Index i) r l (inr a) = let rest = (get_or (spots d) e.up (none_there d)).node.way_up in (rest, a.2 ∙ ap (λ s. s ∷ rest) (a.1 ∙ ap place (sym (ap (λ x. x.start) l))))
-      go (Named x) r l w = absurd (cc)
+      go _ r l w = absurd (cc)
 
   -- the name of a member stands where its entry says
   pub member_lead : (n : ℕ) → n < count d → (e : Entry) → e ≡ get_or d.entries n e → e.role ≡ roles.Member
@@ -303,11 +298,10 @@ module _ (d : Doc) (s : IsDocument d) where
     where
       go : (label : Label) → role_of label ≡ roles.Member → e.label ≡ label_spot label → WayIn d.text (spots d) (none_there d) n e.up label (node_at d n).way_up
           → (name : Name) × (e.label ≡ extent name.source) × IsMember (meaning name.characters) (node_at d n) × Lies d.text name.source × IsString name.source.bytes name.characters
-      go Top r l w = absurd (cc)
-      go (Index i) r l w = absurd (cc)
       go (Named x) r l (inl a) = absurd (let b = a.0 in cc)
       go (Named x) r l (inr (s, (name, f, k, lies, string), way, up)) =
           let rest = (get_or (spots d) e.up (none_there d)).node.way_up in (name, l ∙ f, (rest, way ∙ ap (λ z. z ∷ rest) k), lies, string)
+      go _ r l w = absurd (cc)
 
   -- only a member's node has a name
   pub member_role : (n : ℕ) → n < count d → (e : Entry) → e ≡ get_or d.entries n e → HasName (node_at d n) → e.role ≡ roles.Member
@@ -376,12 +370,7 @@ module _ (d : Doc) (s : IsDocument d) where
     where
       go : (t : Tree) → kind_of t ≡ kinds.Number → Fits d.text t → HasPart (tree_of d) t → IsLimited (source_of t).bytes
       go (Leaf x Num) k f p = (f.1, within_unless x.bytes (λ b. s.accepted.1 NumberLimit (tree_of d, Leaf x Num, s.accepted.0, p, b)))
-      go (Leaf s Null) k f p = absurd (cc)
-      go (Leaf s True) k f p = absurd (cc)
-      go (Leaf s False) k f p = absurd (cc)
-      go (Leaf s (Str cs)) k f p = absurd (cc)
-      go (Arr s es) k f p = absurd (cc)
-      go (Obj s ms) k f p = absurd (cc)
+      go _ k f p = absurd (cc)
 
   -- the characters of a string stand where its entry says
   pub string_is : (n : ℕ) → n < count d → (e : Entry) → e ≡ get_or d.entries n e → kind_of (node_at d n).tree ≡ kinds.Text
@@ -391,12 +380,7 @@ module _ (d : Doc) (s : IsDocument d) where
       go : (t : Tree) → kind_of t ≡ kinds.Text → Fits d.text t → e.source ≡ extent (source_of t)
           → (source : Source) × (characters : List Spelt) × (e.source ≡ extent source) × (string_meaning t ≡ meaning characters) × Lies d.text source × IsString source.bytes characters
       go (Leaf s (Str cs)) k f x = (s, cs, x, refl, f.0, f.1)
-      go (Leaf s Num) k f x = absurd (cc)
-      go (Leaf s Null) k f x = absurd (cc)
-      go (Leaf s True) k f x = absurd (cc)
-      go (Leaf s False) k f x = absurd (cc)
-      go (Arr s es) k f x = absurd (cc)
-      go (Obj s ms) k f x = absurd (cc)
+      go _ k f x = absurd (cc)
 
   pub text_short : length d.text ≤ text_limit
   text_short = elim (cases_lt text_limit (length d.text)) [ inl g ↦ absurd (s.accepted.1 TooLong g) | inr g ↦ g ]
@@ -405,27 +389,18 @@ pub nameless : (n : Node) → (HasName n → ⊥) → (cs : List ℕ) → false 
 nameless n f cs = go n.way_up (λ name rest e. f (name, (rest, e)))
   where
     go : (way : List Step) → ((name : List ℕ) (rest : List Step) → way ≡ key name ∷ rest → ⊥) → false ≡ key_is cs way
-    go [] f = refl
-    go (place i ∷ rest) f = refl
     go (key k ∷ rest) f = absurd (f k rest refl)
+    go _ f = refl
 
 pub string_length : (t : Tree) → kind_of t ≡ kinds.Text → (scalars : List ℕ) → scalars ≡ string_meaning t → Some (length scalars) ≡ length_of t
 string_length (Leaf s (Str cs)) k scalars e = ap (λ l. Some (length l)) e
-string_length (Leaf s Num) k scalars e = absurd (cc)
-string_length (Leaf s Null) k scalars e = absurd (cc)
-string_length (Leaf s True) k scalars e = absurd (cc)
-string_length (Leaf s False) k scalars e = absurd (cc)
-string_length (Arr s es) k scalars e = absurd (cc)
-string_length (Obj s ms) k scalars e = absurd (cc)
+string_length _ k scalars e = absurd (cc)
 
 pub no_length : (t : Tree) → (kind_of t ≡ kinds.Array → ⊥) → (kind_of t ≡ kinds.Object → ⊥) → (kind_of t ≡ kinds.Text → ⊥) → None ≡ length_of t
-no_length (Leaf s Null) a o x = refl
-no_length (Leaf s True) a o x = refl
-no_length (Leaf s False) a o x = refl
-no_length (Leaf s Num) a o x = refl
 no_length (Leaf s (Str cs)) a o x = absurd (x refl)
 no_length (Arr s es) a o x = absurd (a refl)
 no_length (Obj s ms) a o x = absurd (o refl)
+no_length _ a o x = refl
 
 -- from the fields to the value
 pub told : (i d : Doc) → i ≡ d → IsDocument i → IsDocument d

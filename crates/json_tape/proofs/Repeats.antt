@@ -34,9 +34,8 @@ module _ {K : Type 0} (same : K → K → Bool) where
   next_over xs i h = go (drop i xs) (let l = length-drop i xs in omega arith)
     where
       go : (ys : List K) → length ys ≤ 1 → repeats_next_by same ys ≡ false
-      go [] l = refl
-      go (y ∷ []) l = refl
       go (y ∷ z ∷ ys) l = absurd (omega arith)
+      go _ l = refl
 
 -- what is in order
 module _ {K : Type 0} (same : K → K → Bool) (order : K → K → Ordering) (ties : (x y : K) → same x y ≡ eq_by_cmp order x y) (symm : (x y : K) → same x y ≡ same y x) (total : IsTotalOrder order) where
@@ -67,19 +66,17 @@ module _ {K : Type 0} (same : K → K → Bool) (order : K → K → Ordering) (
   no_repeats (x ∷ xs) h = let e = none_same x xs (IsDistinct-head tied x xs h) in rw e (no_repeats xs (IsDistinct-tail tied x xs h))
 
   next_repeats : (xs : List K) → repeats_next_by same xs ≡ true → repeats_by same xs ≡ true
-  next_repeats [] h = absurd (cc)
-  next_repeats (x ∷ []) h = absurd (cc)
   next_repeats (x ∷ y ∷ ys) h = go (same x y) refl h (λ k. next_repeats (y ∷ ys) k)
     where
       go : (t : Bool) → same x y ≡ t → (t || repeats_next_by same (y ∷ ys)) ≡ true → (repeats_next_by same (y ∷ ys) ≡ true → repeats_by same (y ∷ ys) ≡ true) → repeats_by same (x ∷ y ∷ ys) ≡ true
       go true e k ih = let f = symm y x ∙ e in rw f refl
       go false e k ih = or_right (list_any (λ z. same z x) (y ∷ ys)) (repeats_by same (y ∷ ys)) (ih k)
+  next_repeats _ h = absurd (cc)
 
   apart : (xs : List K) (k : ℕ) (d : K) → repeats_next_by same xs ≡ false → suc k < length xs → same (get_or xs k d) (get_or xs (suc k) d) ≡ false
-  apart [] k d h l = absurd (omega arith)
-  apart (x ∷ []) k d h l = absurd (omega arith)
   apart (x ∷ y ∷ ys) zero d h l = (neither (same x y) (repeats_next_by same (y ∷ ys)) h).0
   apart (x ∷ y ∷ ys) (suc k) d h l = apart (y ∷ ys) k d (neither (same x y) (repeats_next_by same (y ∷ ys)) h).1 (omega arith)
+  apart _ k d h l = absurd (omega arith)
 
   below : (a b : K) → is_lt (order b a) ≡ false → same a b ≡ false → order a b ≡ Less
   below a b h n = total.antisymm a b ∙ go (order b a) refl h

@@ -39,10 +39,9 @@ get_map f (x ∷ xs) (suc k) a h = get_map f xs k a (omega arith)
 -- what is strictly in order, by two places
 pub in_order : {K : Type 0} (order : K → K → Ordering) (xs : List K) (d : K) → IsStrictlySortedBy order xs → (j k : ℕ) → j < k → k < length xs → order (get_or xs j d) (get_or xs k d) ≡ Less
 unfolding IsStrictlySortedBy
-in_order order [] d s j k h l = absurd (omega arith)
-in_order order (x ∷ xs) d s j zero h l = absurd (omega arith)
 in_order order (x ∷ xs) d s zero (suc k) h l = All-from_recursion (λ y. order x y ≡ Less) xs s.0 k d (omega arith)
 in_order order (x ∷ xs) d s (suc j) (suc k) h l = in_order order xs d s.1 j k (omega arith) (omega arith)
+in_order order _ d s j _ h l = absurd (omega arith)
 
 abbrev pub same_key : Keyed → Keyed → Bool
 same_key = on key_name (pointwise nat_eq)
@@ -183,11 +182,7 @@ kept_as text tape n objects starts hashes members ys moved sorted kept (ms, o) n
 -- what the number of its members tells of an object
 object_kind : (kind : Kind) → is_object kind ≡ true → kind ≡ kinds.Object
 object_kind kinds.Object h = refl
-object_kind kinds.Null h = absurd (false≢true h)
-object_kind (kinds.Bool b) h = absurd (false≢true h)
-object_kind kinds.Number h = absurd (false≢true h)
-object_kind kinds.Text h = absurd (false≢true h)
-object_kind kinds.Array h = absurd (false≢true h)
+object_kind _ h = absurd (false≢true h)
 
 pub members_are : (e : Entry) → 0 < members_in e → (e.kind ≡ kinds.Object) × (members_in e ≡ e.children)
 members_are e h = elim (cases_Bool (is_object e.kind)) [

@@ -58,7 +58,6 @@ word_last h (b ∷ bs) small fits some few =
 
 word_at : (a b c d e f g h : ℕ) → a < 256 → b < 256 → c < 256 → d < 256 → e < 256 → f < 256 → g < 256 → h < 256
     → (len : ℕ) → 1 ≤ len → len ≤ 8 → (from_be_bytes w64 (a ∷ b ∷ c ∷ d ∷ e ∷ f ∷ g ∷ h ∷ []) / 2 ^ (64 - 8 * len) ≡ digits 0 (take len (a ∷ b ∷ c ∷ d ∷ e ∷ f ∷ g ∷ h ∷ []))) × (digits 0 (take len (a ∷ b ∷ c ∷ d ∷ e ∷ f ∷ g ∷ h ∷ [])) < 0x10000000000000000)
-word_at a b c d e f g h ha hb hc hd he hf hg hh zero some few = absurd (omega arith)
 word_at a b c d e f g h ha hb hc hd he hf hg hh (suc zero) some few = (omega arith, omega arith)
 word_at a b c d e f g h ha hb hc hd he hf hg hh (suc (suc zero)) some few = (omega arith, omega arith)
 word_at a b c d e f g h ha hb hc hd he hf hg hh (suc (suc (suc zero))) some few = (omega arith, omega arith)
@@ -67,25 +66,16 @@ word_at a b c d e f g h ha hb hc hd he hf hg hh (suc (suc (suc (suc (suc zero)))
 word_at a b c d e f g h ha hb hc hd he hf hg hh (suc (suc (suc (suc (suc (suc zero)))))) some few = (omega arith, omega arith)
 word_at a b c d e f g h ha hb hc hd he hf hg hh (suc (suc (suc (suc (suc (suc (suc zero))))))) some few = (omega arith, omega arith)
 word_at a b c d e f g h ha hb hc hd he hf hg hh (suc (suc (suc (suc (suc (suc (suc (suc zero)))))))) some few = (omega arith, omega arith)
-word_at a b c d e f g h ha hb hc hd he hf hg hh (suc (suc (suc (suc (suc (suc (suc (suc (suc len))))))))) some few = absurd (omega arith)
+word_at a b c d e f g h ha hb hc hd he hf hg hh _ some few = absurd (omega arith)
 
 eight : (bs : List ℕ) → length bs ≡ 8 → bs ≡ get_or bs 0 0 ∷ get_or bs 1 0 ∷ get_or bs 2 0 ∷ get_or bs 3 0 ∷ get_or bs 4 0 ∷ get_or bs 5 0 ∷ get_or bs 6 0 ∷ get_or bs 7 0 ∷ []
-eight ([]) l = absurd (omega arith)
-eight (a ∷ []) l = absurd (omega arith)
-eight (a ∷ b ∷ []) l = absurd (omega arith)
-eight (a ∷ b ∷ c ∷ []) l = absurd (omega arith)
-eight (a ∷ b ∷ c ∷ d ∷ []) l = absurd (omega arith)
-eight (a ∷ b ∷ c ∷ d ∷ e ∷ []) l = absurd (omega arith)
-eight (a ∷ b ∷ c ∷ d ∷ e ∷ f ∷ []) l = absurd (omega arith)
-eight (a ∷ b ∷ c ∷ d ∷ e ∷ f ∷ g ∷ []) l = absurd (omega arith)
 eight (a ∷ b ∷ c ∷ d ∷ e ∷ f ∷ g ∷ h ∷ []) l = refl
-eight (a ∷ b ∷ c ∷ d ∷ e ∷ f ∷ g ∷ h ∷ i ∷ bs) l = absurd (omega arith)
+eight _ l = absurd (omega arith)
 
 take_fewer : (n m : ℕ) (xs : List ℕ) → n ≤ m → take n (take m xs) ≡ take n xs
-take_fewer zero m xs h = refl
 take_fewer (suc n) zero xs h = absurd (omega arith)
-take_fewer (suc n) (suc m) [] h = refl
 take_fewer (suc n) (suc m) (x ∷ xs) h = ap (λ l. x ∷ l) (take_fewer n m xs (omega arith))
+take_fewer _ _ _ h = refl
 
 plain_front : (bs r : List ℕ) → ((k : ℕ) → k < length bs → (get_or bs k 0 < 128) × (get_or bs k 0 ≢ 92)) → scalars_in (chars (bs ++ r)) ≡ bs ++ scalars_in (chars r)
 plain_front [] r h = refl

@@ -80,10 +80,7 @@ source_some (Obj s ms) h = h.0
 -- the bytes of a value are those of its tree, and there are some
 pub value_bytes : {p : ℕ} {bs : List ℕ} {t : Tree} → IsValue p bs t → (source_of t).bytes ≡ bs
 value_bytes (scalar h) = refl
-value_bytes (no_array s h) = refl
-value_bytes (array s body s' h k h') = refl
-value_bytes (no_object s h) = refl
-value_bytes (object s body s' h k h') = refl
+value_bytes _ = refl
 
 pub value_some : {p : ℕ} {bs : List ℕ} {t : Tree} → IsValue p bs t → 0 < length bs
 value_some {t = t} h = let n = source_some t (value_shown h) in let e = ap length (value_bytes h) in omega arith

@@ -277,11 +277,7 @@ label_shown cells sides v n c e q l f g =
 
 is_holder : (kind : Kind) → is_object kind ≡ true → is_container kind ≡ true
 is_holder kinds.Object h = refl
-is_holder kinds.Null h = absurd (false≢true h)
-is_holder (kinds.Bool b) h = absurd (false≢true h)
-is_holder kinds.Number h = absurd (false≢true h)
-is_holder kinds.Text h = absurd (false≢true h)
-is_holder kinds.Array h = absurd (false≢true h)
+is_holder _ h = absurd (false≢true h)
 
 pub object_holds : (c : Cell) → is_object (cell_kind c) ≡ true → holds c ≡ true
 unfolding holds
@@ -317,12 +313,8 @@ short_leaf cells sides v n c e len q l f h small short s g =
 -- ---- Strings
 
 no_text_holds : (kind : Kind) → is_container kind ≡ true → is_text kind ≡ false
-no_text_holds kinds.Array h = refl
-no_text_holds kinds.Object h = refl
-no_text_holds kinds.Null h = refl
-no_text_holds (kinds.Bool b) h = refl
-no_text_holds kinds.Number h = refl
 no_text_holds kinds.Text h = absurd (false≢true h)
+no_text_holds _ h = refl
 
 text_seen : (least k : ℕ) (c : Cell) (s : Side) (b : Bool) → is_container (cell_kind c) ≡ b → is_text_of least (cond b (container_seen c s) (leaf_seen k c)) ≡ (is_text (cell_kind c) && leb least (cell_span c))
 text_seen least k c s false h = refl
@@ -343,11 +335,7 @@ no_text_more least v from n before here k a b e g = elim (cases_lt k n) [
 
 kind_text : (kind : Kind) (b : Bool) → (is_text kind && b) ≡ true → kind ≡ kinds.Text
 kind_text kinds.Text b h = refl
-kind_text kinds.Array b h = absurd (false≢true h)
-kind_text kinds.Object b h = absurd (false≢true h)
-kind_text kinds.Null b h = absurd (false≢true h)
-kind_text (kinds.Bool x) b h = absurd (false≢true h)
-kind_text kinds.Number b h = absurd (false≢true h)
+kind_text _ b h = absurd (false≢true h)
 
 pub text_kind : (least : ℕ) (e : Entry) → is_text_of least e ≡ true → e.kind ≡ kinds.Text
 text_kind least e h = kind_text e.kind (leb least e.source.len) h

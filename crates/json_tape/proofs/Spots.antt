@@ -89,8 +89,7 @@ inner way k (Obj s ms) = spots_members way k (suc k) ms
 
 pub top_first : (way : List Step) (up : ℕ) (label : Label) (later : List Node) (k : ℕ) (t : Tree) → spots_from way up label later k t ≡ top way up label later k t ∷ inner way k t
 top_first way up label later k (Leaf s c) = refl
-top_first way up label later k (Arr s es) = refl
-top_first way up label later k (Obj s ms) = refl
+top_first way up label later k _ = refl
 
 pub at_place : {A : Type 0} (pre : List A) (x : A) (post : List A) (d : A) → get_or (pre ++ (x ∷ post)) (length pre) d ≡ x
 at_place [] x post d = refl

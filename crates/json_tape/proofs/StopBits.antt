@@ -18,8 +18,7 @@ stands_alone n i v x few inside lane clear =
 
 not_both : (p q : Bool) → top 7 (bit_and (cond p 255 0) (cond q 255 0)) ≡ false → p ≡ true → q ≡ true → ⊥
 not_both true true e h k = absurd (cc)
-not_both true false e h k = absurd (cc)
-not_both false q e h k = absurd (cc)
+not_both _ _ e h k = absurd (cc)
 
 -- no u stands in the lane of the second where a backslash stands in that of the first
 pub no_unit_lane : (n i : ℕ) (v w : List ℕ) (x y : ℕ) → n ≤ 64 → i < n → HasLane n i v x → HasLane n i w y

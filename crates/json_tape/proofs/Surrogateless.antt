@@ -42,9 +42,8 @@ taken_none : (n : ℕ) (bs : List ℕ) → HasNoSurrogates bs → HasNoSurrogate
 taken_none n bs h k e u = let r = h k (taken n k 91 bs e) (taken n (suc k) 116 bs u) in (λ d. r.0 (taken n (suc (suc k)) 67 bs d), λ d. r.1 (taken n (suc (suc k)) 99 bs d))
 
 dropped_none : (n : ℕ) (bs : List ℕ) → HasNoSurrogates bs → HasNoSurrogates (drop n bs)
-dropped_none zero bs h = h
-dropped_none (suc n) [] h = h
 dropped_none (suc n) (b ∷ bs) h = dropped_none n bs (λ k. h (suc k))
+dropped_none _ _ h = h
 
 part_none : (text : List ℕ) (x : Extent) → HasNoSurrogates text → HasNoSurrogates (bytes_at text x)
 part_none text x h = taken_none x.len (drop x.start text) (dropped_none x.start text h)

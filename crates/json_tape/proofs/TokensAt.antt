@@ -34,12 +34,8 @@ pub none_at : (such : Token → Bool) (bytes : List ℕ) (i : ℕ) → i < lengt
 none_at such bytes i h q e = λ tok at. absurd (no_string at.is_token (drop (i + 1) bytes) e (ap (λ b. b ∷ drop (i + 1) bytes) (sym q) ∙ sym (drop_more bytes i 0 h) ∙ at.stands))
 
 sign_no_text : (p b : ℕ) (tok : Token) → sign_at p b ≡ Some tok → is_text tok ≡ false
-sign_no_text p b (Opening shape q) h = refl
-sign_no_text p b (Closing shape q) h = refl
-sign_no_text p b Comma h = refl
-sign_no_text p b Between h = refl
 sign_no_text p b (Text x) h = absurd (grind (arith, nat_tests))
-sign_no_text p b (Word x kind) h = refl
+sign_no_text p b _ h = refl
 
 no_text : {p : ℕ} {vs rest : List ℕ} {tok : Token} → IsToken p vs tok rest → (b : ℕ) (cs : List ℕ) → b ∷ cs ≡ vs ++ rest → b ≢ 34 → is_text tok ≡ false
 no_text (sign {p = p} {b = b'} {tok = tok} h) b cs e n = sign_no_text p b' tok h
@@ -61,13 +57,10 @@ word_some bs kinds.Array h = absurd h
 word_some bs kinds.Object h = absurd h
 
 pub word_scalar : (bs : List ℕ) (k : Kind) → IsWord bs k → is_container k ≡ false
-word_scalar bs kinds.Number h = refl
-word_scalar bs kinds.Null h = refl
-word_scalar bs (kinds.Bool true) h = refl
-word_scalar bs (kinds.Bool false) h = refl
 word_scalar bs kinds.Text h = absurd h
 word_scalar bs kinds.Array h = absurd h
 word_scalar bs kinds.Object h = absurd h
+word_scalar bs _ h = refl
 
 long_enough : (bs : List ℕ) → bs ≢ [] → 0 < length bs
 long_enough [] n = absurd (n refl)
@@ -90,21 +83,17 @@ word_at bytes bs i k h e r w =
 
 -- what the machine refuses at first begins no value
 refused_begins : (tok : Token) → step tok start ≡ None → begins_value tok ≡ false
-refused_begins (Opening shape p) h = absurd (cc)
 refused_begins (Closing shape p) h = refl
 refused_begins Comma h = refl
 refused_begins Between h = refl
-refused_begins (Text x) h = absurd (cc)
-refused_begins (Word x kind) h = absurd (cc)
+refused_begins _ h = absurd (cc)
 
 sign_begins : (p b : ℕ) (tok : Token) → sign_at p b ≡ Some tok → b ≢ 91 → b ≢ 123 → begins_value tok ≡ false
 sign_begins p b (Opening Array q) h m n = absurd (m (grind (arith, nat_tests)))
 sign_begins p b (Opening Object q) h m n = absurd (n (grind (arith, nat_tests)))
-sign_begins p b (Closing shape q) h m n = refl
-sign_begins p b Comma h m n = refl
-sign_begins p b Between h m n = refl
 sign_begins p b (Text x) h m n = absurd (grind (arith, nat_tests))
 sign_begins p b (Word x kind) h m n = absurd (grind (arith, nat_tests))
+sign_begins p b _ h m n = refl
 
 atom_by_class : (b : ℕ) → class b ≡ Atom → is_atom b ≡ true
 atom_by_class b h = grind (arith, nat_tests)
@@ -134,28 +123,17 @@ size (Word x kind) = x.len
 size _ = 1
 
 sign_size : (p b : ℕ) (tok : Token) → sign_at p b ≡ Some tok → size tok ≡ 1
-sign_size p b (Opening shape q) h = refl
-sign_size p b (Closing shape q) h = refl
-sign_size p b Comma h = refl
-sign_size p b Between h = refl
 sign_size p b (Text x) h = absurd (grind (arith, nat_tests))
 sign_size p b (Word x kind) h = absurd (grind (arith, nat_tests))
+sign_size p b _ h = refl
 
 pub token_size : {p : ℕ} {vs rest : List ℕ} {tok : Token} → IsToken p vs tok rest → size tok ≡ length vs
 token_size (sign {p = p} {b = b} {tok = tok} h) = sign_size p b tok h
-token_size (text cs h) = refl
-token_size (word a n k) = refl
+token_size _ = refl
 
 pub ends_at : (i : ℕ) (l : Lexed) → end_of i l ≡ i + size (token_of i l)
 ends_at i (lexed.Text x) = refl
-ends_at i (lexed.Number x) = refl
-ends_at i (lexed.Word kinds.Text x) = refl
-ends_at i (lexed.Word kinds.Null x) = refl
-ends_at i (lexed.Word (kinds.Bool b) x) = refl
-ends_at i (lexed.Word kinds.Number x) = refl
-ends_at i (lexed.Word kinds.Array x) = refl
-ends_at i (lexed.Word kinds.Object x) = refl
-ends_at i (lexed.Opens shape) = refl
+ends_at i _ = refl
 
 -- ---- The mark
 

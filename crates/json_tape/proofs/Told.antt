@@ -1,7 +1,7 @@
 -- The tree told from the entries of a text's tree is that tree.
 use Rattle.std.proofs.Common.{◌≡◌, ◌<◌, ◌^◌, ℕ, suc, ◌+◌, List, [], ◌∷◌, ◌++◌, length, Option, Some, None, refl, sym, ap, ◌∙◌, subst, append_assoc}
 use Rattle.std.proofs.lemmas.List.{take_at, drop_at}
-use Rattle.json_tape.specs.Tree.{Source, Name, Scalar, Null, True, False, Num, Str, Tree, Leaf, Arr, Obj, Elements, NoElement, Element, Members, NoMember, Member}
+use Rattle.json_tape.specs.Tree.{Source, Name, Scalar, Str, Tree, Leaf, Arr, Obj, Elements, NoElement, Element, Members, NoMember, Member}
 use Rattle.json_tape.specs.Letters.{IsString}
 use Rattle.json_tape.specs.Grammar.{IsScalarText, IsText}
 use Rattle.json_tape.specs.Nodes.{size}
@@ -21,11 +21,8 @@ source_told : (text : List ℕ) (s : Source) → Lies text s → source_in text 
 source_told text s l = ap (λ b. record { place = s.place; bytes = b }) (sym l)
 
 scalar_told : (s : Source) (c : Scalar) (bs : List Built) → IsScalarText s.bytes c → tree_built (kind_of_scalar c) s bs ≡ Leaf s c
-scalar_told s Null bs h = refl
-scalar_told s True bs h = refl
-scalar_told s False bs h = refl
-scalar_told s Num bs h = refl
 scalar_told s (Str cs) bs h = ap (λ l. Leaf s (Str l)) (spelt_is s.bytes cs h)
+scalar_told s _ bs h = refl
 
 -- how a name shows in the entries
 abbrev IsNamed : List ℕ → Label → Option Name → Type 0

@@ -4,7 +4,7 @@ use Rattle.std.specs.Prelude.{slice_get}
 use Rattle.std.specs.List.{list_any}
 use Rattle.std.specs.Cmp.Lexicographic.{bytes_decides}
 use Rattle.std.proofs.lemmas.Bool.{cases_lt}
-use Rattle.json_tape.specs.Tree.{Name, Null, True, False, Num, Str, Tree, Leaf, Arr, Obj, Members, NoMember, Member}
+use Rattle.json_tape.specs.Tree.{Name, Tree, Leaf, Arr, Obj, Members, NoMember, Member}
 use Rattle.json_tape.specs.Meaning.{Means, HasLone, meaning}
 use Rattle.json_tape.specs.Parts.{IsNameOf, first_name, later_name}
 use Rattle.json_tape.specs.Verdict.{names, HasTwins, Applies}
@@ -23,6 +23,7 @@ use Rattle.json_tape.proofs.Numbers.{entry_at}
 use Rattle.json_tape.proofs.Parts.{part_of_at, placed}
 use Rattle.json_tape.proofs.Judging.{part_with, number_below}
 use Rattle.json_tape.proofs.Entries.{kind_is}
+use Rattle.json_tape.proofs.One.{no_object_kind}
 
 same_is : (x y : List ℕ) → is_same x y ≡ true → x ≡ y
 same_is x y h = (bytes_decides x y).0 h
@@ -47,11 +48,10 @@ meant_at (Member m v ms) x h = go (is_same (meaning m.characters) x) refl h (λ 
     go false e k ih = let r = ih k in record { number = suc r.number; name = r.name; stands = r.stands; has = later_name r.has; means = r.means }
 
 at_meant : (ms : Members) (x : List ℕ) (k : ℕ) (n : Name) → slice_get (names ms) k ≡ Some n → meaning n.characters ≡ x → list_any (λ y. is_same y x) (meanings ms) ≡ true
-at_meant NoMember x zero n e f = absurd (cc)
-at_meant NoMember x (suc k) n e f = absurd (cc)
 at_meant (Member m v ms) x zero n e f =
     let g : m ≡ n = cc in let t = is_itself (meaning m.characters) x (ap (λ (y : Name). meaning y.characters) g ∙ f) in rw t refl
 at_meant (Member m v ms) x (suc k) n e f = or_right (is_same (meaning m.characters) x) (list_any (λ y. is_same y x) (meanings ms)) (at_meant ms x k n e f)
+at_meant _ x _ n e f = absurd (cc)
 
 -- the names that come again are twins, where each has a meaning
 abbrev AreTwins : Members → Type 0
@@ -68,19 +68,17 @@ twins_of (Member m v ms) all h = go (list_any (λ y. is_same y (meaning m.charac
     go false e k ih = let (i, j, n, o, vs, l, a, b, p, q) = ih k in (suc i, suc j, n, o, vs, omega arith, a, b, p, q)
 
 twins_repeat : (ms : Members) (j k : ℕ) (m n : Name) (vs : List ℕ) → j < k → slice_get (names ms) j ≡ Some m → slice_get (names ms) k ≡ Some n → meaning m.characters ≡ vs → meaning n.characters ≡ vs → repeats (meanings ms) ≡ true
-twins_repeat NoMember zero k m n vs l e f p q = absurd (cc)
-twins_repeat NoMember (suc j) k m n vs l e f p q = absurd (cc)
 twins_repeat (Member o v ms) j zero m n vs l e f p q = absurd (omega arith)
 twins_repeat (Member o v ms) zero (suc k) m n vs l e f p q =
     let g : o ≡ m = cc in
     let t = at_meant ms (meaning o.characters) k n f (q ∙ sym p ∙ sym (ap (λ (y : Name). meaning y.characters) g)) in rw t refl
 twins_repeat (Member o v ms) (suc j) (suc k) m n vs l e f p q =
     or_right (list_any (λ y. is_same y (meaning o.characters)) (meanings ms)) (repeats (meanings ms)) (twins_repeat ms j k m n vs (omega arith) e f p q)
+twins_repeat _ _ k m n vs l e f p q = absurd (cc)
 
 few_names : (ms : Members) → member_count ms ≤ 1 → repeats (meanings ms) ≡ false
-few_names NoMember h = refl
-few_names (Member m v NoMember) h = refl
 few_names (Member m v (Member n w ms)) h = absurd (omega arith)
+few_names _ h = refl
 
 -- the entry of an object is that of its members
 pub object_of : (text : List ℕ) (tape : List Entry) (t : Tree) → IsText text t → Stands tape t → (n : ℕ) (d : Entry) → n < length tape → (get_or tape n d).kind ≡ kinds.Object → (ms : Members) × IsObject text tape n ms
@@ -91,11 +89,7 @@ object_of text tape t h s n d l k =
     go : (part : Tree) (up : ℕ) (label : Label) → IsAt t 0 Top 0 n up label part → kind_of part ≡ kinds.Object → (ms : Members) × IsObject text tape n ms
     go (Obj x ms) up label a k = (ms, record { tree = t; source = x; up = up; label = label; is_text = h; stands = s; is_at = a })
     go (Arr x es) up label a k = absurd (cc)
-    go (Leaf x Null) up label a k = absurd (cc)
-    go (Leaf x True) up label a k = absurd (cc)
-    go (Leaf x False) up label a k = absurd (cc)
-    go (Leaf x Num) up label a k = absurd (cc)
-    go (Leaf x (Str cs)) up label a k = absurd (cc)
+    go (Leaf x c) up label a k = absurd (no_object_kind c k)
 
 module _ (text : List ℕ) (tape : List Entry) (json : IsJson text) (stands : StandsForAll text tape) where
   pub object_at : (n : ℕ) (d : Entry) → n < length tape → (get_or tape n d).kind ≡ kinds.Object → (ms : Members) × IsObject text tape n ms

@@ -60,12 +60,11 @@ unfolding is_set
 set_mask ms i = ap (λ n. n == 1) (bit_mask_l ms i) ∙ bit_test (get_or ms i false)
 
 same_bit : (m n : ℕ) → m < 2 → n < 2 → (m == 1) ≡ (n == 1) → m ≡ n
-same_bit zero zero h k e = refl
 same_bit zero (suc zero) h k e = absurd (true≢false (sym e))
 same_bit (suc zero) zero h k e = absurd (true≢false e)
-same_bit (suc zero) (suc zero) h k e = refl
 same_bit (suc (suc m)) n h k e = absurd (omega (arith, h))
 same_bit m (suc (suc n)) h k e = absurd (omega (arith, k))
+same_bit _ _ h k e = refl
 
 same_word : (word : ℕ) (ms : List Bool) → word < 2 ^ 64 → length ms ≡ 64 → HasBits word (λ i. get_or ms i false) → word ≡ mask_l ms
 unfolding is_set
@@ -148,14 +147,12 @@ none_set e (b ∷ bs) h = go (e && eqb b 117) (none_set (escapes e b) bs) h
     go false later h = later (omega (arith, h))
 
 standing_front : (n : ℕ) (e : Bool) (bs : List ℕ) → take n (standing_bits e bs) ≡ standing_bits e (take n bs)
-standing_front zero e bs = refl
-standing_front (suc n) e [] = refl
 standing_front (suc n) e (b ∷ bs) = ap (λ l. stands e b ∷ l) (standing_front n (escapes e b) bs)
+standing_front _ e _ = refl
 
 unit_front : (n : ℕ) (e : Bool) (bs : List ℕ) → take n (unit_bits e bs) ≡ unit_bits e (take n bs)
-unit_front zero e bs = refl
-unit_front (suc n) e [] = refl
 unit_front (suc n) e (b ∷ bs) = ap (λ l. (e && eqb b 117) ∷ l) (unit_front n (escapes e b) bs)
+unit_front _ e _ = refl
 
 -- ---- In parts
 

@@ -1,5 +1,5 @@
 -- Where no u is escaped, a string means as many scalar values as characters that escape none.
-use Rattle.std.proofs.Common.{◌≡◌, ℕ, suc, ◌+◌, ◌/◌, ◌<◌, ◌≤◌, inl, inr, None, Bool, true, false, not, cond, ◌&&◌, ◌||◌, eqb, ltb, leb, List, [], ◌∷◌, ◌++◌, length, refl, sym, ap, ◌∙◌, subst, arith, true≢false}
+use Rattle.std.proofs.Common.{◌≡◌, ℕ, suc, ◌+◌, ◌/◌, ◌<◌, ◌≤◌, inl, inr, None, Bool, true, false, not, cond, ◌&&◌, ◌||◌, eqb, ltb, leb, List, ◌∷◌, ◌++◌, length, refl, sym, ap, ◌∙◌, subst, arith, true≢false}
 use Rattle.std.specs.Prelude.{IsUtf8}
 use Rattle.std.specs.Str.{chars}
 use Rattle.std.proofs.lemmas.Bool.{cases_lt}
@@ -112,8 +112,6 @@ behind false q h = (refl, h)
 behind true q h = absurd (true≢false h)
 
 as_many : (e : Bool) (cs : List ℕ) → has_unit e (encodes cs) ≡ false → length (meaning_after None (spelt_from (mode e) 0 cs)) ≡ standing e (encodes cs)
-as_many true [] h = refl
-as_many false [] h = refl
 as_many true (c ∷ cs) h =
     let parts = behind (eqb c 117) (has_unit (escapes true c) (encodes cs)) (sym (one_unit true c (encodes cs)) ∙ h) in
     let none : escapes true c ≡ false = never (eqb c 92) in
@@ -131,6 +129,7 @@ as_many false (c ∷ cs) h = go (eqb c 92) (sym (one_unit false c (encodes cs)) 
         → length (meaning_after None (cond t (spelt_from Escape 0 cs) (Plain c ∷ spelt_from Between 0 cs))) ≡ standing false (encode c ++ encodes cs)
     go true h e escaped plain = escaped h ∙ sym e
     go false h e escaped plain = ap suc (plain h) ∙ sym e
+as_many _ _ h = refl
 
 pub scalars_standing : (bs : List ℕ) → IsUtf8 bs → has_unit false bs ≡ false → standing false bs ≡ length (scalars_in (chars bs))
 scalars_standing bs u h =

@@ -3,7 +3,7 @@ use Rattle.std.proofs.Common.{◌≡◌, ℕ, zero, suc, ◌+◌, ◌<◌, ◌�
 use Rattle.json_tape.specs.Tree.{Name, Tree, source_of, Leaf, Arr, Obj, Elements, NoElement, Element, Members, NoMember, Member, then_element, then_member}
 use Rattle.json_tape.specs.Meaning.{meaning}
 use Rattle.json_tape.specs.Nodes.{Node, Step, key, place, way_size, size, elements_from, members_from}
-use Rattle.json_tape.specs.Grammar.{IsValue, scalar, no_array, array, no_object, object, IsElements, one_element, next_element, IsMembers, one_member, next_member, IsMember, member, IsText}
+use Rattle.json_tape.specs.Grammar.{IsValue, array, object, IsElements, one_element, next_element, IsMembers, one_member, next_member, IsMember, member, IsText}
 use Rattle.json_tape.specs.Tape.{Label, Top, Index, Named, element_count, extent}
 use Rattle.json_tape.specs.Document.{Doc, Spot, IsDocument, spots, spots_from, spots_elements, spots_members, tree_of, root_of, node_at, count}
 use Rattle.json_tape.proofs.Shown.{value_bytes, value_some}
@@ -46,11 +46,9 @@ elements_many (next_element front s s' bs {es = es} {t = t} h k k' g) =
 
 mutual
   value_held : {p : ℕ} {bs : List ℕ} {t : Tree} → IsValue p bs t → Held t
-  value_held (scalar h) = tt
-  value_held (no_array s h) = tt
   value_held (array s body s' h k h') = elements_held k _ (omega (arith, length-append (s ++ body ++ s') (93 ∷ []), length-append (s ++ body) s', length-append s body))
-  value_held (no_object s h) = tt
   value_held (object s body s' h k h') = members_held k _ (omega (arith, length-append (s ++ body ++ s') (125 ∷ []), length-append (s ++ body) s', length-append s body))
+  value_held _ = tt
 
   elements_held : {p : ℕ} {bs : List ℕ} {es : Elements} → IsElements p bs es → (room : ℕ) → length bs < room → HeldElements room 0 es
   elements_held (one_element h) room l = let e = ap length (value_bytes h) in (omega arith, value_held h, tt)

@@ -49,9 +49,8 @@ drop_twice (b ∷ bs) (suc a) n = let z : suc (a + n) ≡ suc a + n = omega arit
 
 minus_part : (bs : List ℕ) (start : ℕ) → start ≤ 1 → (start ≡ 1 → get_or bs 0 0 ≡ 45) → start < length bs → Optional IsMinus (take start bs)
 minus_part bs zero l m i = inl refl
-minus_part [] (suc zero) l m i = absurd (omega arith)
 minus_part (b ∷ bs) (suc zero) l m i = inr (ap (λ x. x ∷ []) (m refl))
-minus_part bs (suc (suc n)) l m i = absurd (omega arith)
+minus_part _ _ l m i = absurd (omega arith)
 
 number_of : (bs : List ℕ) (start n : ℕ) → start ≤ 1 → (start ≡ 1 → get_or bs 0 0 ≡ 45) → start + suc n ≤ length bs → DigitsStand bs start (start + suc n) → (get_or bs start 0 ≡ 48 → n ≡ 0) → Optional IsFrac (drop (start + suc n) bs) → IsNumber bs
 number_of bs start n one m l digits lead f = record {

@@ -7,16 +7,12 @@ use Rattle.std.specs.List.Sorted.{IsPermutation}
 use Rattle.std.proofs.lemmas.List.Elements.{All-contains}
 use Rattle.std.proofs.lemmas.List.Sorted.{IsPermutation-sym, Contains-permutation}
 use Rattle.std.specs.Cmp.Lexicographic.{bytes_decides}
-use Rattle.json_tape.specs.Tree.{Null, True, False, Num, Str, Tree, Leaf, Arr, Obj, Elements, Members, NoMember, Member}
+use Rattle.json_tape.specs.Tree.{Tree, Arr, Obj, Elements, Members, NoMember, Member}
 use Rattle.json_tape.specs.Meaning.{meaning}
 use Rattle.json_tape.specs.Nodes.{Node, Step, key, place, size, elements_from, members_from, children, is_named, first_where}
 use Rattle.json_tape.specs.Tape.{Label, Top, Index, Named, extent, IsAt, itself, in_array, in_object, IsInElements, in_element, in_later_element, IsInMembers, in_member, in_later_member}
 use Rattle.json_tape.specs.Document.{Doc, Spot, IsDocument, spots, spots_from, spots_elements, spots_members, node_at, count, tree_of, kind_of}
 use Rattle.json_tape.specs.declared.tape.Kind.TheVariants as kinds
-use Rattle.json_tape.specs.declared.tape.Entry.{Entry}
-use Rattle.json_tape.proofs.Entries as entries
-use Rattle.json_tape.proofs.Numbers.{entry_at}
-use Rattle.json_tape.proofs.Judging.{part_with}
 use Rattle.json_tape.specs.Repeats.{IsObject}
 use Rattle.json_tape.specs.Ordered.{Keyed, keyed, key_number, name_at, entry_in, nothing_there, AreNamed, IsOrderOf}
 use Rattle.json_tape.proofs.Spots.{top, inner, one_of, place_is, spot_count}
@@ -24,6 +20,7 @@ use Rattle.json_tape.proofs.Readers.{none_there, kind_is}
 use Rattle.json_tape.proofs.Told.{tree_told}
 use Rattle.json_tape.proofs.KeysLeft.{IsGood, all_good}
 use Rattle.json_tape.proofs.Halving.{one_place}
+use Rattle.json_tape.proofs.TwinNames.{object_of}
 
 -- where the spots of a part stand
 record Stands (all : List Spot) (k n up : ℕ) (label : Label) (t : Tree) : Type 0 where
@@ -188,20 +185,7 @@ module _ (d : Doc) (s : IsDocument d) (name : List ℕ) where
 
 pub object_in : (d : Doc) → IsDocument d → (n : ℕ) → n < count d → kind_of (node_at d n).tree ≡ kinds.Object → (ms : Members) × IsObject d.text d.entries n ms
 unfolding count
-object_in d s n h k =
-    let p = part_with d.entries (tree_of d) n s.tape h in
-    let e = entry_in d.entries n in
-    let here = kind_is d s n h e (get_or_default d.entries n nothing_there e h) ∙ k in
-    go p.tree p.up' p.label' p.is_at (sym (entries.kind_is p.tree p.up' p.label' n) ∙ sym (ap (λ (x : Entry). x.kind) (entry_at d.entries nothing_there s.tape p.is_at)) ∙ here)
-  where
-    go : (t : Tree) (up : ℕ) (label : Label) → IsAt (tree_of d) 0 Top 0 n up label t → kind_of t ≡ kinds.Object → (ms : Members) × IsObject d.text d.entries n ms
-    go (Obj x ms) up label a k = (ms, record { tree = tree_of d; source = x; up = up; label = label; is_text = s.accepted.0; stands = s.tape; is_at = a })
-    go (Arr x es) up label a k = absurd (cc)
-    go (Leaf x Null) up label a k = absurd (cc)
-    go (Leaf x True) up label a k = absurd (cc)
-    go (Leaf x False) up label a k = absurd (cc)
-    go (Leaf x Num) up label a k = absurd (cc)
-    go (Leaf x (Str cs)) up label a k = absurd (cc)
+object_in d s n h k = object_of d.text d.entries (tree_of d) s.accepted.0 s.tape n nothing_there h (kind_is d s n h (entry_in d.entries n) (get_or_default d.entries n nothing_there (entry_in d.entries n) h) ∙ k)
 
 -- a member that was found is a node
 pub found_in : (d : Doc) (hashes members : List ℕ) → AreNamed d.text d.entries hashes members → (m : ℕ) → Contains members m → m < count d

@@ -110,12 +110,8 @@ pub first_spelt : (bytes name : List ℕ) (to : ℕ) → to ≤ 4 → SpellPlain
 first_spelt bytes name to h f k from until = f k from (omega arith)
 
 four : (xs : List ℕ) → length xs ≡ 4 → xs ≡ get_or xs 0 0 ∷ get_or xs 1 0 ∷ get_or xs 2 0 ∷ get_or xs 3 0 ∷ []
-four ([]) l = absurd (omega arith)
-four (a ∷ []) l = absurd (omega arith)
-four (a ∷ b ∷ []) l = absurd (omega arith)
-four (a ∷ b ∷ c ∷ []) l = absurd (omega arith)
 four (a ∷ b ∷ c ∷ d ∷ []) l = refl
-four (a ∷ b ∷ c ∷ d ∷ e ∷ xs) l = absurd (omega arith)
+four _ l = absurd (omega arith)
 
 pub chunk_is : (xs : List ℕ) (at : ℕ) → at + 4 ≤ length xs → chunk at 4 xs ≡ get_or xs at 0 ∷ get_or xs (at + 1) 0 ∷ get_or xs (at + 2) 0 ∷ get_or xs (at + 3) 0 ∷ []
 chunk_is xs at room =

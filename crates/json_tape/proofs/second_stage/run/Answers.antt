@@ -1,4 +1,4 @@
-use Rattle.std.proofs.Common.{refl, ◌-◌, not, eqb, ◌≡◌, ◌≢◌, ◌∙◌, ◌<◌, ◌≤◌, ◌+◌, length, None, Some, sym, ap, subst, arith}
+use Rattle.std.proofs.Common.{refl, ◌-◌, not, eqb, ◌≡◌, ◌≢◌, ◌∙◌, ◌<◌, ◌≤◌, ◌+◌, length, sym, ap, subst, arith}
 use Rattle.std.specs.Prelude.{ℕ, Option, Result, Ok, IfSome}
 use Rattle.std.proofs.Math.Arith.{lt_of_le-ne}
 use Rattle.structural_index.specs.Places.{places}
