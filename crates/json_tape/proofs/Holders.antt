@@ -8,38 +8,23 @@ use Rattle.json_tape.specs.Parts.{IsNameOf, first_name, later_name}
 use Rattle.json_tape.specs.Letters.{IsString}
 use Rattle.json_tape.proofs.Fits.{Lies, FitMembers}
 
-pub record Holder (t : Tree) (up : ℕ) (label : Label) (k : ℕ) (x : Extent) : Type 0 where
+-- an object at a place of such a kind, one of whose names has this extent
+pub record HolderBy (At : ℕ → ℕ → Label → Tree → Type 0) (x : Extent) : Type 0 where
   pub source : Source
   pub members : Members
   pub name : Name
   pub number : ℕ
   pub up' : ℕ
   pub label' : Label
-  pub is_at : IsAt t up label k number up' label' (Obj source members)
+  pub is_at : At number up' label' (Obj source members)
   pub has : IsNameOf members name
   pub is : x ≡ extent name.source
 
-record HolderIn (es : Elements) (up i k : ℕ) (x : Extent) : Type 0 where
-  source : Source
-  members : Members
-  name : Name
-  number : ℕ
-  up' : ℕ
-  label' : Label
-  is_in : IsInElements es up i k number up' label' (Obj source members)
-  has : IsNameOf members name
-  is : x ≡ extent name.source
+abbrev pub Holder : (t : Tree) (up : ℕ) (label : Label) (k : ℕ) → Extent → Type 0
+Holder t up label k = HolderBy (λ n up' label' s. IsAt t up label k n up' label' s)
 
-record HolderAmong (ms : Members) (up k : ℕ) (x : Extent) : Type 0 where
-  source : Source
-  members : Members
-  name : Name
-  number : ℕ
-  up' : ℕ
-  label' : Label
-  is_in : IsInMembers ms up k number up' label' (Obj source members)
-  has : IsNameOf members name
-  is : x ≡ extent name.source
+further : {x : Extent} (At Bt : ℕ → ℕ → Label → Tree → Type 0) → ((n up : ℕ) (label : Label) (s : Tree) → At n up label s → Bt n up label s) → HolderBy At x → HolderBy Bt x
+further At Bt f r = record { source = r.source; members = r.members; name = r.name; number = r.number; up' = r.up'; label' = r.label'; is_at = f r.number r.up' r.label' (Obj r.source r.members) r.is_at; has = r.has; is = r.is }
 
 record Own (ms : Members) (x : Extent) : Type 0 where
   name : Name
@@ -52,30 +37,24 @@ named_same x y e = cc
 mutual
   pub holder : {t s : Tree} {up k n up' : ℕ} {label label' : Label} → IsAt t up label k n up' label' s → (x : Extent) → label' ≡ Named x → (label ≡ Named x) ⊎ Holder t up label k x
   holder itself x e = inl e
-  holder (in_array h) x e =
-      let r = holder_in h x e in
-      inr (record { source = r.source; members = r.members; name = r.name; number = r.number; up' = r.up'; label' = r.label'; is_at = in_array r.is_in; has = r.has; is = r.is })
+  holder (in_array h) x e = inr (further _ _ (λ n u l s i. in_array i) (holder_in h x e))
   holder (in_object {s = s} {ms = ms} h) x e = elim (holder_among h x e) [
     | inl o ↦ inr (record { source = s; members = ms; name = o.name; number = _; up' = _; label' = _; is_at = itself; has = o.has; is = o.is })
-    | inr r ↦ inr (record { source = r.source; members = r.members; name = r.name; number = r.number; up' = r.up'; label' = r.label'; is_at = in_object r.is_in; has = r.has; is = r.is })
+    | inr r ↦ inr (further _ _ (λ n u l s i. in_object i) r)
   ]
 
-  holder_in : {es : Elements} {s : Tree} {up i k n up' : ℕ} {label' : Label} → IsInElements es up i k n up' label' s → (x : Extent) → label' ≡ Named x → HolderIn es up i k x
-  holder_in (in_element h) x e = elim (holder h x e) [
-    | inl f ↦ absurd (cc)
-    | inr r ↦ record { source = r.source; members = r.members; name = r.name; number = r.number; up' = r.up'; label' = r.label'; is_in = in_element r.is_at; has = r.has; is = r.is }
-  ]
-  holder_in (in_later_element h) x e =
-      let r = holder_in h x e in record { source = r.source; members = r.members; name = r.name; number = r.number; up' = r.up'; label' = r.label'; is_in = in_later_element r.is_in; has = r.has; is = r.is }
+  holder_in : {es : Elements} {s : Tree} {up i k n up' : ℕ} {label' : Label} → IsInElements es up i k n up' label' s → (x : Extent) → label' ≡ Named x → HolderBy (λ n up' label' s. IsInElements es up i k n up' label' s) x
+  holder_in (in_element h) x e = elim (holder h x e) [ inl f ↦ absurd (cc) | inr r ↦ further _ _ (λ n u l s i. in_element i) r ]
+  holder_in (in_later_element h) x e = further _ _ (λ n u l s i. in_later_element i) (holder_in h x e)
 
-  holder_among : {ms : Members} {s : Tree} {up k n up' : ℕ} {label' : Label} → IsInMembers ms up k n up' label' s → (x : Extent) → label' ≡ Named x → Own ms x ⊎ HolderAmong ms up k x
+  holder_among : {ms : Members} {s : Tree} {up k n up' : ℕ} {label' : Label} → IsInMembers ms up k n up' label' s → (x : Extent) → label' ≡ Named x → Own ms x ⊎ HolderBy (λ n up' label' s. IsInMembers ms up k n up' label' s) x
   holder_among (in_member {m = m} h) x e = elim (holder h x e) [
     | inl f ↦ inl (record { name = m; has = first_name; is = named_same (extent m.source) x f })
-    | inr r ↦ inr (record { source = r.source; members = r.members; name = r.name; number = r.number; up' = r.up'; label' = r.label'; is_in = in_member r.is_at; has = r.has; is = r.is })
+    | inr r ↦ inr (further _ _ (λ n u l s i. in_member i) r)
   ]
   holder_among (in_later_member h) x e = elim (holder_among h x e) [
     | inl o ↦ inl (record { name = o.name; has = later_name o.has; is = o.is })
-    | inr r ↦ inr (record { source = r.source; members = r.members; name = r.name; number = r.number; up' = r.up'; label' = r.label'; is_in = in_later_member r.is_in; has = r.has; is = r.is })
+    | inr r ↦ inr (further _ _ (λ n u l s i. in_later_member i) r)
   ]
 
 -- the member with this name
