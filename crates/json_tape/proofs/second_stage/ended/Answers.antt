@@ -5,15 +5,12 @@ use Rattle.json_tape.proofs.second_stage.ended.Goals as goal
 
 pub returns-then-sign-ending-clause-arrives : goal.returns-then-sign-ending-clause-arrives
 returns-then-sign-ending-clause-arrives g c = λ text looked exceeds listed inside here is.
-    let other = c.if-sign-ending.true in
-    let end = c.ending.ensures in
-    no_sign_halts text (places text) listed c.args.k looked exceeds c.args.builder.now _ inside c.requires.level (λ e. c.requires.no_comma (is ∙ e)) (λ e. omega (arith, is, other, end, e))
+    no_sign_halts text (places text) listed c.args.k looked exceeds c.args.builder.now _ inside c.requires.level (λ e. c.requires.no_comma (is ∙ e)) (λ e. omega (arith, is, c.if-sign-ending.true, c.ending.ensures, e))
 
 pub returns-clause-arrives : goal.returns-clause-arrives
 returns-clause-arrives g c = λ text looked exceeds listed inside here is.
     let same = c.if-sign-ending.false in
-    let end = c.ending.ensures in
-    ended_arrives text (places text) listed c.args.end c.args.k looked exceeds c.args.builder.now c.shut.new.builder _ c.shut.result c.closed_at.result here inside (omega (arith, is, same, end)) c.shut.ensures.took c.closed_at.ensures
+    ended_arrives text (places text) listed c.args.end c.args.k looked exceeds c.args.builder.now c.shut.new.builder _ c.shut.result c.closed_at.result here inside (omega (arith, is, same, c.ending.ensures)) c.shut.ensures.took c.closed_at.ensures
 
 pub returns-clause-behind : goal.returns-clause-behind
 returns-clause-behind g c = closed_behind c.args.k c.shut.result c.closed_at.result c.closed_at.ensures

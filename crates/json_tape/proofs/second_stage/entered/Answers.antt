@@ -1,16 +1,18 @@
-use Rattle.std.proofs.Common.{◌+◌, ◌∙◌, ℕ, List, Some, not, eqb, sym, ap, get_or, refl, arith}
+use Rattle.std.proofs.Common.{◌≡◌, ◌+◌, ◌<◌, ◌∙◌, length, ℕ, List, Some, not, eqb, sym, ap, get_or, refl, arith}
 use Rattle.std.specs.Prelude.{Ok, Err}
 use Rattle.json_tape.specs.Walked.{shape_of}
 use Rattle.json_tape.specs.declared.tape.BuildFault.TheVariants.{NotJson}
 use Rattle.structural_index.specs.Places.{places}
 use Rattle.json_tape.proofs.Windows.{listed, inside, within_text, over}
 use Rattle.json_tape.proofs.Onward.{over_halts, closed_entered, first_entered, comma_entered, none_entered, entered_at, resumed}
+use Rattle.json_tape.specs.Walked.{byte_at}
+use Rattle.json_tape.proofs.second_stage.entered.Given.{Over}
 use Rattle.json_tape.proofs.second_stage.entered.Goals as goal
+use Rattle.json_tape.proofs.second_stage.entered.Goals.{After-at-sign}
 
 pub returns-then-spot-window-clause-entered : goal.returns-then-spot-window-clause-entered
 returns-then-spot-window-clause-entered g c = λ exceeds.
-    let past = c.if-spot-window.true in
-    over_halts c.args.looks.now.0 (places c.args.looks.now.0) (listed c.args.looks.now.0 c.args.window c.requires.window) c.args.spot.number _ exceeds _ _ (over c.args.looks.now.0 c.args.window c.requires.window c.args.spot.number c.requires.ready (omega (arith, past))) c.requires.level
+    over_halts c.args.looks.now.0 (places c.args.looks.now.0) (listed c.args.looks.now.0 c.args.window c.requires.window) c.args.spot.number _ exceeds _ _ (over c.args.looks.now.0 c.args.window c.requires.window c.args.spot.number c.requires.ready (omega (arith, c.if-spot-window.true))) c.requires.level
 
 pub returns-in_default-clause-entered : goal.returns-in_default-clause-entered
 returns-in_default-clause-entered g c = λ exceeds.
@@ -18,61 +20,38 @@ returns-in_default-clause-entered g c = λ exceeds.
 
 pub at-sign-requires : goal.at-sign-requires
 at-sign-requires g c =
-    let inside = c.if-spot-window.false in
-    let below = within_text c.args.looks.now.0 c.args.window c.requires.window c.args.spot.number (omega (arith, inside)) in
-    let here = c.place-place.ensures in
-    omega (arith, below, here)
+    omega (arith, within_text c.args.looks.now.0 c.args.window c.requires.window c.args.spot.number (omega (arith, c.if-spot-window.false)), c.place-place.ensures)
+
+-- the sign at the place
+sign : (g : Over) (c : After-at-sign g) → c.args.spot.number < length (places c.args.looks.now.0) × c.at-sign.result ≡ byte_at c.args.looks.now.0 (places c.args.looks.now.0) c.args.spot.number
+sign g c =
+    (inside c.args.looks.now.0 c.args.window c.requires.window c.args.spot.number (omega (arith, c.if-spot-window.false)), c.at-sign.ensures.value ∙ ap (λ i. get_or c.args.looks.now.0 i 0) c.place-place.ensures)
 
 pub returns-then-sign-ending-clause-entered : goal.returns-then-sign-ending-clause-entered
 returns-then-sign-ending-clause-entered g c = λ exceeds.
-    let bytes = c.args.looks.now.0 in
     let k = c.args.spot.number in
-    let past = c.if-spot-window.false in
-    let all = inside c.args.looks.now.0 c.args.window c.requires.window k (omega (arith, past)) in
-    let same = c.if-sign-ending.true in
-    let end = c.ending.ensures in
-    let byte = c.at-sign.ensures.value in
-    let here = ap (λ i. get_or bytes i 0) c.place-place.ensures in
-    let counted = ap (λ (p : List ℕ × ℕ). p.1) c.at-sign.ensures.counted in
-    entered_at c.args.looks.now.0 (places c.args.looks.now.0) (listed c.args.looks.now.0 c.args.window c.requires.window) c.args.spot c.in-Some.behind c.args.looks.now.1 exceeds (shape_of (not (eqb g.row.OBJECT 0))) c.args.builder.now (k + 1) c.nothing_more.result c.shut.new.builder c.at-sign.new.self.1 (sym c.behind_value.ensures ∙ c.in-Some.is)
-    (closed_entered c.args.looks.now.0 (places c.args.looks.now.0) (listed c.args.looks.now.0 c.args.window c.requires.window) c.place-place.result k (k + 1) c.args.looks.now.1 c.at-sign.new.self.1 exceeds c.in-Some.behind c.args.builder.now c.shut.new.builder _ c.shut.result c.nothing_more.result c.place-place.ensures refl all c.requires.level (omega (arith, same, end, byte, here))
-    c.shut.ensures.took (omega (arith, counted)) c.nothing_more.ensures)
+    let read = sign g (goal.at.returns-then-sign-ending-clause-entered g c).After-at-sign in
+    entered_at c.args.looks.now.0 _ (listed c.args.looks.now.0 c.args.window c.requires.window) c.args.spot c.in-Some.behind c.args.looks.now.1 exceeds (shape_of (not (eqb g.row.OBJECT 0))) c.args.builder.now (k + 1) c.nothing_more.result c.shut.new.builder c.at-sign.new.self.1 (sym c.behind_value.ensures ∙ c.in-Some.is)
+    (closed_entered c.args.looks.now.0 _ (listed c.args.looks.now.0 c.args.window c.requires.window) c.place-place.result k (k + 1) c.args.looks.now.1 c.at-sign.new.self.1 exceeds c.in-Some.behind c.args.builder.now c.shut.new.builder _ c.shut.result c.nothing_more.result c.place-place.ensures refl read.0 c.requires.level (omega (arith, c.if-sign-ending.true, c.ending.ensures, read.1))
+    c.shut.ensures.took (omega (arith, ap (λ (p : List ℕ × ℕ). p.1) c.at-sign.ensures.counted)) c.nothing_more.ensures)
 
 pub returns-then-not-behind-clause-entered : goal.returns-then-not-behind-clause-entered
 returns-then-not-behind-clause-entered g c = λ exceeds.
-    let bytes = c.args.looks.now.0 in
     let k = c.args.spot.number in
-    let other = c.if-sign-ending.false in
-    let end = c.ending.ensures in
-    let byte = c.at-sign.ensures.value in
-    let here = ap (λ i. get_or bytes i 0) c.place-place.ensures in
-    let counted = ap (λ (p : List ℕ × ℕ). p.1) c.at-sign.ensures.counted in
-    entered_at c.args.looks.now.0 (places c.args.looks.now.0) (listed c.args.looks.now.0 c.args.window c.requires.window) c.args.spot c.in-Some.behind c.args.looks.now.1 exceeds (shape_of (not (eqb g.row.OBJECT 0))) c.args.builder.now (k + 1) (Ok (Some k)) c.args.builder.now c.at-sign.new.self.1 (sym c.behind_value.ensures ∙ c.in-Some.is)
-    (first_entered c.args.looks.now.0 (places c.args.looks.now.0) (listed c.args.looks.now.0 c.args.window c.requires.window) k (k + 1) c.args.looks.now.1 c.at-sign.new.self.1 exceeds c.in-Some.behind c.args.builder.now _ c.if-not-behind.true (omega arith) c.requires.level (λ e. omega (arith, other, end, byte, here, e)) (omega (arith, counted)))
+    let read = sign g (goal.at.returns-then-not-behind-clause-entered g c).After-at-sign in
+    entered_at c.args.looks.now.0 _ (listed c.args.looks.now.0 c.args.window c.requires.window) c.args.spot c.in-Some.behind c.args.looks.now.1 exceeds (shape_of (not (eqb g.row.OBJECT 0))) c.args.builder.now (k + 1) (Ok (Some k)) c.args.builder.now c.at-sign.new.self.1 (sym c.behind_value.ensures ∙ c.in-Some.is)
+    (first_entered c.args.looks.now.0 _ (listed c.args.looks.now.0 c.args.window c.requires.window) k (k + 1) c.args.looks.now.1 c.at-sign.new.self.1 exceeds c.in-Some.behind c.args.builder.now _ c.if-not-behind.true (omega arith) c.requires.level (λ e. omega (arith, c.if-sign-ending.false, c.ending.ensures, read.1, e)) (omega (arith, ap (λ (p : List ℕ × ℕ). p.1) c.at-sign.ensures.counted)))
 
 pub returns-then-sign-eq44-clause-entered : goal.returns-then-sign-eq44-clause-entered
 returns-then-sign-eq44-clause-entered g c = λ exceeds.
-    let bytes = c.args.looks.now.0 in
     let k = c.args.spot.number in
-    let past = c.if-spot-window.false in
-    let all = inside c.args.looks.now.0 c.args.window c.requires.window k (omega (arith, past)) in
-    let comma = c.if-sign-eq44.true in
-    let byte = c.at-sign.ensures.value in
-    let here = ap (λ i. get_or bytes i 0) c.place-place.ensures in
-    let counted = ap (λ (p : List ℕ × ℕ). p.1) c.at-sign.ensures.counted in
-    entered_at c.args.looks.now.0 (places c.args.looks.now.0) (listed c.args.looks.now.0 c.args.window c.requires.window) c.args.spot c.in-Some.behind c.args.looks.now.1 exceeds (shape_of (not (eqb g.row.OBJECT 0))) c.args.builder.now (k + 1) (Ok (Some (k + 1))) c.args.builder.now c.at-sign.new.self.1 (sym c.behind_value.ensures ∙ c.in-Some.is)
-    (comma_entered c.args.looks.now.0 (places c.args.looks.now.0) (listed c.args.looks.now.0 c.args.window c.requires.window) k (k + 1) c.args.looks.now.1 c.at-sign.new.self.1 exceeds c.in-Some.behind c.args.builder.now _ c.if-not-behind.false refl all c.requires.level (omega (arith, comma, byte, here)) (omega (arith, counted)))
+    let read = sign g (goal.at.returns-then-sign-eq44-clause-entered g c).After-at-sign in
+    entered_at c.args.looks.now.0 _ (listed c.args.looks.now.0 c.args.window c.requires.window) c.args.spot c.in-Some.behind c.args.looks.now.1 exceeds (shape_of (not (eqb g.row.OBJECT 0))) c.args.builder.now (k + 1) (Ok (Some (k + 1))) c.args.builder.now c.at-sign.new.self.1 (sym c.behind_value.ensures ∙ c.in-Some.is)
+    (comma_entered c.args.looks.now.0 _ (listed c.args.looks.now.0 c.args.window c.requires.window) k (k + 1) c.args.looks.now.1 c.at-sign.new.self.1 exceeds c.in-Some.behind c.args.builder.now _ c.if-not-behind.false refl read.0 c.requires.level (omega (arith, c.if-sign-eq44.true, read.1)) (omega (arith, ap (λ (p : List ℕ × ℕ). p.1) c.at-sign.ensures.counted)))
 
 pub returns-else-sign-eq44-clause-entered : goal.returns-else-sign-eq44-clause-entered
 returns-else-sign-eq44-clause-entered g c = λ exceeds.
-    let bytes = c.args.looks.now.0 in
     let k = c.args.spot.number in
-    let past = c.if-spot-window.false in
-    let all = inside c.args.looks.now.0 c.args.window c.requires.window k (omega (arith, past)) in
-    let comma = c.if-sign-eq44.false in
-    let other = c.if-sign-ending.false in
-    let end = c.ending.ensures in
-    let byte = c.at-sign.ensures.value in
-    let here = ap (λ i. get_or bytes i 0) c.place-place.ensures in
-    entered_at c.args.looks.now.0 (places c.args.looks.now.0) (listed c.args.looks.now.0 c.args.window c.requires.window) c.args.spot c.in-Some.behind c.args.looks.now.1 exceeds (shape_of (not (eqb g.row.OBJECT 0))) c.args.builder.now (k + 1) (Err NotJson) c.args.builder.now c.at-sign.new.self.1 (sym c.behind_value.ensures ∙ c.in-Some.is)
-    (none_entered c.args.looks.now.0 (places c.args.looks.now.0) (listed c.args.looks.now.0 c.args.window c.requires.window) k c.args.looks.now.1 exceeds c.in-Some.behind c.args.builder.now _ c.if-not-behind.false all c.requires.level (λ e. omega (arith, comma, byte, here, e)) (λ e. omega (arith, other, end, byte, here, e)))
+    let read = sign g (goal.at.returns-else-sign-eq44-clause-entered g c).After-at-sign in
+    entered_at c.args.looks.now.0 _ (listed c.args.looks.now.0 c.args.window c.requires.window) c.args.spot c.in-Some.behind c.args.looks.now.1 exceeds (shape_of (not (eqb g.row.OBJECT 0))) c.args.builder.now (k + 1) (Err NotJson) c.args.builder.now c.at-sign.new.self.1 (sym c.behind_value.ensures ∙ c.in-Some.is)
+    (none_entered c.args.looks.now.0 _ (listed c.args.looks.now.0 c.args.window c.requires.window) k c.args.looks.now.1 exceeds c.in-Some.behind c.args.builder.now _ c.if-not-behind.false read.0 c.requires.level (λ e. omega (arith, c.if-sign-eq44.false, read.1, e)) (λ e. omega (arith, c.if-sign-ending.false, c.ending.ensures, read.1, e)))

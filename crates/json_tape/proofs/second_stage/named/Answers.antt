@@ -35,19 +35,17 @@ returns-in_default-clause-named c = λ k at b w exceeds asks.
     let bytes = c.args.looks.now.0 in
     let two = pair (goal.at.returns-in_default-clause-named c).After-nth-colon in
     let looked = c.in-Some.ensures.looked in
-    let other = c.if-at-eq58.false in
     let sign = two.sign k at _ _ c.name.ensures.same c.at.ensures.value in
     let name = subst (λ i. IsNameAt bytes i (Some c.in-Some.name.source)) (c.nth-start.ensures k at) c.in-Some.ensures.name in
-    no_colon_halts bytes _ (listed bytes c.args.window c.requires.window) k c.args.looks.now.1 c.name.new.looks.1 exceeds b w c.in-Some.name.source (two.both k at) asks name (omega (arith, looked)) (λ e. omega (arith, sign, other, e))
+    no_colon_halts bytes _ (listed bytes c.args.window c.requires.window) k c.args.looks.now.1 c.name.new.looks.1 exceeds b w c.in-Some.name.source (two.both k at) asks name (omega (arith, looked)) (λ e. omega (arith, sign, c.if-at-eq58.false, e))
 
 pub returns-in-Some-clause-named : goal.returns-in-Some-clause-named
 returns-in-Some-clause-named c = λ k at b w exceeds asks.
     let bytes = c.args.looks.now.0 in
     let two = pair (goal.at.returns-in-Some-clause-named c).After-nth-colon in
     let counted = ap (λ (p : List ℕ × ℕ). p.1) c.at.ensures.counted in
-    let colon = c.if-at-eq58.true in
     let sign = two.sign k at _ _ c.name.ensures.same c.at.ensures.value in
     let paid = looks_paid c.in-Some.name.plain c.args.looks.now.1 c.name.new.looks.1 c.at.new.self.1 c.stamped.new.looks.1 c.in-Some.name.source.len c.in-Some.ensures.looked c.in-Some.ensures.quick (omega (arith, counted)) c.stamped.ensures.looked c.stamped.ensures.unlooked in
     let name = subst (λ i. IsNameAt bytes i (Some c.in-Some.name.source)) (c.nth-start.ensures k at) c.in-Some.ensures.name in
     subst (λ x. Walked bytes (places bytes) (point k (standing b w None) c.args.looks.now.1 exceeds) (point (k + 2) (standing b Value (Some x)) c.stamped.new.looks.1 exceeds)) (sym c.stamped.ensures.source)
-    (name_and_colon bytes _ (listed bytes c.args.window c.requires.window) k c.args.looks.now.1 c.stamped.new.looks.1 exceeds b w c.in-Some.name.source (two.both k at) asks name (omega (arith, sign, colon)) paid)
+    (name_and_colon bytes _ (listed bytes c.args.window c.requires.window) k c.args.looks.now.1 c.stamped.new.looks.1 exceeds b w c.in-Some.name.source (two.both k at) asks name (omega (arith, sign, c.if-at-eq58.true)) paid)

@@ -24,12 +24,8 @@ pub loop-j-init : goal.loop-j-init
 loop-j-init g c =
     let text = c.args.looks.now.0 in
     let entered = entered_some c.args.looks.now.0 (places c.args.looks.now.0) (listed c.args.looks.now.0 c.args.window c.requires.window) _ _ _ _ _ c.in-Ok-Some.field-0 _ _ c.in-Ok-Some.field-0-is (c.in-Ok-Some.ensures.entered c.args.may_exceed.now) in
-    let inside = c.in-Ok-Some.ensures.inside in
-    let next = entered.1 in
     let not_before = subst (λ o. IfSome o (λ first. c.args.spot.number ≤ first)) c.in-Ok-Some.field-0-is c.in-Ok-Some.ensures.not_before in
-    let begins = c.requires.from in
-    let ends = c.requires.window.ends in
-    let number : c.args.window.first + (c.in-Ok-Some.first - c.args.window.first) ≡ c.in-Ok-Some.first = omega (arith, not_before, begins) in
+    let number : c.args.window.first + (c.in-Ok-Some.first - c.args.window.first) ≡ c.in-Ok-Some.first = omega (arith, not_before, c.requires.from) in
     let a = at c.args.spot c.args.builder.now c.args.looks.now.1 c.args.may_exceed.now in
     record {
       same = c.in-Ok-Some.ensures.same;
@@ -39,19 +35,16 @@ loop-j-init g c =
           (may_grow c.args.looks.now.0 (places c.args.looks.now.0) (listed c.args.looks.now.0 c.args.window c.requires.window) _ _ _ _ _ _ _ c.requires.level entered.2);
       pauses = λ l. absurd (omega (arith, l, number));
       from = omega (arith, number);
-      to = omega (arith, inside, next, ends, number);
+      to = omega (arith, c.in-Ok-Some.ensures.inside, entered.1, c.requires.window.ends, number);
       told = c.in-Ok.ensures.told text (c.in-Ok-Some.ensures.told text c.requires.told);
       seated = c.in-Ok.ensures.seated;
     }
 
 pub overflow_add-j : goal.overflow_add-j
 overflow_add-j g c =
-    let to = c.loop-j.invariant.to in
     let most = end_below c.args.looks.now.0 c.args.window c.requires.window in
-    let below = number_below c.args.looks.now.0 (places c.args.looks.now.0) (listed c.args.looks.now.0 c.args.window c.requires.window) (c.args.window.first + c.loop-j.j) (omega (arith, to, most)) in
-    let short = c.requires.window.short in
-    let few = c.width.ensures.few in
-    omega (arith, below, short, few)
+    let below = number_below c.args.looks.now.0 (places c.args.looks.now.0) (listed c.args.looks.now.0 c.args.window c.requires.window) (c.args.window.first + c.loop-j.j) (omega (arith, c.loop-j.invariant.to, most)) in
+    omega (arith, below, c.requires.window.short, c.width.ensures.few)
 
 pub child-requires-clause-window : goal.child-requires-clause-window
 child-requires-clause-window g c = subst (λ b. IsWindow b c.args.window) (sym c.loop-j.invariant.same) c.requires.window
@@ -129,8 +122,7 @@ ended-requires-clause-far g c =
     let within : c.loop-j.j + c.width-in-Ok-Some-child.result < length c.args.window.places.now = omega (arith, c.width-in-Ok-Some-child.ensures.value, c.width.ensures.value, c.loop-j-test.true, c.len.ensures) in
     let all = inside c.args.looks.now.0 c.args.window c.requires.window n (number_at c.args.looks.now.0 c.args.window c.requires.window (c.loop-j.j + c.width-in-Ok-Some-child.result) within) in
     let below = number_below c.args.looks.now.0 (places c.args.looks.now.0) (listed c.args.looks.now.0 c.args.window c.requires.window) n (omega (arith, all)) in
-    let short = c.requires.window.short in
-    omega (arith, below, short)
+    omega (arith, below, c.requires.window.short)
 
 pub ended-requires-clause-near : goal.ended-requires-clause-near
 ended-requires-clause-near g c =
@@ -166,13 +158,12 @@ returns-clause-arrives g c =
     let long = ap length c.loop-j.invariant.same in
     let test = c.loop-j-test.false in
     let size = c.width.ensures.value in
-    let few = c.width.ensures.few in
     let next = (entered_some bytes items (listed c.args.looks.now.0 c.args.window c.requires.window) _ _ _ _ _ c.in-Ok-Some.field-0 _ _ c.in-Ok-Some.field-0-is (c.in-Ok-Some.ensures.entered c.args.may_exceed.now)).1 in
     left_arrives bytes items (listed c.args.looks.now.0 c.args.window c.requires.window) a (c.args.window.first + c.loop-j.j) c.loop-j.looks.1 c.loop-j.may_exceed c.loop-j.builder c.left_off.result (c.args.window.reach ≢ length c.loop-j.looks.0) (c.args.window.reach ≡ length c.loop-j.looks.0) c.left_off.ensures.spot c.left_off.ensures.more c.left_off.ensures.none
     (λ more.
     let five = c.requires.window.pauses (lt_of_le-ne c.requires.window.within (λ e. more (e ∙ sym long))) c.args.spot.number c.requires.ready in
     paused bytes items (listed c.args.looks.now.0 c.args.window c.requires.window) a (c.args.window.first + c.loop-j.j) c.loop-j.looks.1 c.loop-j.may_exceed _ c.loop-j.builder (c.loop-j.invariant.level ∙ c.requires.level)
-    (subst (λ l. MayPause bytes items a (c.args.window.first + c.loop-j.j) l c.loop-j.builder c.loop-j.looks.1 c.loop-j.may_exceed) c.requires.level (c.loop-j.invariant.pauses (omega (arith, five, test, few, next)))))
+    (subst (λ l. MayPause bytes items a (c.args.window.first + c.loop-j.j) l c.loop-j.builder c.loop-j.looks.1 c.loop-j.may_exceed) c.requires.level (c.loop-j.invariant.pauses (omega (arith, five, test, c.width.ensures.few, next)))))
     (λ all.
     let grows = c.loop-j.invariant.grows _ c.requires.level in
     let end = end_whole c.args.looks.now.0 c.args.window c.requires.window (omega (arith, all, long)) in
@@ -182,11 +173,8 @@ returns-clause-arrives g c =
 pub returns-clause-further : goal.returns-clause-further
 returns-clause-further g c =
     let long = ap length c.loop-j.invariant.same in
-    let test = c.loop-j-test.false in
-    let few = c.width.ensures.few in
     let next = (entered_some c.args.looks.now.0 (places c.args.looks.now.0) (listed c.args.looks.now.0 c.args.window c.requires.window) _ _ _ _ _ c.in-Ok-Some.field-0 _ _ c.in-Ok-Some.field-0-is (c.in-Ok-Some.ensures.entered c.args.may_exceed.now)).1 in
-    let to = c.loop-j.invariant.to in
     left_further c.left_off.result (c.args.window.first + c.loop-j.j) (c.args.window.reach ≢ length c.loop-j.looks.0) c.args.spot.number c.args.window.end c.left_off.ensures.spot c.left_off.ensures.more
     (λ more.
     let five = c.requires.window.pauses (lt_of_le-ne c.requires.window.within (λ e. more (e ∙ sym long))) c.args.spot.number c.requires.ready in
-    (omega (arith, five, test, few, next), omega (arith, to)))
+    (omega (arith, five, c.loop-j-test.false, c.width.ensures.few, next), omega (arith, c.loop-j.invariant.to)))

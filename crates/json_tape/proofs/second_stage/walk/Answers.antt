@@ -46,24 +46,18 @@ ended g c =
     let bytes = c.args.looks.now.0 in
     let listed : IsListed bytes (places bytes) = record { list = refl; short = c.requires.short; utf8 = c.requires.utf8 } in
     let first = began bytes _ listed _ _ _ c.in_ok-builder.ensures c.in-Ok.ensures.arrives in
-    let to = c.in-Ok-containers.ensures.inside.1 in
-    let pause = c.in-Some.ensures.pause in
-    let root = c.in-Ok-containers.ensures.over (omega (arith, to, pause)) in
+    let root = c.in-Ok-containers.ensures.over (omega (arith, c.in-Ok-containers.ensures.inside.1, c.in-Some.ensures.pause)) in
     (arrives_same bytes _ listed c.whole.new.looks.0 (places c.whole.new.looks.0) _ _ c.containers.new.looks.1 (Ok c.in-Ok-containers.last) c.containers.new.builder c.containers.new.may_exceed c.in-Ok.ensures.same (ap places c.in-Ok.ensures.same) first c.in-Ok-containers.ensures.arrives, root, c.in-Ok-containers.ensures.whole root)
 
 found : (g : Over) (c : After-into_tape g) → Arrived c.args.looks.now.0 (places c.args.looks.now.0) (record { list = refl; short = c.requires.short; utf8 = c.requires.utf8 }) c.args.looks.now.1 c.containers.new.builder.entries c.containers.new.builder.deep c.containers.new.looks.1 c.containers.new.may_exceed
 found g c =
     let e = ended g (goal.at.returns-clause-spelt g c).In-Ok-containers in
-    let end = c.in-Some.ensures.end in
-    let done = c.if-last-window.false in
-    arrived _ _ _ _ _ _ _ _ e.0 e.1 e.2 (omega (arith, done, end))
+    arrived _ _ _ _ _ _ _ _ e.0 e.1 e.2 (omega (arith, c.if-last-window.false, c.in-Some.ensures.end))
 
 pub returns-then-last-window-clause-refused : goal.returns-then-last-window-clause-refused
 returns-then-last-window-clause-refused g c = λ e.
     let h = ended g (goal.at.returns-then-last-window-clause-refused g c).In-Ok-containers in
-    let end = c.in-Some.ensures.end in
-    let more = c.if-last-window.true in
-    more_none _ _ (record { list = refl; short = c.requires.short; utf8 = c.requires.utf8 }) _ _ _ _ _ h.0 h.1 h.2 (omega (arith, more, end))
+    more_none _ _ (record { list = refl; short = c.requires.short; utf8 = c.requires.utf8 }) _ _ _ _ _ h.0 h.1 h.2 (omega (arith, c.if-last-window.true, c.in-Some.ensures.end))
 
 pub returns-clause-spelt : goal.returns-clause-spelt
 returns-clause-spelt g c = (found g c).json

@@ -18,16 +18,13 @@ returns-then-window-eq0-clause-arrives g c =
 
 pub value-requires-clause-in_text : goal.value-requires-clause-in_text
 value-requires-clause-in_text g c =
-    let some = c.if-window-eq0.false in
-    let below = within_text c.args.looks.now.0 c.args.window c.requires.window 0 (omega (arith, some)) in
-    let here = c.place-i.ensures in
-    omega (arith, here, below)
+    let below = within_text c.args.looks.now.0 c.args.window c.requires.window 0 (omega (arith, c.if-window-eq0.false)) in
+    omega (arith, c.place-i.ensures, below)
 
 pub value-requires-clause-near : goal.value-requires-clause-near
 value-requires-clause-near g c =
     let below = next_within c.args.looks.now.0 c.args.window c.requires.window c.second_place-next.result c.requires.ready c.second_place-next.ensures in
-    let reach = c.requires.slashes.reaches in
-    omega (arith, below, reach)
+    omega (arith, below, c.requires.slashes.reaches)
 
 pub value-requires-clause-closes : goal.value-requires-clause-closes
 value-requires-clause-closes g c =
@@ -47,10 +44,8 @@ returns-in_default-clause-arrives g c =
 
 pub put-requires-clause-near : goal.put-requires-clause-near
 put-requires-clause-near g c =
-    let some = c.if-window-eq0.false in
-    let below = near c.args.looks.now.0 (places c.args.looks.now.0) (listed c.args.looks.now.0 c.args.window c.requires.window) 0 (inside c.args.looks.now.0 c.args.window c.requires.window 0 (omega (arith, some))) in
-    let here = c.place-i.ensures in
-    omega (arith, here, below)
+    let below = near c.args.looks.now.0 (places c.args.looks.now.0) (listed c.args.looks.now.0 c.args.window c.requires.window) 0 (inside c.args.looks.now.0 c.args.window c.requires.window 0 (omega (arith, c.if-window-eq0.false))) in
+    omega (arith, c.place-i.ensures, below)
 
 pub returns-clause-arrives : goal.returns-clause-arrives
 returns-clause-arrives g c =
@@ -66,8 +61,7 @@ returns-clause-whole g c =
 
 pub returns-clause-further : goal.returns-clause-further
 returns-clause-further g c =
-    let some = c.if-window-eq0.false in
-    spot_one c.args.looks.now.0 (places c.args.looks.now.0) (listed c.args.looks.now.0 c.args.window c.requires.window) c.put.result c.in-Some.lexed c.first_spot.result c.args.window.end (omega (arith, some)) c.first_spot.ensures
+    spot_one c.args.looks.now.0 (places c.args.looks.now.0) (listed c.args.looks.now.0 c.args.window c.requires.window) c.put.result c.in-Some.lexed c.first_spot.result c.args.window.end (omega (arith, c.if-window-eq0.false)) c.first_spot.ensures
 
 pub returns-clause-told : goal.returns-clause-told
 returns-clause-told g c = whole_told c.args.looks.now.0 _ c.in-Some.lexed c.args.builder.now c.put.new.builder c.put.result c.first_spot.result c.put.ensures c.first_spot.ensures
