@@ -1,14 +1,8 @@
 -- Comparing a name with scalar values one by one.
-use Rattle.std.proofs.Common.{◌≡◌, ◌≢◌, ℕ, ◌+◌, ◌<◌, true, false, List, ◌∷◌, length, get_or, drop, refl, arith}
+use Rattle.std.proofs.Common.{◌≡◌, ◌≢◌, ℕ, ◌<◌, false, List, ◌∷◌, length, get_or, drop, refl, arith}
 use Rattle.std.specs.Prelude.{bytes_eq, eqb}
 use Rattle.std.proofs.lemmas.List.{drop_more}
 use Rattle.std.proofs.lemmas.Bool.Decides.{nat_tests}
-
--- the next scalar value is that of the name, another one, or none
-pub same_more : (name : List ℕ) (i c : ℕ) (rest : List ℕ) → i < length name → c ≡ get_or name i c → bytes_eq (drop i name) (c ∷ rest) ≡ bytes_eq (drop (i + 1) name) rest
-same_more name i c rest h e =
-    let t : eqb (get_or name i c) c ≡ true = grind (arith, nat_tests) in
-    rw (drop_more name i c h, t) refl
 
 pub other_next : (name : List ℕ) (i c d : ℕ) (rest : List ℕ) → i < length name → d ≡ get_or name i d → c ≢ d → bytes_eq (drop i name) (c ∷ rest) ≡ false
 other_next name i c d rest h e n =

@@ -23,9 +23,6 @@ module _ (text : List ℕ) (tape : List Entry) (hashes members : List ℕ) (name
   abbrev at : ℕ → List ℕ
   at k = name_at text tape (get_or members k 0)
 
-  pub all_between : Between text tape members name 0 (length members)
-  all_between = record { inside = omega arith; below = λ k h. absurd (omega arith); above = λ k h l. absurd (omega arith) }
-
   pub higher : (low high middle : ℕ) → Between text tape members name low high → middle < high → name_cmp (at middle) name ≡ Less → Between text tape members name (middle + 1) high
   higher low high middle b h e = record {
     inside = b.inside;

@@ -2,7 +2,7 @@
 use Rattle.std.proofs.Common.{◌≡◌, ℕ, ◌+◌, ◌<◌, ◌≤◌, List, [], ◌∷◌, ◌++◌, length, get_or, inl, inr, ◌⊎◌, refl, sym, ap, ◌∙◌, subst, arith, append_assoc, length-append}
 use Rattle.std.proofs.lemmas.List.{get_or_at}
 use Rattle.std.proofs.lemmas.Bool.{cases_lt}
-use Rattle.json_tape.specs.Tree.{Source, Tree, Leaf, Arr, Obj, Elements, NoElement, Element, Members, NoMember, Member}
+use Rattle.json_tape.specs.Tree.{Tree, Leaf, Arr, Obj, Elements, NoElement, Element, Members, NoMember, Member}
 use Rattle.json_tape.specs.declared.tape.Entry.{Entry}
 use Rattle.json_tape.specs.Tape.{entry_of, Label, Top, Index, Named, tape_of, tape_of_elements, tape_of_members, extent, Stands, IsAt, itself, in_array, in_object, IsInElements, in_element, in_later_element, IsInMembers, in_member, in_later_member}
 use Rattle.json_tape.specs.Nodes.{size, size_of_elements, size_of_members}
@@ -47,8 +47,7 @@ mutual
 
 pub entry_first : (t : Tree) (up : ℕ) (label : Label) (k : ℕ) → (others : List Entry) × (tape_of t up label k ≡ entry_of t up label k ∷ others)
 entry_first (Leaf s c) up label k = ([], refl)
-entry_first (Arr s es) up label k = (_, refl)
-entry_first (Obj s ms) up label k = (_, refl)
+entry_first _ up label k = (_, refl)
 
 -- the entry with the number n is that of the tree with that number
 pub entry_at : {t s : Tree} {n up : ℕ} {label : Label} (tape : List Entry) (d : Entry) → Stands tape t → IsAt t 0 Top 0 n up label s → get_or tape n d ≡ entry_of s up label n
@@ -73,10 +72,6 @@ mutual
   members_trans : {ms : Members} {s r : Tree} {up k n up' m up'' : ℕ} {label' label'' : Label} → IsInMembers ms up k n up' label' s → IsAt s up' label' n m up'' label'' r → IsInMembers ms up k m up'' label'' r
   members_trans (in_member g) h = in_member (at_trans g h)
   members_trans (in_later_member g) h = in_later_member (members_trans g h)
-
--- the first child has the next number
-pub first_element : {t a : Tree} {s : Source} {es : Elements} {n up : ℕ} {label : Label} → IsAt t 0 Top 0 n up label (Arr s (Element a es)) → IsAt t 0 Top 0 (n + 1) n (Index 0) a
-first_element h = at_trans h (in_array (in_element itself))
 
 -- each number below the size is that of a tree
 pub record Numbered (t : Tree) (up : ℕ) (label : Label) (k n : ℕ) : Type 0 where

@@ -89,17 +89,6 @@ module _ (text : List ℕ) (tape : List Entry) (n : ℕ) (ys : List Keyed) (move
 -- ---- One object more
 
 module _ (text : List ℕ) (tape : List Entry) where
-  pub kept_none : AreKept text tape 0 [] [] [] []
-  kept_none = record {
-    rising = λ i j h l. absurd (omega arith);
-    under = λ i h. absurd (omega arith);
-    begun = refl;
-    long = refl;
-    room = λ i h. absurd (omega arith);
-    each = λ i h. absurd (omega arith);
-    all = λ n h w. absurd (omega arith);
-  }
-
   part_left : (start c : ℕ) (xs ys : List ℕ) → start + c ≤ length xs → part start c (xs ++ ys) ≡ part start c xs
   part_left start c xs ys h =
       ap (take c) (drop-append-le start xs ys (omega arith)) ∙ take-append-le c (drop start xs) ys (let l = length-drop start xs in omega arith)

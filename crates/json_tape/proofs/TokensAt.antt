@@ -11,7 +11,6 @@ use Rattle.json_tape.specs.declared.tape.Shape.TheVariants.{Array, Object}
 use Rattle.json_tape.specs.declared.lexing.Lexed.{Lexed}
 use Rattle.json_tape.specs.declared.lexing.Lexed.TheVariants as lexed
 use Rattle.json_tape.specs.Machine.{Token, Opening, Closing, Comma, Between, Text, Word, run_at, step, start}
-use Rattle.json_tape.specs.Cells.{is_container}
 use Rattle.json_tape.specs.Lexing.{Atom, class, is_atom, sign_at, IsToken, sign, text, word, IsWord, WordIs, Marked}
 use Rattle.json_tape.specs.Placing.{StringEnds}
 use Rattle.json_tape.specs.Walked.{TokenAt, begins_value, is_text, NoneAt, token_of, end_of}
@@ -55,12 +54,6 @@ word_some bs (kinds.Bool false) h = λ e. cc
 word_some bs kinds.Text h = absurd h
 word_some bs kinds.Array h = absurd h
 word_some bs kinds.Object h = absurd h
-
-pub word_scalar : (bs : List ℕ) (k : Kind) → IsWord bs k → is_container k ≡ false
-word_scalar bs kinds.Text h = absurd h
-word_scalar bs kinds.Array h = absurd h
-word_scalar bs kinds.Object h = absurd h
-word_scalar bs _ h = refl
 
 long_enough : (bs : List ℕ) → bs ≢ [] → 0 < length bs
 long_enough [] n = absurd (n refl)

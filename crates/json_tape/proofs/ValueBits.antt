@@ -192,10 +192,6 @@ few_between bytes from to =
 
 -- ---- Along a part of a text
 
--- nothing is passed yet
-pub passed_none : (bytes : List ℕ) (from to : ℕ) → from ≤ to → IsPassed bytes from to from 0 false
-passed_none bytes from to h = record { within = h; many = omega arith; unitless = refl }
-
 module _ (bytes : List ℕ) (from to k before : ℕ) (carry : Bool) (passed : IsPassed bytes from to k before carry) (standing_is unit_is : ℕ) (next : Bool)
     (standing_bits_are : standing_is ≡ mask_l (standing_bits carry (chunk k 64 bytes))) (unit_bits_are : unit_is ≡ mask_l (unit_bits carry (chunk k 64 bytes)))
     (next_is : next ≡ escaped_behind carry (chunk k 64 bytes)) where
@@ -213,10 +209,9 @@ module _ (bytes : List ℕ) (from to k before : ℕ) (carry : Bool) (passed : Is
         let here = ap count_ones standing_bits_are ∙ ones_standing carry (chunk k 64 bytes) in
         let rest = ap (standing carry) parts ∙ standing_parts carry (chunk k 64 bytes) (between bytes (k + 64) to) in
         let same = ap (λ t. standing t (between bytes (k + 64) to)) next_is in
-        let all = passed.many in
         record {
           within = room;
-          many = omega (arith, here, rest, same, all);
+          many = omega (arith, here, rest, same, passed.many);
           unitless = ap (λ t. has_unit t (between bytes (k + 64) to)) next_is
               ∙ sym (ap (has_unit carry) parts ∙ unit_parts carry (chunk k 64 bytes) (between bytes (k + 64) to) (none_set carry (chunk k 64 bytes) (sym unit_bits_are ∙ none)))
               ∙ passed.unitless;
