@@ -84,8 +84,7 @@ module _ (bytes items : List ℕ) (listed : IsListed bytes items) (before : ℕ)
       let k = a.number in
       let i = place items k in
       let inside = in_text bytes items listed k m.inside in
-      let next = m.next in
-      let z : k + 1 ≡ c.number = omega (arith, next) in
+      let z : k + 1 ≡ c.number = omega (arith, m.next) in
       let walks = walks_next bytes k i m.end before a.looked c.looked a.state c.state (at_place k a.looked a.state m.inside h.walks) inside m.taken m.looks in
       let kept = kept_token bytes i m.end a.exceeds c.exceeds a.state c.state inside m.taken m.marked h.kept in
       known_walked c b w (record { walks = subst (λ n. Walks bytes n (get_or (places bytes) n (length bytes)) before c.looked c.state) z walks; kept = kept })
@@ -147,13 +146,11 @@ module _ (bytes items : List ℕ) (listed : IsListed bytes items) (before : ℕ)
       let want : want_at spot.before (level_of b.opens) ≡ wants.Next = ap (λ x. want_at x (level_of b.opens)) behind in
       let end = walks_end bytes k i before (looked + 1) _ walks over (level, want) in
       let short = listed.short in
-      let within = walks.knows.within in
-      let small = walks.knows.small.entries in
       record {
         json = end.json;
         stands = end.stands;
         bounded = λ t x. (let most = end.bounded t x in omega (arith, most));
-        short = omega (arith, short, within, small);
+        short = omega (arith, short, walks.knows.within, walks.knows.small.entries);
         depth = λ t x. reads_depth bytes i _ walks.knows over t x;
         numbers = known.kept.good;
       }

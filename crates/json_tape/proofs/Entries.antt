@@ -47,5 +47,4 @@ after_is _ up label k = omega arith
 -- the bytes of a part of the text's tree stand in the text at its place
 pub lies_in : (text : List ℕ) (t : Tree) → Fits text t → Lies text (source_of t)
 lies_in text (Leaf s c) f = f.0
-lies_in text (Arr s es) f = f.0
-lies_in text (Obj s ms) f = f.0
+lies_in text _ f = f.0

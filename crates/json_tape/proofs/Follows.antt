@@ -49,16 +49,13 @@ leaf_is p bs rest (Str cs) h n = text cs h
 leaf_step : (x : Extent) (s : Scalar) (es : List Entry) (o : Open) (os : List Open) (w : Want) (name : Option Extent) (d : ℕ) → takes_value w ≡ true
     → step (leaf_token x s) (st es (o ∷ os) w name d)
     ≡ Some (st (es ++ record { kind = kind_of_scalar s; role = role_of (label_for o name); label = label_spot (label_for o name); source = x; up = o.entry; children = 0; after = length es + 1 } ∷ []) (with_child o ∷ os) wants.Next None d)
-leaf_step x Null es o os w name d h = rw h refl
-leaf_step x True es o os w name d h = rw h refl
-leaf_step x False es o os w name d h = rw h refl
-leaf_step x Num es o os w name d h = rw h refl
 leaf_step x (Str cs) es o os w name d h = rw (no_name w h) (rw h refl)
   where
     no_name : (w : Want) → takes_value w ≡ true → takes_name w ≡ false
     no_name wants.Value e = refl
     no_name wants.FirstValue e = refl
     no_name _ e = cc
+leaf_step x _ es o os w name d h = rw h refl
 
 -- the entry of an open container, changed at its close
 change_seam : (es : List Entry) (e : Entry) (inner : List Entry) (f : Entry → Entry) → change_at (es ++ e ∷ inner) (length es) f ≡ es ++ f e ∷ inner

@@ -146,8 +146,7 @@ module _ (bytes items : List ℕ) where
   pub walked_paid : (k now more : ℕ) (mark : Bool) (s : State) (c : Point) → now ≤ more → Walked bytes items (point k s now mark) c → Walked bytes items (point k s more mark) c
   walked_paid k now more mark s c l (stays n e x p) = stays n e x (omega (arith, l, p))
   walked_paid k now more mark s c l (moves m v) =
-      let p = m.looks in
-      moves (record { inside = m.inside; end = m.end; taken = m.taken; next = m.next; looks = omega (arith, l, p); marked = m.marked }) v
+      moves (record { inside = m.inside; end = m.end; taken = m.taken; next = m.next; looks = omega (arith, l, m.looks); marked = m.marked }) v
 
   walked_same : (a b c : Point) → b.number ≡ a.number → b.state ≡ a.state → b.exceeds ≡ a.exceeds → Walked bytes items b c → Walked bytes items (point a.number a.state b.looked a.exceeds) c
   walked_same a b c n s x w =
@@ -198,13 +197,11 @@ named_step b wants.FirstName x t = refl
 named_step b _ x t = absurd (cc)
 
 sign_token_byte : (p b : ℕ) (tok : Token) → sign_at p b ≡ Some tok → (tok ≡ Between → b ≡ 58) × ((q : ℕ) → tok ≡ Closing Object q → b ≡ 125) × ((q : ℕ) → tok ≡ Closing Array q → b ≡ 93) × (tok ≡ Comma → b ≡ 44)
-sign_token_byte p b (Opening shape q) h = ((λ e. absurd (cc)), (λ r e. absurd (cc)), (λ r e. absurd (cc)), (λ e. absurd (cc)))
 sign_token_byte p b (Closing Array q) h = ((λ e. absurd (cc)), (λ r e. absurd (cc)), (λ r e. grind (arith, nat_tests)), (λ e. absurd (cc)))
 sign_token_byte p b (Closing Object q) h = ((λ e. absurd (cc)), (λ r e. grind (arith, nat_tests)), (λ r e. absurd (cc)), (λ e. absurd (cc)))
 sign_token_byte p b Comma h = ((λ e. absurd (cc)), (λ r e. absurd (cc)), (λ r e. absurd (cc)), (λ e. grind (arith, nat_tests)))
 sign_token_byte p b Between h = ((λ e. grind (arith, nat_tests)), (λ r e. absurd (cc)), (λ r e. absurd (cc)), (λ e. absurd (cc)))
-sign_token_byte p b (Text x) h = ((λ e. absurd (cc)), (λ r e. absurd (cc)), (λ r e. absurd (cc)), (λ e. absurd (cc)))
-sign_token_byte p b (Word x kind) h = ((λ e. absurd (cc)), (λ r e. absurd (cc)), (λ r e. absurd (cc)), (λ e. absurd (cc)))
+sign_token_byte p b _ h = ((λ e. absurd (cc)), (λ r e. absurd (cc)), (λ r e. absurd (cc)), (λ e. absurd (cc)))
 
 -- a sign that is none of these
 sign_byte : {p : ℕ} {vs rest : List ℕ} {tok : Token} → IsToken p vs tok rest → (b : ℕ) (cs : List ℕ) → b ∷ cs ≡ vs ++ rest → (tok ≡ Between → b ≡ 58) × ((q : ℕ) → tok ≡ Closing Object q → b ≡ 125) × ((q : ℕ) → tok ≡ Closing Array q → b ≡ 93) × (tok ≡ Comma → b ≡ 44)

@@ -19,8 +19,7 @@ module _ (text : List ℕ) (e : Extent) (quoted : IsQuoted text e) where
       let two = quoted.0 in
       let room = quoted.1 in
       let opens = quoted.2 in
-      let closes = quoted.3 in
-      let front = IsUtf8-take text to utf8 (IsCharBoundary-before_ascii text to (omega (arith, two, room)) (omega (arith, closes))) in
+      let front = IsUtf8-take text to utf8 (IsCharBoundary-before_ascii text to (omega (arith, two, room)) (omega (arith, quoted.3))) in
       let long = length-take to text in
       let quote = get_or-take to text e.start 0 (omega (arith, two)) ∙ opens in
       let parts : from + (to - from) ≡ to = omega (arith, two) in

@@ -19,10 +19,8 @@ known_here law text bytes i knowns.Decimal e d =
     let w = decimal_is text bytes i e d in
     let few = d.few in
     (w.0, law bytes (length bytes) (omega (arith, few)) (omega (arith, few)) w.1)
-known_here law text bytes i knowns.Null e w = e ∙ w
-known_here law text bytes i knowns.False e w = e ∙ w
-known_here law text bytes i knowns.True e w = e ∙ w
 known_here law text bytes i knowns.Other e w = tt
+known_here law text bytes i _ e w = e ∙ w
 
 -- a number within the limits leaves the mark
 pub limited_marked : (bytes bs : List ℕ) (i : ℕ) (old : Bool) → bs ≡ take (length bs) (drop i bytes) → IsWithinLimits bs → Marked bytes i old (Ok (i + length bs)) old

@@ -1,7 +1,7 @@
 -- Numbers beyond the limits, in the entries and in the tree.
 use Rattle.std.proofs.Common.{ℕ, ◌<◌, ◌≤◌, ◌⊎◌, inl, inr, List, length, get_or, refl, sym, subst, arith}
 use Rattle.std.proofs.lemmas.Bool.{cases_lt}
-use Rattle.json_tape.specs.Tree.{Null, True, False, Num, Str, Tree, Leaf, Arr, Obj}
+use Rattle.json_tape.specs.Tree.{Num, Tree, Leaf}
 use Rattle.decimal_order.specs.Value.{exponent_size}
 use Rattle.decimal_order.specs.Limits.{IsWithinLimits, length_limit, exponent_limit}
 use Rattle.json_tape.specs.Grammar.{IsText}
@@ -17,21 +17,11 @@ use Rattle.json_tape.proofs.Judging.{part_found, part_none}
 module _ (text : List ℕ) where
   bad_part : (s : Tree) (up n : ℕ) (label : Label) → Fits text s → IsBadNumber text (entry_of s up label n) → BreaksLimit s
   bad_part (Leaf s Num) up n label f b = λ w. b.1 (subst IsLimited f.0 (f.1, w))
-  bad_part (Leaf s Null) up n label f b = let x = b.0 in absurd (cc)
-  bad_part (Leaf s True) up n label f b = let x = b.0 in absurd (cc)
-  bad_part (Leaf s False) up n label f b = let x = b.0 in absurd (cc)
-  bad_part (Leaf s (Str cs)) up n label f b = let x = b.0 in absurd (cc)
-  bad_part (Arr s es) up n label f b = let x = b.0 in absurd (cc)
-  bad_part (Obj s ms) up n label f b = let x = b.0 in absurd (cc)
+  bad_part _ up n label f b = let x = b.0 in absurd (cc)
 
   part_bad : (s : Tree) (up n : ℕ) (label : Label) → Fits text s → BreaksLimit s → IsBadNumber text (entry_of s up label n)
   part_bad (Leaf s Num) up n label f b = (refl, λ w. b (subst IsLimited (sym f.0) w).1)
-  part_bad (Leaf s Null) up n label f b = absurd b
-  part_bad (Leaf s True) up n label f b = absurd b
-  part_bad (Leaf s False) up n label f b = absurd b
-  part_bad (Leaf s (Str cs)) up n label f b = absurd b
-  part_bad (Arr s es) up n label f b = absurd b
-  part_bad (Obj s ms) up n label f b = absurd b
+  part_bad _ up n label f b = absurd b
 
 -- some part of the tree breaks the limit
 abbrev pub HasBadNumber : Tree → Type 0

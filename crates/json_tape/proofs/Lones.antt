@@ -1,6 +1,6 @@
 -- Entries with a lone surrogate, and the parts of the tree.
 use Rattle.std.proofs.Common.{◌≡◌, ℕ, ◌+◌, ◌<◌, inl, inr, true, List, length, get_or, refl, sym, ap, ◌∙◌, subst}
-use Rattle.json_tape.specs.Tree.{Null, True, False, Num, Str, Tree, Leaf, Arr, Obj}
+use Rattle.json_tape.specs.Tree.{Str, Tree, Leaf, Obj}
 use Rattle.json_tape.specs.Grammar.{IsText}
 use Rattle.json_tape.specs.Tape.{Label, Top, Named, Stands, IsAt, in_object, entry_of, extent, role_of}
 use Rattle.json_tape.specs.Limits.{bytes_at}
@@ -23,12 +23,7 @@ HasLonePart t = (part : Tree) × HasPart t part × SpellsLone part
 
 value_part : (text : List ℕ) (t s : Tree) (n up : ℕ) (label : Label) → Fits text s → HasPart t s → IsLoneValue text (entry_of s up label n) → HasLonePart t
 value_part text t (Leaf s (Str cs)) n up label f p b = (Leaf s (Str cs), p, lone_sound s.bytes cs f.1 (ap lone f.0 ∙ b.1))
-value_part text t (Leaf s Null) n up label f p b = let x = b.0 in absurd (cc)
-value_part text t (Leaf s True) n up label f p b = let x = b.0 in absurd (cc)
-value_part text t (Leaf s False) n up label f p b = let x = b.0 in absurd (cc)
-value_part text t (Leaf s Num) n up label f p b = let x = b.0 in absurd (cc)
-value_part text t (Arr s es) n up label f p b = let x = b.0 in absurd (cc)
-value_part text t (Obj s ms) n up label f p b = let x = b.0 in absurd (cc)
+value_part text t _ n up label f p b = let x = b.0 in absurd (cc)
 
 pub value_found : (text : List ℕ) (tape : List Entry) (t : Tree) → IsText text t → Stands tape t → (i : ℕ) (d : Entry) → i < length tape → IsLoneValue text (get_or tape i d) → HasLonePart t
 value_found text tape t h e i d l b =
@@ -68,8 +63,4 @@ lone_none text tape t h e none (part, h', q) = let p = placed h' in by_part part
         let r = held has n (n + 1) in
         no_name r.value r.number n (Named (extent m.source)) (at_trans a (in_object r.is_in))
         (role_is r.value n (Named (extent m.source)) r.number, ap (λ y. lone (bytes_at text y)) (label_is r.value n (Named (extent m.source)) r.number) ∙ sym (ap lone f.0) ∙ lone_complete m.source.bytes m.characters f.1 q)
-    by_part (Leaf s Null) n up label a q = absurd q
-    by_part (Leaf s True) n up label a q = absurd q
-    by_part (Leaf s False) n up label a q = absurd q
-    by_part (Leaf s Num) n up label a q = absurd q
-    by_part (Arr s es) n up label a q = absurd q
+    by_part _ n up label a q = absurd q

@@ -147,8 +147,7 @@ module _ (text : List ℕ) (b : Built) (owner : Owner) (old new : NamesMet) (s :
     new_name u = record {
       plain = stamped.2;
       other = λ k i e.
-          let q = stamped.0 in
-          let w : owner.table + s ≡ length os * 1024 + stamp_at text (entry_in b.entries k).label = omega (arith, table, q, e) in
+          let w : owner.table + s ≡ length os * 1024 + stamp_at text (entry_in b.entries k).label = omega (arith, table, stamped.0, e) in
           marked.other (ap (λ j. get_or old.owners j 0) w ∙ head_old.3 (before u) k i ∙ ap (λ k. k % 256) (sym number));
       marked = stands (stamp_at text x) (sym stamped.0);
     }

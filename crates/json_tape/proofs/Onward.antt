@@ -239,19 +239,11 @@ begins_or tok = go (begins_value tok)
 
 text_or : (tok : Token) → (is_text tok ≡ false) ⊎ ((x : Extent) × (tok ≡ Text x))
 text_or (Text x) = inr (x, refl)
-text_or (Opening shape p) = inl refl
-text_or (Closing shape p) = inl refl
-text_or Comma = inl refl
-text_or Between = inl refl
-text_or (Word x kind) = inl refl
+text_or _ = inl refl
 
 colon_or : (tok : Token) → (tok ≡ Between → ⊥) ⊎ (tok ≡ Between)
-colon_or (Text x) = inl (λ e. cc)
-colon_or (Opening shape p) = inl (λ e. cc)
-colon_or (Closing shape p) = inl (λ e. cc)
-colon_or Comma = inl (λ e. cc)
 colon_or Between = inr refl
-colon_or (Word x kind) = inl (λ e. cc)
+colon_or _ = inl (λ e. cc)
 
 value_level : (tok : Token) (b : Built) (shape : Shape) (name : Option Extent) (s : State) → level_of b.opens ≡ Inside shape → begins_value tok ≡ true → step tok (standing b wants.Value name) ≡ Some s → level_of s.opens ≡ Root → ⊥
 value_level (Opening other p) b shape name s l v e = not_root (open_level other p b.entries b.opens name b.deep s e)
@@ -263,8 +255,7 @@ module _ (bytes items : List ℕ) (listed : IsListed bytes items) where
   pub walked_small : (a b : Point) → Walked bytes items a b → IsSmall a.number a.state → IsSmall b.number b.state
   walked_small a b (stays n s x l) h = subst (λ k. IsSmall k b.state) (sym n) (subst (IsSmall a.number) (sym s) h)
   walked_small a b (moves {b = c} m w) h =
-      let next = m.next in
-      walked_small c b w (step_small a.number c.number m.taken.tok a.state c.state (omega (arith, next)) m.taken.steps h)
+      walked_small c b w (step_small a.number c.number m.taken.tok a.state c.state (omega (arith, m.next)) m.taken.steps h)
 
   pub grown_more : {a b : Point} (shape : Shape) (k looked : ℕ) (r : Result (Option ℕ) BuildFault) (new : Built) (mark : Bool) → Walked bytes items a b → Grown bytes items b shape k r new looked mark → Grown bytes items a shape k r new looked mark
   grown_more shape k looked (Ok (Some byte)) new mark w h = (walked_more bytes items w h.0, h.1, h.2, h.3)

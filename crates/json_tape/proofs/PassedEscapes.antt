@@ -16,9 +16,8 @@ use Rattle.json_tape.proofs.Spelled.{ascii_nil, ascii_more}
 -- ---- Two bytes
 
 in_front : (bs : List ℕ) → 1 < length bs → get_or bs 0 0 ≡ 92 → bs ≡ (92 ∷ get_or bs 1 0 ∷ []) ++ drop 2 bs
-in_front [] h e = absurd (let no : ⊥ = omega (arith, h) in no)
-in_front (x ∷ []) h e = absurd (let no : ⊥ = omega (arith, h) in no)
 in_front (x ∷ y ∷ bs) h e = ap (λ b. b ∷ y ∷ bs) e
+in_front _ h e = absurd (let no : ⊥ = omega (arith, h) in no)
 
 one_first : (b : ℕ) (cs : List ℕ) → b ≢ 117 → length (scalars_in (92 ∷ b ∷ cs)) ≡ 1 + length (scalars_in cs)
 one_first b cs other = let t : eqb b 117 ≡ false = grind (arith, nat_tests) in rw t (omega arith)
@@ -84,13 +83,8 @@ one_unit a b c d cs large small =
 
 six_in_front : (bs : List ℕ) → 5 < length bs → get_or bs 0 0 ≡ 92 → get_or bs 1 0 ≡ 117
     → bs ≡ (92 ∷ 117 ∷ get_or bs 2 0 ∷ get_or bs 3 0 ∷ get_or bs 4 0 ∷ get_or bs 5 0 ∷ []) ++ drop 6 bs
-six_in_front [] h e f = absurd (let no : ⊥ = omega (arith, h) in no)
-six_in_front (x ∷ []) h e f = absurd (let no : ⊥ = omega (arith, h) in no)
-six_in_front (x ∷ y ∷ []) h e f = absurd (let no : ⊥ = omega (arith, h) in no)
-six_in_front (x ∷ y ∷ a ∷ []) h e f = absurd (let no : ⊥ = omega (arith, h) in no)
-six_in_front (x ∷ y ∷ a ∷ b ∷ []) h e f = absurd (let no : ⊥ = omega (arith, h) in no)
-six_in_front (x ∷ y ∷ a ∷ b ∷ c ∷ []) h e f = absurd (let no : ⊥ = omega (arith, h) in no)
 six_in_front (x ∷ y ∷ a ∷ b ∷ c ∷ d ∷ bs) h e f = ap₂ (λ m n. m ∷ n ∷ a ∷ b ∷ c ∷ d ∷ bs) e f
+six_in_front _ h e f = absurd (let no : ⊥ = omega (arith, h) in no)
 
 six_ascii : (a b c d : ℕ) → a < 128 → b < 128 → c < 128 → d < 128 → IsAscii (92 ∷ 117 ∷ a ∷ b ∷ c ∷ d ∷ [])
 six_ascii a b c d ha hb hc hd =

@@ -4,7 +4,7 @@ use Rattle.std.proofs.lemmas.List.Elements.{Contains-append_right}
 use Rattle.std.proofs.lemmas.List.{take-append-drop}
 use Rattle.std.proofs.lemmas.Bool.{cases_lt}
 use Rattle.std.proofs.Common.{false, take, drop, ◌≡◌, ℕ, zero, suc, ◌+◌, ◌-◌, ◌≤◌, ◌<◌, ◌^◌, ◌⊎◌, inl, inr, List, [], ◌∷◌, ◌++◌, length, map, get_or, Some, None, refl, sym, ap, ◌∙◌, subst, arith, append_assoc, length-append}
-use Rattle.json_tape.specs.Tree.{Spelt, Source, Name, Null, True, False, Num, Str, Tree, source_of, Leaf, Arr, Obj, NoElement, Element, NoMember, Member}
+use Rattle.json_tape.specs.Tree.{Spelt, Source, Name, Null, True, False, Num, Str, Tree, source_of, Leaf, Arr, Obj, Element, Member}
 use Rattle.json_tape.specs.Meaning.{meaning}
 use Rattle.json_tape.specs.Nodes.{Node, Step, key, place, size, children, children_of, elements_from, members_from, visit, is_named, key_is}
 use Rattle.json_tape.specs.Letters.{IsString}
@@ -61,17 +61,15 @@ next_past all pre x xs post d k e l y ys q =
 child_at : (all pre post : List Spot) (d : Spot) (way : List Step) (up : ℕ) (l : Label) (later : List Node) (k : ℕ) (t : Tree)
     → all ≡ pre ++ (spots_from way up l later k t ++ post) → length pre ≡ k → (child_count t ≡ 0 → ⊥)
     → (children_of way k t ≡ (get_or all (k + 1) d).node ∷ (get_or all (k + 1) d).later) × (k + 1 < length all)
-child_at all pre post d way up l later k (Leaf s c) e m h = absurd (h refl)
-child_at all pre post d way up l later k (Arr s NoElement) e m h = absurd (h refl)
 child_at all pre post d way up l later k (Arr s (Element t es)) e m h =
     let q = one_of [] (place 0 ∷ way) k (Index 0) (elements_from way 1 (suc k + size t) es) (suc k) t (spots_elements way 1 k (suc k + size t) es) post in
     let p = next_past all pre (top way up l later k (Arr s (Element t es))) (spots_elements way 0 k (suc k) (Element t es)) post d k e m (top (place 0 ∷ way) k (Index 0) (elements_from way 1 (suc k + size t) es) (suc k) t) (inner (place 0 ∷ way) (suc k) t ++ (spots_elements way 1 k (suc k + size t) es ++ post)) q in
     (rw p.0 refl, p.1)
-child_at all pre post d way up l later k (Obj s NoMember) e m h = absurd (h refl)
 child_at all pre post d way up l later k (Obj s (Member n t ms)) e m h =
     let q = one_of [] (key (meaning n.characters) ∷ way) k (Named (extent n.source)) (members_from way (suc k + size t) ms) (suc k) t (spots_members way k (suc k + size t) ms) post in
     let p = next_past all pre (top way up l later k (Obj s (Member n t ms))) (spots_members way k (suc k) (Member n t ms)) post d k e m (top (key (meaning n.characters) ∷ way) k (Named (extent n.source)) (members_from way (suc k + size t) ms) (suc k) t) (inner (key (meaning n.characters) ∷ way) (suc k) t ++ (spots_members way k (suc k + size t) ms ++ post)) q in
     (rw p.0 refl, p.1)
+child_at all pre post d way up l later k _ e m h = absurd (h refl)
 
 next_there : (all : List Spot) (d : Spot) (end up : ℕ) (later : List Node) → NextIn all d end up later → end < end_of (get_or all up d) → (get_or all end d).node ∷ (get_or all end d).later ≡ later
 next_there all d end up [] h l = absurd (omega (arith, h))

@@ -1,7 +1,7 @@
 -- The bytes of a number's entry are a number.
 use Rattle.std.proofs.Common.{ℕ, ◌<◌, List, length, get_or, sym, subst}
 use Rattle.decimal_order.specs.Number.{IsNumber}
-use Rattle.json_tape.specs.Tree.{Null, True, False, Num, Str, Tree, Leaf, Arr, Obj}
+use Rattle.json_tape.specs.Tree.{Num, Tree, Leaf}
 use Rattle.json_tape.specs.Grammar.{IsText}
 use Rattle.json_tape.specs.Tape.{Label, Stands, entry_of}
 use Rattle.json_tape.specs.Limits.{bytes_at, IsBadNumber}
@@ -12,12 +12,7 @@ use Rattle.json_tape.proofs.Numbers.{entry_at}
 
 number_of : (text : List ℕ) (s : Tree) (up n : ℕ) (label : Label) → Fits text s → IsBadNumber text (entry_of s up label n) → IsNumber (bytes_at text (entry_of s up label n).source)
 number_of text (Leaf s Num) up n label f b = subst IsNumber f.0 f.1
-number_of text (Leaf s Null) up n label f b = let x = b.0 in absurd (cc)
-number_of text (Leaf s True) up n label f b = let x = b.0 in absurd (cc)
-number_of text (Leaf s False) up n label f b = let x = b.0 in absurd (cc)
-number_of text (Leaf s (Str cs)) up n label f b = let x = b.0 in absurd (cc)
-number_of text (Arr s es) up n label f b = let x = b.0 in absurd (cc)
-number_of text (Obj s ms) up n label f b = let x = b.0 in absurd (cc)
+number_of text _ up n label f b = let x = b.0 in absurd (cc)
 
 -- the bytes of a number's entry are a number
 pub number_at : (text : List ℕ) (tape : List Entry) (t : Tree) → IsText text t → Stands tape t → (i : ℕ) (d : Entry) → i < length tape → IsBadNumber text (get_or tape i d) → IsNumber (bytes_at text (get_or tape i d).source)

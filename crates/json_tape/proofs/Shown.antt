@@ -2,7 +2,7 @@
 use Rattle.std.proofs.Common.{◌≡◌, ℕ, ◌+◌, ◌<◌, ◌≤◌, List, [], ◌∷◌, length, drop, refl, ap, arith}
 use Rattle.std.proofs.lemmas.List.{length-take, length-drop}
 use Rattle.json_tape.specs.Tree.{Scalar, Null, True, False, Num, Str, Tree, Leaf, Arr, Obj, Elements, NoElement, Element, Members, NoMember, Member, Name, source_of, then_element, then_member}
-use Rattle.json_tape.specs.Grammar.{IsScalarText, IsValue, scalar, no_array, array, no_object, object, IsElements, one_element, next_element, IsMembers, one_member, next_member, IsMember, member, IsText}
+use Rattle.json_tape.specs.Grammar.{IsScalarText, IsValue, scalar, array, object, IsElements, one_element, next_element, IsMembers, one_member, next_member, IsMember, member, IsText}
 use Rattle.json_tape.specs.Parts.{IsElementOf, first_element, later_element, IsValueOf, first_value, later_value, HasPart, itself, element, value}
 use Rattle.json_tape.proofs.Chars.{number_some}
 use Rattle.json_tape.proofs.Fits.{Lies}
@@ -43,10 +43,9 @@ scalar_some bs (Str cs) (inside, h, e) = let n = ap length e in omega arith
 mutual
   value_shown : {p : ℕ} {bs : List ℕ} {t : Tree} → IsValue p bs t → Shown t
   value_shown (scalar {bs = bs} {s = c} h) = scalar_some bs c h
-  value_shown (no_array s h) = (omega arith, tt)
   value_shown (array s body s' h k h') = (omega arith, elements_shown k)
-  value_shown (no_object s h) = (omega arith, tt)
   value_shown (object s body s' h k h') = (omega arith, members_shown k)
+  value_shown _ = (omega arith, tt)
 
   elements_shown : {p : ℕ} {bs : List ℕ} {es : Elements} → IsElements p bs es → ShownElements es
   elements_shown (one_element h) = (value_shown h, tt)
@@ -74,8 +73,7 @@ part_shown (value p i) h = value_of_shown i (part_shown p h).1
 
 source_some : (t : Tree) → Shown t → 0 < length (source_of t).bytes
 source_some (Leaf s c) h = h
-source_some (Arr s es) h = h.0
-source_some (Obj s ms) h = h.0
+source_some _ h = h.0
 
 -- the bytes of a value are those of its tree, and there are some
 pub value_bytes : {p : ℕ} {bs : List ℕ} {t : Tree} → IsValue p bs t → (source_of t).bytes ≡ bs

@@ -162,9 +162,7 @@ pub side_inside : (cells : List Cell) (sides : List Side) (n : ℕ) (c : Cell) �
 side_inside cells sides n c t l e h =
     let w = number_within 0 cells n c t.numbered l (ap holds (sym e) ∙ h) in
     let same : cell_span c ≡ cell_span (get_or cells n c) = ap cell_span e in
-    let x = w.1 in
-    let y = t.counted in
-    omega (arith, x, y, same)
+    omega (arith, w.1, t.counted, same)
 
 pub entry_here : (cells : List Cell) (sides : List Side) (v : List Entry) (n : ℕ) (c : Cell) (d : Entry) → entries_of cells sides ≡ v → n < length cells → c ≡ get_or cells n c
     → get_or v n d ≡ seen n c (get_or sides (cell_span c) no_side)
@@ -188,10 +186,9 @@ container_shown cells sides v n c s d q l e h b f =
 pub leaf_kept : (cells : List Cell) (sides : List Side) (c : Cell) → IsTape cells sides → holds c ≡ false → length cells < 2 ^ 24 → IsTape (cells ++ c ∷ []) sides
 leaf_kept cells sides c t h l =
     let more = containers-snoc cells c ∙ ap (λ b. containers cells + cond b 1 0) h in
-    let y = t.counted in
     record {
       numbered = numbered-snoc 0 cells c t.numbered (λ x. absurd (false≢true (sym h ∙ x)));
-      counted = omega (arith, more, y);
+      counted = omega (arith, more, t.counted);
       few = simp length-append (omega (arith, l));
     }
 
@@ -222,7 +219,6 @@ pub container_added : (cells : List Cell) (sides : List Side) (v : List Entry) (
 unfolding entries_of
 container_added cells sides v c kind seat place s t q h e k r x p l u =
     let more = sides ++ s ∷ [] in
-    let many = t.counted in
     let found : get_or more (cell_span c) no_side ≡ no_side = ap (λ i. get_or more i no_side) l ∙ get_or-append_right sides (s ∷ []) (length sides) (length sides) no_side refl (omega arith)
     ∙ (let z : length sides - length sides ≡ 0 = omega arith in ap (λ i. get_or (s ∷ []) i no_side) z) ∙ e in
     let zero_long : 0 - cell_start c ≡ 0 = omega arith in
@@ -230,7 +226,7 @@ container_added cells sides v c kind seat place s t q h e k r x p l u =
     ap (λ b. cond b (container_seen c (get_or more (cell_span c) no_side)) (leaf_seen (0 + length cells) c)) h ∙ ap (λ y. container_seen c y) found
     ∙ ap (λ n. record { kind = cell_kind c; role = cell_role c; label = cell_label c; source = record { start = cell_start c; len = n }; up = cell_up c; children = 0; after = 0 }) zero_long
     ∙ rw (k, r, x, p, u) refl in
-    let before : entries_from 0 cells more ≡ entries_from 0 cells sides = alike 0 0 cells more sides t.numbered (λ i a b. get_or_append_left sides (s ∷ []) no_side i (omega (arith, many, b))) in
+    let before : entries_from 0 cells more ≡ entries_from 0 cells sides = alike 0 0 cells more sides t.numbered (λ i a b. get_or_append_left sides (s ∷ []) no_side i (omega (arith, t.counted, b))) in
     entries-snoc 0 cells c more ∙ ap (λ y. entries_from 0 cells more ++ y ∷ []) same ∙ ap (λ y. y ++ open_entry kind seat place ∷ []) (before ∙ q)
 
 -- ---- A container that is closed

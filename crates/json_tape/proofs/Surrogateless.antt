@@ -4,7 +4,7 @@ use Rattle.std.proofs.lemmas.Bool.{cases_lt}
 use Rattle.std.proofs.lemmas.List.{get_or_past, get_or_default, length-drop, get_or-drop, get_or-take}
 use Rattle.structural_index.specs.Places.{AreSlashBlocks}
 use Rattle.memchr.specs.Find.{OccursAt, FindsNeedle}
-use Rattle.json_tape.specs.Tree.{Spelt, Plain, Short, Unit4, Tree, Leaf, Arr, Obj, Null, True, False, Num, Str}
+use Rattle.json_tape.specs.Tree.{Spelt, Plain, Short, Unit4, Tree, Leaf, Obj, Str}
 use Rattle.json_tape.specs.Letters.{IsHexDigit, IsChar, AreChars, IsString}
 use Rattle.json_tape.specs.Meaning.{Means, nothing, plain, short, unit, HasLone}
 use Rattle.json_tape.specs.Grammar.{IsText}
@@ -83,11 +83,7 @@ none_lone text t h free (part, has, q) = go part (part_fits (placed has).is_at t
     go (Obj s ms) f (m, is, q) =
         let g = name_fits is text f.1 in
         string_means m.source.bytes m.characters g.1 (subst HasNoSurrogates (sym g.0) (part_none text (extent m.source) free)) q
-    go (Leaf s Null) f q = absurd q
-    go (Leaf s True) f q = absurd q
-    go (Leaf s False) f q = absurd q
-    go (Leaf s Num) f q = absurd q
-    go (Arr s es) f q = absurd q
+    go _ f q = absurd q
 
 -- ---- The search for escapes of units
 

@@ -15,8 +15,7 @@ returns-else-letter-eq117-clause-held c =
     let inside = c.requires.inside in
     let slash = c.requires.backslash in
     let other = sym c.is_short.ensures ∙ c.if-is_short.false in
-    let there = c.if-start-text.false in
-    let more : k + 1 < length text = omega (arith, there, inside) in
+    let more : k + 1 < length text = omega (arith, c.if-start-text.false, inside) in
     elim c.else-letter-eq117.branch [
       | else-letter-eq117-via-then-letter-eq117+then-text-start-ge-UNIT+else-are_digits w ↦
           no_digits text k inside slash (let room = w.if-text-start-ge-UNIT.true in omega (arith, room)) other w.if-letter-eq117.true (sym w.are_digits.ensures ∙ w.if-are_digits.false)

@@ -16,5 +16,4 @@ loop-n-preserved c j l = elim (cases_lt j c.loop-n.n) [
 
 pub returns : goal.returns
 returns c =
-    let past = c.loop-n-test.false in
-    λ _. none_in_blocks c.args.text.now c.args.blocks.now c.requires (λ j l. c.loop-n.invariant j (omega (arith, past, l)))
+    λ _. none_in_blocks c.args.text.now c.args.blocks.now c.requires (λ j l. c.loop-n.invariant j (omega (arith, c.loop-n-test.false, l)))

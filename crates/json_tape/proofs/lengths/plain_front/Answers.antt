@@ -12,16 +12,14 @@ returns-then-has_slash-clause-characters c =
 
 pub overflow_add-characters : goal.overflow_add-characters
 overflow_add-characters c =
-    let t = c.loop-k-test.true in
     let few =
-    few_in_load c.as_bytes-bytes.result.now (record { bytes = c.loop-k.k; characters = c.loop-k.characters }) c.loop-k.invariant (omega (arith, t, c.loop-k.invariant.inside)) (sym c.has_slash.ensures ∙ c.if-has_slash.false)
+    few_in_load c.as_bytes-bytes.result.now (record { bytes = c.loop-k.k; characters = c.loop-k.characters }) c.loop-k.invariant (omega (arith, c.loop-k-test.true, c.loop-k.invariant.inside)) (sym c.has_slash.ensures ∙ c.if-has_slash.false)
     c.beginnings.result c.beginnings.ensures in
     record { fits = omega (arith, few) }
 
 pub loop-k-preserved : goal.loop-k-preserved
 loop-k-preserved c =
-    let t = c.loop-k-test.true in
-    passed_load c.as_bytes-bytes.result.now (record { bytes = c.loop-k.k; characters = c.loop-k.characters }) c.loop-k.invariant (omega (arith, t, c.loop-k.invariant.inside)) (sym c.has_slash.ensures ∙ c.if-has_slash.false)
+    passed_load c.as_bytes-bytes.result.now (record { bytes = c.loop-k.k; characters = c.loop-k.characters }) c.loop-k.invariant (omega (arith, c.loop-k-test.true, c.loop-k.invariant.inside)) (sym c.has_slash.ensures ∙ c.if-has_slash.false)
     c.beginnings.result c.beginnings.ensures
 
 pub returns-clause-plain : goal.returns-clause-plain

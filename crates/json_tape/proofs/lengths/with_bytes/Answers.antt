@@ -12,8 +12,7 @@ grown c =
 pub overflow_add-characters : goal.overflow_add-characters
 overflow_add-characters c =
     let few = few_characters c.args.bytes.now (record { bytes = c.loop-k.k + 1; characters = c.loop-k.characters + c.from-characters.result }) (grown c) in
-    let t = c.loop-k-test.true in
-    record { fits = omega (arith, few, t) }
+    record { fits = omega (arith, few, c.loop-k-test.true) }
 
 pub loop-k-preserved : goal.loop-k-preserved
 loop-k-preserved c = grown c

@@ -43,11 +43,10 @@ loop-k-preserved-in-Go-Between c =
     let now = ap (λ (p : List ℕ × ℕ). p.1) run.counted in
     let most = min-le_left (c.at.new.self.1 + (end - (k + 1))) (2 ^ 64 - 1) in
     let few = before.few in
-    let first = before.from in
     let upper = subst (λ (b : List ℕ). end ≤ length b) kept run.upper_bound in
     let none = subst (λ (b : List ℕ). AreUnstopped b (k + 1) end) kept run.none in
     record {
-      from = omega (arith, from, first);
+      from = omega (arith, from, before.from);
       within = subst (λ (b : List ℕ). end ≤ length b) (sym same) upper;
       passed = subst (λ (b : List ℕ). string_end Between end (drop end b) ≡ string_end Between start (drop start b)) (sym same)
           (plain_to bytes start (k + 1) end from upper none

@@ -55,5 +55,4 @@ pub returns-then-is_whole-clause-refused : goal.returns-then-is_whole-clause-ref
 returns-then-is_whole-clause-refused g c = λ e.
     let whole = c.is_whole.ensures.0 c.if-is_whole.true in
     let long = ap length c.requires.text in
-    let begins = c.requires.begins in
-    empty_none c.args.text.now (record { list = refl; short = c.requires.short; utf8 = c.requires.utf8 }) (omega (arith, whole, long, begins))
+    empty_none c.args.text.now (record { list = refl; short = c.requires.short; utf8 = c.requires.utf8 }) (omega (arith, whole, long, c.requires.begins))

@@ -6,16 +6,13 @@ use Rattle.json_tape.proofs.compact.Tape.open.Goals as goal
 pub overflow_cast-number : goal.overflow_cast-number
 overflow_cast-number c =
     let few = containers_few c.self.inside.cells.items in
-    let counted = c.self.invariant.counted in
-    let short = c.self.invariant.few in
-    omega (arith, few, counted, short, c.len-number.ensures, c.self.inside.sides.ok.0)
+    omega (arith, few, c.self.invariant.counted, c.self.invariant.few, c.len-number.ensures, c.self.inside.sides.ok.0)
 
 pub new-requires-clause-span : goal.new-requires-clause-span
 new-requires-clause-span c =
     let m = entries_many _ _ _ c.self.view_is in
     let few = containers_few c.self.inside.cells.items in
-    let counted = c.self.invariant.counted in
-    omega (arith, few, counted, m, c.requires.room, c.len-number.ensures, c.self.inside.sides.ok.0)
+    omega (arith, few, c.self.invariant.counted, m, c.requires.room, c.len-number.ensures, c.self.inside.sides.ok.0)
 
 pub invariant_of-self-in-Ok : goal.invariant_of-self-in-Ok
 invariant_of-self-in-Ok c =

@@ -10,8 +10,7 @@ sought_in-requires-clause-object c = sym (kind_is c.args.self.now c.entry-value.
 
 pub returns-in-Null : goal.returns-in-Null
 returns-in-Null c =
-    let i = c.in-Null.is in
-    let no_object : c.entry-value.result.kind ≡ kinds.Object → ⊥ = (λ o. grind (arith, i, o)) in
+    let no_object : c.entry-value.result.kind ≡ kinds.Object → ⊥ = (λ o. grind (arith, c.in-Null.is, o)) in
     record {
       node = λ name h. unnamed name (node_at c.args.self.now c.args.n.0) (λ k. no_object (kind_is c.args.self.now c.entry-value.ensures.document c.args.n.0 c.requires.inside c.entry-value.result c.entry-value.ensures.value ∙ k));
       inside = tt;
