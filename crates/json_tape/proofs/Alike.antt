@@ -19,7 +19,7 @@ use Rattle.json_tape.specs.declared.tape.Entry.{Entry}
 use Rattle.json_tape.proofs.Numbers.{entry_at}
 use Rattle.json_tape.proofs.Repeats.{rising_alone}
 use Rattle.json_tape.proofs.KeysLeft.{IsGood, all_good, length_keyed}
-use Rattle.json_tape.proofs.Runs.{get_map, kept_more, object_members}
+use Rattle.json_tape.proofs.Runs.{kept_more, object_members}
 
 -- no further on
 pub onward_by_none : (xs : List ℕ) → map (onward 0) xs ≡ xs
@@ -83,7 +83,7 @@ module _ (text : List ℕ) (tape : List Entry) where
       inner k h = let e = length-map members (onward shift) in omega arith
 
       number_is : (k : ℕ) → k < length members → get_or later k 0 ≡ get_or members k 0 + shift
-      number_is k h = get_map (onward shift) members k 0 h
+      number_is k h = get_or-map (onward shift) members k 0 0 h
 
       name_is : (k : ℕ) → k < length members → name_at text tape (get_or later k 0) ≡ name_at text tape (get_or members k 0)
       name_is k h = ap (name_at text tape) (number_is k h) ∙ (all_twice k 0 h).named

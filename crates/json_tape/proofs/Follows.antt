@@ -21,6 +21,7 @@ use Rattle.json_tape.specs.declared.tape.Open.{Open}
 use Rattle.json_tape.proofs.Snoc.{deepest-then_element, deepest-then_member, count-then_element, count-then_member, tape-then_element, tape-then_member, length-tape_elements, length-tape_members}
 use Rattle.json_tape.proofs.Complete.{goes_on, no_atom-blanks, blanks_go}
 use Rattle.json_tape.proofs.Chars.{number_atoms, number_some}
+use Rattle.std.proofs.lemmas.List.{append-nil}
 
 abbrev st : List Entry → List Open → Want → Option Extent → ℕ → State
 st es os w name d = record { entries = es; opens = os; want = w; name = name; deep = d }
@@ -105,10 +106,6 @@ to_state : {p q : ℕ} {bs cs : List ℕ} {s : State} {es es' : List Entry} (o :
 to_state {p} {q} {bs} {cs} {s} {es} {es'} o {c} {c'} {os} {w} {name} {d} {d'} e f h g =
     subst (λ m. Goes p bs s q cs (st es' (record o { children = c' } ∷ os) w name m)) h (subst (λ n. Goes p bs s q cs (st es' (record o { children = n } ∷ os) w name d)) f (subst (λ l. Goes p bs s q cs (st l (record o { children = c } ∷ os) w name d)) e g))
 
-append-nil : (l : List Entry) → l ++ [] ≡ l
-append-nil [] = refl
-append-nil (x ∷ l) = ap (λ m. x ∷ m) (append-nil l)
-
 comma_goes : (p : ℕ) (rest : List ℕ) (es : List Entry) (o : Open) (os : List Open) (w : Want) (d : ℕ) → after_comma o.level wants.Next ≡ Some w
     → Goes p (44 ∷ rest) (st es (o ∷ os) wants.Next None d) (p + 1) rest (st es (o ∷ os) w None d)
 comma_goes p rest es o os w d h = token {vs = 44 ∷ []} refl refl (sign refl) (rw h refl) (stay refl refl)
@@ -145,13 +142,13 @@ blank_first : (c : ℕ) (rest : List ℕ) → class c ≡ Sign → NoAtomFirst (
 blank_first c rest h = λ e. cc
 
 -- the parts of an array or an object, followed by the rest of the text
-regroup3 : (s body s' : List ℕ) (c : ℕ) (rest : List ℕ) → (s ++ body ++ s' ++ c ∷ []) ++ rest ≡ s ++ (body ++ (s' ++ c ∷ rest))
+pub regroup3 : (s body s' : List ℕ) (c : ℕ) (rest : List ℕ) → (s ++ body ++ s' ++ c ∷ []) ++ rest ≡ s ++ (body ++ (s' ++ c ∷ rest))
 regroup3 s body s' c rest = simp append_assoc
 
 regroup2 : (s : List ℕ) (c : ℕ) (rest : List ℕ) → (s ++ c ∷ []) ++ rest ≡ s ++ ([] ++ ([] ++ c ∷ rest))
 regroup2 s c rest = simp append_assoc
 
-regroup_more : (front s : List ℕ) (c : ℕ) (s' bs rest : List ℕ) → (front ++ s ++ c ∷ s' ++ bs) ++ rest ≡ front ++ (s ++ (c ∷ (s' ++ (bs ++ rest))))
+pub regroup_more : (front s : List ℕ) (c : ℕ) (s' bs rest : List ℕ) → (front ++ s ++ c ∷ s' ++ bs) ++ rest ≡ front ++ (s ++ (c ∷ (s' ++ (bs ++ rest))))
 regroup_more front s c s' bs rest = simp append_assoc
 
 length3 : (s body s' : List ℕ) (c : ℕ) → 1 + length s + length body + length s' + 1 ≡ suc (length (s ++ body ++ s' ++ c ∷ []))
@@ -266,13 +263,9 @@ text_goes bytes t h = (
   length h.before + length h.bytes + length h.after,
   from_bytes (h.whole ∙ simp append_assoc)
       (goes_on (at_place refl from_0 (blanks_go h.before (h.bytes ++ h.after) 0 _ h.blanks_before))
-      (goes_on (value_goes h.value h.after [] (root 0) [] wants.Value None 0 refl (subst NoAtomFirst (append-nil' h.after) (no_atom-blanks h.after [] h.blanks_after tt)))
-      (from_bytes (sym (append-nil' h.after)) (blanks_go h.after [] (length h.before + length h.bytes) _ h.blanks_after)))),
+      (goes_on (value_goes h.value h.after [] (root 0) [] wants.Value None 0 refl (subst NoAtomFirst (append-nil h.after) (no_atom-blanks h.after [] h.blanks_after tt)))
+      (from_bytes (sym (append-nil h.after)) (blanks_go h.after [] (length h.before + length h.bytes) _ h.blanks_after)))),
 )
   where
     from_0 : 0 + length h.before ≡ length h.before
     from_0 = omega arith
-
-    append-nil' : (l : List ℕ) → l ++ [] ≡ l
-    append-nil' [] = refl
-    append-nil' (x ∷ l) = ap (λ m. x ∷ m) (append-nil' l)

@@ -3,7 +3,7 @@ use Rattle.std.proofs.Common.{◌≡◌, ℕ, ◌+◌, ◌*◌, ◌^◌, ◌<◌
 use Rattle.std.specs.Prelude.{nat_eq, nat_lt}
 use Rattle.std.proofs.lemmas.Bool.Decides.{nat_tests}
 use Rattle.std.proofs.lemmas.Nat.{mod-mul-add, div-mul-add}
-use Rattle.std.proofs.lemmas.List.{length-map, get_or_default}
+use Rattle.std.proofs.lemmas.List.{length-map, get_or_default, get_or-map}
 use Rattle.std.proofs.lemmas.List.Elements.{All-from_recursion, recursion_from_All}
 use Rattle.std.proofs.lemmas.List.Sorted.{IsPermutation-map, All-permutation, length_permutation}
 use Rattle.std.specs.List.{All, AllByRecursion}
@@ -22,7 +22,7 @@ use Rattle.json_tape.specs.declared.tape.Entry.{Entry}
 use Rattle.json_tape.proofs.Numbers.{entry_at}
 use Rattle.json_tape.proofs.Repeats.{strict, sorted_repeats, hashes_apart}
 use Rattle.json_tape.proofs.KeysLeft.{IsGood, all_good, length_keyed}
-use Rattle.json_tape.proofs.Runs.{get_map, in_order, kept_more}
+use Rattle.json_tape.proofs.Runs.{in_order, kept_more}
 
 low_is : (hash number : ℕ) → number < 4294967296 → low_half (hash * 4294967296 + number) ≡ number
 unfolding low_half
@@ -57,7 +57,7 @@ highs_sorted ys s k d z h =
     not_less (get_or (map high_half ys) (k + 1) d) (get_or (map high_half ys) k d) (omega arith)
   where
     at : (i : ℕ) → i < length (map high_half ys) → get_or (map high_half ys) i d ≡ high_half (get_or ys i 0)
-    at i l = get_or_default (map high_half ys) i d 0 l ∙ get_map high_half ys i 0 (let long = length-map ys high_half in omega arith)
+    at i l = get_or_default (map high_half ys) i d 0 l ∙ get_or-map high_half ys i 0 0 (let long = length-map ys high_half in omega arith)
 
 next_map : (f : ℕ → ℕ) (ys : List ℕ) → repeats_next_by (on f nat_eq) ys ≡ repeats_next_by nat_eq (map f ys)
 next_map f (x ∷ y ∷ ys) = ap (λ b. nat_eq (f x) (f y) || b) (next_map f (y ∷ ys))
@@ -126,8 +126,8 @@ module _ (text : List ℕ) (tape : List Entry) (short : length tape < 2 ^ 31) wh
     ordered ms o = record {
       named = record {
         long = length-map ys high_half ∙ sym (length-map ys low_half);
-        inside = λ k h. let l = inner k h in subst (λ m. m < length tape) (sym (get_map low_half ys k 0 l)) (good ms o k 0 l).inside;
-        quoted = λ k h. let l = inner k h in subst (λ m. IsQuoted text (entry_in tape m).label) (sym (get_map low_half ys k 0 l)) (good ms o k 0 l).quoted;
+        inside = λ k h. let l = inner k h in subst (λ m. m < length tape) (sym (get_or-map low_half ys k 0 0 l)) (good ms o k 0 l).inside;
+        quoted = λ k h. let l = inner k h in subst (λ m. IsQuoted text (entry_in tape m).label) (sym (get_or-map low_half ys k 0 0 l)) (good ms o k 0 l).quoted;
         hashed = hash_is;
         rising = λ j k h m.
             (let i : j < length (map low_half ys) = omega arith in
@@ -147,7 +147,7 @@ module _ (text : List ℕ) (tape : List Entry) (short : length tape < 2 ^ 31) wh
         hash_is : (k : ℕ) → k < length (map low_half ys) → get_or (map high_half ys) k 0 ≡ name_hash (named k)
         hash_is k h =
             let l = inner k h in
-            get_map high_half ys k 0 l ∙ (good ms o k 0 l).hashed ∙ ap (λ m. name_hash (name_at text tape m)) (sym (get_map low_half ys k 0 l))
+            get_or-map high_half ys k 0 0 l ∙ (good ms o k 0 l).hashed ∙ ap (λ m. name_hash (name_at text tape m)) (sym (get_or-map low_half ys k 0 0 l))
 
     -- the lists with the members of one more object
     pub kept_words : (objects starts hashes members : List ℕ) → AreKept text tape n objects starts hashes members → (ms : Members) × IsObject text tape n ms

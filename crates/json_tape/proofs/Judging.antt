@@ -2,13 +2,12 @@
 use Rattle.std.proofs.lemmas.Bool.{cases_lt}
 use Rattle.std.proofs.Common.{ℕ, zero, suc, ◌≡◌, ◌+◌, ◌<◌, List, [], ◌∷◌, inl, inr, refl, ◌++◌, length, length-append, get_or, sym, ap, ◌∙◌, subst, arith}
 use Rattle.json_tape.specs.Tree.{Tree}
-use Rattle.json_tape.specs.Tape.{Label, Top, tape_of, Stands, IsAt}
+use Rattle.json_tape.specs.Tape.{Label, Top, tape_of, Stands, IsAt, entry_of}
 use Rattle.json_tape.specs.Parts.{HasPart}
 use Rattle.json_tape.specs.declared.tape.Entry.{Entry}
 use Rattle.json_tape.proofs.Snoc.{length-tape}
 use Rattle.json_tape.proofs.Parts.{part_of_at, placed}
 use Rattle.json_tape.proofs.Numbers.{Numbered, entry_at, entry_first, part_at, numbered}
-use Rattle.json_tape.specs.Tape.{entry_of}
 
 pub number_below : (tape : List Entry) (t s : Tree) (n up : ℕ) (label : Label) → Stands tape t → IsAt t 0 Top 0 n up label s → n < length tape
 number_below tape t s n up label e h =

@@ -1,7 +1,6 @@
 -- What a builder keeps of its open containers, as its tape grows and is changed.
 use Rattle.std.proofs.Common.{◌≡◌, ℕ, zero, suc, true, false, List, [], ◌∷◌, ◌++◌, length, refl, sym, ap, ◌∙◌}
-use Rattle.std.specs.Prelude.{Result, Ok, Err, OnOk}
-use Rattle.std.specs.Prelude.{is_ok, is_err, if◌then◌else◌, reverse}
+use Rattle.std.specs.Prelude.{Result, Ok, Err, OnOk, is_ok, is_err, if◌then◌else◌, reverse}
 use Rattle.std.proofs.lemmas.List.{reverse-append}
 use Rattle.std.proofs.lemmas.Bool.{false≢true}
 use Rattle.json_tape.specs.declared.tape.Entry.{Entry}

@@ -1,16 +1,15 @@
 -- Numbers beyond the limits, in the entries and in the tree.
-use Rattle.std.proofs.Common.{ℕ, ◌<◌, ◌≤◌, ◌⊎◌, inl, inr, List, length, get_or, refl, sym, subst, arith}
+use Rattle.std.proofs.Common.{ℕ, ◌<◌, inl, inr, List, length, get_or, refl, sym, subst, arith}
 use Rattle.std.proofs.lemmas.Bool.{cases_lt}
 use Rattle.json_tape.specs.Tree.{Num, Tree, Leaf}
 use Rattle.decimal_order.specs.Value.{exponent_size}
 use Rattle.decimal_order.specs.Limits.{IsWithinLimits, length_limit, exponent_limit}
 use Rattle.json_tape.specs.Grammar.{IsText}
-use Rattle.json_tape.specs.Tape.{Label, Stands}
+use Rattle.json_tape.specs.Tape.{Label, Stands, entry_of}
 use Rattle.json_tape.specs.Verdict.{BreaksLimit}
 use Rattle.json_tape.specs.Limits.{IsLimited, IsBadNumber}
 use Rattle.json_tape.specs.Parts.{HasPart}
 use Rattle.json_tape.specs.declared.tape.Entry.{Entry}
-use Rattle.json_tape.specs.Tape.{entry_of}
 use Rattle.json_tape.proofs.Fits.{Fits, text_fits, part_fits}
 use Rattle.json_tape.proofs.Judging.{part_found, part_none}
 
@@ -37,12 +36,7 @@ bad_none text tape t h e n b =
 
 -- the limits can be judged, so a number that does not break them keeps them
 pub within_unless : (bs : List ℕ) → ((IsWithinLimits bs → ⊥) → ⊥) → IsWithinLimits bs
-within_unless bs f = record { bytes = by_length (cases_lt length_limit (length bs)); exponent = by_exponent (cases_lt exponent_limit (exponent_size bs)) }
-  where
-    by_length : (length_limit < length bs) ⊎ (length bs ≤ length_limit) → length bs ≤ length_limit
-    by_length (inl h) = absurd (f (λ w. let x = w.bytes in omega arith))
-    by_length (inr h) = h
-
-    by_exponent : (exponent_limit < exponent_size bs) ⊎ (exponent_size bs ≤ exponent_limit) → exponent_size bs ≤ exponent_limit
-    by_exponent (inl h) = absurd (f (λ w. let x = w.exponent in omega arith))
-    by_exponent (inr h) = h
+within_unless bs f = record {
+  bytes = elim (cases_lt length_limit (length bs)) [ inl h ↦ absurd (f (λ w. let x = w.bytes in omega arith)) | inr h ↦ h ];
+  exponent = elim (cases_lt exponent_limit (exponent_size bs)) [ inl h ↦ absurd (f (λ w. let x = w.exponent in omega arith)) | inr h ↦ h ];
+}

@@ -11,8 +11,8 @@ use Rattle.json_tape.specs.Verdict.{text_limit}
 use Rattle.json_tape.specs.Machine.{State, IsSmall}
 use Rattle.json_tape.proofs.Reach.{PlaceIs, place_is, place_seam}
 use Rattle.json_tape.proofs.Walking.{place_number}
-use Rattle.json_tape.proofs.PlaceWalk.{same_default}
 use Rattle.json_tape.proofs.WalkEnds.{reads_small}
+use Rattle.json_tape.proofs.Bridge.{same_default}
 
 places_few : (p : ℕ → Bool) (n a : ℕ) → length (filter p (range_with_len a n)) ≤ n
 places_few p zero a = omega arith

@@ -13,6 +13,7 @@ use Rattle.json_tape.specs.Scanning.{turn}
 use Rattle.json_tape.specs.Surrogates.{number_of_hex, standing, past_unit, over, lone_from, lone}
 use Rattle.json_tape.proofs.Meanings.{meaning_is}
 use Rattle.json_tape.proofs.Strings.{ArePlain, plain_bytes}
+use Rattle.json_tape.proofs.Spelled.{keep, digit_bound}
 
 -- the search over characters
 abbrev after_one : Spelt → Bool → Option Bool
@@ -53,21 +54,15 @@ encode_some c e = let x = ap length e in let y = length-encode c in let z = len_
 hex_number_is : (b n : ℕ) → IsHexDigit b n → number_of_hex b ≡ n
 hex_number_is b n h = grind (arith, nat_tests)
 
-hex_small : (b n : ℕ) → IsHexDigit b n → n < 16
-hex_small b n h = grind arith
-
 no_slash_short : (l : ℕ) → IsShort l → eqb l 117 ≡ false
 no_slash_short l h = grind (arith, nat_tests)
-
-keep : (v : ℕ) → v < 4096 → v % 4096 ≡ v
-keep v h = omega arith
 
 -- four hexadecimal digits
 hex_run : (a b c d k l m n u : ℕ) (h : Bool) (rest : List ℕ) → IsHexDigit a k → IsHexDigit b l → IsHexDigit c m → IsHexDigit d n → u ≡ 4096 * k + 256 * l + 16 * m + n
     → lone_from (standing (Hex 3) 0 h) (a ∷ b ∷ c ∷ d ∷ rest) ≡ over (past_unit u h) (λ s. lone_from s rest)
 hex_run a b c d k l m n u h rest ha hb hc hd e =
     let ka = hex_number_is a k ha in let kb = hex_number_is b l hb in let kc = hex_number_is c m hc in let kd = hex_number_is d n hd in
-    let sa = hex_small a k ha in let sb = hex_small b l hb in let sc = hex_small c m hc in
+    let sa = digit_bound a k ha in let sb = digit_bound b l hb in let sc = digit_bound c m hc in
     let v1 : 16 * (0 % 4096) + number_of_hex a ≡ k = omega arith in
     let v2 : 16 * (k % 4096) + number_of_hex b ≡ 16 * k + l = (let x = keep k (omega arith) in omega arith) in
     let v3 : 16 * ((16 * k + l) % 4096) + number_of_hex c ≡ 256 * k + 16 * l + m = (let x = keep (16 * k + l) (omega arith) in omega arith) in

@@ -8,7 +8,7 @@ use Rattle.json_tape.specs.Grammar.{IsText}
 use Rattle.json_tape.specs.Tape.{Stands}
 use Rattle.json_tape.specs.Limits.{bytes_at, IsBadNumber, AreWithinLimits}
 use Rattle.decimal_order.specs.Limits.{IsWithinLimits}
-use Rattle.json_tape.specs.Lexing.{Atom, class, IsToken, sign, text, word, sign_at, is_atom, Taken, Marked}
+use Rattle.json_tape.specs.Lexing.{class, IsToken, sign, text, word, sign_at, is_atom, Taken, Marked}
 use Rattle.json_tape.specs.Machine.{Token, Opening, Closing, Comma, Between, Text, Word, State, takes_value, takes_name, closes, put_leaf, put_open, change_at, put_close, put_comma, is_colon, put_text, step, start, kind_of_shape, closed}
 use Rattle.json_tape.specs.declared.tape.Kind.{Kind}
 use Rattle.json_tape.specs.declared.tape.Kind.TheVariants as kinds
@@ -22,8 +22,9 @@ use Rattle.json_tape.specs.declared.tape.Want.{Want}
 use Rattle.json_tape.specs.declared.tape.Want.TheVariants as wants
 use Rattle.json_tape.specs.declared.tape.Open.{Open}
 use Rattle.std.specs.Prelude.{Ok, not, ◌||◌}
-use Rattle.json_tape.proofs.Repeats.{neither}
 use Rattle.json_tape.proofs.ShortNumbers.{number_at}
+use Rattle.std.proofs.lemmas.Bool.{or_parts}
+use Rattle.json_tape.proofs.Complete.{atom_by_class}
 
 -- the kind of the entry at a place
 abbrev kind_at : List Entry → ℕ → Option Kind
@@ -146,9 +147,6 @@ module _ (bytes : List ℕ) (exceeds : Bool) where
   step_kept (Text x) s s' e k f = text_kept x s.entries s.opens s.want s.name s.deep s' e k.opened k.good
   step_kept (Word x kind) s s' e k f = leaf_kept x kind s.entries s.opens s.want s.name s.deep s' e k.opened k.good (λ m n. f m)
 
-atom_of : (b : ℕ) → class b ≡ Atom → is_atom b ≡ true
-atom_of b a = grind (arith, nat_tests)
-
 module _ (bytes : List ℕ) (exceeds : Bool) where
   word_fits : {p : ℕ} {vs rest : List ℕ} {tok : Token} → IsToken p vs tok rest → (b : ℕ) (cs : List ℕ) → b ∷ cs ≡ vs ++ rest → (exceeds ≡ false → is_atom b ≡ true → IsWithinLimits (take (length vs) (drop p bytes))) → WordFits bytes exceeds tok
   word_fits (sign {p = p} {b = b'} {tok = tok} h) b cs e f = by_sign tok h
@@ -157,7 +155,7 @@ module _ (bytes : List ℕ) (exceeds : Bool) where
       by_sign (Word x kind) h = absurd (grind (arith, nat_tests))
       by_sign _ h = tt
   word_fits (text cs' h) b cs e f = tt
-  word_fits (word {b = b'} {vs = vs} at over k) b cs e f = λ m. f m (atom_of b (let g : b ≡ b' = cc in ap class g ∙ at.0))
+  word_fits (word {b = b'} {vs = vs} at over k) b cs e f = λ m. f m (atom_by_class b (let g : b ≡ b' = cc in ap class g ∙ at.0))
 
 -- a word leaves the mark as it is only where it is within the limits
 pub unmarked : (old : Bool) → old ≡ (old || not true)
@@ -167,8 +165,8 @@ unmarked false = refl
 pub word_marked : (bytes bs : List ℕ) (i : ℕ) (old keeps new : Bool) → bs ≡ take (length bs) (drop i bytes) → (keeps ≡ true → IsWithinLimits bs) → new ≡ (old || not keeps) → Marked bytes i old (Ok (i + length bs)) new
 word_marked bytes bs i old true new e h m = λ n.
     let size : length bs ≡ i + length bs - i = omega arith in
-    ((neither old false (sym m ∙ n)).0, λ a. subst IsWithinLimits (e ∙ ap (λ n. take n (drop i bytes)) size) (h refl))
-word_marked bytes bs i old false new e h m = λ n. let k = (neither old true (sym m ∙ n)).1 in absurd (cc)
+    ((or_parts old false (sym m ∙ n)).0, λ a. subst IsWithinLimits (e ∙ ap (λ n. take n (drop i bytes)) size) (h refl))
+word_marked bytes bs i old false new e h m = λ n. let k = (or_parts old true (sym m ∙ n)).1 in absurd (cc)
 
 pub kept_token : (bytes : List ℕ) (i j : ℕ) (old new : Bool) (s s' : State) → i < length bytes → Taken bytes i j s s' → (new ≡ false → (old ≡ false) × (is_atom (get_or bytes i 0) ≡ true → IsWithinLimits (take (j - i) (drop i bytes)))) → Kept bytes old s → Kept bytes new s'
 kept_token bytes i j old new s s' h t m k =

@@ -25,6 +25,20 @@ use Rattle.json_tape.specs.Told.{IsPlain, stamp_at, IsStamped, IsMemberOf, AreAp
 
 -- ---- Asked about
 
+stamp_small : (bs : List ℕ) → bytes_stamp bs < 1024
+unfolding stamp mixed
+stamp_small bs = omega arith
+
+-- what is the same at the depths of the containers is held as before
+held_same : (text : List ℕ) (es : List Entry) (old new : NamesMet) (bound : ℕ) → ((n : ℕ) → IsUnasked new n → IsUnasked old n) → ((depth s : ℕ) → 0 < depth → depth < bound → s < 1024 → get_or new.owners (depth * 1024 + s) 0 ≡ get_or old.owners (depth * 1024 + s) 0)
+    → (limit : ℕ) (os : List Open) → length os ≤ bound → AreHeld text es old limit os → AreHeld text es new limit os
+held_same text es old new bound unasked same limit [] l h = tt
+held_same text es old new bound unasked same limit (o ∷ os) l h = (one o.level h.0, held_same text es old new bound unasked same (limit_under o.level o.entry) os (omega arith) h.1)
+  where
+    one : (level : Level) → IsHeld text es old limit level o.entry (length os) → IsHeld text es new limit level o.entry (length os)
+    one Root k = tt
+    one (Inside shape) k = (k.0, k.1, k.2, λ u m i. same (length os) (stamp_at text (entry_in es m).label) k.1 (omega arith) (stamp_small (bytes_at text (entry_in es m).label)) ∙ k.3 (unasked o.entry u) m i)
+
 module _ (text : List ℕ) (old new : NamesMet) (number : ℕ) (asked : IsAsked number old new) where
   pub unasked_before : (n : ℕ) → IsUnasked new n → IsUnasked old n
   unasked_before n h x = h (subst (λ l. Contains l n) (sym asked.1) (Contains-append_left old.asked.items (number ∷ []) n x))
@@ -33,12 +47,7 @@ module _ (text : List ℕ) (old new : NamesMet) (number : ℕ) (asked : IsAsked 
   asked_now = subst (λ l. Contains l number) (sym asked.1) (Contains-push old.asked.items number)
 
   held_before : (es : List Entry) (limit : ℕ) (os : List Open) → AreHeld text es old limit os → AreHeld text es new limit os
-  held_before es limit [] h = tt
-  held_before es limit (o ∷ os) h = (one o.level h.0, held_before es (limit_under o.level o.entry) os h.1)
-    where
-      one : (l : Level) → IsHeld text es old limit l o.entry (length os) → IsHeld text es new limit l o.entry (length os)
-      one Root k = tt
-      one (Inside shape) k = (k.0, k.1, k.2, λ u m i. ap (λ (l : List ℕ). get_or l (length os * 1024 + stamp_at text (entry_in es m).label) 0) asked.0 ∙ k.3 (unasked_before o.entry u) m i)
+  held_before es limit os h = held_same text es old new (length os) unasked_before (λ depth s a b c. ap (λ (l : List ℕ). get_or l (depth * 1024 + s) 0) asked.0) limit os (omega arith) h
 
   pub told_asked : (b : Built) → AreTold text b old → AreTold text b new
   told_asked b t = record {
@@ -56,30 +65,13 @@ told_on old new number b (Err f) h = tt
 
 -- ---- A name that was met
 
-stamp_small : (bs : List ℕ) → bytes_stamp bs < 1024
-unfolding stamp mixed
-stamp_small bs = omega arith
-
 module _ (text : List ℕ) (es : List Entry) (old new : NamesMet) (place value bound : ℕ) (owners : new.owners ≡ set old.owners place value) (asked : new.asked.items ≡ old.asked.items) where
   same_asked : (n : ℕ) → IsUnasked new n → IsUnasked old n
   same_asked n u = subst (λ l. Contains l n → ⊥) asked u
 
   -- what stands at other places is as it was
   held_away : ((depth s : ℕ) → 0 < depth → depth < bound → s < 1024 → depth * 1024 + s ≢ place) → (limit : ℕ) (os : List Open) → length os ≤ bound → AreHeld text es old limit os → AreHeld text es new limit os
-  held_away away limit [] l h = tt
-  held_away away limit (o ∷ os) l h = (one o.level h.0, held_away away (limit_under o.level o.entry) os (omega arith) h.1)
-    where
-      one : (level : Level) → IsHeld text es old limit level o.entry (length os) → IsHeld text es new limit level o.entry (length os)
-      one Root k = tt
-      one (Inside shape) k = (
-        k.0,
-        k.1,
-        k.2,
-        λ u m i.
-            let at = stamp_at text (entry_in es m).label in
-            ap (λ (l : List ℕ). get_or l (length os * 1024 + at) 0) owners
-            ∙ get_or-set_other old.owners place (length os * 1024 + at) value 0 (away (length os) at k.1 (omega arith) (stamp_small (bytes_at text (entry_in es m).label))) ∙ k.3 (same_asked o.entry u) m i,
-      )
+  held_away away = held_same text es old new bound same_asked (λ depth s a b c. ap (λ (l : List ℕ). get_or l (depth * 1024 + s) 0) owners ∙ get_or-set_other old.owners place (depth * 1024 + s) value 0 (away depth s a b c))
 
 -- what is held of the innermost container whose stamp is marked
 module _ (text : List ℕ) (b : Built) (owner : Owner) (old new : NamesMet) (s : ℕ) (x : Extent) (told : AreTold text b old) (seated : IsSeated b owner old) (marked : IsMarked owner s old new) (stamped : IsStamped text x (Some s)) where

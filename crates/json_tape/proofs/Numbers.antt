@@ -1,6 +1,6 @@
 -- What the entry with a number says of the tree with that number.
 use Rattle.std.proofs.Common.{◌≡◌, ℕ, ◌+◌, ◌<◌, ◌≤◌, List, [], ◌∷◌, ◌++◌, length, get_or, inl, inr, ◌⊎◌, refl, sym, ap, ◌∙◌, subst, arith, append_assoc, length-append}
-use Rattle.std.proofs.lemmas.List.{get_or_at}
+use Rattle.std.proofs.lemmas.List.{get_or_at, append-nil}
 use Rattle.std.proofs.lemmas.Bool.{cases_lt}
 use Rattle.json_tape.specs.Tree.{Tree, Leaf, Arr, Obj, Elements, NoElement, Element, Members, NoMember, Member}
 use Rattle.json_tape.specs.declared.tape.Entry.{Entry}
@@ -14,10 +14,6 @@ pub record Part (whole part : List Entry) (k n : ℕ) : Type 0 where
   pub back : List Entry
   pub is : whole ≡ front ++ (part ++ back)
   pub number : n ≡ k + length front
-
-append-nil : (l : List Entry) → l ++ [] ≡ l
-append-nil [] = refl
-append-nil (x ∷ l) = ap (λ m. x ∷ m) (append-nil l)
 
 -- behind one more entry, before more entries, and behind more
 part_under : (e : Entry) (whole part : List Entry) (k n : ℕ) → Part whole part (k + 1) n → Part (e ∷ whole) part k n
@@ -73,58 +69,46 @@ mutual
   members_trans (in_member g) h = in_member (at_trans g h)
   members_trans (in_later_member g) h = in_later_member (members_trans g h)
 
+-- a tree that stands in such a way
+pub record Somewhere (At : ℕ → Label → Tree → Type 0) : Type 0 where
+  pub up' : ℕ
+  pub label' : Label
+  pub tree : Tree
+  pub is_at : At up' label' tree
+
+through : (At Bt : ℕ → Label → Tree → Type 0) → ((up : ℕ) (label : Label) (t : Tree) → At up label t → Bt up label t) → Somewhere At → Somewhere Bt
+through At Bt f x = record { up' = x.up'; label' = x.label'; tree = x.tree; is_at = f x.up' x.label' x.tree x.is_at }
+
 -- each number below the size is that of a tree
-pub record Numbered (t : Tree) (up : ℕ) (label : Label) (k n : ℕ) : Type 0 where
-  pub up' : ℕ
-  pub label' : Label
-  pub tree : Tree
-  pub is_at : IsAt t up label k n up' label' tree
-
-pub record InElements (es : Elements) (up i k n : ℕ) : Type 0 where
-  pub up' : ℕ
-  pub label' : Label
-  pub tree : Tree
-  pub is_in : IsInElements es up i k n up' label' tree
-
-pub record InMembers (ms : Members) (up k n : ℕ) : Type 0 where
-  pub up' : ℕ
-  pub label' : Label
-  pub tree : Tree
-  pub is_in : IsInMembers ms up k n up' label' tree
+abbrev pub Numbered : (t : Tree) (up : ℕ) (label : Label) (k n : ℕ) → Type 0
+Numbered t up label k n = Somewhere (λ up' label' s. IsAt t up label k n up' label' s)
 
 first_or_later : (a b : ℕ) → a ≤ b → (a ≡ b) ⊎ (a + 1 ≤ b)
 first_or_later a b h = elim (cases_lt a b) [ inl g ↦ inr (omega arith) | inr g ↦ inl (omega arith) ]
-
-within_or_past : (a b : ℕ) → (b < a) ⊎ (a ≤ b)
-within_or_past a b = cases_lt b a
 
 mutual
   pub numbered : (t : Tree) (up : ℕ) (label : Label) (k n : ℕ) → k ≤ n → n < k + size t → Numbered t up label k n
   numbered (Leaf s c) up label k n h l =
       let e : k ≡ n = omega arith in subst (Numbered (Leaf s c) up label k) e (record { up' = up; label' = label; tree = Leaf s c; is_at = itself })
-  numbered (Arr s es) up label k n h l = go (first_or_later k n h) (λ g. numbered_elements es k 0 (k + 1) n g (omega arith))
-    where
-      go : (k ≡ n) ⊎ (k + 1 ≤ n) → (k + 1 ≤ n → InElements es k 0 (k + 1) n) → Numbered (Arr s es) up label k n
-      go (inl e) f = subst (Numbered (Arr s es) up label k) e (record { up' = up; label' = label; tree = Arr s es; is_at = itself })
-      go (inr g) f = let x = f g in record { up' = x.up'; label' = x.label'; tree = x.tree; is_at = in_array x.is_in }
-  numbered (Obj s ms) up label k n h l = go (first_or_later k n h) (λ g. numbered_members ms k (k + 1) n g (omega arith))
-    where
-      go : (k ≡ n) ⊎ (k + 1 ≤ n) → (k + 1 ≤ n → InMembers ms k (k + 1) n) → Numbered (Obj s ms) up label k n
-      go (inl e) f = subst (Numbered (Obj s ms) up label k) e (record { up' = up; label' = label; tree = Obj s ms; is_at = itself })
-      go (inr g) f = let x = f g in record { up' = x.up'; label' = x.label'; tree = x.tree; is_at = in_object x.is_in }
+  numbered (Arr s es) up label k n h l = elim (first_or_later k n h) [
+    | inl e ↦ subst (Numbered (Arr s es) up label k) e (record { up' = up; label' = label; tree = Arr s es; is_at = itself })
+    | inr g ↦ through _ _ (λ u m t i. in_array i) (numbered_elements es k 0 (k + 1) n g (omega arith))
+  ]
+  numbered (Obj s ms) up label k n h l = elim (first_or_later k n h) [
+    | inl e ↦ subst (Numbered (Obj s ms) up label k) e (record { up' = up; label' = label; tree = Obj s ms; is_at = itself })
+    | inr g ↦ through _ _ (λ u m t i. in_object i) (numbered_members ms k (k + 1) n g (omega arith))
+  ]
 
-  pub numbered_elements : (es : Elements) (up i k n : ℕ) → k ≤ n → n < k + size_of_elements es → InElements es up i k n
+  pub numbered_elements : (es : Elements) (up i k n : ℕ) → k ≤ n → n < k + size_of_elements es → Somewhere (λ up' label' s. IsInElements es up i k n up' label' s)
   numbered_elements NoElement up i k n h l = absurd (omega arith)
-  numbered_elements (Element t es) up i k n h l = go (within_or_past (k + size t) n) (λ g. numbered t up (Index i) k n h g) (λ g. numbered_elements es up (i + 1) (k + size t) n g (omega arith))
-    where
-      go : (n < k + size t) ⊎ (k + size t ≤ n) → (n < k + size t → Numbered t up (Index i) k n) → (k + size t ≤ n → InElements es up (i + 1) (k + size t) n) → InElements (Element t es) up i k n
-      go (inl g) f r = let x = f g in record { up' = x.up'; label' = x.label'; tree = x.tree; is_in = in_element x.is_at }
-      go (inr g) f r = let x = r g in record { up' = x.up'; label' = x.label'; tree = x.tree; is_in = in_later_element x.is_in }
+  numbered_elements (Element t es) up i k n h l = elim (cases_lt n (k + size t)) [
+    | inl g ↦ through _ _ (λ u m s a. in_element a) (numbered t up (Index i) k n h g)
+    | inr g ↦ through _ _ (λ u m s a. in_later_element a) (numbered_elements es up (i + 1) (k + size t) n g (omega arith))
+  ]
 
-  pub numbered_members : (ms : Members) (up k n : ℕ) → k ≤ n → n < k + size_of_members ms → InMembers ms up k n
+  pub numbered_members : (ms : Members) (up k n : ℕ) → k ≤ n → n < k + size_of_members ms → Somewhere (λ up' label' s. IsInMembers ms up k n up' label' s)
   numbered_members NoMember up k n h l = absurd (omega arith)
-  numbered_members (Member m t ms) up k n h l = go (within_or_past (k + size t) n) (λ g. numbered t up (Named (extent m.source)) k n h g) (λ g. numbered_members ms up (k + size t) n g (omega arith))
-    where
-      go : (n < k + size t) ⊎ (k + size t ≤ n) → (n < k + size t → Numbered t up (Named (extent m.source)) k n) → (k + size t ≤ n → InMembers ms up (k + size t) n) → InMembers (Member m t ms) up k n
-      go (inl g) f r = let x = f g in record { up' = x.up'; label' = x.label'; tree = x.tree; is_in = in_member x.is_at }
-      go (inr g) f r = let x = r g in record { up' = x.up'; label' = x.label'; tree = x.tree; is_in = in_later_member x.is_in }
+  numbered_members (Member m t ms) up k n h l = elim (cases_lt n (k + size t)) [
+    | inl g ↦ through _ _ (λ u l s a. in_member a) (numbered t up (Named (extent m.source)) k n h g)
+    | inr g ↦ through _ _ (λ u l s a. in_later_member a) (numbered_members ms up (k + size t) n g (omega arith))
+  ]

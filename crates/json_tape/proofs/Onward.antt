@@ -28,6 +28,7 @@ use Rattle.json_tape.proofs.Going.{unopened, unput, cond_none, not_root, first_b
 use Rattle.json_tape.proofs.Listed.{in_text}
 use Rattle.json_tape.proofs.TokensAt.{sign_token}
 use Rattle.json_tape.proofs.Walk.{step_small}
+use Rattle.std.proofs.lemmas.Bool.{cases_Bool}
 
 -- a constant that is not 0
 pub is_object : (n : ℕ) → (n ≡ 0 → ⊥) → false ≡ not (not (eqb n 0))
@@ -230,13 +231,6 @@ MayPause bytes items a k level b looked mark = (shape : Shape) → level ≡ Ins
 pub small_state : (k : ℕ) (b : Built) (v w : Want) (m n : Option Extent) → IsSmall k (standing b v m) → IsSmall k (standing b w n)
 small_state k b v w m n h = record { entries = h.entries; opens = h.opens }
 
-begins_or : (tok : Token) → (begins_value tok ≡ false) ⊎ (begins_value tok ≡ true)
-begins_or tok = go (begins_value tok)
-  where
-    go : (t : Bool) → (t ≡ false) ⊎ (t ≡ true)
-    go true = inr refl
-    go false = inl refl
-
 text_or : (tok : Token) → (is_text tok ≡ false) ⊎ ((x : Extent) × (tok ≡ Text x))
 text_or (Text x) = inr (x, refl)
 text_or _ = inl refl
@@ -283,9 +277,9 @@ module _ (bytes items : List ℕ) (listed : IsListed bytes items) where
   value_outlasts : (k : ℕ) (b : Built) (shape : Shape) (w : Want) (name : Option Extent) → level_of b.opens ≡ Inside shape → AsksValue bytes items k w → Outlasts bytes items 1 k (standing b w name)
   value_outlasts k b shape w name l asks = (
     (λ h. not_root l h.0),
-    λ j s' inside t h. elim (begins_or t.tok) [
-      | inl n ↦ none_some s' (value_only t.tok b w name asks.0 n (λ e p f. asks.1 e ((first_byte bytes items listed k t.tok inside (at_token k j _ s' t)).2 p f))) t.steps
-      | inr y ↦ value_level t.tok b shape name s' l y (sym (value_any t.tok b w name asks.0 y) ∙ t.steps) h.0
+    λ j s' inside t h. elim (cases_Bool (begins_value t.tok)) [
+      | inr n ↦ none_some s' (value_only t.tok b w name asks.0 n (λ e p f. asks.1 e ((first_byte bytes items listed k t.tok inside (at_token k j _ s' t)).2 p f))) t.steps
+      | inl y ↦ value_level t.tok b shape name s' l y (sym (value_any t.tok b w name asks.0 y) ∙ t.steps) h.0
     ],
   )
 

@@ -25,42 +25,28 @@ mutual
 pub part_of_at : {t s : Tree} {n up : ℕ} {label : Label} → IsAt t 0 Top 0 n up label s → HasPart t s
 part_of_at h = part_of h parts.itself
 
--- and a part stands at some number
-pub record Placed (t s : Tree) : Type 0 where
+-- a part stands at some number
+pub record PlacedBy (At : ℕ → ℕ → Label → Type 0) : Type 0 where
   pub number : ℕ
   pub up : ℕ
   pub label : Label
-  pub is_at : IsAt t 0 Top 0 number up label s
+  pub is_at : At number up label
 
-record PlacedIn (es : Elements) (up i k : ℕ) (s : Tree) : Type 0 where
-  number : ℕ
-  up' : ℕ
-  label : Label
-  is_in : IsInElements es up i k number up' label s
+through : (At Bt : ℕ → ℕ → Label → Type 0) → ((number up : ℕ) (label : Label) → At number up label → Bt number up label) → PlacedBy At → PlacedBy Bt
+through At Bt f r = record { number = r.number; up = r.up; label = r.label; is_at = f r.number r.up r.label r.is_at }
 
-record PlacedAmong (ms : Members) (up k : ℕ) (s : Tree) : Type 0 where
-  number : ℕ
-  up' : ℕ
-  label : Label
-  is_in : IsInMembers ms up k number up' label s
+abbrev pub Placed : (t s : Tree) → Type 0
+Placed t s = PlacedBy (λ n up label. IsAt t 0 Top 0 n up label s)
 
-placed_element : {es : Elements} {s : Tree} → IsElementOf es s → (up i k : ℕ) → PlacedIn es up i k s
-placed_element first_element up i k = record { number = _; up' = _; label = _; is_in = in_element itself }
-placed_element (later_element {a = a} h) up i k =
-    let r = placed_element h up (i + 1) (k + size a) in record { number = r.number; up' = r.up'; label = r.label; is_in = in_later_element r.is_in }
+placed_element : {es : Elements} {s : Tree} → IsElementOf es s → (up i k : ℕ) → PlacedBy (λ n up' label. IsInElements es up i k n up' label s)
+placed_element first_element up i k = record { number = _; up = _; label = _; is_at = in_element itself }
+placed_element (later_element {a = a} h) up i k = through _ _ (λ n u l i. in_later_element i) (placed_element h up (i + 1) (k + size a))
 
-placed_value : {ms : Members} {s : Tree} → IsValueOf ms s → (up k : ℕ) → PlacedAmong ms up k s
-placed_value first_value up k = record { number = _; up' = _; label = _; is_in = in_member itself }
-placed_value (later_value {a = a} h) up k =
-    let r = placed_value h up (k + size a) in record { number = r.number; up' = r.up'; label = r.label; is_in = in_later_member r.is_in }
+placed_value : {ms : Members} {s : Tree} → IsValueOf ms s → (up k : ℕ) → PlacedBy (λ n up' label. IsInMembers ms up k n up' label s)
+placed_value first_value up k = record { number = _; up = _; label = _; is_at = in_member itself }
+placed_value (later_value {a = a} h) up k = through _ _ (λ n u l i. in_later_member i) (placed_value h up (k + size a))
 
 pub placed : {t s : Tree} → HasPart t s → Placed t s
 placed parts.itself = record { number = 0; up = 0; label = Top; is_at = itself }
-placed (element h e) =
-    let p = placed h in
-    let r = placed_element e p.number 0 (p.number + 1) in
-    record { number = r.number; up = r.up'; label = r.label; is_at = at_trans p.is_at (in_array r.is_in) }
-placed (value h e) =
-    let p = placed h in
-    let r = placed_value e p.number (p.number + 1) in
-    record { number = r.number; up = r.up'; label = r.label; is_at = at_trans p.is_at (in_object r.is_in) }
+placed (element h e) = let p = placed h in through _ _ (λ n u l i. at_trans p.is_at (in_array i)) (placed_element e p.number 0 (p.number + 1))
+placed (value h e) = let p = placed h in through _ _ (λ n u l i. at_trans p.is_at (in_object i)) (placed_value e p.number (p.number + 1))

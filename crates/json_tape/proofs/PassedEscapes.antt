@@ -1,5 +1,5 @@
 -- An escape whose bytes are passed without decoding them means one scalar value.
-use Rattle.std.proofs.Common.{◌≡◌, ◌≢◌, ℕ, ◌+◌, ◌*◌, ◌%◌, ◌<◌, ◌≤◌, None, Bool, true, false, cond, ◌&&◌, ltb, leb, inl, inr, List, [], ◌∷◌, ◌++◌, length, drop, get_or, refl, ap, ap₂, ◌∙◌, arith}
+use Rattle.std.proofs.Common.{◌≡◌, ◌≢◌, ℕ, ◌+◌, ◌*◌, ◌%◌, ◌<◌, ◌≤◌, None, true, false, cond, ◌&&◌, ltb, leb, inl, inr, List, [], ◌∷◌, ◌++◌, length, drop, get_or, refl, ap, ap₂, ◌∙◌, arith}
 use Rattle.std.specs.Prelude.{IsUtf8, eqb}
 use Rattle.std.specs.Char.{digit_value}
 use Rattle.std.specs.Str.{chars, IsAscii, IsCharBoundary}
@@ -12,6 +12,7 @@ use Rattle.json_tape.specs.Spelling.{hex_value, spelt_from, scalars_in}
 use Rattle.json_tape.specs.Tree.{Spelt, Unit4}
 use Rattle.json_tape.specs.declared.scan.Mode.TheVariants.{Between}
 use Rattle.json_tape.proofs.Spelled.{ascii_nil, ascii_more}
+use Rattle.std.proofs.Math.Bool.{and-false}
 
 -- ---- Two bytes
 
@@ -66,12 +67,8 @@ no_surrogate a b c d ha hb hc hd other =
           (let l : 0xE000 ≤ unit a b c d = omega (arith, e) in
           let t : leb (unit a b c d) 0xDBFF ≡ false = grind (arith, nat_tests, l) in
           let u : leb (unit a b c d) 0xDFFF ≡ false = grind (arith, nat_tests, l) in
-          (ap (λ x. leb 0xD800 (unit a b c d) && x) t ∙ and_false (leb 0xD800 (unit a b c d)), ap (λ x. leb 0xDC00 (unit a b c d) && x) u ∙ and_false (leb 0xDC00 (unit a b c d))))
+          (ap (λ x. leb 0xD800 (unit a b c d) && x) t ∙ and-false (leb 0xD800 (unit a b c d)), ap (λ x. leb 0xDC00 (unit a b c d) && x) u ∙ and-false (leb 0xDC00 (unit a b c d))))
     ]
-  where
-    and_false : (x : Bool) → (x && false) ≡ false
-    and_false true = refl
-    and_false false = refl
 
 unit_first : (u : ℕ) (cs : List Spelt) → is_high u ≡ false → is_low u ≡ false → meaning_after None (Unit4 u ∷ cs) ≡ u ∷ meaning_after None cs
 unit_first u cs t v = rw (t, v) refl

@@ -16,13 +16,14 @@ use Rattle.json_tape.specs.declared.scan.Turn.TheVariants.{Stop, Fail, Go}
 use Rattle.json_tape.specs.Lexing.{quote_end, atom_end, is_atom, Taken, Refused, WordIs}
 use Rattle.json_tape.specs.Machine.{State}
 use Rattle.json_tape.specs.Walking.{weight}
-use Rattle.json_tape.proofs.Bridge.{plain_spells, control_out, scan_ends, same_classes}
+use Rattle.json_tape.proofs.Bridge.{plain_spells, control_out, scan_ends, same_classes, same_default}
 use Rattle.json_tape.proofs.EscapeSteps.{held_ends}
 use Rattle.json_tape.proofs.Walking.{place_number, stands_value}
 use Rattle.json_tape.proofs.Calls.{behind, word_none}
 use Rattle.json_tape.proofs.Tokens.{quote_found}
 use Rattle.json_tape.proofs.Steps.{atom_step, atom_over}
-use Rattle.json_tape.proofs.PlaceWalk.{Walks, walks_token, same_default}
+use Rattle.json_tape.proofs.PlaceWalk.{Walks, walks_token}
+use Rattle.std.proofs.Math.Seq.{take-suc}
 
 -- ---- A scan of a part and of all
 
@@ -126,17 +127,12 @@ part_none bytes i m u span h = by_scan (string_end Between (i + 1) (drop (i + 1)
 abbrev between : List ℕ → (i m : ℕ) → List ℕ
 between bytes i m = take (m - (i + 1)) (drop (i + 1) bytes)
 
-take_more : (n : ℕ) (xs : List ℕ) → n < length xs → take (suc n) xs ≡ take n xs ++ get_or xs n 0 ∷ []
-take_more n [] l = absurd (omega arith)
-take_more zero (x ∷ xs) l = refl
-take_more (suc n) (x ∷ xs) l = ap (λ t. x ∷ t) (take_more n xs (omega arith))
-
 part_is : (bytes : List ℕ) (i m : ℕ) → i < m → m < length bytes → get_or bytes m 0 ≡ 34 → part_of bytes i (suc m) ≡ between bytes i m ++ 34 ∷ []
 part_is bytes i m after within q =
     let one_more : suc m - (i + 1) ≡ suc (m - (i + 1)) = omega arith in
     let left = length-drop (i + 1) bytes in
     let at : i + 1 + (m - (i + 1)) ≡ m = omega arith in
-    ap (λ n. take n (drop (i + 1) bytes)) one_more ∙ take_more (m - (i + 1)) (drop (i + 1) bytes) (omega (arith, left))
+    ap (λ n. take n (drop (i + 1) bytes)) one_more ∙ take-suc (drop (i + 1) bytes) (m - (i + 1)) 0 (omega (arith, left))
     ∙ ap (λ b. between bytes i m ++ b ∷ []) (get_or-drop (i + 1) bytes (m - (i + 1)) 0 ∙ ap (λ k. get_or bytes k 0) at ∙ q)
 
 -- where nothing else can be wrong, the escapes alone decide

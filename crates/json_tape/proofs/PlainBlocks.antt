@@ -5,16 +5,13 @@ use lib.Lanes.{mask_l, zip2, top}
 use Rattle.structural_index.proofs.Lanes.{equal}
 use Rattle.json_tape.specs.Spelling.{has_backslash}
 use Rattle.json_tape.specs.Counted.{StandAlone, begins, escapes, stands, escaped_behind, standing_bits, unit_bits}
-use Rattle.json_tape.proofs.Repeats.{neither}
 use Rattle.json_tape.proofs.PlainFronts.{slash_found}
-
-and_true : (t : Bool) → (t && true) ≡ t
-and_true true = refl
-and_true false = refl
+use Rattle.std.proofs.lemmas.Bool.{or_parts}
+use Rattle.std.proofs.Math.Bool.{and-true}
 
 -- a byte that is no backslash escapes none
 alone : (b : ℕ) → eqb b 92 ≡ false → stands false b ≡ begins b
-alone b h = ap (λ t. begins b && (false || not t)) h ∙ and_true (begins b)
+alone b h = ap (λ t. begins b && (false || not t)) h ∙ and-true (begins b)
 
 next : (b : ℕ) → eqb b 92 ≡ false → escapes false b ≡ false
 next b h = ap (λ t. t && true) h
@@ -22,7 +19,7 @@ next b h = ap (λ t. t && true) h
 pub standing_slashless : (bs : List ℕ) → has_backslash bs ≡ false → mask_l (standing_bits false bs) ≡ mask_l (map begins bs)
 standing_slashless [] h = refl
 standing_slashless (b ∷ bs) h =
-    let n = neither (eqb b 92) (has_backslash bs) h in
+    let n = or_parts (eqb b 92) (has_backslash bs) h in
     ap (λ t. mask_l (t ∷ standing_bits (escapes false b) bs)) (alone b n.0)
     ∙ ap (λ e. mask_l (begins b ∷ standing_bits e bs)) (next b n.0)
     ∙ ap (λ m. cond (begins b) 1 0 + 2 * m) (standing_slashless bs n.1)
@@ -30,13 +27,13 @@ standing_slashless (b ∷ bs) h =
 pub units_slashless : (bs : List ℕ) → has_backslash bs ≡ false → mask_l (unit_bits false bs) ≡ 0
 units_slashless [] h = refl
 units_slashless (b ∷ bs) h =
-    let n = neither (eqb b 92) (has_backslash bs) h in
+    let n = or_parts (eqb b 92) (has_backslash bs) h in
     ap (λ e. mask_l (false ∷ unit_bits e bs)) (next b n.0) ∙ ap (λ m. 0 + 2 * m) (units_slashless bs n.1)
 
 pub behind_slashless : (bs : List ℕ) → has_backslash bs ≡ false → escaped_behind false bs ≡ false
 behind_slashless [] h = refl
 behind_slashless (b ∷ bs) h =
-    let n = neither (eqb b 92) (has_backslash bs) h in
+    let n = or_parts (eqb b 92) (has_backslash bs) h in
     ap (λ e. escaped_behind e bs) (next b n.0) ∙ behind_slashless bs n.1
 
 none : (s t : Bool) → s ≡ false → t ≡ false → (s || t) ≡ false

@@ -1,5 +1,5 @@
 -- Names without a backslash mean their own characters, so their bytes tell them apart and order them.
-use Rattle.std.proofs.Common.{◌≡◌, ◌≢◌, ◌<◌, ℕ, zero, suc, take, drop, take-append-drop, append-nil, get_or, true, false, Bool, ◌||◌, not, List, [], ◌∷◌, ◌++◌, refl, sym, ap, ◌∙◌, arith}
+use Rattle.std.proofs.Common.{◌≡◌, ◌≢◌, ◌<◌, ℕ, zero, suc, take, drop, take-append-drop, append-nil, get_or, true, false, Bool, not, List, [], ◌∷◌, ◌++◌, refl, sym, ap, ◌∙◌, arith}
 use Rattle.std.specs.Prelude.{eqb, nat_eq, IsUtf8}
 use Rattle.std.specs.Ordering.{nat_cmp, is_eq}
 use Rattle.std.specs.Cmp.Lexicographic.{pointwise, slice_cmp, texts_ties}
@@ -9,14 +9,11 @@ use Rattle.std.proofs.lemmas.Str.{encode_ascii, encodes-chars, chars-append, IsU
 use lib.Utf8.{encode, encodes}
 use Rattle.json_tape.specs.Spelling.{scalars_in, has_backslash}
 use Rattle.json_tape.proofs.Utf8Order.{encodes_order}
+use Rattle.std.proofs.lemmas.Bool.{or_parts}
 
-any_back : (bs cs : List ℕ) → has_backslash (bs ++ cs) ≡ false → has_backslash cs ≡ false
+pub any_back : (bs cs : List ℕ) → has_backslash (bs ++ cs) ≡ false → has_backslash cs ≡ false
 any_back [] cs h = h
-any_back (b ∷ bs) cs h = any_back bs cs (go (nat_eq b 92) h)
-  where
-    go : (t : Bool) → (t || has_backslash (bs ++ cs)) ≡ false → has_backslash (bs ++ cs) ≡ false
-    go true e = absurd (cc)
-    go false e = e
+any_back (b ∷ bs) cs h = any_back bs cs (or_parts (nat_eq b 92) (has_backslash (bs ++ cs)) h).1
 
 first_no : (c : ℕ) (bs : List ℕ) → has_backslash (encode c ++ bs) ≡ false → eqb c 92 ≡ false
 first_no c bs h = go (eqb c 92) refl

@@ -1,6 +1,5 @@
 -- The stamp of a name without a backslash, by its bytes.
 use Rattle.std.proofs.Common.{◌≡◌, ℕ, ◌+◌, None, false, List, [], ◌∷◌, ◌++◌, length, drop, append_assoc, sym, ap, ◌∙◌, subst, arith}
-use Rattle.std.specs.Prelude.{nat_eq}
 use Rattle.std.proofs.lemmas.List.{get_or-drop}
 use lib.Utf8.{encode, encodes}
 use Rattle.structural_index.specs.Seams.{AreSlashless}
@@ -13,12 +12,7 @@ use Rattle.json_tape.specs.Spelling.{has_backslash}
 use Rattle.json_tape.specs.Ordered.{bytes_stamp}
 use Rattle.json_tape.specs.declared.tape.Extent.{Extent}
 use Rattle.json_tape.proofs.Fits.{Lies}
-use Rattle.json_tape.proofs.Repeats.{neither}
-use Rattle.json_tape.proofs.PlainNames.{slashless_front}
-
-behind : (one others : List ℕ) → has_backslash (one ++ others) ≡ false → has_backslash others ≡ false
-behind [] others h = h
-behind (b ∷ one) others h = behind one others (neither (nat_eq b 92) (has_backslash (one ++ others)) h).1
+use Rattle.json_tape.proofs.PlainNames.{slashless_front, any_back}
 
 escaped : (bs one others rest more : List ℕ) → bs ≡ one ++ others → one ≡ 92 ∷ more → has_backslash (bs ++ rest) ≡ false → ⊥
 escaped bs one others rest more e o h = absurd (let x = sym (ap (λ l. has_backslash (l ++ rest)) (e ∙ ap (λ l. l ++ others) o)) ∙ h in cc)
@@ -27,7 +21,7 @@ escaped bs one others rest more e o h = absurd (let x = sym (ap (λ l. has_backs
 encoded : (bs rest : List ℕ) (cs : List Spelt) → AreChars bs cs → has_backslash (bs ++ rest) ≡ false → encodes (meaning_after None cs) ≡ bs
 encoded bs rest [] e h = sym e
 encoded bs rest (Plain c ∷ cs) (one, others, (s, l, q, b, o), g, e) h =
-    let left : has_backslash (others ++ rest) ≡ false = behind one (others ++ rest) (ap has_backslash (sym (append_assoc one others rest) ∙ ap (λ k. k ++ rest) (sym e)) ∙ h) in
+    let left : has_backslash (others ++ rest) ≡ false = any_back one (others ++ rest) (ap has_backslash (sym (append_assoc one others rest) ∙ ap (λ k. k ++ rest) (sym e)) ∙ h) in
     ap (λ k. encode c ++ k) (encoded others rest cs g left) ∙ ap (λ k. k ++ others) (sym o) ∙ sym e
 encoded bs rest (Short l ∷ cs) (one, others, (s, o), g, e) h = absurd (escaped bs one others rest _ e o h)
 encoded bs rest (Unit4 u ∷ cs) (one, others, (a, b, c, d, k, l, m, n, ha, hb, hc, hd, v, o), g, e) h = absurd (escaped bs one others rest _ e o h)

@@ -1,9 +1,9 @@
 -- What the entries say of the nodes.
 use Rattle.std.specs.List.{Contains}
 use Rattle.std.proofs.lemmas.List.Elements.{Contains-append_right}
-use Rattle.std.proofs.lemmas.List.{take-append-drop}
+use Rattle.std.proofs.lemmas.List.{take-append-drop, append-nil, get_or-map, length-map}
 use Rattle.std.proofs.lemmas.Bool.{cases_lt}
-use Rattle.std.proofs.Common.{false, take, drop, ◌≡◌, ℕ, zero, suc, ◌+◌, ◌-◌, ◌≤◌, ◌<◌, ◌^◌, ◌⊎◌, inl, inr, List, [], ◌∷◌, ◌++◌, length, map, get_or, Some, None, refl, sym, ap, ◌∙◌, subst, arith, append_assoc, length-append}
+use Rattle.std.proofs.Common.{false, take, drop, ◌≡◌, ℕ, suc, ◌+◌, ◌-◌, ◌≤◌, ◌<◌, ◌^◌, ◌⊎◌, inl, inr, List, [], ◌∷◌, ◌++◌, length, map, get_or, Some, None, refl, sym, ap, ◌∙◌, subst, arith, append_assoc, length-append}
 use Rattle.json_tape.specs.Tree.{Spelt, Source, Name, Null, True, False, Num, Str, Tree, source_of, Leaf, Arr, Obj, Element, Member}
 use Rattle.json_tape.specs.Meaning.{meaning}
 use Rattle.json_tape.specs.Nodes.{Node, Step, key, place, size, children, children_of, elements_from, members_from, visit, is_named, key_is}
@@ -23,26 +23,14 @@ use Rattle.json_tape.proofs.Entries.{size_positive, child_count}
 use Rattle.json_tape.proofs.Fits.{Lies, Fits, text_fits}
 use Rattle.json_tape.proofs.Shown.{part_ends}
 use Rattle.json_tape.specs.declared.tape.Extent.{Extent}
-use Rattle.json_tape.proofs.Spots.{entry_at, node_of, tape_is, visit_is, spot_count, top, inner, top_first, at_place, end_of, NextIn, own, one_of, Good, walk, place_is, WayIn}
-
-get_map : {A B : Type 0} (f : A → B) (xs : List A) (n : ℕ) (a : A) (b : B) → n < length xs → get_or (map f xs) n b ≡ f (get_or xs n a)
-get_map f [] n a b h = absurd (omega arith)
-get_map f (x ∷ xs) zero a b h = refl
-get_map f (x ∷ xs) (suc n) a b h = get_map f xs n a b (omega arith)
-
-length_map : {A B : Type 0} (f : A → B) (xs : List A) → length (map f xs) ≡ length xs
-length_map f [] = refl
-length_map f (x ∷ xs) = ap suc (length_map f xs)
-
-append_nothing : {A : Type 0} (xs : List A) → xs ≡ xs ++ []
-append_nothing [] = refl
-append_nothing (x ∷ xs) = ap (λ ys. x ∷ ys) (append_nothing xs)
+use Rattle.json_tape.proofs.Spots.{entry_at, node_of, tape_is, visit_is, spot_count, top, inner, top_first, end_of, NextIn, own, one_of, Good, walk, place_is, WayIn}
+use Rattle.std.proofs.Math.Seq.{get_or-append_seam}
 
 -- each of a part of a list, by its place
 counted : {A B : Type 0} (f : A → B) (pre mid post : List A) (d : A) (k : ℕ) → length pre ≡ k → map (λ j. f (get_or (pre ++ (mid ++ post)) j d)) (counting k (length mid)) ≡ map f mid
 counted f pre [] post d k e = refl
 counted f pre (x ∷ mid) post d k e =
-    let here : get_or (pre ++ ((x ∷ mid) ++ post)) k d ≡ x = rw (← e) (at_place pre x (mid ++ post) d) in
+    let here : get_or (pre ++ ((x ∷ mid) ++ post)) k d ≡ x = rw (← e) (get_or-append_seam pre x (mid ++ post) d) in
     let more = counted f (pre ++ x ∷ []) mid post d (suc k) (omega (arith, length-append pre (x ∷ []), e)) in
     let more' : map (λ j. f (get_or (pre ++ ((x ∷ mid) ++ post)) j d)) (counting (suc k) (length mid)) ≡ map f mid = rw (append_assoc pre (x ∷ []) (mid ++ post)) at more in
     rw (here, more') refl
@@ -56,7 +44,7 @@ next_past : (all pre : List Spot) (x : Spot) (xs post : List Spot) (d : Spot) (k
 next_past all pre x xs post d k e l y ys q =
     let g : all ≡ (pre ++ x ∷ []) ++ (y ∷ ys) = e ∙ ap (λ zs. pre ++ (x ∷ zs)) q ∙ sym (append_assoc pre (x ∷ []) (y ∷ ys)) in
     let m : length (pre ++ x ∷ []) ≡ k + 1 = omega (arith, length-append pre (x ∷ []), l) in
-    (rw (g, ← m) (at_place (pre ++ x ∷ []) y ys d), let w = ap (λ (zs : List Spot). length zs) g in omega (arith, w, length-append (pre ++ x ∷ []) (y ∷ ys), m))
+    (rw (g, ← m) (get_or-append_seam (pre ++ x ∷ []) y ys d), let w = ap (λ (zs : List Spot). length zs) g in omega (arith, w, length-append (pre ++ x ∷ []) (y ∷ ys), m))
 
 child_at : (all pre post : List Spot) (d : Spot) (way : List Step) (up : ℕ) (l : Label) (later : List Node) (k : ℕ) (t : Tree)
     → all ≡ pre ++ (spots_from way up l later k t ++ post) → length pre ≡ k → (child_count t ≡ 0 → ⊥)
@@ -88,7 +76,7 @@ module _ (d : Doc) (s : IsDocument d) where
 
   pub count_is : count d ≡ length (spots d)
   unfolding count
-  count_is = ap (λ (xs : List Entry). length xs) entries_are ∙ length_map entry_at (spots d)
+  count_is = ap (λ (xs : List Entry). length xs) entries_are ∙ length-map (spots d) entry_at
 
   size_is : length (spots d) ≡ size (tree_of d)
   size_is = spot_count [] 0 Top [] 0 (tree_of d)
@@ -105,7 +93,7 @@ module _ (d : Doc) (s : IsDocument d) where
   pub good : (n : ℕ) → n < count d → Good d.text (tree_of d) (spots d) (none_there d) n
   good n h =
       let l : n < length (spots d) = rw count_is at h in
-      walk d.text (tree_of d) (spots d) (none_there d) [] [] [] 0 Top [] 0 (tree_of d) (append_nothing (spots d)) refl (ap end_of (sym root_spot)) (omega arith) (inl (refl, refl)) (inl refl) (text_fits d.text (tree_of d) s.accepted.0) itself n (omega arith) (omega (arith, size_is))
+      walk d.text (tree_of d) (spots d) (none_there d) [] [] [] 0 Top [] 0 (tree_of d) (sym (append-nil (spots d))) refl (ap end_of (sym root_spot)) (omega arith) (inl (refl, refl)) (inl refl) (text_fits d.text (tree_of d) s.accepted.0) itself n (omega arith) (omega (arith, size_is))
 
   pub spot_is : (n : ℕ) (g : Good d.text (tree_of d) (spots d) (none_there d) n) → spot_at d n ≡ g.spot
   spot_is n g =
@@ -115,7 +103,7 @@ module _ (d : Doc) (s : IsDocument d) where
   pub entry_is : (n : ℕ) → n < count d → (e : Entry) → e ≡ get_or d.entries n e → e ≡ entry_at (spot_at d n)
   entry_is n h e q =
       let l : n < length (spots d) = rw count_is at h in
-      q ∙ ap (λ (xs : List Entry). get_or xs n e) entries_are ∙ get_map entry_at (spots d) n (none_there d) e l
+      q ∙ ap (λ (xs : List Entry). get_or xs n e) entries_are ∙ get_or-map entry_at (spots d) n (none_there d) e l
 
   pub number_is : (n : ℕ) → n < count d → (node_at d n).number ≡ n
   unfolding node_at

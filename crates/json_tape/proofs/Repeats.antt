@@ -1,8 +1,7 @@
 -- Names that come again: step by step, and in order.
 use Rattle.std.proofs.Common.{◌≡◌, ℕ, zero, suc, ◌+◌, ◌<◌, ◌≤◌, true, false, Bool, ◌||◌, List, [], ◌∷◌, length, map, drop, get_or, refl, sym, ap, ◌∙◌, subst, arith}
-use Rattle.std.specs.List.{list_any}
+use Rattle.std.specs.List.{list_any, IsDistinct, AllByRecursion}
 use Rattle.std.proofs.lemmas.List.{length-drop}
-use Rattle.std.specs.List.{IsDistinct, AllByRecursion}
 use Rattle.std.specs.List.Sorted.{IsPermutation, IsSorted, IsStrictlySortedBy}
 use Rattle.std.specs.Ordering.{is_eq, is_lt, ordering_reverse, eq_by_cmp}
 use Rattle.std.specs.declared.cmp.Ordering.{Ordering}
@@ -14,20 +13,12 @@ use Rattle.std.specs.Cmp.{IsTotalOrder}
 use Rattle.std.specs.Cmp.Lexicographic.{bytes_decides}
 use Rattle.std.proofs.lemmas.Bool.Decides.{nat_tests}
 use Rattle.json_tape.specs.Repeats.{is_same, repeats_by, repeats_next_by, repeats, hashes_repeat}
+use Rattle.std.proofs.lemmas.Bool.{or_parts}
 
 -- one whose second part holds
 pub or_right : (a b : Bool) → b ≡ true → (a || b) ≡ true
 or_right true b e = refl
 or_right false b e = e
-
--- a test of two parts that fails
-pub neither : (a b : Bool) → (a || b) ≡ false → (a ≡ false) × (b ≡ false)
-neither true b e = absurd (cc)
-neither false b e = (refl, e)
-
-pub neither_is : (a b : Bool) → a ≡ false → b ≡ false → (a || b) ≡ false
-neither_is true b e f = absurd (cc)
-neither_is false b e f = f
 
 module _ {K : Type 0} (same : K → K → Bool) where
   pub next_over : (xs : List K) (i : ℕ) → length xs ≤ i + 1 → repeats_next_by same (drop i xs) ≡ false
@@ -50,7 +41,7 @@ module _ {K : Type 0} (same : K → K → Bool) (order : K → K → Ordering) (
 
   none_tied : (x : K) (xs : List K) → list_any (λ y. same y x) xs ≡ false → AllByRecursion (λ y. tied x y ≡ false) xs
   none_tied x [] h = tt
-  none_tied x (y ∷ ys) h = let n = neither (same y x) (list_any (λ z. same z x) ys) h in (same_turned x y ∙ n.0, none_tied x ys n.1)
+  none_tied x (y ∷ ys) h = let n = or_parts (same y x) (list_any (λ z. same z x) ys) h in (same_turned x y ∙ n.0, none_tied x ys n.1)
 
   none_same : (x : K) (xs : List K) → AllByRecursion (λ y. tied x y ≡ false) xs → list_any (λ y. same y x) xs ≡ false
   none_same x [] h = refl
@@ -59,7 +50,7 @@ module _ {K : Type 0} (same : K → K → Bool) (order : K → K → Ordering) (
   distinct : (xs : List K) → repeats_by same xs ≡ false → IsDistinct tied xs
   unfolding IsDistinct
   distinct [] h = tt
-  distinct (x ∷ xs) h = let n = neither (list_any (λ y. same y x) xs) (repeats_by same xs) h in IsDistinct-cons tied x xs (none_tied x xs n.0) (distinct xs n.1)
+  distinct (x ∷ xs) h = let n = or_parts (list_any (λ y. same y x) xs) (repeats_by same xs) h in IsDistinct-cons tied x xs (none_tied x xs n.0) (distinct xs n.1)
 
   no_repeats : (xs : List K) → IsDistinct tied xs → repeats_by same xs ≡ false
   no_repeats [] h = refl
@@ -74,8 +65,8 @@ module _ {K : Type 0} (same : K → K → Bool) (order : K → K → Ordering) (
   next_repeats _ h = absurd (cc)
 
   apart : (xs : List K) (k : ℕ) (d : K) → repeats_next_by same xs ≡ false → suc k < length xs → same (get_or xs k d) (get_or xs (suc k) d) ≡ false
-  apart (x ∷ y ∷ ys) zero d h l = (neither (same x y) (repeats_next_by same (y ∷ ys)) h).0
-  apart (x ∷ y ∷ ys) (suc k) d h l = apart (y ∷ ys) k d (neither (same x y) (repeats_next_by same (y ∷ ys)) h).1 (omega arith)
+  apart (x ∷ y ∷ ys) zero d h l = (or_parts (same x y) (repeats_next_by same (y ∷ ys)) h).0
+  apart (x ∷ y ∷ ys) (suc k) d h l = apart (y ∷ ys) k d (or_parts (same x y) (repeats_next_by same (y ∷ ys)) h).1 (omega arith)
   apart _ k d h l = absurd (omega arith)
 
   below : (a b : K) → is_lt (order b a) ≡ false → same a b ≡ false → order a b ≡ Less
@@ -117,7 +108,7 @@ module _ {K : Type 0} (same : K → K → Bool) (order : K → K → Ordering) (
 -- names that mean the same have one hash
 any_hash : (f : List ℕ → ℕ) (x : List ℕ) (xs : List (List ℕ)) → list_any (λ y. nat_eq y (f x)) (map f xs) ≡ false → list_any (λ y. is_same y x) xs ≡ false
 any_hash f x [] h = refl
-any_hash f x (y ∷ ys) h = let n = neither (nat_eq (f y) (f x)) (list_any (λ z. nat_eq z (f x)) (map f ys)) h in go (is_same y x) refl n.0 (any_hash f x ys n.1)
+any_hash f x (y ∷ ys) h = let n = or_parts (nat_eq (f y) (f x)) (list_any (λ z. nat_eq z (f x)) (map f ys)) h in go (is_same y x) refl n.0 (any_hash f x ys n.1)
   where
     go : (t : Bool) → is_same y x ≡ t → nat_eq (f y) (f x) ≡ false → list_any (λ z. is_same z x) ys ≡ false → (t || list_any (λ z. is_same z x) ys) ≡ false
     go true e n m =
@@ -128,6 +119,6 @@ any_hash f x (y ∷ ys) h = let n = neither (nat_eq (f y) (f x)) (list_any (λ z
 pub hashes_apart : (f : List ℕ → ℕ) (xs : List (List ℕ)) → hashes_repeat (map f xs) ≡ false → repeats xs ≡ false
 hashes_apart f [] h = refl
 hashes_apart f (x ∷ xs) h =
-    let n = neither (list_any (λ y. nat_eq y (f x)) (map f xs)) (hashes_repeat (map f xs)) h in
+    let n = or_parts (list_any (λ y. nat_eq y (f x)) (map f xs)) (hashes_repeat (map f xs)) h in
     let a = any_hash f x xs n.0 in
     rw a (hashes_apart f xs n.1)

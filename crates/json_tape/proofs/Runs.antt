@@ -2,16 +2,14 @@
 use Rattle.std.proofs.Common.{◌≡◌, ℕ, zero, suc, ◌+◌, ◌-◌, ◌<◌, ◌≤◌, true, false, Bool, cond, inl, inr, List, [], ◌∷◌, ◌++◌, length, map, take, drop, get_or, refl, sym, ap, ◌∙◌, subst, arith, length-append}
 use Rattle.std.specs.Prelude.{nat_eq}
 use Rattle.std.proofs.lemmas.Bool.{cases_lt, cases_Bool, false≢true}
-use Rattle.std.proofs.lemmas.List.{length-map, get_or_append_left, get_or_at, take-append-le, drop-append-le, drop_at, take_all, length-drop}
+use Rattle.std.proofs.lemmas.List.{length-map, get_or_append_left, get_or_at, take-append-le, drop-append-le, drop_at, take_all, length-drop, get_or-map}
 use Rattle.std.specs.List.{All}
 use Rattle.std.proofs.lemmas.List.Elements.{All-from_recursion}
-use Rattle.std.specs.List.Sorted.{IsPermutation, IsSorted, IsStrictlySortedBy}
+use Rattle.std.specs.List.Sorted.{IsPermutation, IsSorted, IsStrictlySortedBy, IsBinarySearchResult}
 use Rattle.std.specs.declared.result.Result.TheVariants.{Ok, Err}
-use Rattle.std.specs.List.Sorted.{IsBinarySearchResult}
-use Rattle.std.specs.Ordering.{nat_cmp}
+use Rattle.std.specs.Ordering.{nat_cmp, on}
 use Rattle.json_tape.specs.Document.{Doc, count}
 use Rattle.std.proofs.lemmas.List.Sorted.{searched, IsPermutation-map, All-permutation, length_permutation}
-use Rattle.std.specs.Ordering.{on}
 use Rattle.std.specs.Cmp.Lexicographic.{pointwise}
 use Rattle.std.specs.declared.cmp.Ordering.{Ordering}
 use Rattle.std.specs.declared.cmp.Ordering.TheVariants.{Less}
@@ -30,11 +28,6 @@ use Rattle.json_tape.proofs.KeysLeft.{IsGood, all_good, length_keyed, repeats_ke
 
 no_key : Keyed
 no_key = record { number = 0; name = [] }
-
-pub get_map : {A : Type 0} (f : A → ℕ) (xs : List A) (k : ℕ) (a : A) → k < length xs → get_or (map f xs) k 0 ≡ f (get_or xs k a)
-get_map f [] k a h = absurd (omega arith)
-get_map f (x ∷ xs) zero a h = refl
-get_map f (x ∷ xs) (suc k) a h = get_map f xs k a (omega arith)
 
 -- what is strictly in order, by two places
 pub in_order : {K : Type 0} (order : K → K → Ordering) (xs : List K) (d : K) → IsStrictlySortedBy order xs → (j k : ℕ) → j < k → k < length xs → order (get_or xs j d) (get_or xs k d) ≡ Less
@@ -66,9 +59,9 @@ module _ (text : List ℕ) (tape : List Entry) (n : ℕ) (ys : List Keyed) (move
   ordered ms o none = record {
     named = record {
       long = length-map ys key_hash ∙ sym (length-map ys key_number);
-      inside = λ k h. let l = inner k h in subst (λ m. m < length tape) (sym (get_map key_number ys k no_key l)) (good ms o k no_key l).inside;
-      quoted = λ k h. let l = inner k h in subst (λ m. IsQuoted text (entry_in tape m).label) (sym (get_map key_number ys k no_key l)) (good ms o k no_key l).quoted;
-      hashed = λ k h. let l = inner k h in get_map key_hash ys k no_key l ∙ ap name_hash (sym (name_is k l));
+      inside = λ k h. let l = inner k h in subst (λ m. m < length tape) (sym (get_or-map key_number ys k no_key 0 l)) (good ms o k no_key l).inside;
+      quoted = λ k h. let l = inner k h in subst (λ m. IsQuoted text (entry_in tape m).label) (sym (get_or-map key_number ys k no_key 0 l)) (good ms o k no_key l).quoted;
+      hashed = λ k h. let l = inner k h in get_or-map key_hash ys k no_key 0 l ∙ ap name_hash (sym (name_is k l));
       rising = λ j k h m.
           (let l = inner k m in
           let i : j < length ys = omega arith in
@@ -81,7 +74,7 @@ module _ (text : List ℕ) (tape : List Entry) (n : ℕ) (ys : List Keyed) (move
       inner k h = let e = length-map ys key_number in omega arith
 
       name_is : (k : ℕ) → k < length ys → name_at text tape (get_or (map key_number ys) k 0) ≡ (get_or ys k no_key).name
-      name_is k l = ap (name_at text tape) (get_map key_number ys k no_key l) ∙ (good ms o k no_key l).named
+      name_is k l = ap (name_at text tape) (get_or-map key_number ys k no_key 0 l) ∙ (good ms o k no_key l).named
 
       apart : IsStrictlySortedBy key_cmp ys
       apart = strict same_key key_cmp keys_tie (λ x y. keys_equiv.symm x y) keys_total no_key ys sorted none

@@ -4,7 +4,7 @@ use Rattle.std.specs.Int.{from_be_bytes}
 use Rattle.std.specs.Str.{chars}
 use Rattle.std.proofs.lemmas.Bool.Decides.{nat_tests}
 use Rattle.std.proofs.lemmas.Str.{chars-nil}
-use Rattle.std.proofs.lemmas.List.{get_or-take, get_or-drop, length-take-le, length-drop, drop-drop}
+use Rattle.std.proofs.lemmas.List.{get_or-take, get_or-drop, length-take-le, length-drop, drop-drop, take-take}
 use Rattle.std.proofs.Math.Seq.{take-add}
 use Rattle.std.proofs.lemmas.Simd.{length-chunk, get_or-chunk}
 use lib.Lanes.{chunk}
@@ -72,11 +72,6 @@ eight : (bs : List ℕ) → length bs ≡ 8 → bs ≡ get_or bs 0 0 ∷ get_or 
 eight (a ∷ b ∷ c ∷ d ∷ e ∷ f ∷ g ∷ h ∷ []) l = refl
 eight _ l = absurd (omega arith)
 
-take_fewer : (n m : ℕ) (xs : List ℕ) → n ≤ m → take n (take m xs) ≡ take n xs
-take_fewer (suc n) zero xs h = absurd (omega arith)
-take_fewer (suc n) (suc m) (x ∷ xs) h = ap (λ l. x ∷ l) (take_fewer n m xs (omega arith))
-take_fewer _ _ _ h = refl
-
 plain_front : (bs r : List ℕ) → ((k : ℕ) → k < length bs → (get_or bs k 0 < 128) × (get_or bs k 0 ≢ 92)) → scalars_in (chars (bs ++ r)) ≡ bs ++ scalars_in (chars r)
 plain_front [] r h = refl
 plain_front (b ∷ bs) r h = let f = h 0 (omega arith) in plain_first b (bs ++ r) f.0 f.1 ∙ ap (λ l. b ∷ l) (plain_front bs r (λ k l. h (suc k) (omega arith)))
@@ -142,7 +137,7 @@ word_value text at len word room some few fits w =
     let byte = λ (i : ℕ) (h : i < 8). subst (λ x. x < 256) (sym (get_or-chunk at 8 text i 0 h)) (fits (at + i)).fits in
     let number = subst (λ l. (from_be_bytes w64 l / 2 ^ (64 - 8 * len) ≡ digits 0 (take len l)) × (digits 0 (take len l) < 0x10000000000000000)) (sym (eight v long))
     (word_at (get_or v 0 0) (get_or v 1 0) (get_or v 2 0) (get_or v 3 0) (get_or v 4 0) (get_or v 5 0) (get_or v 6 0) (get_or v 7 0) (byte 0 (omega arith)) (byte 1 (omega arith)) (byte 2 (omega arith)) (byte 3 (omega arith)) (byte 4 (omega arith)) (byte 5 (omega arith)) (byte 6 (omega arith)) (byte 7 (omega arith)) len some few) in
-    let same = take_fewer len 8 (drop at text) few in
+    let same = take-take len 8 (drop at text) few in
     (ap (λ n. n / 2 ^ (64 - 8 * len)) w ∙ number.0 ∙ ap (digits 0) same, subst (λ l. digits 0 l < 2 ^ 64) same number.1)
 
 pub word_is : (text : List ℕ) (at len word : ℕ) → at + 8 ≤ length text → 1 ≤ len → len ≤ 8 → ((k : ℕ) → Fits w8 (get_or text k 0))

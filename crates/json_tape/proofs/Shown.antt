@@ -1,11 +1,12 @@
 -- Each part of a text's tree has a byte at least, so it ends within the text.
-use Rattle.std.proofs.Common.{◌≡◌, ℕ, ◌+◌, ◌<◌, ◌≤◌, List, [], ◌∷◌, length, drop, refl, ap, arith}
+use Rattle.std.proofs.Common.{◌≡◌, ℕ, ◌+◌, ◌<◌, ◌≤◌, List, length, drop, refl, ap, arith}
 use Rattle.std.proofs.lemmas.List.{length-take, length-drop}
-use Rattle.json_tape.specs.Tree.{Scalar, Null, True, False, Num, Str, Tree, Leaf, Arr, Obj, Elements, NoElement, Element, Members, NoMember, Member, Name, source_of, then_element, then_member}
+use Rattle.json_tape.specs.Tree.{Scalar, Num, Str, Tree, Leaf, Arr, Obj, Elements, NoElement, Element, Members, NoMember, Member, Name, source_of, then_element, then_member}
 use Rattle.json_tape.specs.Grammar.{IsScalarText, IsValue, scalar, array, object, IsElements, one_element, next_element, IsMembers, one_member, next_member, IsMember, member, IsText}
 use Rattle.json_tape.specs.Parts.{IsElementOf, first_element, later_element, IsValueOf, first_value, later_value, HasPart, itself, element, value}
 use Rattle.json_tape.proofs.Chars.{number_some}
 use Rattle.json_tape.proofs.Fits.{Lies}
+use Rattle.json_tape.proofs.TokensAt.{long_enough}
 
 abbrev mutual
   Shown : Tree → Type 0
@@ -29,16 +30,10 @@ shown-then_member : (ms : Members) (n : Name) (t : Tree) → ShownMembers ms →
 shown-then_member NoMember n t h g = (g, tt)
 shown-then_member (Member m a ms) n t h g = (h.0, shown-then_member ms n t h.1 g)
 
-some : (bs : List ℕ) → (bs ≡ [] → ⊥) → 0 < length bs
-some [] f = absurd (f refl)
-some (b ∷ bs) f = omega arith
-
 scalar_some : (bs : List ℕ) (c : Scalar) → IsScalarText bs c → 0 < length bs
-scalar_some bs Null e = let n = ap length e in omega arith
-scalar_some bs True e = let n = ap length e in omega arith
-scalar_some bs False e = let n = ap length e in omega arith
-scalar_some bs Num h = some bs (number_some bs h)
+scalar_some bs Num h = long_enough bs (number_some bs h)
 scalar_some bs (Str cs) (inside, h, e) = let n = ap length e in omega arith
+scalar_some bs _ e = let n = ap length e in omega arith
 
 mutual
   value_shown : {p : ℕ} {bs : List ℕ} {t : Tree} → IsValue p bs t → Shown t

@@ -1,9 +1,9 @@
 -- One more element or member at the end, in each function over lists of them.
-use Rattle.std.proofs.Common.{◌≡◌, ℕ, suc, ◌+◌, List, [], ◌∷◌, ◌++◌, length, refl, sym, ap, ◌∙◌, arith, append_assoc, length-append}
+use Rattle.std.proofs.Common.{◌≡◌, ℕ, suc, ◌+◌, ◌++◌, length, refl, sym, ap, ◌∙◌, arith, append_assoc, length-append}
 use Rattle.json_tape.specs.Tree.{Name, Tree, Leaf, Arr, Obj, Elements, NoElement, Element, Members, NoMember, Member, then_element, then_member}
-use Rattle.json_tape.specs.declared.tape.Entry.{Entry}
 use Rattle.json_tape.specs.Tape.{Label, Index, Named, deepest, deepest_element, deepest_member, element_count, member_count, tape_of, tape_of_elements, tape_of_members, extent}
 use Rattle.json_tape.specs.Nodes.{size, size_of_elements, size_of_members}
+use Rattle.std.proofs.lemmas.List.{append-nil}
 
 pub count-then_element : (es : Elements) (t : Tree) → element_count (then_element es t) ≡ element_count es + 1
 count-then_element NoElement t = refl
@@ -17,11 +17,7 @@ pub tape-then_element : (es : Elements) (t : Tree) (up i k : ℕ) → tape_of_el
 tape-then_element NoElement t up i k =
     let e : k ≡ k + 0 = omega arith in
     let f : i ≡ i + 0 = omega arith in
-    simp append-nil_here (ap (tape_of t up (Index i)) e ∙ ap (λ n. tape_of t up (Index n) (k + 0)) f)
-  where
-    append-nil_here : (l : List Entry) → l ++ [] ≡ l
-    append-nil_here [] = refl
-    append-nil_here (x ∷ l) = ap (λ m. x ∷ m) (append-nil_here l)
+    simp append-nil (ap (tape_of t up (Index i)) e ∙ ap (λ n. tape_of t up (Index n) (k + 0)) f)
 tape-then_element (Element a es) t up i k =
     let e : k + size a + size_of_elements es ≡ k + (size a + size_of_elements es) = omega arith in
     let f : i + 1 + element_count es ≡ i + suc (element_count es) = omega arith in
@@ -40,11 +36,7 @@ deepest-then_member (Member m a ms) n t l d = deepest-then_member ms n t l (deep
 pub tape-then_member : (ms : Members) (n : Name) (t : Tree) (up k : ℕ) → tape_of_members (then_member ms n t) up k ≡ tape_of_members ms up k ++ tape_of t up (Named (extent n.source)) (k + size_of_members ms)
 tape-then_member NoMember n t up k =
     let e : k ≡ k + 0 = omega arith in
-    simp append-nil_here (ap (tape_of t up (Named (extent n.source))) e)
-  where
-    append-nil_here : (l : List Entry) → l ++ [] ≡ l
-    append-nil_here [] = refl
-    append-nil_here (x ∷ l) = ap (λ m. x ∷ m) (append-nil_here l)
+    simp append-nil (ap (tape_of t up (Named (extent n.source))) e)
 tape-then_member (Member m a ms) n t up k =
     let e : k + size a + size_of_members ms ≡ k + (size a + size_of_members ms) = omega arith in
     let ih = tape-then_member ms n t up (k + size a) in

@@ -3,7 +3,7 @@ use Rattle.std.proofs.Common.{Option, Some, None, ◌≡◌, ◌≢◌, ℕ, zer
 use Rattle.std.specs.Prelude.{eqb, ltb, IsUtf8}
 use Rattle.std.specs.Str.{chars, IsAscii}
 use Rattle.std.proofs.lemmas.Bool.Decides.{nat_tests}
-use Rattle.std.proofs.lemmas.List.{take_at, get_or_at, get_or-drop, get_or-take, length-take}
+use Rattle.std.proofs.lemmas.List.{take_at, get_or_at, get_or-drop, get_or-take, length-take, append-nil}
 use Rattle.std.proofs.lemmas.Str.{chars-nil, chars-append, chars-IsAscii, chars_past_char, IsUtf8-encode, IsUtf8-from_ascii, length-encode, len_utf8_bounds}
 use lib.Utf8.{encode}
 use Rattle.json_tape.specs.Tree.{Spelt, Plain, Short, Unit4, Source}
@@ -53,10 +53,10 @@ digit_is b n (inr (h, g, inr e)) =
     let f : ltb (b - 55) 16 ≡ true = grind (arith, nat_tests) in
     rw (c, d, i, j, f) (omega arith)
 
-keep : (n : ℕ) → n < 4096 → n % 4096 ≡ n
+pub keep : (n : ℕ) → n < 4096 → n % 4096 ≡ n
 keep n h = omega arith
 
-digit_bound : (b n : ℕ) → IsHexDigit b n → n < 16
+pub digit_bound : (b n : ℕ) → IsHexDigit b n → n < 16
 digit_bound b n h = grind arith
 
 unit_ascii : (a b c d k l m n : ℕ) → IsHexDigit a k → IsHexDigit b l → IsHexDigit c m → IsHexDigit d n → IsAscii (92 ∷ 117 ∷ a ∷ b ∷ c ∷ d ∷ [])
@@ -77,13 +77,9 @@ digits_value k l m n u hk hl hm e =
 char_spells : (bs : List ℕ) (c : Spelt) → IsChar bs c → IsUtf8 bs × ((rest : List ℕ) → spelt_from Between 0 (chars bs ++ rest) ≡ c ∷ spelt_from Between 0 rest)
 char_spells bs (Plain c) (s, l, q, b, e) =
     let u : IsUtf8 bs = subst IsUtf8 (sym e) (IsUtf8-encode c s) in
-    let f : chars bs ≡ c ∷ [] = chars_past_char bs [] c u (e ∙ sym (nothing (encode c))) ∙ ap (λ l. c ∷ l) chars-nil in
+    let f : chars bs ≡ c ∷ [] = chars_past_char bs [] c u (e ∙ sym (append-nil (encode c))) ∙ ap (λ l. c ∷ l) chars-nil in
     let t : eqb c 92 ≡ false = grind (arith, nat_tests) in
     (u, λ rest. rw (f, t) refl)
-  where
-    nothing : (l : List ℕ) → l ++ [] ≡ l
-    nothing [] = refl
-    nothing (x ∷ l) = ap (λ m. x ∷ m) (nothing l)
 char_spells bs (Short letter) (h, e) =
     let s = short_small letter h in
     let a : IsAscii bs = subst IsAscii (sym e) (ascii_more 92 (letter ∷ []) (omega arith) (ascii_more letter [] s.0 ascii_nil)) in

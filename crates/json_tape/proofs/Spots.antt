@@ -1,5 +1,5 @@
 -- Where each number stands among the spots of a tree.
-use Rattle.std.proofs.Common.{◌≡◌, ℕ, suc, ◌+◌, ◌≤◌, ◌<◌, ◌⊎◌, inl, inr, List, [], ◌∷◌, ◌++◌, length, map, get_or, refl, sym, ap, ◌∙◌, subst, arith, append_assoc, length-append}
+use Rattle.std.proofs.Common.{◌≡◌, ℕ, suc, ◌+◌, ◌≤◌, ◌<◌, ◌⊎◌, inl, inr, List, [], ◌∷◌, ◌++◌, length, map, get_or, refl, sym, ap, ◌∙◌, subst, arith, append_assoc, length-append, add-one}
 use Rattle.std.proofs.lemmas.Bool.{cases_lt}
 use Rattle.json_tape.specs.Tree.{Name, Tree, Leaf, Arr, Obj, Elements, NoElement, Element, Members, NoMember, Member}
 use Rattle.json_tape.specs.Meaning.{meaning}
@@ -11,10 +11,8 @@ use Rattle.json_tape.specs.Document.{Spot, spots_from, spots_elements, spots_mem
 use Rattle.json_tape.proofs.Entries.{size_positive}
 use Rattle.json_tape.proofs.Fits.{Lies, Fits, FitElements, FitMembers}
 use Rattle.json_tape.specs.declared.tape.Entry.{Entry}
-
-map_append : {A B : Type 0} (f : A → B) (xs ys : List A) → map f (xs ++ ys) ≡ map f xs ++ map f ys
-map_append f [] ys = refl
-map_append f (x ∷ xs) ys = ap (λ zs. f x ∷ zs) (map_append f xs ys)
+use Rattle.std.proofs.lemmas.List.{map-append}
+use Rattle.std.proofs.Math.Seq.{get_or-append_seam}
 
 abbrev pub entry_at : Spot → Entry
 entry_at s = entry_of s.node.tree s.up s.label s.node.number
@@ -22,27 +20,24 @@ entry_at s = entry_of s.node.tree s.up s.label s.node.number
 abbrev pub node_of : Spot → Node
 node_of s = s.node
 
-plus : (k : ℕ) → k + 1 ≡ suc k
-plus k = omega arith
-
 mutual
   pub tape_is : (way : List Step) (up : ℕ) (label : Label) (later : List Node) (k : ℕ) (t : Tree) → tape_of t up label k ≡ map entry_at (spots_from way up label later k t)
   tape_is way up label later k (Leaf s c) = refl
-  tape_is way up label later k (Arr s es) = ap (λ xs. entry_of (Arr s es) up label k ∷ xs) (ap (λ j. tape_of_elements es k 0 j) (plus k) ∙ tape_elements_is way 0 k (suc k) es)
-  tape_is way up label later k (Obj s ms) = ap (λ xs. entry_of (Obj s ms) up label k ∷ xs) (ap (λ j. tape_of_members ms k j) (plus k) ∙ tape_members_is way k (suc k) ms)
+  tape_is way up label later k (Arr s es) = ap (λ xs. entry_of (Arr s es) up label k ∷ xs) (ap (λ j. tape_of_elements es k 0 j) (add-one k) ∙ tape_elements_is way 0 k (suc k) es)
+  tape_is way up label later k (Obj s ms) = ap (λ xs. entry_of (Obj s ms) up label k ∷ xs) (ap (λ j. tape_of_members ms k j) (add-one k) ∙ tape_members_is way k (suc k) ms)
 
   pub tape_elements_is : (way : List Step) (i up k : ℕ) (es : Elements) → tape_of_elements es up i k ≡ map entry_at (spots_elements way i up k es)
   tape_elements_is way i up k NoElement = refl
   tape_elements_is way i up k (Element t es) =
-      ap (λ j. tape_of t up (Index i) k ++ tape_of_elements es up j (k + size t)) (plus i)
+      ap (λ j. tape_of t up (Index i) k ++ tape_of_elements es up j (k + size t)) (add-one i)
       ∙ rw (tape_is (place i ∷ way) up (Index i) (elements_from way (suc i) (k + size t) es) k t, tape_elements_is way (suc i) up (k + size t) es)
-      (sym (map_append entry_at (spots_from (place i ∷ way) up (Index i) (elements_from way (suc i) (k + size t) es) k t) (spots_elements way (suc i) up (k + size t) es)))
+      (sym (map-append entry_at (spots_from (place i ∷ way) up (Index i) (elements_from way (suc i) (k + size t) es) k t) (spots_elements way (suc i) up (k + size t) es)))
 
   pub tape_members_is : (way : List Step) (up k : ℕ) (ms : Members) → tape_of_members ms up k ≡ map entry_at (spots_members way up k ms)
   tape_members_is way up k NoMember = refl
   tape_members_is way up k (Member n t ms) =
       rw (tape_is (key (meaning n.characters) ∷ way) up (Named (extent n.source)) (members_from way (k + size t) ms) k t, tape_members_is way up (k + size t) ms)
-      (sym (map_append entry_at (spots_from (key (meaning n.characters) ∷ way) up (Named (extent n.source)) (members_from way (k + size t) ms) k t) (spots_members way up (k + size t) ms)))
+      (sym (map-append entry_at (spots_from (key (meaning n.characters) ∷ way) up (Named (extent n.source)) (members_from way (k + size t) ms) k t) (spots_members way up (k + size t) ms)))
 
 mutual
   pub visit_is : (way : List Step) (up : ℕ) (label : Label) (later : List Node) (k : ℕ) (t : Tree) → visit_from way k t ≡ map node_of (spots_from way up label later k t)
@@ -54,13 +49,13 @@ mutual
   visit_elements_is way i up k NoElement = refl
   visit_elements_is way i up k (Element t es) =
       rw (visit_is (place i ∷ way) up (Index i) (elements_from way (suc i) (k + size t) es) k t, visit_elements_is way (suc i) up (k + size t) es)
-      (sym (map_append node_of (spots_from (place i ∷ way) up (Index i) (elements_from way (suc i) (k + size t) es) k t) (spots_elements way (suc i) up (k + size t) es)))
+      (sym (map-append node_of (spots_from (place i ∷ way) up (Index i) (elements_from way (suc i) (k + size t) es) k t) (spots_elements way (suc i) up (k + size t) es)))
 
   pub visit_members_is : (way : List Step) (up k : ℕ) (ms : Members) → visit_members way k ms ≡ map node_of (spots_members way up k ms)
   visit_members_is way up k NoMember = refl
   visit_members_is way up k (Member n t ms) =
       rw (visit_is (key (meaning n.characters) ∷ way) up (Named (extent n.source)) (members_from way (k + size t) ms) k t, visit_members_is way up (k + size t) ms)
-      (sym (map_append node_of (spots_from (key (meaning n.characters) ∷ way) up (Named (extent n.source)) (members_from way (k + size t) ms) k t) (spots_members way up (k + size t) ms)))
+      (sym (map-append node_of (spots_from (key (meaning n.characters) ∷ way) up (Named (extent n.source)) (members_from way (k + size t) ms) k t) (spots_members way up (k + size t) ms)))
 
 mutual
   pub spot_count : (way : List Step) (up : ℕ) (label : Label) (later : List Node) (k : ℕ) (t : Tree) → length (spots_from way up label later k t) ≡ size t
@@ -90,10 +85,6 @@ inner way k (Obj s ms) = spots_members way k (suc k) ms
 pub top_first : (way : List Step) (up : ℕ) (label : Label) (later : List Node) (k : ℕ) (t : Tree) → spots_from way up label later k t ≡ top way up label later k t ∷ inner way k t
 top_first way up label later k (Leaf s c) = refl
 top_first way up label later k _ = refl
-
-pub at_place : {A : Type 0} (pre : List A) (x : A) (post : List A) (d : A) → get_or (pre ++ (x ∷ post)) (length pre) d ≡ x
-at_place [] x post d = refl
-at_place (y ∷ pre) x post d = at_place pre x post d
 
 abbrev pub end_of : Spot → ℕ
 end_of s = s.node.number + size s.node.tree
@@ -139,7 +130,7 @@ first_or_later a b h = elim (cases_lt a b) [ inl g ↦ inr (omega arith) | inr g
 
 -- the spot at a place of all
 pub place_is : (all pre : List Spot) (x : Spot) (xs post : List Spot) (d : Spot) (k : ℕ) → all ≡ pre ++ ((x ∷ xs) ++ post) → length pre ≡ k → get_or all k d ≡ x
-place_is all pre x xs post d k e l = rw (e, ← l) (at_place pre x (xs ++ post) d)
+place_is all pre x xs post d k e l = rw (e, ← l) (get_or-append_seam pre x (xs ++ post) d)
 
 -- the first of a list of children, as a spot and what is in it
 pub one_of : (pre : List Spot) (way : List Step) (u : ℕ) (label : Label) (later : List Node) (k : ℕ) (t : Tree) (rest post : List Spot)

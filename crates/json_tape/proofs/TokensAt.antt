@@ -11,14 +11,14 @@ use Rattle.json_tape.specs.declared.tape.Shape.TheVariants.{Array, Object}
 use Rattle.json_tape.specs.declared.lexing.Lexed.{Lexed}
 use Rattle.json_tape.specs.declared.lexing.Lexed.TheVariants as lexed
 use Rattle.json_tape.specs.Machine.{Token, Opening, Closing, Comma, Between, Text, Word, run_at, step, start}
-use Rattle.json_tape.specs.Lexing.{Atom, class, is_atom, sign_at, IsToken, sign, text, word, IsWord, WordIs, Marked}
+use Rattle.json_tape.specs.Lexing.{class, is_atom, sign_at, IsToken, sign, text, word, IsWord, WordIs, Marked}
 use Rattle.json_tape.specs.Placing.{StringEnds}
 use Rattle.json_tape.specs.Walked.{TokenAt, begins_value, is_text, NoneAt, token_of, end_of}
-use Rattle.json_tape.proofs.Bridge.{same_classes}
+use Rattle.json_tape.proofs.Bridge.{same_classes, same_default}
 use Rattle.json_tape.proofs.Calls.{no_string, word_is, atoms_here}
 use Rattle.json_tape.proofs.Chars.{number_some}
-use Rattle.json_tape.proofs.PlaceWalk.{same_default}
 use Rattle.json_tape.proofs.Placing.{word_absent, run_ends}
+use Rattle.json_tape.proofs.Complete.{atom_by_class}
 
 -- ---- Strings
 
@@ -55,7 +55,7 @@ word_some bs kinds.Text h = absurd h
 word_some bs kinds.Array h = absurd h
 word_some bs kinds.Object h = absurd h
 
-long_enough : (bs : List ℕ) → bs ≢ [] → 0 < length bs
+pub long_enough : (bs : List ℕ) → bs ≢ [] → 0 < length bs
 long_enough [] n = absurd (n refl)
 long_enough (b ∷ bs) n = omega arith
 
@@ -87,9 +87,6 @@ sign_begins p b (Opening Object q) h m n = absurd (n (grind (arith, nat_tests)))
 sign_begins p b (Text x) h m n = absurd (grind (arith, nat_tests))
 sign_begins p b (Word x kind) h m n = absurd (grind (arith, nat_tests))
 sign_begins p b _ h m n = refl
-
-atom_by_class : (b : ℕ) → class b ≡ Atom → is_atom b ≡ true
-atom_by_class b h = grind (arith, nat_tests)
 
 no_value : {p : ℕ} {vs rest : List ℕ} {tok : Token} → IsToken p vs tok rest → (b : ℕ) (cs : List ℕ) → b ∷ cs ≡ vs ++ rest → b ≢ 34 → b ≢ 91 → b ≢ 123 → is_atom b ≡ false → begins_value tok ≡ false
 no_value (sign {p = p} {b = b'} {tok = tok} h) b cs e q m n a = let f : b ≡ b' = cc in sign_begins p b' tok h (λ x. m (f ∙ x)) (λ x. n (f ∙ x))

@@ -1,6 +1,6 @@
 -- The tree told from the entries of a text's tree is that tree.
 use Rattle.std.proofs.Common.{◌≡◌, ◌<◌, ◌^◌, ℕ, suc, ◌+◌, List, [], ◌∷◌, ◌++◌, length, Option, Some, None, refl, sym, ap, ◌∙◌, subst, append_assoc}
-use Rattle.std.proofs.lemmas.List.{take_at, drop_at}
+use Rattle.std.proofs.lemmas.List.{take_at, drop_at, append-nil}
 use Rattle.json_tape.specs.Tree.{Source, Name, Scalar, Str, Tree, Leaf, Arr, Obj, Elements, NoElement, Element, Members, NoMember, Member}
 use Rattle.json_tape.specs.Letters.{IsString}
 use Rattle.json_tape.specs.Grammar.{IsScalarText, IsText}
@@ -12,10 +12,6 @@ use Rattle.json_tape.specs.Document.{IsDocument, Built, elements_built, members_
 use Rattle.json_tape.specs.declared.tape.Entry.{Entry}
 use Rattle.json_tape.proofs.Fits.{Lies, Fits, FitElements, FitMembers, text_fits}
 use Rattle.json_tape.proofs.Spelled.{spelt_is}
-
-append_nothing : {A : Type 0} (xs : List A) → xs ++ [] ≡ xs
-append_nothing [] = refl
-append_nothing (x ∷ xs) = ap (λ ys. x ∷ ys) (append_nothing xs)
 
 source_told : (text : List ℕ) (s : Source) → Lies text s → source_in text (extent s) ≡ s
 source_told text s l = ap (λ b. record { place = s.place; bytes = b }) (sym l)
@@ -91,7 +87,7 @@ module _ (text : List ℕ) where
 pub tree_told : (text : List ℕ) (entries : List Entry) (t : Tree) → IsText text t → entries ≡ tape_of t 0 Top 0 → tree_of (record { text = text; entries = entries }) ≡ t
 unfolding tree_of
 tree_told text entries t h e =
-    ap first_built (ap (built text) (e ∙ sym (append_nothing (tape_of t 0 Top 0))) ∙ built_tree text t 0 Top 0 None [] (text_fits text t h) refl)
+    ap first_built (ap (built text) (e ∙ sym (append-nil (tape_of t 0 Top 0))) ∙ built_tree text t 0 Top 0 None [] (text_fits text t h) refl)
 
 module _ (text source : List ℕ) (entries : List Entry) (same : source ≡ text) (json : IsJson text) (stands : StandsForAll text entries) where
   pub is_accepted : IsFaultless text → IsAccepted text (tree_of (record { text = source; entries = entries }))

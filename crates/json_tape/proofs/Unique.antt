@@ -11,8 +11,9 @@ use Rattle.json_tape.specs.Repeats.{is_same, repeats, meanings}
 use Rattle.json_tape.specs.Document.{Doc, IsDocument, node_at, count, tree_of}
 use Rattle.json_tape.specs.declared.tape.TextFault.TheVariants.{LoneSurrogate, DuplicateName}
 use Rattle.json_tape.proofs.Readers.{part_is}
-use Rattle.json_tape.proofs.Repeats.{or_right, neither}
+use Rattle.json_tape.proofs.Repeats.{or_right}
 use Rattle.json_tape.proofs.TwinNames.{twins_of}
+use Rattle.std.proofs.lemmas.Bool.{or_parts}
 
 -- a node of the name, so a name among the members
 named_among : (name : List ℕ) (up : List Step) (k : ℕ) (ms : Members) (x : Node) → Contains (members_from up k ms) x → is_named name x ≡ true → list_any (λ y. is_same y name) (meanings ms) ≡ true
@@ -31,7 +32,7 @@ first_named name up k (Member m t ms) x u (zero, l, e) h =
     let b : bytes_eq name (meaning m.characters) ≡ true = ap (is_named name) e ∙ h in
     rw b (ap (λ n. n ∷ []) e)
 first_named name up k (Member m t ms) x u (suc i, l, e) h =
-    let n = neither (list_any (λ y. is_same y (meaning m.characters)) (meanings ms)) (repeats (meanings ms)) u in
+    let n = or_parts (list_any (λ y. is_same y (meaning m.characters)) (meanings ms)) (repeats (meanings ms)) u in
     let c : Contains (members_from up (k + size t) ms) x = (i, omega (arith, l), e) in
     go (bytes_eq name (meaning m.characters)) refl n.0 (named_among name up (k + size t) ms x c h) (first_named name up (k + size t) ms x n.1 c h)
   where

@@ -1,8 +1,8 @@
 -- Where no u is escaped, a string means as many scalar values as characters that escape none.
-use Rattle.std.proofs.Common.{◌≡◌, ℕ, suc, ◌+◌, ◌/◌, ◌<◌, ◌≤◌, inl, inr, None, Bool, true, false, not, cond, ◌&&◌, ◌||◌, eqb, ltb, leb, List, ◌∷◌, ◌++◌, length, refl, sym, ap, ◌∙◌, subst, arith, true≢false}
+use Rattle.std.proofs.Common.{◌≡◌, ℕ, suc, ◌+◌, ◌/◌, ◌<◌, ◌≤◌, inl, inr, None, Bool, true, false, not, cond, ◌&&◌, ◌||◌, eqb, ltb, leb, List, ◌∷◌, ◌++◌, length, refl, sym, ap, ◌∙◌, subst, arith}
 use Rattle.std.specs.Prelude.{IsUtf8}
 use Rattle.std.specs.Str.{chars}
-use Rattle.std.proofs.lemmas.Bool.{cases_lt}
+use Rattle.std.proofs.lemmas.Bool.{cases_lt, or_parts}
 use Rattle.std.proofs.lemmas.Bool.Decides.{nat_tests}
 use Rattle.std.proofs.lemmas.Str.{encodes-chars}
 use lib.Utf8.{encode, encodes, next}
@@ -12,6 +12,7 @@ use Rattle.json_tape.specs.Tree.{Plain}
 use Rattle.json_tape.specs.Spelling.{spelt_from, scalars_in}
 use Rattle.json_tape.specs.declared.scan.Mode.{Mode}
 use Rattle.json_tape.specs.declared.scan.Mode.TheVariants.{Between, Escape}
+use Rattle.std.proofs.Math.Bool.{and-false}
 
 -- ---- One character
 
@@ -107,20 +108,12 @@ abbrev mode : Bool → Mode
 mode true = Escape
 mode false = Between
 
-behind : (p q : Bool) → (p || q) ≡ false → (p ≡ false) × (q ≡ false)
-behind false q h = (refl, h)
-behind true q h = absurd (true≢false h)
-
 as_many : (e : Bool) (cs : List ℕ) → has_unit e (encodes cs) ≡ false → length (meaning_after None (spelt_from (mode e) 0 cs)) ≡ standing e (encodes cs)
 as_many true (c ∷ cs) h =
-    let parts = behind (eqb c 117) (has_unit (escapes true c) (encodes cs)) (sym (one_unit true c (encodes cs)) ∙ h) in
-    let none : escapes true c ≡ false = never (eqb c 92) in
+    let parts = or_parts (eqb c 117) (has_unit (escapes true c) (encodes cs)) (sym (one_unit true c (encodes cs)) ∙ h) in
+    let none : escapes true c ≡ false = and-false (eqb c 92) in
     let rest = subst (λ t. has_unit t (encodes cs) ≡ false) none parts.1 in
     rw parts.0 (ap suc (as_many false cs rest) ∙ sym (one_standing true c (encodes cs) ∙ ap (λ t. cond t (standing true (encodes cs)) (suc (standing false (encodes cs)))) none))
-  where
-    never : (t : Bool) → (t && false) ≡ false
-    never true = refl
-    never false = refl
 as_many false (c ∷ cs) h = go (eqb c 92) (sym (one_unit false c (encodes cs)) ∙ h) (one_standing false c (encodes cs)) (as_many true cs) (as_many false cs)
   where
     go : (t : Bool) → has_unit (t && true) (encodes cs) ≡ false → standing false (encode c ++ encodes cs) ≡ cond (t && true) (standing true (encodes cs)) (suc (standing false (encodes cs)))

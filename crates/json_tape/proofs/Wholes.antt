@@ -1,6 +1,6 @@
 -- A number without an exponent, by its digits.
 use Rattle.std.proofs.Common.{◌≡◌, ℕ, zero, suc, ◌+◌, ◌-◌, ◌<◌, ◌≤◌, inl, inr, List, [], ◌∷◌, ◌++◌, length, take, drop, get_or, false, refl, sym, ap, subst, ◌∙◌, arith, append-nil}
-use Rattle.std.proofs.lemmas.List.{drop_more, take_all, take-append-drop, length-drop, drop_all, get_or-take, get_or-drop}
+use Rattle.std.proofs.lemmas.List.{drop_more, take_all, take-append-drop, length-drop, drop_all, get_or-take, get_or-drop, drop-drop}
 use Rattle.std.proofs.lemmas.Bool.{cases_lt}
 use Rattle.std.proofs.lemmas.Bool.Decides.{nat_tests}
 use Rattle.decimal_order.specs.Number.{IsDigit, AreDigits, AreSomeDigits, Optional, IsMinus, IsInt, IsFrac, IsNumber}
@@ -38,15 +38,6 @@ int_part bs n a l h lead =
       | inr a ↦ (let e : b ≡ 48 = omega (arith, d.0) in inl (e, none e))
     ]
 
-drop_twice : (bs : List ℕ) (a n : ℕ) → drop n (drop a bs) ≡ drop (a + n) bs
-drop_twice bs zero n = let z : n ≡ 0 + n = omega arith in ap (λ k. drop k bs) z
-drop_twice [] (suc a) n = drop_none n ∙ sym (drop_none (suc a + n))
-  where
-    drop_none : (n : ℕ) → drop {A = ℕ} n [] ≡ []
-    drop_none zero = refl
-    drop_none (suc n) = refl
-drop_twice (b ∷ bs) (suc a) n = let z : suc (a + n) ≡ suc a + n = omega arith in drop_twice bs a n ∙ ap (λ k. drop k (b ∷ bs)) z
-
 minus_part : (bs : List ℕ) (start : ℕ) → start ≤ 1 → (start ≡ 1 → get_or bs 0 0 ≡ 45) → start < length bs → Optional IsMinus (take start bs)
 minus_part bs zero l m i = inl refl
 minus_part (b ∷ bs) (suc zero) l m i = inr (ap (λ x. x ∷ []) (m refl))
@@ -64,7 +55,7 @@ number_of bs start n one m l digits lead f = record {
   is_exp = inl refl;
   whole =
       sym (take-append-drop start bs) ∙ ap (λ x. take start bs ++ x)
-      (sym (take-append-drop (suc n) (drop start bs)) ∙ ap (λ x. take (suc n) (drop start bs) ++ x) (drop_twice bs start (suc n) ∙ sym (append-nil (drop (start + suc n) bs))));
+      (sym (take-append-drop (suc n) (drop start bs)) ∙ ap (λ x. take (suc n) (drop start bs) ++ x) (drop-drop (suc n) start bs ∙ sym (append-nil (drop (start + suc n) bs))));
 }
 
 -- digits alone, behind a sign or none

@@ -1,5 +1,5 @@
 -- The nodes of the members of an object whose order is kept.
-use Rattle.std.proofs.Common.{◌≡◌, ℕ, zero, suc, ◌+◌, ◌<◌, ◌⊎◌, inl, inr, Bool, true, false, List, [], ◌∷◌, ◌++◌, length, map, get_or, refl, sym, ap, ◌∙◌, subst, arith, append_assoc, append-nil, length-append}
+use Rattle.std.proofs.Common.{◌≡◌, ℕ, zero, suc, ◌+◌, ◌<◌, ◌⊎◌, inl, inr, Bool, true, false, List, [], ◌∷◌, ◌++◌, length, map, get_or, refl, sym, ap, ◌∙◌, subst, arith, append_assoc, append-nil, length-append, add-one}
 use Rattle.std.specs.Prelude.{bytes_eq}
 use Rattle.std.proofs.lemmas.List.{get_or_default}
 use Rattle.std.specs.List.{Contains}
@@ -54,22 +54,19 @@ behind first all k j n up label t p e = record {
   number = (let h = p.number in let l = length-append first p.pre in omega arith);
 }
 
-next : (k : ℕ) → suc k ≡ k + 1
-next k = omega arith
-
 mutual
   stands_at : {t s : Tree} {up k n up' : ℕ} {label label' : Label} → IsAt t up label k n up' label' s → (way : List Step) (later : List Node) → Stands (spots_from way up label later k t) k n up' label' s
   stands_at (itself {t = t} {up = up} {k = k} {label = label}) way later = record { way = way; later = later; pre = []; post = []; is = sym (append-nil (spots_from way up label later k t)); number = omega arith }
   stands_at (in_array {s = x} {es = es} {up = up} {k = k} {n = n} {up' = up'} {label = label} {label' = label'} {t = r} h) way later =
-      under (top way up label later k (Arr x es)) (spots_elements way 0 k (suc k) es) k n up' label' r (subst (λ j. Stands (spots_elements way 0 k j es) (k + 1) n up' label' r) (sym (next k)) (stands_element h way))
+      under (top way up label later k (Arr x es)) (spots_elements way 0 k (suc k) es) k n up' label' r (subst (λ j. Stands (spots_elements way 0 k j es) (k + 1) n up' label' r) (add-one k) (stands_element h way))
   stands_at (in_object {s = x} {ms = ms} {up = up} {k = k} {n = n} {up' = up'} {label = label} {label' = label'} {t = r} h) way later =
-      under (top way up label later k (Obj x ms)) (spots_members way k (suc k) ms) k n up' label' r (subst (λ j. Stands (spots_members way k j ms) (k + 1) n up' label' r) (sym (next k)) (stands_member h way))
+      under (top way up label later k (Obj x ms)) (spots_members way k (suc k) ms) k n up' label' r (subst (λ j. Stands (spots_members way k j ms) (k + 1) n up' label' r) (add-one k) (stands_member h way))
 
   stands_element : {es : Elements} {s : Tree} {up i k n up' : ℕ} {label' : Label} → IsInElements es up i k n up' label' s → (way : List Step) → Stands (spots_elements way i up k es) k n up' label' s
   stands_element (in_element {a = a} {es = es} {up = up} {i = i} {k = k} h) way = before _ _ k _ _ _ _ (stands_at h (place i ∷ way) (elements_from way (suc i) (k + size a) es))
   stands_element (in_later_element {a = a} {es = es} {up = up} {i = i} {k = k} {n = n} {up' = up'} {label' = label'} {t = r} h) way =
       behind (spots_from (place i ∷ way) up (Index i) (elements_from way (suc i) (k + size a) es) k a) (spots_elements way (suc i) up (k + size a) es) k (k + size a) n up' label' r
-      (subst (λ j. Stands (spots_elements way j up (k + size a) es) (k + size a) n up' label' r) (sym (next i)) (stands_element h way))
+      (subst (λ j. Stands (spots_elements way j up (k + size a) es) (k + size a) n up' label' r) (add-one i) (stands_element h way))
       (ap (λ m. k + m) (sym (spot_count (place i ∷ way) up (Index i) (elements_from way (suc i) (k + size a) es) k a)))
 
   stands_member : {ms : Members} {s : Tree} {up k n up' : ℕ} {label' : Label} → IsInMembers ms up k n up' label' s → (way : List Step) → Stands (spots_members way up k ms) k n up' label' s
@@ -131,7 +128,7 @@ module _ (d : Doc) (s : IsDocument d) (name : List ℕ) where
       let whole : spots d ≡ (p.pre ++ x ∷ []) ++ (spots_members p.way n (suc n) ms ++ p.post) = p.is ∙ sym (append_assoc p.pre (x ∷ []) (spots_members p.way n (suc n) ms ++ p.post)) in
       let f = first_of p.way n (suc n) ms (p.pre ++ x ∷ []) p.post whole (omega (arith, length-append p.pre (x ∷ []), long)) in
       let e = ap (λ (y : Spot). children y.node) here in
-      subst (λ ns. First d name ns (keyed ms (n + 1))) (sym e) (subst (λ j. First d name (members_from p.way (suc n) ms) (keyed ms j)) (next n) f)
+      subst (λ ns. First d name ns (keyed ms (n + 1))) (sym e) (subst (λ j. First d name (members_from p.way (suc n) ms) (keyed ms j)) (sym (add-one n)) f)
 
   at_number : (ms : Members) (n k : ℕ) → Contains (map key_number (keyed ms n)) k → (y : Keyed) × Contains (keyed ms n) y × (y.number ≡ k)
   at_number ms n k (i, l, e) = go (keyed ms n) i l e

@@ -1,11 +1,10 @@
 use Rattle.std.proofs.Common.{◌≡◌, ◌+◌, ◌<◌, ◌∙◌, length, ℕ, List, Some, not, eqb, sym, ap, get_or, refl, arith}
 use Rattle.std.specs.Prelude.{Ok, Err}
-use Rattle.json_tape.specs.Walked.{shape_of}
+use Rattle.json_tape.specs.Walked.{shape_of, byte_at}
 use Rattle.json_tape.specs.declared.tape.BuildFault.TheVariants.{NotJson}
 use Rattle.structural_index.specs.Places.{places}
 use Rattle.json_tape.proofs.Windows.{listed, inside, within_text, over}
 use Rattle.json_tape.proofs.Onward.{over_halts, closed_entered, first_entered, comma_entered, none_entered, entered_at, resumed}
-use Rattle.json_tape.specs.Walked.{byte_at}
 use Rattle.json_tape.proofs.second_stage.entered.Given.{Over}
 use Rattle.json_tape.proofs.second_stage.entered.Goals as goal
 use Rattle.json_tape.proofs.second_stage.entered.Goals.{After-at-sign}
