@@ -89,8 +89,7 @@ module _ (text : List ℕ) (k : ℕ) (inside : k < length text) (slash : get_or 
 
   pub few_digits : k + 1 < length text → length text < k + 6 → is_short (get_or text (k + 1) 0) ≡ false → get_or text (k + 1) 0 ≡ 117 → held Between k ≡ false
   few_digits l less t u =
-      let left = length-drop (k + 2) text in
-      letter l ∙ rw t (ap (λ b. eqb b 117 && held (Hex 3) (k + 2)) u) ∙ few (drop (k + 2) text) 3 (omega (arith, left))
+      letter l ∙ rw t (ap (λ b. eqb b 117 && held (Hex 3) (k + 2)) u) ∙ few (drop (k + 2) text) 3 (omega (arith, length-drop (k + 2) text))
 
 -- ---- The string
 

@@ -20,8 +20,7 @@ module _ (text : List ℕ) (e : Extent) (quoted : IsQuoted text e) where
       let room = quoted.1 in
       let opens = quoted.2 in
       let front = IsUtf8-take text to utf8 (IsCharBoundary-before_ascii text to (omega (arith, two, room)) (omega (arith, quoted.3))) in
-      let long = length-take to text in
       let quote = get_or-take to text e.start 0 (omega (arith, two)) ∙ opens in
       let parts : from + (to - from) ≡ to = omega (arith, two) in
       subst IsUtf8 (ap (λ n. drop from (take n text)) (sym parts) ∙ drop-take from (to - from) text)
-      (IsUtf8-drop (take to text) from front (IsCharBoundary-after_ascii (take to text) e.start front (omega (arith, two, room, long)) (omega (arith, quote))))
+      (IsUtf8-drop (take to text) from front (IsCharBoundary-after_ascii (take to text) e.start front (omega (arith, two, room, length-take to text)) (omega (arith, quote))))

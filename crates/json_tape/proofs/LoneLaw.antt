@@ -1,5 +1,5 @@
 -- The search for a lone surrogate, byte by byte, is the meaning's.
-use Rattle.std.proofs.Common.{◌≡◌, ◌≢◌, ℕ, ◌+◌, ◌-◌, ◌*◌, ◌%◌, ◌<◌, ◌⊎◌, Bool, true, false, cond, List, [], ◌∷◌, ◌++◌, length, Option, Some, None, refl, sym, ap, ◌∙◌, subst, arith, append_assoc}
+use Rattle.std.proofs.Common.{◌≡◌, ◌≢◌, ℕ, ◌+◌, ◌-◌, ◌*◌, ◌%◌, ◌<◌, ◌⊎◌, Bool, true, false, cond, List, [], ◌∷◌, ◌++◌, length, Option, Some, None, refl, sym, ap, ◌∙◌, subst, arith, append_assoc, inl, inr}
 use Rattle.std.specs.Prelude.{eqb}
 use Rattle.std.proofs.lemmas.Bool.Decides.{nat_tests}
 use Rattle.std.proofs.lemmas.Str.{length-encode, len_utf8_bounds}
@@ -14,6 +14,7 @@ use Rattle.json_tape.specs.Surrogates.{number_of_hex, standing, past_unit, over,
 use Rattle.json_tape.proofs.Meanings.{meaning_is}
 use Rattle.json_tape.proofs.Strings.{ArePlain, plain_bytes}
 use Rattle.json_tape.proofs.Spelled.{keep, digit_bound}
+use Rattle.std.proofs.lemmas.Bool.{cases_Bool}
 
 -- the search over characters
 abbrev after_one : Spelt → Bool → Option Bool
@@ -73,16 +74,8 @@ hex_run a b c d k l m n u h rest ha hb hc hd e =
     ∙ ap (λ v. over (past_unit v h) (λ s. lone_from s rest)) v4
 
 unit_over : (u : ℕ) (h : Bool) (rest : List ℕ) → over (past_unit u h) (λ s. lone_from s rest) ≡ over_chars (after_one (Unit4 u) h) (λ g. lone_from (standing Between 0 g) rest)
-unit_over u true rest = by_low (is_low u) refl
-  where
-    by_low : (t : Bool) → is_low u ≡ t → over (past_unit u true) (λ s. lone_from s rest) ≡ over_chars (after_one (Unit4 u) true) (λ g. lone_from (standing Between 0 g) rest)
-    by_low true e = rw e refl
-    by_low false e = rw e refl
-unit_over u false rest = by_low (is_low u) refl
-  where
-    by_low : (t : Bool) → is_low u ≡ t → over (past_unit u false) (λ s. lone_from s rest) ≡ over_chars (after_one (Unit4 u) false) (λ g. lone_from (standing Between 0 g) rest)
-    by_low true e = rw e refl
-    by_low false e = rw e refl
+unit_over u true rest = elim (cases_Bool (is_low u)) [ inl e ↦ rw e refl | inr e ↦ rw e refl ]
+unit_over u false rest = elim (cases_Bool (is_low u)) [ inl e ↦ rw e refl | inr e ↦ rw e refl ]
 
 one_char : (c : Spelt) (one rest : List ℕ) (h : Bool) → IsChar one c → lone_from (standing Between 0 h) (one ++ rest) ≡ over_chars (after_one c h) (λ g. lone_from (standing Between 0 g) rest)
 one_char (Plain c) one rest true (s, l, q, b, e) =
@@ -177,18 +170,13 @@ meant _ true e = absurd (cc)
 
 -- what has no lone surrogate means what the function gives
 pub means_unless : (cs : List Spelt) → (HasLone cs → ⊥) → Means cs (meaning cs)
-means_unless cs h = go (lone_chars false cs) refl
-  where
-    go : (t : Bool) → lone_chars false cs ≡ t → Means cs (meaning cs)
-    go true e = absurd (h (λ vs m. let x = means_none m in cc))
-    go false e = let r = meant cs false e in subst (Means cs) (sym (meaning_is r.1)) r.1
+means_unless cs h = elim (cases_Bool (lone_chars false cs)) [
+  | inl e ↦ absurd (h (λ vs m. let x = means_none m in cc))
+  | inr e ↦ let r = meant cs false e in subst (Means cs) (sym (meaning_is r.1)) r.1
+]
 
 pub lone_sound : (bs : List ℕ) (cs : List Spelt) → IsString bs cs → lone bs ≡ true → HasLone cs
 lone_sound bs cs s h = λ vs m. let x = string_over bs cs s in let y = means_none m in cc
 
 pub lone_complete : (bs : List ℕ) (cs : List Spelt) → IsString bs cs → HasLone cs → lone bs ≡ true
-lone_complete bs cs s h = go (lone bs) refl
-  where
-    go : (t : Bool) → lone bs ≡ t → lone bs ≡ true
-    go true e = e
-    go false e = let r = meant cs false (sym (string_over bs cs s) ∙ e) in absurd (h r.0 r.1)
+lone_complete bs cs s h = elim (cases_Bool (lone bs)) [ inl e ↦ e | inr e ↦ let r = meant cs false (sym (string_over bs cs s) ∙ e) in absurd (h r.0 r.1) ]

@@ -62,8 +62,7 @@ module _ (text : List ℕ) (listed : IsListed text (places text)) where
   -- a text without a byte
   pub empty_none : length text ≡ 0 → IsNoJson text
   empty_none e =
-      let few = number_below text (places text) listed (length (places text)) (omega arith) in
-      halts_none text (places text) listed 0 (nothing_halts text (places text) listed 0 false nothing (omega (arith, few, e)))
+      halts_none text (places text) listed 0 (nothing_halts text (places text) listed 0 false nothing (omega (arith, number_below text (places text) listed (length (places text)) (omega arith), e)))
 
   pub end_none : (spot : Option Spot) (b : Built) → is_some spot ≡ false → IsOver text spot b → IsNoJson text
   end_none (Some spot) b none over = absurd (cc)

@@ -116,12 +116,9 @@ part_none bytes i m u span h = by_scan (string_end Between (i + 1) (drop (i + 1)
     by_scan (Some x) e =
         let within = span.within in let after = span.after in
         let n = suc m - (i + 1) in
-        let same = scan_ends bytes i m x u span e in
-        let left = length-drop (i + 1) bytes in
-        let long = length-take-le n (drop (i + 1) bytes) (omega (arith, left)) in
         let z : 0 + (i + 1) ≡ i + 1 = omega arith in
         let l = scan_behind (part_of bytes i (suc m)) (drop n (drop (i + 1) bytes)) Between 0 (i + 1) x h (ap (λ k. string_end Between k (part_of bytes i (suc m) ++ drop n (drop (i + 1) bytes))) z ∙ ap (string_end Between (i + 1)) (take-append-drop n (drop (i + 1) bytes)) ∙ e) in
-        absurd (omega (arith, same, long, l))
+        absurd (omega (arith, scan_ends bytes i m x u span e, length-take-le n (drop (i + 1) bytes) (omega (arith, length-drop (i + 1) bytes)), l))
 
 -- the part is what stands between the quotes, and the closing one
 abbrev between : List ℕ → (i m : ℕ) → List ℕ
@@ -130,9 +127,8 @@ between bytes i m = take (m - (i + 1)) (drop (i + 1) bytes)
 part_is : (bytes : List ℕ) (i m : ℕ) → i < m → m < length bytes → get_or bytes m 0 ≡ 34 → part_of bytes i (suc m) ≡ between bytes i m ++ 34 ∷ []
 part_is bytes i m after within q =
     let one_more : suc m - (i + 1) ≡ suc (m - (i + 1)) = omega arith in
-    let left = length-drop (i + 1) bytes in
     let at : i + 1 + (m - (i + 1)) ≡ m = omega arith in
-    ap (λ n. take n (drop (i + 1) bytes)) one_more ∙ take-suc (drop (i + 1) bytes) (m - (i + 1)) 0 (omega (arith, left))
+    ap (λ n. take n (drop (i + 1) bytes)) one_more ∙ take-suc (drop (i + 1) bytes) (m - (i + 1)) 0 (omega (arith, length-drop (i + 1) bytes))
     ∙ ap (λ b. between bytes i m ++ b ∷ []) (get_or-drop (i + 1) bytes (m - (i + 1)) 0 ∙ ap (λ k. get_or bytes k 0) at ∙ q)
 
 -- where nothing else can be wrong, the escapes alone decide
@@ -141,8 +137,7 @@ held_part : (bytes : List ℕ) (i m reach : ℕ) → IsUtf8 bytes → (HasContro
 held_part bytes i m reach u x r span q =
     let within = span.within in let after = span.after in
     let is = part_is bytes i m after within q in
-    let left = length-drop (i + 1) bytes in
-    let long = length-take-le (m - (i + 1)) (drop (i + 1) bytes) (omega (arith, left)) in
+    let long = length-take-le (m - (i + 1)) (drop (i + 1) bytes) (omega (arith, length-drop (i + 1) bytes)) in
     ap (string_end Between 0) is ∙ held_ends Between 0 (between bytes i m) (λ j l. high j (omega (arith, l, long)))
     (λ e h. let last = part_ends bytes i m e u span (ap (string_end Between 0) is ∙ h) in omega (arith, last, long))
   where

@@ -55,10 +55,9 @@ begun b h = let t : ltb b 128 ≡ true = grind (arith, nat_tests) in rw t refl
 all_begin : (bs : List ℕ) → StandAlone bs → suc (mask_l (map begins bs)) ≡ 2 ^ length bs
 all_begin [] all = refl
 all_begin (b ∷ bs) all =
-    let first = ap {B = ℕ} (λ t. cond t 1 0) (begun b (all 0 (omega arith)).0) in
     let rest = all_begin bs (λ i h. all (suc i) (omega (arith, h))) in
     let p = pow-suc 2 (length bs) in
-    omega (arith, first, rest, p)
+    omega (arith, ap {B = ℕ} (λ t. cond t 1 0) (begun b (all 0 (omega arith)).0), rest, p)
 
 -- the word of a block of ASCII alone
 pub whole_block : (bs : List ℕ) → length bs ≡ 64 → StandAlone bs → mask_l (map begins bs) ≡ 18446744073709551615

@@ -66,11 +66,9 @@ counted = is_count_by beginnings begins refl (λ b bs. one_or_none (begins b) (b
 -- the bits below one lane are as many as the characters that begin before it
 pub ones_below : (bs : List ℕ) (k : ℕ) → k ≤ length bs → k < 64 → count_ones (bit_and (mask_l (map begins bs)) (1 * 2 ^ k % 2 ^ 64 - 1)) ≡ beginnings (take k bs)
 ones_below bs k h few =
-    let small = pow_below k 64 few in
-    let whole : 1 * 2 ^ k % 2 ^ 64 ≡ 2 ^ k = omega (arith, small) in
-    let l = length-map bs begins in
+    let whole : 1 * 2 ^ k % 2 ^ 64 ≡ 2 ^ k = omega (arith, pow_below k 64 few) in
     ap (λ n. count_ones (bit_and (mask_l (map begins bs)) (n - 1))) whole
-    ∙ ap count_ones (and_mask (mask_l (map begins bs)) k ∙ mask_front (map begins bs) k (omega (arith, h, l)) ∙ ap mask_l (take-map begins k bs))
+    ∙ ap count_ones (and_mask (mask_l (map begins bs)) k ∙ mask_front (map begins bs) k (omega (arith, h, length-map bs begins)) ∙ ap mask_l (take-map begins k bs))
     ∙ ones-mask_l begins (take k bs) ∙ sym (counted (take k bs))
 
 pub few_begin : (bs : List ℕ) → beginnings bs ≤ length bs
@@ -83,10 +81,8 @@ halves bytes k = sym (together (take k bytes) (drop k bytes)) ∙ ap beginnings 
 
 front_many : (bytes : List ℕ) (k n : ℕ) → beginnings (take (k + n) bytes) ≡ beginnings (take k bytes) + beginnings (take n (drop k bytes))
 front_many bytes k n =
-    let near = halves bytes k in
-    let far = halves bytes (k + n) in
     let between = part_on bytes k n in
-    omega (arith, near, far, between)
+    omega (arith, halves bytes k, halves bytes (k + n), between)
 
 pub further : (bytes : List ℕ) (front : Front) (run more : ℕ) → IsPlain bytes front → front.bytes + run ≤ length bytes
     → ((k : ℕ) → front.bytes ≤ k → k < front.bytes + run → get_or bytes k 0 ≢ 92) → more ≡ beginnings (take run (drop front.bytes bytes))
@@ -200,10 +196,7 @@ module _ (bytes : List ℕ) (front : Front) (plain : IsPlain bytes front) (room 
 
   pub stops : has_backslash lanes ≡ true → get_or bytes (front.bytes + run) 0 ≡ 92
   stops slash =
-      let before = slash_before lanes slash in
-      let l = long in
-      let is = lanes_before in
-      let t = run_in_chunk_stops (λ x. eqb x 92) bytes front.bytes 32 run 0 room lanes_before (omega (arith, before, l, is)) in
+      let t = run_in_chunk_stops (λ x. eqb x 92) bytes front.bytes 32 run 0 room lanes_before (omega (arith, slash_before lanes slash, long, lanes_before)) in
       grind (arith, nat_tests)
 
   none : (k : ℕ) → front.bytes ≤ k → k < front.bytes + run → get_or bytes k 0 ≢ 92

@@ -147,8 +147,7 @@ module _ (d : Doc) (s : IsDocument d) where
   visit_of n h e q =
       let g = good n h in
       let a : e.after ≡ g.spot.node.number + size g.spot.node.tree = after_spot n h e q ∙ ap end_of (spot_is n g) in
-      let c = spot_count g.spot.node.way_up g.spot.up g.spot.label g.spot.later g.spot.node.number g.spot.node.tree in
-      let len : e.after - n ≡ length (own g.spot) = omega (arith, a, c, g.number) in
+      let len : e.after - n ≡ length (own g.spot) = omega (arith, a, spot_count g.spot.node.way_up g.spot.up g.spot.label g.spot.later g.spot.node.number g.spot.node.tree, g.number) in
       let v = visit_is g.spot.node.way_up g.spot.up g.spot.label g.spot.later g.spot.node.number g.spot.node.tree in
       let m : map (λ j. (get_or (spots d) j (none_there d)).node) (counting n (length (own g.spot))) ≡ map node_of (own g.spot) = rw g.whole (counted node_of g.pre (own g.spot) g.post (none_there d) n g.at) in
       ap (λ x. map (λ j. (get_or (spots d) j (none_there d)).node) (counting n x)) len ∙ m ∙ sym v ∙ ap (λ (x : Spot). visit x.node) (sym (spot_is n g))

@@ -15,8 +15,7 @@ other x y = cond (not (eqb x y)) 255 0
 pub same_lane : (n i : ℕ) (v w : List ℕ) (x y : ℕ) → n ≤ 64 → i < n → HasLane n i v x → HasLane n i w y → bit_at (mask_l (map (top 7) (zip2 other v w)) % 2 ^ 64) i ≡ 0 → x ≡ y
 same_lane n i v w x y few inside here there clear =
     let t = alone (not (eqb x y)) (off 7 n i _ _ few inside (combined other n i v w x y inside here there) clear) in
-    let e = not-false _ t in
-    grind (arith, nat_tests, e)
+    grind (arith, nat_tests, not-false _ t)
 
 -- a run behind those that were seen
 pub same_more : (text : List ℕ) (l r k run : ℕ) → AreSameFrom text l r k → AreSameFrom text (l + k) (r + k) run → AreSameFrom text l r (k + run)

@@ -33,8 +33,7 @@ bytes_added : (bs r : List ℕ) (h w n : ℕ) → ((k : ℕ) → k < length bs �
 bytes_added [] r h w n small fits few = let e : n ≡ n + 0 = omega arith in ap (λ m. hash_from (state h w m) r) e
 bytes_added (b ∷ bs) r h w n small fits few =
     let b_small : b < 256 = small 0 (omega arith) in
-    let g = digits_grow bs (w * 256 + b) in
-    let e = more_small h w n b (omega arith) (omega (arith, g, fits)) b_small in
+    let e = more_small h w n b (omega arith) (omega (arith, digits_grow bs (w * 256 + b), fits)) b_small in
     let f : n + 1 + length bs ≡ n + suc (length bs) = omega arith in
     ap (λ s. hash_from s (bs ++ r)) e ∙ bytes_added bs r h (w * 256 + b) (n + 1) (λ k l. small (suc k) (omega arith)) fits (omega arith)
     ∙ ap (λ m. hash_from (state h (digits (w * 256 + b) bs) m) r) f
@@ -101,8 +100,7 @@ word_passed text at n h word many room w =
     let r = take (n - 8) (drop (at + 8) text) in
     let f : n ≡ 8 + (n - 8) = omega arith in
     let parted : take n (drop at text) ≡ bs ++ r = ap (λ m. take m (drop at text)) f ∙ take-add 8 (n - 8) (drop at text) ∙ ap (λ l. bs ++ take (n - 8) l) (drop-drop 8 at text) in
-    let size_is = size text at 8 word (omega arith) w in
-    let long : 0 + length bs ≡ 8 = omega (arith, size_is) in
+    let long : 0 + length bs ≡ 8 = omega (arith, size text at 8 word (omega arith) w) in
     ap (λ l. hash_from (after_words h) (scalars_in (chars l))) parted
     ∙ ap (hash_from (after_words h)) (plain_front bs r (stand text at 8 word (omega arith) w))
     ∙ bytes_added bs (scalars_in (chars r)) h 0 0 (small text at 8 word (omega arith) w) w.fits (omega (arith, long))

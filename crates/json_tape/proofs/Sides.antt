@@ -35,11 +35,10 @@ entries-snoc k (a ∷ cells) c sides =
 
 -- sides that differ only where no cell looks
 seen_alike : (k : ℕ) (c : Cell) (s t : Side) → (holds c ≡ true → s ≡ t) → seen k c s ≡ seen k c t
-seen_alike k c s t h = by_case (holds c) refl
-  where
-    by_case : (b : Bool) → holds c ≡ b → seen k c s ≡ seen k c t
-    by_case true e = ap (λ x. seen k c x) (h e)
-    by_case false e = ap (λ b. cond b (container_seen c s) (leaf_seen k c)) e ∙ sym (ap (λ b. cond b (container_seen c t) (leaf_seen k c)) e)
+seen_alike k c s t h = elim (cases_Bool (holds c)) [
+  | inl e ↦ ap (λ x. seen k c x) (h e)
+  | inr e ↦ ap (λ b. cond b (container_seen c s) (leaf_seen k c)) e ∙ sym (ap (λ b. cond b (container_seen c t) (leaf_seen k c)) e)
+]
 
 alike : (j : ℕ) (k : ℕ) (cells : List Cell) (sides other : List Side) → AreNumbered j cells
     → ((i : ℕ) → j ≤ i → i < j + containers cells → get_or sides i no_side ≡ get_or other i no_side) → entries_from k cells sides ≡ entries_from k cells other
@@ -185,10 +184,9 @@ container_shown cells sides v n c s d q l e h b f =
 
 pub leaf_kept : (cells : List Cell) (sides : List Side) (c : Cell) → IsTape cells sides → holds c ≡ false → length cells < 2 ^ 24 → IsTape (cells ++ c ∷ []) sides
 leaf_kept cells sides c t h l =
-    let more = containers-snoc cells c ∙ ap (λ b. containers cells + cond b 1 0) h in
     record {
       numbered = numbered-snoc 0 cells c t.numbered (λ x. absurd (false≢true (sym h ∙ x)));
-      counted = omega (arith, more, t.counted);
+      counted = omega (arith, containers-snoc cells c ∙ ap (λ b. containers cells + cond b 1 0) h, t.counted);
       few = simp length-append (omega (arith, l));
     }
 
@@ -205,11 +203,10 @@ leaf_added cells sides v c kind seat source q h k r x s l u =
 
 pub container_kept : (cells : List Cell) (sides : List Side) (c : Cell) (s : Side) → IsTape cells sides → holds c ≡ true → cell_span c ≡ length sides → length cells < 2 ^ 24 → IsTape (cells ++ c ∷ []) (sides ++ s ∷ [])
 container_kept cells sides c s t h e l =
-    let more = containers-snoc cells c ∙ ap (λ b. containers cells + cond b 1 0) h in
     let y = t.counted in
     record {
       numbered = numbered-snoc 0 cells c t.numbered (λ x. omega (arith, y, e));
-      counted = simp length-append (omega (arith, more, y));
+      counted = simp length-append (omega (arith, containers-snoc cells c ∙ ap (λ b. containers cells + cond b 1 0) h, y));
       few = simp length-append (omega (arith, l));
     }
 

@@ -149,10 +149,9 @@ block_inside text blocks j are l = let (k, inside, here, e) = are.each j l in om
 -- an escape of a unit in the rest is an occurrence of its two bytes
 occurs : (text rest needle : List ℕ) (k m : ℕ) → rest ≡ drop k text → needle ≡ escape → get_or text (k + m) 0 ≡ 92 → get_or text (suc (k + m)) 0 ≡ 117 → OccursAt rest needle m
 occurs text rest needle k m r n slash u =
-    let inside = within text (suc (k + m)) 116 u in
     let long = length-drop k text in
     let same = ap length r in
-    subst (λ x. OccursAt rest x m) (sym n) (record { fits = omega (arith, inside, long, same); reads = reads })
+    subst (λ x. OccursAt rest x m) (sym n) (record { fits = omega (arith, within text (suc (k + m)) 116 u, long, same); reads = reads })
   where
     reads : (j : ℕ) → j < length escape → get_or rest (m + j) 0 ≡ get_or escape j 0
     reads zero h = ap (λ l. get_or l (m + 0) 0) r ∙ get_or-drop k text (m + 0) 0 ∙ (let z : k + (m + 0) ≡ k + m = omega arith in ap (λ i. get_or text i 0) z ∙ slash)
@@ -185,8 +184,6 @@ none_left text rest needle k r n l found before j slash u = elim (cases_lt j k) 
   | inl a ↦ before j a slash u
   | inr a ↦ absurd
       (let z : k + (j - k) ≡ j = omega arith in
-      let inside = within text j 91 slash in
-      let long = length-drop k text in
       let same = ap length r in
-      found (j - k) (omega arith) (omega (arith, inside, long, same)) (occurs text rest needle k (j - k) r n (ap (λ i. get_or text i 0) z ∙ slash) (ap (λ i. get_or text (suc i) 0) z ∙ u)))
+      found (j - k) (omega arith) (omega (arith, within text j 91 slash, length-drop k text, same)) (occurs text rest needle k (j - k) r n (ap (λ i. get_or text i 0) z ∙ slash) (ap (λ i. get_or text (suc i) 0) z ∙ u)))
 ]

@@ -1,5 +1,5 @@
 -- The tokens that stand at a byte: strings by where they end, words by their run, and what no token is.
-use Rattle.std.proofs.Common.{◌≡◌, ◌≢◌, ℕ, ◌+◌, ◌-◌, ◌<◌, Bool, true, false, List, [], ◌∷◌, ◌++◌, length, take, drop, get_or, Some, None, refl, sym, ap, subst, ◌∙◌, arith}
+use Rattle.std.proofs.Common.{◌≡◌, ◌≢◌, ℕ, ◌+◌, ◌-◌, ◌<◌, Bool, true, false, List, [], ◌∷◌, ◌++◌, length, take, drop, get_or, Some, None, refl, sym, ap, subst, ◌∙◌, arith, inl, inr}
 use Rattle.std.specs.Prelude.{Ok}
 use Rattle.std.proofs.lemmas.Bool.Decides.{nat_tests}
 use Rattle.std.proofs.lemmas.List.{drop_more}
@@ -19,6 +19,7 @@ use Rattle.json_tape.proofs.Calls.{no_string, word_is, atoms_here}
 use Rattle.json_tape.proofs.Chars.{number_some}
 use Rattle.json_tape.proofs.Placing.{word_absent, run_ends}
 use Rattle.json_tape.proofs.Complete.{atom_by_class}
+use Rattle.std.proofs.lemmas.Bool.{cases_Bool}
 
 -- ---- Strings
 
@@ -95,11 +96,10 @@ no_value (word {b = b'} a o k) b cs e q m n a' = absurd (let f : b ≡ b' = cc i
 
 -- where there is no word, no value begins, unless it is a string or a container
 pub no_value_at : (bytes bs : List ℕ) (i : ℕ) → i < length bytes → get_or bytes i 0 ≢ 34 → get_or bytes i 0 ≢ 91 → get_or bytes i 0 ≢ 123 → bs ≡ take (length bs) (drop i bytes) → IsAtomRun bytes i (i + length bs) → WordIs bs None → NoneAt begins_value bytes i
-no_value_at bytes bs i h q m n e r w = by_atom (is_atom (get_or bytes i 0)) refl
-  where
-    by_atom : (t : Bool) → is_atom (get_or bytes i 0) ≡ t → NoneAt begins_value bytes i
-    by_atom true a = λ tok at. refused_begins tok (word_absent bytes bs i start h a e r w at.bytes at.rest tok at.stands at.is_token)
-    by_atom false a = λ tok at. no_value at.is_token (get_or bytes i 0) (drop (i + 1) bytes) (sym (drop_more bytes i 0 h) ∙ at.stands) q m n a
+no_value_at bytes bs i h q m n e r w = elim (cases_Bool (is_atom (get_or bytes i 0))) [
+  | inl a ↦ λ tok at. refused_begins tok (word_absent bytes bs i start h a e r w at.bytes at.rest tok at.stands at.is_token)
+  | inr a ↦ λ tok at. no_value at.is_token (get_or bytes i 0) (drop (i + 1) bytes) (sym (drop_more bytes i 0 h) ∙ at.stands) q m n a
+]
 
 -- ---- Signs
 

@@ -77,8 +77,7 @@ map_set p bs word i e h = ap (λ w. is_set w i) e ∙ set_mask (map p bs) i ∙ 
 
 pub begins_small : (bs : List ℕ) → length bs ≡ 64 → (mask : ℕ) → mask ≡ mask_l (map begins bs) → mask < 2 ^ 64
 begins_small bs long mask e =
-    let l = length-map bs begins in
-    let m : length (map begins bs) ≡ 64 = omega (arith, l, long) in
+    let m : length (map begins bs) ≡ 64 = omega (arith, length-map bs begins, long) in
     subst (λ n. n < 2 ^ 64) (sym e) (subst (λ n. mask_l (map begins bs) < 2 ^ n) m (mask_l-lt (map begins bs)))
 
 abbrev slash : ℕ → Bool
@@ -102,14 +101,12 @@ module _ (bs : List ℕ) (long : length bs ≡ 64) (carry : Bool) (backslash esc
 
   small : backslash < 2 ^ 64
   small =
-      let l = length-map bs slash in
-      let m : length (map slash bs) ≡ 64 = omega (arith, l, long) in
+      let m : length (map slash bs) ≡ 64 = omega (arith, length-map bs slash, long) in
       subst (λ n. n < 2 ^ 64) (sym slashes) (subst (λ n. mask_l (map slash bs) < 2 ^ n) m (mask_l-lt (map slash bs)))
 
   pub standing_word : (mask : ℕ) → mask ≡ mask_l (map begins bs) → mask < 2 ^ 64 → bit_and mask (bit_or escaped (complement backslash)) ≡ mask_l (standing_bits carry bs)
   standing_word mask mask_is fits =
-      let less = and_le_l mask (bit_or escaped (complement backslash)) in
-      same_word (bit_and mask (bit_or escaped (complement backslash))) (standing_bits carry bs) (omega (arith, less, fits)) (length-standing carry bs ∙ long)
+      same_word (bit_and mask (bit_or escaped (complement backslash))) (standing_bits carry bs) (omega (arith, and_le_l mask (bit_or escaped (complement backslash)), fits)) (length-standing carry bs ∙ long)
       (λ i h.
       is_set-and mask (bit_or escaped (complement backslash)) i
       ∙ ap₂ (λ p q. p && q) (map_set begins bs mask i mask_is (at_most i h))
@@ -119,8 +116,7 @@ module _ (bs : List ℕ) (long : length bs ≡ 64) (carry : Bool) (backslash esc
 
   pub unit_word : (mask : ℕ) → mask ≡ mask_l (map (λ b. eqb b 117) bs) → escaped < 2 ^ 64 → bit_and escaped mask ≡ mask_l (unit_bits carry bs)
   unit_word mask mask_is fits =
-      let less = and_le_l escaped mask in
-      same_word (bit_and escaped mask) (unit_bits carry bs) (omega (arith, less, fits)) (length-unit carry bs ∙ long)
+      same_word (bit_and escaped mask) (unit_bits carry bs) (omega (arith, and_le_l escaped mask, fits)) (length-unit carry bs ∙ long)
       (λ i h.
       is_set-and escaped mask i ∙ ap₂ (λ p q. p && q) (bits i h) (map_set (λ b. eqb b 117) bs mask i mask_is (at_most i h))
       ∙ sym (unit_at bs (is_escaped carry backslash) carry told i (at_most i h)))
@@ -185,10 +181,9 @@ few_standing e (b ∷ bs) = go (stands e b) (few_standing (escapes e b) bs)
 
 few_between : (bytes : List ℕ) (from to : ℕ) → standing false (between bytes from to) ≤ length bytes
 few_between bytes from to =
-    let f = few_standing false (between bytes from to) in
     let l = length-take (to - from) (drop from bytes) in
     let d = length-drop from bytes in
-    omega (arith, f, l, d)
+    omega (arith, few_standing false (between bytes from to), l, d)
 
 -- ---- Along a part of a text
 
@@ -206,12 +201,11 @@ module _ (bytes : List ℕ) (from to k before : ℕ) (carry : Bool) (passed : Is
 
     pub passed_block : IsPassed bytes from to (k + 64) (before + count_ones standing_is) next
     passed_block =
-        let here = ap count_ones standing_bits_are ∙ ones_standing carry (chunk k 64 bytes) in
         let rest = ap (standing carry) parts ∙ standing_parts carry (chunk k 64 bytes) (between bytes (k + 64) to) in
         let same = ap (λ t. standing t (between bytes (k + 64) to)) next_is in
         record {
           within = room;
-          many = omega (arith, here, rest, same, passed.many);
+          many = omega (arith, ap count_ones standing_bits_are ∙ ones_standing carry (chunk k 64 bytes), rest, same, passed.many);
           unitless = ap (λ t. has_unit t (between bytes (k + 64) to)) next_is
               ∙ sym (ap (has_unit carry) parts ∙ unit_parts carry (chunk k 64 bytes) (between bytes (k + 64) to) (none_set carry (chunk k 64 bytes) (sym unit_bits_are ∙ none)))
               ∙ passed.unitless;
@@ -225,8 +219,7 @@ module _ (bytes : List ℕ) (from to k before : ℕ) (carry : Bool) (passed : Is
     (near : to < k + 64) (standing_is unit_is : ℕ) (standing_bits_are : standing_is ≡ mask_l (standing_bits carry lanes)) (unit_bits_are : unit_is ≡ mask_l (unit_bits carry lanes)) where
   front_bits : (ms : List Bool) → length ms ≡ 64 → bit_and (mask_l ms) (1 * 2 ^ (to - k) % 2 ^ 64 - 1) ≡ mask_l (take (to - k) ms)
   front_bits ms many =
-      let small = pow_below (to - k) 64 (omega (arith, near)) in
-      let whole : 1 * 2 ^ (to - k) % 2 ^ 64 ≡ 2 ^ (to - k) = omega (arith, small) in
+      let whole : 1 * 2 ^ (to - k) % 2 ^ 64 ≡ 2 ^ (to - k) = omega (arith, pow_below (to - k) 64 (omega (arith, near))) in
       ap (λ n. bit_and (mask_l ms) (n - 1)) whole ∙ and_mask (mask_l ms) (to - k) ∙ mask_front ms (to - k) (omega (arith, near, many))
 
   abbrev pub last_ones : ℕ

@@ -11,8 +11,7 @@ grown c =
 
 pub overflow_add-characters : goal.overflow_add-characters
 overflow_add-characters c =
-    let few = few_characters c.args.bytes.now (record { bytes = c.loop-k.k + 1; characters = c.loop-k.characters + c.from-characters.result }) (grown c) in
-    record { fits = omega (arith, few, c.loop-k-test.true) }
+    record { fits = omega (arith, few_characters c.args.bytes.now (record { bytes = c.loop-k.k + 1; characters = c.loop-k.characters + c.from-characters.result }) (grown c), c.loop-k-test.true) }
 
 pub loop-k-preserved : goal.loop-k-preserved
 loop-k-preserved c = grown c

@@ -10,8 +10,7 @@ overflow_sub-characters c = some c.args.bytes.now c.args.front c.requires.front 
 
 pub overflow_add-result-2 : goal.overflow_add-result-2
 overflow_add-result-2 c =
-    let f = few_grown c.args.bytes.now c.args.front c.requires.front c.requires.room c.first_lane-run.result c.first_lane-run.ensures c.beginnings.result c.beginnings.ensures in
-    record { fits = omega (arith, f) }
+    record { fits = omega (arith, few_grown c.args.bytes.now c.args.front c.requires.front c.requires.room c.first_lane-run.result c.first_lane-run.ensures c.beginnings.result c.beginnings.ensures) }
 
 pub returns-clause-front : goal.returns-clause-front
 returns-clause-front c = grown c.args.bytes.now c.args.front c.requires.front c.requires.room c.first_lane-run.result c.first_lane-run.ensures c.beginnings.result c.beginnings.ensures

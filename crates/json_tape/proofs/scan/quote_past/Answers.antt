@@ -16,7 +16,6 @@ loop-k-init c =
     let run = c.pass_unstopped-k.ensures in
     let from = run.lower_bound in
     let same = ap (λ (p : List ℕ × ℕ). p.0) run.counted in
-    let now = ap (λ (p : List ℕ × ℕ). p.1) run.counted in
     let most = min-le_left (c.args.looks.now.1 + (end - start)) (2 ^ 64 - 1) in
     record {
       from = from;
@@ -24,7 +23,7 @@ loop-k-init c =
       passed = subst (λ (b : List ℕ). string_end Between end (drop end b) ≡ string_end Between start (drop start b)) (sym same)
           (plain_to bytes start start end from run.upper_bound run.none refl);
       same = same;
-      few = omega (arith, now, most, from);
+      few = omega (arith, ap (λ (p : List ℕ × ℕ). p.1) run.counted, most, from);
     }
 
 pub loop-k-preserved-in-Go-Between : goal.loop-k-preserved-in-Go-Between
@@ -33,7 +32,6 @@ loop-k-preserved-in-Go-Between c =
     let start = c.args.start in
     let k = c.loop-k.k in
     let before = c.loop-k.invariant in
-    let looked = ap (λ (p : List ℕ × ℕ). p.1) c.at.ensures.counted in
     let once = min-le_left (c.loop-k.looks.1 + 1) (2 ^ 64 - 1) in
     let kept = ap (λ (p : List ℕ × ℕ). p.0) c.at.ensures.counted in
     let run = c.pass_unstopped-k-in-Go-Between.ensures in
@@ -53,5 +51,5 @@ loop-k-preserved-in-Go-Between c =
           (quote_on bytes c.loop-k.mode k start c.at.result (search rules) (search rules)
           (sym c.next_turn.ensures ∙ c.in-Go-Between.is ∙ ap Go c.in-Go-Between.field-0-is) before.passed));
       same = same ∙ before.same;
-      few = omega (arith, now, most, from, looked, once, few);
+      few = omega (arith, now, most, from, ap (λ (p : List ℕ × ℕ). p.1) c.at.ensures.counted, once, few);
     }

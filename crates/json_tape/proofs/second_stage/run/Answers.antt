@@ -121,16 +121,14 @@ ended-requires-clause-far g c =
     let n = c.args.window.first + (c.loop-j.j + c.width-in-Ok-Some-child.result) in
     let within : c.loop-j.j + c.width-in-Ok-Some-child.result < length c.args.window.places.now = omega (arith, c.width-in-Ok-Some-child.ensures.value, c.width.ensures.value, c.loop-j-test.true, c.len.ensures) in
     let all = inside c.args.looks.now.0 c.args.window c.requires.window n (number_at c.args.looks.now.0 c.args.window c.requires.window (c.loop-j.j + c.width-in-Ok-Some-child.result) within) in
-    let below = number_below c.args.looks.now.0 (places c.args.looks.now.0) (listed c.args.looks.now.0 c.args.window c.requires.window) n (omega (arith, all)) in
-    omega (arith, below, c.requires.window.short)
+    omega (arith, number_below c.args.looks.now.0 (places c.args.looks.now.0) (listed c.args.looks.now.0 c.args.window c.requires.window) n (omega (arith, all)), c.requires.window.short)
 
 pub ended-requires-clause-near : goal.ended-requires-clause-near
 ended-requires-clause-near g c =
     let n = c.args.window.first + (c.loop-j.j + c.width-in-Ok-Some-child.result) in
     let within : c.loop-j.j + c.width-in-Ok-Some-child.result < length c.args.window.places.now = omega (arith, c.width-in-Ok-Some-child.ensures.value, c.width.ensures.value, c.loop-j-test.true, c.len.ensures) in
     let below = near c.args.looks.now.0 (places c.args.looks.now.0) (listed c.args.looks.now.0 c.args.window c.requires.window) n (inside c.args.looks.now.0 c.args.window c.requires.window n (number_at c.args.looks.now.0 c.args.window c.requires.window (c.loop-j.j + c.width-in-Ok-Some-child.result) within)) in
-    let here = c.nth-end.ensures n refl ∙ ap (λ t. place (places t) n) (c.in-Ok-Some-child.ensures.same ∙ c.loop-j.invariant.same) in
-    omega (arith, below, here)
+    omega (arith, below, c.nth-end.ensures n refl ∙ ap (λ t. place (places t) n) (c.in-Ok-Some-child.ensures.same ∙ c.loop-j.invariant.same))
 
 pub ended-requires-clause-level : goal.ended-requires-clause-level
 ended-requires-clause-level g c = (grown g (goal.at.ended-requires-clause-level g c).After-child (c.args.window.first + (c.loop-j.j + c.width-in-Ok-Some-child.result)) _ (c.in-Ok-Some-child.is ∙ ap Ok c.in-Ok-Some-child.field-0-is) (omega (arith, c.width-in-Ok-Some-child.ensures.value))).1

@@ -18,13 +18,11 @@ returns-then-window-eq0-clause-arrives g c =
 
 pub value-requires-clause-in_text : goal.value-requires-clause-in_text
 value-requires-clause-in_text g c =
-    let below = within_text c.args.looks.now.0 c.args.window c.requires.window 0 (omega (arith, c.if-window-eq0.false)) in
-    omega (arith, c.place-i.ensures, below)
+    omega (arith, c.place-i.ensures, within_text c.args.looks.now.0 c.args.window c.requires.window 0 (omega (arith, c.if-window-eq0.false)))
 
 pub value-requires-clause-near : goal.value-requires-clause-near
 value-requires-clause-near g c =
-    let below = next_within c.args.looks.now.0 c.args.window c.requires.window c.second_place-next.result c.requires.ready c.second_place-next.ensures in
-    omega (arith, below, c.requires.slashes.reaches)
+    omega (arith, next_within c.args.looks.now.0 c.args.window c.requires.window c.second_place-next.result c.requires.ready c.second_place-next.ensures, c.requires.slashes.reaches)
 
 pub value-requires-clause-closes : goal.value-requires-clause-closes
 value-requires-clause-closes g c =

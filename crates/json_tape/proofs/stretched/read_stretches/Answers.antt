@@ -53,6 +53,4 @@ returns-in-Err-over-2-clause-refused g c = λ e. c.in-Err-over-2.ensures.refused
 
 pub returns-then-is_whole-clause-refused : goal.returns-then-is_whole-clause-refused
 returns-then-is_whole-clause-refused g c = λ e.
-    let whole = c.is_whole.ensures.0 c.if-is_whole.true in
-    let long = ap length c.requires.text in
-    empty_none c.args.text.now (record { list = refl; short = c.requires.short; utf8 = c.requires.utf8 }) (omega (arith, whole, long, c.requires.begins))
+    empty_none c.args.text.now (record { list = refl; short = c.requires.short; utf8 = c.requires.utf8 }) (omega (arith, c.is_whole.ensures.0 c.if-is_whole.true, ap length c.requires.text, c.requires.begins))

@@ -8,9 +8,8 @@ index-cell-requires c = let m = entries_many _ _ _ c.self.view_is in omega (arit
 
 pub index-requires : goal.index-requires
 index-requires c =
-    let m = entries_many _ _ _ c.self.view_is in
     let h = sym c.holds.ensures ∙ c.if-holds.true in
-    let l = side_inside c.self.inside.cells.items c.self.inside.sides.items c.args.n c.index-cell.result.now c.self.invariant (omega (arith, m, c.requires)) c.index-cell.ensures h in
+    let l = side_inside c.self.inside.cells.items c.self.inside.sides.items c.args.n c.index-cell.result.now c.self.invariant (omega (arith, entries_many _ _ _ c.self.view_is, c.requires)) c.index-cell.ensures h in
     omega (arith, l, c.span.ensures, c.self.inside.sides.ok.0)
 
 pub overflow_add-result : goal.overflow_add-result
@@ -18,8 +17,7 @@ overflow_add-result c = let m = entries_many _ _ _ c.self.view_is in let f = c.s
 
 pub returns-then-holds : goal.returns-then-holds
 returns-then-holds c e q =
-    let m = entries_many _ _ _ c.self.view_is in
-    let inside : c.args.n < length c.self.inside.cells.items = omega (arith, m, c.requires) in
+    let inside : c.args.n < length c.self.inside.cells.items = omega (arith, entries_many _ _ _ c.self.view_is, c.requires) in
     let h = sym c.holds.ensures ∙ c.if-holds.true in
     let l = side_inside c.self.inside.cells.items c.self.inside.sides.items c.args.n c.index-cell.result.now c.self.invariant inside c.index-cell.ensures h in
     let s = c.index.ensures ∙ ap (λ i. slice_index_or c.self.inside.sides.items i c.index.result.now) c.span.ensures in
@@ -27,7 +25,6 @@ returns-then-holds c e q =
 
 pub returns-else-holds : goal.returns-else-holds
 returns-else-holds c e q =
-    let m = entries_many _ _ _ c.self.view_is in
-    let inside : c.args.n < length c.self.inside.cells.items = omega (arith, m, c.requires) in
+    let inside : c.args.n < length c.self.inside.cells.items = omega (arith, entries_many _ _ _ c.self.view_is, c.requires) in
     let h = sym c.holds.ensures ∙ c.if-holds.false in
     ap (λ (x : Entry). x.after) (leaf_shown c.self.inside.cells.items c.self.inside.sides.items c.args.self.now c.args.n c.index-cell.result.now e c.self.view_is inside c.index-cell.ensures h ∙ sym q)

@@ -8,9 +8,8 @@ index-cell-requires c = let m = entries_many _ _ _ c.self.view_is in omega (arit
 
 pub index-side-requires : goal.index-side-requires
 index-side-requires c =
-    let m = entries_many _ _ _ c.self.view_is in
     let h = sym c.holds.ensures ∙ c.if-holds.true in
-    let l = side_inside c.self.inside.cells.items c.self.inside.sides.items c.args.n c.index-cell.result.now c.self.invariant (omega (arith, m, c.requires)) c.index-cell.ensures h in
+    let l = side_inside c.self.inside.cells.items c.self.inside.sides.items c.args.n c.index-cell.result.now c.self.invariant (omega (arith, entries_many _ _ _ c.self.view_is, c.requires)) c.index-cell.ensures h in
     omega (arith, l, c.span.ensures, c.self.inside.sides.ok.0)
 
 pub overflow_add-len : goal.overflow_add-len
@@ -18,8 +17,7 @@ overflow_add-len c = let m = entries_many _ _ _ c.self.view_is in let f = c.self
 
 pub returns : goal.returns
 returns c =
-    let m = entries_many _ _ _ c.self.view_is in
-    let inside : c.args.n < length c.self.inside.cells.items = omega (arith, m, c.requires) in
+    let inside : c.args.n < length c.self.inside.cells.items = omega (arith, entries_many _ _ _ c.self.view_is, c.requires) in
     elim c.if-holds.branch [
       | then-holds w ↦
           let h = sym c.holds.ensures ∙ w.if-holds.true in

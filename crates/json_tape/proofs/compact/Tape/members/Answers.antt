@@ -7,15 +7,13 @@ index-cell-requires c = let m = entries_many _ _ _ c.self.view_is in omega (arit
 
 pub index-requires : goal.index-requires
 index-requires c =
-    let m = entries_many _ _ _ c.self.view_is in
     let h = object_holds c.index-cell.result.now (sym c.is_object.ensures ∙ c.if-is_object.true) in
-    let l = side_inside c.self.inside.cells.items c.self.inside.sides.items c.args.n c.index-cell.result.now c.self.invariant (omega (arith, m, c.requires)) c.index-cell.ensures h in
+    let l = side_inside c.self.inside.cells.items c.self.inside.sides.items c.args.n c.index-cell.result.now c.self.invariant (omega (arith, entries_many _ _ _ c.self.view_is, c.requires)) c.index-cell.ensures h in
     omega (arith, l, c.span.ensures, c.self.inside.sides.ok.0)
 
 pub returns-then-is_object : goal.returns-then-is_object
 returns-then-is_object c e q =
-    let m = entries_many _ _ _ c.self.view_is in
-    let inside : c.args.n < length c.self.inside.cells.items = omega (arith, m, c.requires) in
+    let inside : c.args.n < length c.self.inside.cells.items = omega (arith, entries_many _ _ _ c.self.view_is, c.requires) in
     let o = sym c.is_object.ensures ∙ c.if-is_object.true in
     let l = side_inside c.self.inside.cells.items c.self.inside.sides.items c.args.n c.index-cell.result.now c.self.invariant inside c.index-cell.ensures (object_holds c.index-cell.result.now o) in
     let s = c.index.ensures ∙ ap (λ i. slice_index_or c.self.inside.sides.items i c.index.result.now) c.span.ensures in

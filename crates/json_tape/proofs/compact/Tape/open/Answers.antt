@@ -5,14 +5,11 @@ use Rattle.json_tape.proofs.compact.Tape.open.Goals as goal
 
 pub overflow_cast-number : goal.overflow_cast-number
 overflow_cast-number c =
-    let few = containers_few c.self.inside.cells.items in
-    omega (arith, few, c.self.invariant.counted, c.self.invariant.few, c.len-number.ensures, c.self.inside.sides.ok.0)
+    omega (arith, containers_few c.self.inside.cells.items, c.self.invariant.counted, c.self.invariant.few, c.len-number.ensures, c.self.inside.sides.ok.0)
 
 pub new-requires-clause-span : goal.new-requires-clause-span
 new-requires-clause-span c =
-    let m = entries_many _ _ _ c.self.view_is in
-    let few = containers_few c.self.inside.cells.items in
-    omega (arith, few, c.self.invariant.counted, m, c.requires.room, c.len-number.ensures, c.self.inside.sides.ok.0)
+    omega (arith, containers_few c.self.inside.cells.items, c.self.invariant.counted, entries_many _ _ _ c.self.view_is, c.requires.room, c.len-number.ensures, c.self.inside.sides.ok.0)
 
 pub invariant_of-self-in-Ok : goal.invariant_of-self-in-Ok
 invariant_of-self-in-Ok c =

@@ -19,8 +19,7 @@ pub returns-in-Scalar-clause-goes : goal.returns-in-Scalar-clause-goes
 returns-in-Scalar-clause-goes c =
     let e = chars_past_char (chars_rest c.loop-c.self-inside.rest) (chars_rest c.next.new.self) c.in-Some.c c.loop-c.invariant.utf8 c.in-Some.ensures.steps.0 in
     let s = sym c.loop-c.invariant.left ∙ ap (left c.loop-c.state) e ∙ c.in-Scalar.ensures (chars (chars_rest c.next.new.self)) in
-    let n = ap length s in
-    record { on = λ _. (tt, tt, omega (arith, n)); keeps = tt; rests = λ _. tt }
+    record { on = λ _. (tt, tt, omega (arith, ap length s)); keeps = tt; rests = λ _. tt }
 
 pub loop-c-preserved : goal.loop-c-preserved
 loop-c-preserved c =
