@@ -30,67 +30,25 @@ use Rattle.json_tape.proofs.Listed.{in_text}
 
 -- ---- What the machine refuses
 
-no_close : (shape : Shape) (l : Level) → closes shape l wants.Value ≡ false
-no_close Array Root = refl
-no_close Array (Inside Array) = refl
-no_close Array (Inside Object) = refl
-no_close Object Root = refl
-no_close Object (Inside Array) = refl
-no_close Object (Inside Object) = refl
-
-no_first_close : (l : Level) → closes Object l wants.FirstValue ≡ false
-no_first_close Root = refl
-no_first_close (Inside Array) = refl
-no_first_close (Inside Object) = refl
-
-no_name_close : (l : Level) → closes Array l wants.FirstName ≡ false
-no_name_close Root = refl
-no_name_close (Inside Array) = refl
-no_name_close (Inside Object) = refl
-
-no_named_close : (shape : Shape) (l : Level) → closes shape l wants.Name ≡ false
-no_named_close Array Root = refl
-no_named_close Array (Inside Array) = refl
-no_named_close Array (Inside Object) = refl
-no_named_close Object Root = refl
-no_named_close Object (Inside Array) = refl
-no_named_close Object (Inside Object) = refl
-
-no_colon_close : (shape : Shape) (l : Level) → closes shape l wants.Colon ≡ false
-no_colon_close Array Root = refl
-no_colon_close Array (Inside Array) = refl
-no_colon_close Array (Inside Object) = refl
-no_colon_close Object Root = refl
-no_colon_close Object (Inside Array) = refl
-no_colon_close Object (Inside Object) = refl
+unclosing : (shape : Shape) (l : Level) (w : Want) → closes shape (Inside shape) w ≡ false → closes shape l w ≡ false
+unclosing Array (Inside Array) w h = h
+unclosing Object (Inside Object) w h = h
+unclosing _ _ _ h = refl
 
 pub cond_none : {A : Type 0} (b : Bool) (x : A) → b ≡ false → cond b (Some x) None ≡ None
 cond_none true x e = absurd (cc)
 cond_none false x e = refl
 
 -- nothing is closed where the test says so
-unclosed : (shape : Shape) (p : ℕ) (es : List Entry) (os : List Open) (w : Want) (name : Option Extent) (d : ℕ) → ((l : Level) → closes shape l w ≡ false) → put_close shape p es os w name d ≡ None
-unclosed shape p es (o ∷ o' ∷ os) w name d n = cond_none (closes shape o.level w) _ (n o.level)
+unclosed : (shape : Shape) (p : ℕ) (es : List Entry) (os : List Open) (w : Want) (name : Option Extent) (d : ℕ) → closes shape (Inside shape) w ≡ false → put_close shape p es os w name d ≡ None
+unclosed shape p es (o ∷ o' ∷ os) w name d n = cond_none (closes shape o.level w) _ (unclosing shape o.level w n)
 unclosed shape p es _ w name d n = refl
 
 -- a comma comes behind a value alone
 no_comma : (l : Level) (w : Want) → (w ≡ wants.Next → ⊥) → after_comma l w ≡ None
-no_comma l wants.Next n = absurd (n refl)
-no_comma Root wants.Value n = refl
-no_comma (Inside Array) wants.Value n = refl
-no_comma (Inside Object) wants.Value n = refl
-no_comma Root wants.FirstValue n = refl
-no_comma (Inside Array) wants.FirstValue n = refl
-no_comma (Inside Object) wants.FirstValue n = refl
-no_comma Root wants.Name n = refl
-no_comma (Inside Array) wants.Name n = refl
-no_comma (Inside Object) wants.Name n = refl
-no_comma Root wants.FirstName n = refl
-no_comma (Inside Array) wants.FirstName n = refl
-no_comma (Inside Object) wants.FirstName n = refl
-no_comma Root wants.Colon n = refl
-no_comma (Inside Array) wants.Colon n = refl
-no_comma (Inside Object) wants.Colon n = refl
+no_comma (Inside Array) wants.Next n = absurd (n refl)
+no_comma (Inside Object) wants.Next n = absurd (n refl)
+no_comma _ _ n = refl
 
 uncommaed : (b : Built) (w : Want) (name : Option Extent) → (w ≡ wants.Next → ⊥) → step Comma (standing b w name) ≡ None
 uncommaed b w name n = ap (λ r. put_comma b.entries b.opens r b.deep) (no_comma (level_of b.opens) w n)
@@ -107,7 +65,8 @@ unopened shape p es (o ∷ os) w name d n = cond_none (takes_value w) _ n
 -- where a colon has to come, nothing else is taken
 pub colon_only : (tok : Token) (b : Built) (name : Option Extent) → (tok ≡ Between → ⊥) → step tok (standing b wants.Colon name) ≡ None
 colon_only (Opening shape p) b name n = unopened shape p b.entries b.opens wants.Colon name b.deep refl
-colon_only (Closing shape p) b name n = unclosed shape p b.entries b.opens wants.Colon name b.deep (no_colon_close shape)
+colon_only (Closing Array p) b name n = unclosed Array p b.entries b.opens wants.Colon name b.deep refl
+colon_only (Closing Object p) b name n = unclosed Object p b.entries b.opens wants.Colon name b.deep refl
 colon_only Comma b name n = uncommaed b wants.Colon name (λ e. cc)
 colon_only Between b name n = absurd (n refl)
 colon_only (Text x) b name n = unput x kinds.Text b.entries b.opens wants.Colon name b.deep refl
@@ -117,8 +76,9 @@ colon_only (Word x kind) b name n = unput x kind b.entries b.opens wants.Colon n
 pub name_only : (tok : Token) (b : Built) (w : Want) → takes_name w ≡ true → is_text tok ≡ false → (w ≡ wants.FirstName → (p : ℕ) → tok ≡ Closing Object p → ⊥) → step tok (standing b w None) ≡ None
 name_only (Opening shape p) b wants.Name t n c = unopened shape p b.entries b.opens wants.Name None b.deep refl
 name_only (Opening shape p) b wants.FirstName t n c = unopened shape p b.entries b.opens wants.FirstName None b.deep refl
-name_only (Closing shape p) b wants.Name t n c = unclosed shape p b.entries b.opens wants.Name None b.deep (no_named_close shape)
-name_only (Closing Array p) b wants.FirstName t n c = unclosed Array p b.entries b.opens wants.FirstName None b.deep no_name_close
+name_only (Closing Array p) b wants.Name t n c = unclosed Array p b.entries b.opens wants.Name None b.deep refl
+name_only (Closing Object p) b wants.Name t n c = unclosed Object p b.entries b.opens wants.Name None b.deep refl
+name_only (Closing Array p) b wants.FirstName t n c = unclosed Array p b.entries b.opens wants.FirstName None b.deep refl
 name_only (Closing Object p) b wants.FirstName t n c = absurd (c refl p refl)
 name_only Comma b wants.Name t n c = uncommaed b wants.Name None (λ e. cc)
 name_only Comma b wants.FirstName t n c = uncommaed b wants.FirstName None (λ e. cc)
@@ -130,8 +90,9 @@ name_only _ b _ t n c = absurd (cc)
 
 -- where a value has to come, nothing but its beginning or the end of an empty array
 pub value_only : (tok : Token) (b : Built) (w : Want) (name : Option Extent) → takes_value w ≡ true → begins_value tok ≡ false → (w ≡ wants.FirstValue → (p : ℕ) → tok ≡ Closing Array p → ⊥) → step tok (standing b w name) ≡ None
-value_only (Closing shape p) b wants.Value name t n c = unclosed shape p b.entries b.opens wants.Value name b.deep (no_close shape)
-value_only (Closing Object p) b wants.FirstValue name t n c = unclosed Object p b.entries b.opens wants.FirstValue name b.deep no_first_close
+value_only (Closing Array p) b wants.Value name t n c = unclosed Array p b.entries b.opens wants.Value name b.deep refl
+value_only (Closing Object p) b wants.Value name t n c = unclosed Object p b.entries b.opens wants.Value name b.deep refl
+value_only (Closing Object p) b wants.FirstValue name t n c = unclosed Object p b.entries b.opens wants.FirstValue name b.deep refl
 value_only (Closing Array p) b wants.FirstValue name t n c = absurd (c refl p refl)
 value_only Comma b wants.Value name t n c = uncommaed b wants.Value name (λ e. cc)
 value_only Comma b wants.FirstValue name t n c = uncommaed b wants.FirstValue name (λ e. cc)

@@ -1,7 +1,7 @@
 -- The members of an object, from one node to the next.
 use Rattle.std.proofs.Common.{◌≡◌, ℕ, suc, ◌+◌, ◌<◌, ◌≤◌, true, false, List, [], ◌∷◌, ◌++◌, length, get_or, refl, sym, ap, ◌∙◌, subst, arith, append_assoc, length-append}
 use Rattle.std.specs.Prelude.{bytes_eq}
-use Rattle.json_tape.specs.Tree.{Name, Null, True, False, Num, Str, Tree, Leaf, Arr, Obj, Elements, NoElement, Element, Members, NoMember, Member}
+use Rattle.json_tape.specs.Tree.{Name, Tree, Leaf, Arr, Obj, Elements, NoElement, Element, Members, NoMember, Member}
 use Rattle.json_tape.specs.Letters.{IsString}
 use Rattle.json_tape.specs.Meaning.{meaning}
 use Rattle.json_tape.specs.Nodes.{Node, Step, key, size, size_of_members, children, children_of, elements_from, members_from, is_named, first_where}
@@ -14,6 +14,7 @@ use Rattle.json_tape.proofs.Entries.{size_positive}
 use Rattle.json_tape.proofs.Fits.{Lies, Fits, FitMembers}
 use Rattle.json_tape.proofs.Spots.{entry_at, top, inner, one_of, place_is, spot_count}
 use Rattle.json_tape.proofs.Readers.{good, spot_is, entry_is, after_is, count_is, none_there}
+use Rattle.json_tape.proofs.One.{no_object_kind}
 
 -- the members from the node k on, the first of this name among which is the object's first
 pub record Rest (d : Doc) (name : List ℕ) (n k end : ℕ) : Type 0 where
@@ -40,11 +41,7 @@ pub record Seen (d : Doc) (name : List ℕ) (n k end : ℕ) : Type 0 where
 object_rest : (d : Doc) (name : List ℕ) (way : List Step) (up : ℕ) (label : Label) (later : List Node) (k end : ℕ) (t : Tree) (pre post : List Spot)
     → spots d ≡ pre ++ (spots_from way up label later k t ++ post) → length pre ≡ k → children (node_at d k) ≡ children_of way k t → Fits d.text t → kind_of t ≡ kinds.Object → end ≡ k + size t
     → Rest d name k (suc k) end
-object_rest d name way up label later k end (Leaf s Null) pre post w l c f o e = absurd (cc)
-object_rest d name way up label later k end (Leaf s True) pre post w l c f o e = absurd (cc)
-object_rest d name way up label later k end (Leaf s False) pre post w l c f o e = absurd (cc)
-object_rest d name way up label later k end (Leaf s Num) pre post w l c f o e = absurd (cc)
-object_rest d name way up label later k end (Leaf s (Str cs)) pre post w l c f o e = absurd (cc)
+object_rest d name way up label later k end (Leaf s c) pre post w l c' f o e = absurd (no_object_kind c o)
 object_rest d name way up label later k end (Arr s es) pre post w l c f o e = absurd (cc)
 object_rest d name way up label later k end (Obj s ms) pre post w l c f o e =
     let x = top way up label later k (Obj s ms) in record {

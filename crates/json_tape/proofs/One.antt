@@ -32,7 +32,7 @@ scalar_one Num Num bs e h g = refl
 scalar_one (Str cs) (Str ds) bs e h g = ap Str (string_one cs ds bs h g)
 scalar_one _ _ bs e h g = absurd (cc)
 
-no_array_kind : (c : Scalar) → kind_of_scalar c ≡ kinds.Array → ⊥
+pub no_array_kind : (c : Scalar) → kind_of_scalar c ≡ kinds.Array → ⊥
 no_array_kind Null e = cc
 no_array_kind _ e = cc
 

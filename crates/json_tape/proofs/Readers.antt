@@ -4,7 +4,7 @@ use Rattle.std.proofs.lemmas.List.Elements.{Contains-append_right}
 use Rattle.std.proofs.lemmas.List.{take-append-drop, append-nil, get_or-map, length-map}
 use Rattle.std.proofs.lemmas.Bool.{cases_lt}
 use Rattle.std.proofs.Common.{false, take, drop, ◌≡◌, ℕ, suc, ◌+◌, ◌-◌, ◌≤◌, ◌<◌, ◌^◌, ◌⊎◌, inl, inr, List, [], ◌∷◌, ◌++◌, length, map, get_or, Some, None, refl, sym, ap, ◌∙◌, subst, arith, append_assoc, length-append}
-use Rattle.json_tape.specs.Tree.{Spelt, Source, Name, Null, True, False, Num, Str, Tree, source_of, Leaf, Arr, Obj, Element, Member}
+use Rattle.json_tape.specs.Tree.{Spelt, Source, Name, Num, Str, Tree, source_of, Leaf, Arr, Obj, Element, Member}
 use Rattle.json_tape.specs.Meaning.{meaning}
 use Rattle.json_tape.specs.Nodes.{Node, Step, key, place, size, children, children_of, elements_from, members_from, visit, is_named, key_is}
 use Rattle.json_tape.specs.Letters.{IsString}
@@ -25,6 +25,7 @@ use Rattle.json_tape.proofs.Shown.{part_ends}
 use Rattle.json_tape.specs.declared.tape.Extent.{Extent}
 use Rattle.json_tape.proofs.Spots.{entry_at, node_of, tape_is, visit_is, spot_count, top, inner, top_first, end_of, NextIn, own, one_of, Good, walk, place_is, WayIn}
 use Rattle.std.proofs.Math.Seq.{get_or-append_seam}
+use Rattle.json_tape.proofs.One.{no_array_kind, no_object_kind}
 
 -- each of a part of a list, by its place
 counted : {A B : Type 0} (f : A → B) (pre mid post : List A) (d : A) (k : ℕ) → length pre ≡ k → map (λ j. f (get_or (pre ++ (mid ++ post)) j d)) (counting k (length mid)) ≡ map f mid
@@ -222,11 +223,7 @@ module _ (d : Doc) (s : IsDocument d) where
       ap Some c ∙ child_total x.node.tree (elim k [ inl y ↦ inl (sym i ∙ y) | inr y ↦ inr (sym i ∙ y) ])
     where
       child_total : (t : Tree) → (kind_of t ≡ kinds.Array) ⊎ (kind_of t ≡ kinds.Object) → Some (child_count t) ≡ length_of t
-      child_total (Leaf s Null) h = elim h [ inl y ↦ absurd (cc) | inr y ↦ absurd (cc) ]
-      child_total (Leaf s True) h = elim h [ inl y ↦ absurd (cc) | inr y ↦ absurd (cc) ]
-      child_total (Leaf s False) h = elim h [ inl y ↦ absurd (cc) | inr y ↦ absurd (cc) ]
-      child_total (Leaf s Num) h = elim h [ inl y ↦ absurd (cc) | inr y ↦ absurd (cc) ]
-      child_total (Leaf s (Str cs)) h = elim h [ inl y ↦ absurd (cc) | inr y ↦ absurd (cc) ]
+      child_total (Leaf s c) h = elim h [ inl y ↦ absurd (no_array_kind c y) | inr y ↦ absurd (no_object_kind c y) ]
       child_total _ h = refl
 
   -- how the entry shows what leads to its node
