@@ -1,4 +1,4 @@
-use Rattle.std.proofs.Common.{◌∙◌, refl, sym, ap, subst, arith}
+use Rattle.std.proofs.Common.{◌∙◌, refl, ap, subst, arith}
 use Rattle.structural_index.specs.Places.{places}
 use Rattle.json_tape.proofs.Windows.{listed}
 use Rattle.std.specs.Prelude.{Ok, Err}
@@ -15,9 +15,6 @@ loop-shape-init g c = record { same = refl; slashes = c.requires.slashes; walked
 pub children-requires-clause-small : goal.children-requires-clause-small
 children-requires-clause-small g c =
     small_state _ _ _ _ _ _ (walked_small c.args.looks.now.0 (places c.args.looks.now.0) (listed c.args.looks.now.0 c.args.window c.requires.window) _ _ c.loop-shape.invariant.walked (small_state _ _ _ _ _ _ c.requires.small))
-
-pub children-requires-clause-told : goal.children-requires-clause-told
-children-requires-clause-told g c = subst (λ b. AreTold b c.loop-shape.builder c.loop-shape.met) (sym c.loop-shape.invariant.same) c.loop-shape.invariant.told
 
 pub loop-shape-preserved : goal.loop-shape-preserved
 loop-shape-preserved g c =

@@ -3,7 +3,6 @@ use Rattle.std.specs.Prelude.{ℕ, Option, Result, Ok, IfSome}
 use Rattle.std.proofs.Math.Arith.{lt_of_le-ne}
 use Rattle.structural_index.specs.Places.{places}
 use Rattle.json_tape.specs.Walked.{Grown, place, at, width, shape_of}
-use Rattle.json_tape.specs.Windows.{IsWindow}
 use Rattle.json_tape.proofs.Windows.{listed, inside, number_at, end_below, end_whole}
 use Rattle.json_tape.specs.Machine.{level_of}
 use Rattle.json_tape.specs.Placing.{HoldSlashes}
@@ -46,31 +45,10 @@ overflow_add-j g c =
     let below = number_below c.args.looks.now.0 (places c.args.looks.now.0) (listed c.args.looks.now.0 c.args.window c.requires.window) (c.args.window.first + c.loop-j.j) (omega (arith, c.loop-j.invariant.to, most)) in
     omega (arith, below, c.requires.window.short, c.width.ensures.few)
 
-pub child-requires-clause-window : goal.child-requires-clause-window
-child-requires-clause-window g c = subst (λ b. IsWindow b c.args.window) (sym c.loop-j.invariant.same) c.requires.window
-
-pub child-requires-clause-slashes : goal.child-requires-clause-slashes
-child-requires-clause-slashes g c = subst (λ b. HoldSlashes b c.args.window.reach c.loop-j.slashes) (sym c.loop-j.invariant.same) c.loop-j.invariant.slashes
-
-pub child-requires-clause-level : goal.child-requires-clause-level
-child-requires-clause-level g c = c.loop-j.invariant.level ∙ c.requires.level
-
 pub child-requires-clause-small : goal.child-requires-clause-small
 child-requires-clause-small g c =
     let grows = c.loop-j.invariant.grows _ c.requires.level in
     small_state _ _ _ _ _ _ (walked_small c.args.looks.now.0 (places c.args.looks.now.0) (listed c.args.looks.now.0 c.args.window c.requires.window) _ _ grows.2 (small_state _ _ _ _ _ _ c.requires.small))
-
-pub child-requires-clause-told : goal.child-requires-clause-told
-child-requires-clause-told g c = subst (λ b. AreTold b c.loop-j.builder c.loop-j.met) (sym c.loop-j.invariant.same) c.loop-j.invariant.told
-
-pub child-requires-clause-seated : goal.child-requires-clause-seated
-child-requires-clause-seated g c = c.loop-j.invariant.seated
-
-pub returns-in-Err-child-clause-slashes : goal.returns-in-Err-child-clause-slashes
-returns-in-Err-child-clause-slashes g c = subst (λ b. HoldSlashes b c.args.window.reach c.child.new.slashes) c.loop-j.invariant.same c.in-Err-child.ensures.slashes
-
-pub returns-in-Err-child-clause-same : goal.returns-in-Err-child-clause-same
-returns-in-Err-child-clause-same g c = c.in-Err-child.ensures.same ∙ c.loop-j.invariant.same
 
 pub returns-in-Err-child-clause-arrives : goal.returns-in-Err-child-clause-arrives
 returns-in-Err-child-clause-arrives g c =
