@@ -127,7 +127,8 @@ on_both (Err e) a b c m n f h = tt
 abbrev Leaf : (text : List ℕ) (old new : Built) (name : Option Extent) → Result (Option ℕ) BuildFault → Type 0
 Leaf text old new name r = IfOk r (λ made. (met : NamesMet) → AreTold text old met → IsFresh text old met name → AreTold text new met) × IfOk r (λ made. IfSome made (λ sign. IsSameTop old.opens new.opens))
 
-pub leaf_signed : (text : List ℕ) (old new : Built) (name : Option Extent) (x : Extent) (kind : Kind) (sign : ℕ) (made : Result (Unit {0}) BuildFault) (r : Result (Option ℕ) BuildFault) → r ≡ with_sign made sign → Took (step (Word x kind) (standing old wants.Value name)) made (standing new wants.Next None) → Leaf text old new name r
+pub leaf_signed : (text : List ℕ) (old new : Built) (name : Option Extent) (x : Extent) (kind : Kind) (sign : ℕ) (made : Result (Unit {0}) BuildFault) (r : Result (Option ℕ) BuildFault)
+    → r ≡ with_sign made sign → Took (step (Word x kind) (standing old wants.Value name)) made (standing new wants.Next None) → Leaf text old new name r
 leaf_signed text old new name x kind sign (Ok u) r e h = subst (Leaf text old new name) (sym e) (leaf_told text old new name x kind wants.Next (Ok u) h, leaf_top_is old new name wants.Next x kind old.opens h)
 leaf_signed text old new name x kind sign (Err f) r e h = subst (Leaf text old new name) (sym e) (tt, tt)
 

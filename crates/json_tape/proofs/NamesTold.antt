@@ -30,7 +30,8 @@ unfolding stamp mixed
 stamp_small bs = omega arith
 
 -- what is the same at the depths of the containers is held as before
-held_same : (text : List ℕ) (es : List Entry) (old new : NamesMet) (bound : ℕ) → ((n : ℕ) → IsUnasked new n → IsUnasked old n) → ((depth s : ℕ) → 0 < depth → depth < bound → s < 1024 → get_or new.owners (depth * 1024 + s) 0 ≡ get_or old.owners (depth * 1024 + s) 0)
+held_same : (text : List ℕ) (es : List Entry) (old new : NamesMet) (bound : ℕ) → ((n : ℕ) → IsUnasked new n → IsUnasked old n)
+    → ((depth s : ℕ) → 0 < depth → depth < bound → s < 1024 → get_or new.owners (depth * 1024 + s) 0 ≡ get_or old.owners (depth * 1024 + s) 0)
     → (limit : ℕ) (os : List Open) → length os ≤ bound → AreHeld text es old limit os → AreHeld text es new limit os
 held_same text es old new bound unasked same limit [] l h = tt
 held_same text es old new bound unasked same limit (o ∷ os) l h = (one o.level h.0, held_same text es old new bound unasked same (limit_under o.level o.entry) os (omega arith) h.1)

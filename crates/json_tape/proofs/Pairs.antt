@@ -23,7 +23,8 @@ pub record IsPair (text : List ℕ) (w : Window) (j i next : ℕ) : Type 0 where
   -- what is read of a text that has not changed
   pub sign : (k : ℕ) → k ≡ w.first + j → (other : List ℕ) (byte : ℕ) → other ≡ text → byte ≡ get_or other next 0 → byte ≡ byte_at text (places text) (k + 1)
 
-pub pair_at : (text : List ℕ) (w : Window) → IsWindow text w → (j i next : ℕ) → j + 1 < length w.places.now → ((k : ℕ) → k ≡ w.first + j → i ≡ place (places text) k) → ((k : ℕ) → k ≡ w.first + (j + 1) → next ≡ place (places text) k) → IsPair text w j i next
+pub pair_at : (text : List ℕ) (w : Window) → IsWindow text w → (j i next : ℕ) → j + 1 < length w.places.now
+    → ((k : ℕ) → k ≡ w.first + j → i ≡ place (places text) k) → ((k : ℕ) → k ≡ w.first + (j + 1) → next ≡ place (places text) k) → IsPair text w j i next
 pair_at text w h j i next l is behind =
     let k = w.first + j in
     let few = number_at text w h (j + 1) l in

@@ -109,7 +109,8 @@ ended-requires-clause-near g c =
     omega (arith, below, c.nth-end.ensures n refl ∙ ap (λ t. place (places t) n) (c.in-Ok-Some-child.ensures.same ∙ c.loop-j.invariant.same))
 
 pub ended-requires-clause-level : goal.ended-requires-clause-level
-ended-requires-clause-level g c = (grown g (goal.at.ended-requires-clause-level g c).After-child (c.args.window.first + (c.loop-j.j + c.width-in-Ok-Some-child.result)) _ (c.in-Ok-Some-child.is ∙ ap Ok c.in-Ok-Some-child.field-0-is) (omega (arith, c.width-in-Ok-Some-child.ensures.value))).1
+ended-requires-clause-level g c =
+    (grown g (goal.at.ended-requires-clause-level g c).After-child (c.args.window.first + (c.loop-j.j + c.width-in-Ok-Some-child.result)) _ (c.in-Ok-Some-child.is ∙ ap Ok c.in-Ok-Some-child.field-0-is) (omega (arith, c.width-in-Ok-Some-child.ensures.value))).1
 
 pub returns-in-Ok-Some-child-clause-arrives : goal.returns-in-Ok-Some-child-clause-arrives
 returns-in-Ok-Some-child-clause-arrives g c =

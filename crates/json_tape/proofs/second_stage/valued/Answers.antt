@@ -83,11 +83,13 @@ returns-in-Some-Number-clause-grown g c = λ k at w asks.
 
 pub returns-in-Some-Number-clause-told : goal.returns-in-Some-Number-clause-told
 returns-in-Some-Number-clause-told g c =
-    (leaf_signed c.args.looks.now.0 c.args.builder.now c.leaf-in-Some-Number.new.self c.args.name c.in-Some-Number.source kinds.Number c.at-sign-in-Some-Number.result c.leaf-in-Some-Number.result c.signed-in-Some-Number.result c.signed-in-Some-Number.ensures c.leaf-in-Some-Number.ensures).0
+    (leaf_signed c.args.looks.now.0 c.args.builder.now c.leaf-in-Some-Number.new.self c.args.name c.in-Some-Number.source kinds.Number
+    c.at-sign-in-Some-Number.result c.leaf-in-Some-Number.result c.signed-in-Some-Number.result c.signed-in-Some-Number.ensures c.leaf-in-Some-Number.ensures).0
 
 pub returns-in-Some-Number-clause-top : goal.returns-in-Some-Number-clause-top
 returns-in-Some-Number-clause-top g c =
-    (leaf_signed c.args.looks.now.0 c.args.builder.now c.leaf-in-Some-Number.new.self c.args.name c.in-Some-Number.source kinds.Number c.at-sign-in-Some-Number.result c.leaf-in-Some-Number.result c.signed-in-Some-Number.result c.signed-in-Some-Number.ensures c.leaf-in-Some-Number.ensures).1
+    (leaf_signed c.args.looks.now.0 c.args.builder.now c.leaf-in-Some-Number.new.self c.args.name c.in-Some-Number.source kinds.Number
+    c.at-sign-in-Some-Number.result c.leaf-in-Some-Number.result c.signed-in-Some-Number.result c.signed-in-Some-Number.ensures c.leaf-in-Some-Number.ensures).1
 
 pub at-sign-requires-in-Some-Word : goal.at-sign-requires-in-Some-Word
 at-sign-requires-in-Some-Word g c = let near = (pair g (goal.at.at-sign-requires-in-Some-Word g c).After-nth-next).next_in in let same = ap length c.value.ensures.same in omega (arith, near, same)
@@ -105,11 +107,13 @@ returns-in-Some-Word-clause-grown g c = λ k at w asks.
 
 pub returns-in-Some-Word-clause-told : goal.returns-in-Some-Word-clause-told
 returns-in-Some-Word-clause-told g c =
-    (leaf_signed c.args.looks.now.0 c.args.builder.now c.leaf-in-Some-Word.new.self c.args.name c.in-Some-Word.source c.in-Some-Word.kind c.at-sign-in-Some-Word.result c.leaf-in-Some-Word.result c.signed-in-Some-Word.result c.signed-in-Some-Word.ensures c.leaf-in-Some-Word.ensures).0
+    (leaf_signed c.args.looks.now.0 c.args.builder.now c.leaf-in-Some-Word.new.self c.args.name c.in-Some-Word.source c.in-Some-Word.kind
+    c.at-sign-in-Some-Word.result c.leaf-in-Some-Word.result c.signed-in-Some-Word.result c.signed-in-Some-Word.ensures c.leaf-in-Some-Word.ensures).0
 
 pub returns-in-Some-Word-clause-top : goal.returns-in-Some-Word-clause-top
 returns-in-Some-Word-clause-top g c =
-    (leaf_signed c.args.looks.now.0 c.args.builder.now c.leaf-in-Some-Word.new.self c.args.name c.in-Some-Word.source c.in-Some-Word.kind c.at-sign-in-Some-Word.result c.leaf-in-Some-Word.result c.signed-in-Some-Word.result c.signed-in-Some-Word.ensures c.leaf-in-Some-Word.ensures).1
+    (leaf_signed c.args.looks.now.0 c.args.builder.now c.leaf-in-Some-Word.new.self c.args.name c.in-Some-Word.source c.in-Some-Word.kind
+    c.at-sign-in-Some-Word.result c.leaf-in-Some-Word.result c.signed-in-Some-Word.result c.signed-in-Some-Word.ensures c.leaf-in-Some-Word.ensures).1
 
 pub returns-in-Some-Opens-clause-told : goal.returns-in-Some-Opens-clause-told
 returns-in-Some-Opens-clause-told g c =

@@ -40,7 +40,8 @@ returns-in-Err-containers-clause-refused g c = λ e.
     fault_none bytes _ listed c.args.looks.now.1 nothing c.in-Err-containers.fault c.containers.new.builder c.containers.new.looks.1 c.containers.new.may_exceed refl halts (let f : c.in-Err-containers.fault ≡ NotJson = cc in f)
 
 -- behind all places that are at hand the walk stands after the value of the whole text
-ended : (g : Over) (c : In-Ok-containers g) → Walked c.args.looks.now.0 (places c.args.looks.now.0) (point 0 (standing nothing Value None) c.args.looks.now.1 false) (at c.in-Ok-containers.last c.containers.new.builder c.containers.new.looks.1 c.containers.new.may_exceed)
+ended : (g : Over) (c : In-Ok-containers g)
+    → Walked c.args.looks.now.0 (places c.args.looks.now.0) (point 0 (standing nothing Value None) c.args.looks.now.1 false) (at c.in-Ok-containers.last c.containers.new.builder c.containers.new.looks.1 c.containers.new.may_exceed)
     × level_of c.containers.new.builder.opens ≡ Root × c.in-Ok-containers.last.before ≡ befores.Value
 ended g c =
     let bytes = c.args.looks.now.0 in
@@ -49,7 +50,8 @@ ended g c =
     let root = c.in-Ok-containers.ensures.over (omega (arith, c.in-Ok-containers.ensures.inside.1, c.in-Some.ensures.pause)) in
     (arrives_same bytes _ listed c.whole.new.looks.0 (places c.whole.new.looks.0) _ _ c.containers.new.looks.1 (Ok c.in-Ok-containers.last) c.containers.new.builder c.containers.new.may_exceed c.in-Ok.ensures.same (ap places c.in-Ok.ensures.same) first c.in-Ok-containers.ensures.arrives, root, c.in-Ok-containers.ensures.whole root)
 
-found : (g : Over) (c : After-into_tape g) → Arrived c.args.looks.now.0 (places c.args.looks.now.0) (record { list = refl; short = c.requires.short; utf8 = c.requires.utf8 }) c.args.looks.now.1 c.containers.new.builder.entries c.containers.new.builder.deep c.containers.new.looks.1 c.containers.new.may_exceed
+found : (g : Over) (c : After-into_tape g)
+    → Arrived c.args.looks.now.0 (places c.args.looks.now.0) (record { list = refl; short = c.requires.short; utf8 = c.requires.utf8 }) c.args.looks.now.1 c.containers.new.builder.entries c.containers.new.builder.deep c.containers.new.looks.1 c.containers.new.may_exceed
 found g c =
     let e = ended g (goal.at.returns-clause-spelt g c).In-Ok-containers in
     arrived _ _ _ _ _ _ _ _ e.0 e.1 e.2 (omega (arith, c.if-last-window.false, c.in-Some.ensures.end))

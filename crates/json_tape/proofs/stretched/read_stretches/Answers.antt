@@ -19,7 +19,8 @@ returns-then-not-is_some-clause-refused g c =
     let over = c.loop-stretches.invariant.over (c.is_whole-in-loop-stretches.ensures.0 c.loop-stretches-test.false ∙ ap length c.loop-stretches.invariant.text) in
     end_none text (record { list = refl; short = c.requires.short; utf8 = c.requires.utf8 }) c.loop-stretches.walk.spot c.loop-stretches.walk.builder (sym c.is_some.ensures ∙ c.if-not-is_some.true) over)
 
-found : (g : Over) (c : After-found g) → (paid : ℕ) × Arrived c.args.text.now (places c.args.text.now) (record { list = refl; short = c.requires.short; utf8 = c.requires.utf8 }) 0 c.loop-stretches.walk.builder.entries c.loop-stretches.walk.builder.deep paid c.loop-stretches.walk.may_exceed
+found : (g : Over) (c : After-found g)
+    → (paid : ℕ) × Arrived c.args.text.now (places c.args.text.now) (record { list = refl; short = c.requires.short; utf8 = c.requires.utf8 }) 0 c.loop-stretches.walk.builder.entries c.loop-stretches.walk.builder.deep paid c.loop-stretches.walk.may_exceed
 found g c =
     let over = c.loop-stretches.invariant.over (c.is_whole-in-loop-stretches.ensures.0 c.loop-stretches-test.false ∙ ap length c.loop-stretches.invariant.text) in
     end_found _ _ c.loop-stretches.walk.spot c.loop-stretches.walk.builder 0 c.loop-stretches.walk.may_exceed (sym c.is_some.ensures ∙ c.if-not-is_some.false) c.loop-stretches.invariant.come over
