@@ -1,5 +1,5 @@
 -- Objects whose names have a stamp each by their bytes: none of their names comes again.
-use Rattle.std.proofs.Common.{◌≡◌, ◌≢◌, ℕ, ◌+◌, ◌<◌, inl, inr, false, List, length, get_or, refl, sym, ap, ◌∙◌, subst, arith}
+use Rattle.std.proofs.Common.{◌≡◌, ◌≢◌, ℕ, ◌+◌, ◌<◌, inl, inr, false, Bool, true, ◌||◌, List, length, get_or, refl, sym, ap, ◌∙◌, subst, arith}
 use Rattle.std.specs.Prelude.{nat_eq}
 use Rattle.std.specs.List.{list_any}
 use Rattle.std.proofs.lemmas.Bool.{cases_lt}
@@ -18,8 +18,12 @@ use Rattle.json_tape.specs.Told.{stamp_at, IsMemberOf, AreApart, AreTold}
 use Rattle.json_tape.proofs.Entries.{size_positive}
 use Rattle.json_tape.proofs.MembersLeft.{no_entry, Left, Next, next_left, all_left, given, given_is}
 use Rattle.json_tape.proofs.PlainStamps.{spelt_stamp, stamp_is}
-use Rattle.json_tape.proofs.Repeats.{neither_is, hashes_apart}
+use Rattle.json_tape.proofs.Repeats.{hashes_apart}
 use Rattle.json_tape.proofs.Runs.{not_wide_by}
+
+neither_is : (a b : Bool) → a ≡ false → b ≡ false → (a || b) ≡ false
+neither_is true b e f = absurd (cc)
+neither_is false b e f = f
 
 module _ (text : List ℕ) (tape : List Entry) (n : ℕ) (a : AreApart text tape n) where
   member_next : (k end : ℕ) (left : Members) → Next text tape n k end left → IsMemberOf tape n k

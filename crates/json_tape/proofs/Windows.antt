@@ -7,9 +7,8 @@ use Rattle.std.specs.Prelude.{◌^◌, IsUtf8}
 use Rattle.structural_index.specs.Places.{is_place, places, places_to, HasControlInside, HasControlInsideTo, IsUnclosed}
 use Rattle.json_tape.specs.Verdict.{text_limit}
 use Rattle.structural_index.proofs.Kept.{kept-add}
-use Rattle.json_tape.specs.declared.slashes.Slashes.{Slashes}
 use Rattle.json_tape.specs.declared.window.Window.{Window}
-use Rattle.json_tape.specs.Placing.{ClosesBefore, HoldSlashes, IsIndexed}
+use Rattle.json_tape.specs.Placing.{ClosesBefore}
 use Rattle.json_tape.specs.Walked.{IsListed, place}
 use Rattle.json_tape.specs.Windows.{IsWindow}
 use Rattle.json_tape.proofs.Walking.{look_back}
