@@ -1,4 +1,4 @@
-// The members of wide objects in the order of their names, so that a name is found by halving.
+// The members of an object in the order of their names: whether one comes again, and, of wide objects, that a name is found by halving.
 
 ghost use Rattle.std.specs.Prelude.{◌≡◌, ℕ, ◌+◌, ◌*◌, ◌<◌, ◌≤◌, ◌^◌, ◌++◌, ◌∷◌, [], length, map, IfSome, OnOk, get_or, IfOk, IsTrue, ◌↔◌, None, false, nat_eq};
 ghost use Rattle.std.specs.List.{Contains};

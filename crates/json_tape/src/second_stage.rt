@@ -650,8 +650,7 @@ fn all_of<'a>(index: &'a Index, looks: &Looks<'_>) -> Option<Window<'a>>
     Some(Window::new(index.places.as_slice(), 0, looks.length(), true))
 }
 
-/// The tape of a text and its marks, or why there is none, by the places of its index. The walk is made for one caller whose looks count
-/// and one whose do not, since a count that nobody asks for costs nothing where all is put in line.
+/// The tape of a text and its marks, or why there is none, by the places of its index.
 #[inline(always)]
 fn walk<const CALLER: u8>(
     alloc: Global,
