@@ -31,14 +31,11 @@ compared_at t n xs ys few lx ly i h =
     one false = refl
 
 pub compared_lt : (t : ℕ → ℕ → Bool) (n : ℕ) (xs ys : List ℕ) → n ≤ 64 → length xs ≡ n → length ys ≡ n → mask_l (map (top 7) (zip2 (λ a b. cond (t a b) 255 0) xs ys)) % 2 ^ 64 < 2 ^ n
-compared_lt t n xs ys few lx ly =
-    let long = length-zip2 t xs ys (lx ∙ sym ly) ∙ lx in
-    let same = ap (λ ms. mask_l ms % 2 ^ 64) (tops_compared w8 t xs ys) ∙ mask_l-mod (zip2 t xs ys) 64 (omega (arith, long)) in
-    subst (λ m. m < 2 ^ n) (sym same) (subst (λ k. mask_l (zip2 t xs ys) < 2 ^ k) long (mask_l-lt (zip2 t xs ys)))
+compared_lt t n xs ys few lx ly = let long = length-zip2 t xs ys (lx ∙ sym ly) ∙ lx in let same = ap (λ ms. mask_l ms % 2 ^ 64) (tops_compared w8 t xs ys) ∙ mask_l-mod (zip2 t xs ys) 64 (omega (arith, long)) in grind (arith, same, long, mask_l-lt (zip2 t xs ys))
 
 -- the same with one byte in each of 64 lanes
 pub compared_with : (t : ℕ → ℕ → Bool) (xs : List ℕ) (byte : ℕ) → length xs ≡ 64 → HasBits (mask_l (map (top 7) (zip2 (λ a b. cond (t a b) 255 0) xs (replicate 64 byte))) % 2 ^ 64) (λ i. t (get_or xs i 0) byte)
-compared_with t xs byte lx i h = compared_at t 64 xs (replicate 64 byte) (omega arith) lx (length-replicate {A = ℕ} 64 byte) i h ∙ ap (t (get_or xs i 0)) (get_or-replicate 64 i byte 0 h)
+compared_with t xs byte lx i h = grind (arith, compared_at t 64 xs (replicate 64 byte) (omega arith) lx (length-replicate {A = ℕ} 64 byte) i h, get_or-replicate 64 i byte 0 h)
 
 -- `simd_min`
 pub lesser_at : (xs ys : List ℕ) (n i : ℕ) → length xs ≡ n → length ys ≡ n → i < n
@@ -55,9 +52,7 @@ lesser_at xs ys n i lx ly h =
 
 -- an operator with one byte in each lane
 pub masked : (f : ℕ → ℕ → ℕ) (lanes : List ℕ) (n mask i : ℕ) → length lanes ≡ n → i < n → get_or (zip2 f lanes (replicate n mask)) i 0 ≡ f (get_or lanes i 0) mask
-masked f lanes n mask i long h =
-    let m = length-replicate {A = ℕ} n mask in
-    get_or-zip2 f lanes (replicate n mask) i 0 0 0 (omega arith) (omega arith) ∙ ap (f (get_or lanes i 0)) (get_or-replicate n i mask 0 h)
+masked f lanes n mask i long h = let m = length-replicate {A = ℕ} n mask in grind (arith, get_or-zip2 f lanes (replicate n mask) i 0 0 0 (omega arith) (omega arith), get_or-replicate n i mask 0 h)
 
 pub byte_at : (lanes : List ℕ) (i : ℕ) → i < length lanes → Each1 (Fits w8) lanes → get_or lanes i 0 < 256
 byte_at lanes i h bytes = (Each1-get_or (Fits w8) lanes i 0 h bytes).fits
@@ -68,7 +63,7 @@ abbrev pub spot : ℕ → ℕ
 spot c = bit_and c 0x8f
 
 spot_inside : (c : ℕ) → c < 256 → T (zeroes 16 w8 (spot c) || ltb (spot c) 16)
-spot_inside c h = subst T (sym (each (λ c. zeroes 16 w8 (spot c) || ltb (spot c) 16) (λ c. true) 256 refl c h)) tt
+spot_inside c h = grind (arith, each (λ c. zeroes 16 w8 (spot c) || ltb (spot c) 16) (λ c. true) 256 refl c h)
 
 -- the look-up of one byte
 looked_up : (table : List ℕ) (c : ℕ) → c < 256 → cond (zeroes 16 w8 (spot c)) 0 (get_or table (spot c) 0) ≡ found table c
@@ -93,19 +88,10 @@ module _ (lanes : List ℕ) (long : length lanes ≡ 16) (bytes : Each1 (Fits w8
   byte i h = byte_at lanes i (omega arith) bytes
 
   pub in_table : SwzOk w8 16 16 0 spots
-  in_table =
-      SwzOk-from_Each1 w8 16 1 16 0 spots refl (omega (arith, spots_long))
-      (Each1-from_get_or (λ j. T (zeroes 16 w8 j || ltb j 16)) spots 0
-      (λ i h. let inside : i < 16 = omega (arith, h, spots_long) in
-      subst (λ j. T (zeroes 16 w8 j || ltb j 16)) (sym (spot_at i inside)) (spot_inside (get_or lanes i 0) (byte i inside))))
+  in_table = grind (arith, SwzOk-from_Each1 w8 16 1 16 0 spots refl (omega (arith, spots_long)) (Each1-from_get_or (λ j. T (zeroes 16 w8 j || ltb j 16)) spots 0 (λ i h. let inside : i < 16 = omega (arith, h, spots_long) in subst (λ j. T (zeroes 16 w8 j || ltb j 16)) (sym (spot_at i inside)) (spot_inside (get_or lanes i 0) (byte i inside)))))
 
   pub found_at : (table : List ℕ) (i : ℕ) → i < 16 → get_or (swz_l w8 16 table 0 spots) i 0 ≡ found table (get_or lanes i 0)
-  found_at table i h =
-      let first : 16 * ((0 + i) / 16) ≡ 0 = omega arith in
-      get_or-swz_l w8 16 table 0 spots i (omega (arith, spots_long))
-      ∙ ap₂ (λ k s. cond (zeroes 16 w8 s) 0 (get_or table (k + s) 0)) first (spot_at i h)
-      ∙ ap (λ n. cond (zeroes 16 w8 (spot (get_or lanes i 0))) 0 (get_or table n 0)) (zero-add (spot (get_or lanes i 0)))
-      ∙ looked_up table (get_or lanes i 0) (byte i h)
+  found_at table i h = let first : 16 * ((0 + i) / 16) ≡ 0 = omega arith in grind (arith, get_or-swz_l w8 16 table 0 spots i (omega (arith, spots_long)), first, spot_at i h, zero-add (spot (get_or lanes i 0)), looked_up table (get_or lanes i 0) (byte i h))
 
 -- ---- 64 lanes by 16
 
@@ -120,30 +106,23 @@ taken_at lanes at i long below inside h =
 module _ (test : ℕ → Bool) (a b c d : ℕ) (la : a < 2 ^ 16) (lb : b < 2 ^ 16) (lc : c < 2 ^ 16) where
   high : (x i : ℕ) → x < 2 ^ 16 → 16 ≤ i → is_set x i ≡ false
   unfolding is_set
-  high x i fits le = ap (λ n. n == 1) (bit_at_above x 16 i fits le)
+  high x i fits le = grind (arith, bit_at_above x 16 i fits le)
 
   past : (x k i : ℕ) → x < 2 ^ 16 → k + 16 ≤ i → i < 64 → is_set (shifted x k) i ≡ false
-  past x k i fits le within =
-      let e : k + (i - k) ≡ i = omega arith in
-      ap (is_set (shifted x k)) (sym e) ∙ is_set-shifted x k (i - k) (omega arith) ∙ high x (i - k) fits (omega arith)
+  past x k i fits le within = let e : k + (i - k) ≡ i = omega arith in grind (arith, e, is_set-shifted x k (i - k) (omega arith), high x (i - k) fits (omega arith))
 
   inside : (x k i : ℕ) → k ≤ i → i < 64 → ((j : ℕ) → j < 16 → is_set x j ≡ test (k + j)) → i < k + 16 → is_set (shifted x k) i ≡ test i
-  inside x k i le within bits lt =
-      let e : k + (i - k) ≡ i = omega arith in
-      ap (is_set (shifted x k)) (sym e) ∙ is_set-shifted x k (i - k) (omega arith) ∙ bits (i - k) (omega arith) ∙ ap test e
+  inside x k i le within bits lt = let e : k + (i - k) ≡ i = omega arith in grind (arith, e, is_set-shifted x k (i - k) (omega arith), bits (i - k) (omega arith))
 
   all : (i : ℕ) → is_set (bit_or (bit_or (bit_or a (shifted b 16)) (shifted c 32)) (shifted d 48)) i ≡ (((is_set a i || is_set (shifted b 16) i) || is_set (shifted c 32) i) || is_set (shifted d 48) i)
-  all i =
-      is_set-or (bit_or (bit_or a (shifted b 16)) (shifted c 32)) (shifted d 48) i
-      ∙ ap (λ p. p || is_set (shifted d 48) i) (is_set-or (bit_or a (shifted b 16)) (shifted c 32) i ∙ ap (λ p. p || is_set (shifted c 32) i) (is_set-or a (shifted b 16) i))
+  all i = grind (arith, is_set-or (bit_or (bit_or a (shifted b 16)) (shifted c 32)) (shifted d 48) i, is_set-or (bit_or a (shifted b 16)) (shifted c 32) i, is_set-or a (shifted b 16) i)
 
   values : (p q r s : Bool) (i : ℕ) → is_set a i ≡ p → is_set (shifted b 16) i ≡ q → is_set (shifted c 32) i ≡ r → is_set (shifted d 48) i ≡ s
       → is_set (bit_or (bit_or (bit_or a (shifted b 16)) (shifted c 32)) (shifted d 48)) i ≡ (((p || q) || r) || s)
-  values p q r s i ep eq er es = all i ∙ ap₂ (λ x y. x || y) (ap₂ (λ x y. x || y) (ap₂ (λ x y. x || y) ep eq) er) es
+  values p q r s i ep eq er es = grind (arith, all i, ep, eq, er, es)
 
   or-false : (p : Bool) → (p || false) ≡ p
-  or-false true = refl
-  or-false false = refl
+  or-false x0 = grind arith
 
   -- four words of 16 bits, one behind the other
   pub joined : ((j : ℕ) → j < 16 → is_set a j ≡ test j) → ((j : ℕ) → j < 16 → is_set b j ≡ test (16 + j)) → ((j : ℕ) → j < 16 → is_set c j ≡ test (32 + j)) → ((j : ℕ) → j < 16 → is_set d j ≡ test (48 + j))

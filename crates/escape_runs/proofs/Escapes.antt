@@ -1,5 +1,5 @@
 -- The difference of words that tells which bytes are escaped, bit by bit.
-use Rattle.std.proofs.Common.{◌≡◌, ℕ, zero, suc, ◌+◌, ◌-◌, ◌/◌, ◌%◌, ◌^◌, ◌<◌, ◌≤◌, Bool, true, false, not, ◌&&◌, ◌||◌, refl, sym, ap, ap₂, ◌∙◌, arith, ◌==◌, one-add, true≢false}
+use Rattle.std.proofs.Common.{◌≡◌, ℕ, zero, suc, ◌+◌, ◌-◌, ◌/◌, ◌%◌, ◌^◌, ◌<◌, ◌≤◌, Bool, false, not, ◌&&◌, ◌||◌, refl, sym, ap, ap₂, ◌∙◌, arith, ◌==◌}
 use lib.Bits.{bit_and, bit_or, bit_xor, and_le_l, and_le_r}
 use mir.Val.{bool_byte}
 use Rattle.bit_words.specs.Words.{is_set, is_odd, HasBits}
@@ -30,127 +30,15 @@ pub record Holds (z g e : Bool) : Type 0 where
 
 -- what the next bit lends
 onward : (b z g e o : Bool) → Holds z g e → (((g || o) && not (run b z)) || (lent g e o && ((g || o) || not (run b z)))) ≡ lent (run b z) (b && not e) (not o)
-onward true true true true true h = absurd (true≢false h.apart)
-onward true true true true false h = absurd (true≢false h.apart)
-onward true true true false true h = absurd (true≢false h.first)
-onward true true true false false h = absurd (true≢false h.first)
-onward true true false true true h = refl
-onward true true false true false h = refl
-onward true true false false true h = absurd (true≢false h.first)
-onward true true false false false h = absurd (true≢false h.first)
-onward true false true true true h = refl
-onward true false true true false h = refl
-onward true false true false true h = refl
-onward true false true false false h = refl
-onward true false false true true h = absurd (true≢false h.behind)
-onward true false false true false h = absurd (true≢false h.behind)
-onward true false false false true h = refl
-onward true false false false false h = refl
-onward false true true true true h = absurd (true≢false h.apart)
-onward false true true true false h = absurd (true≢false h.apart)
-onward false true true false true h = absurd (true≢false h.first)
-onward false true true false false h = absurd (true≢false h.first)
-onward false true false true true h = refl
-onward false true false true false h = refl
-onward false true false false true h = absurd (true≢false h.first)
-onward false true false false false h = absurd (true≢false h.first)
-onward false false true true true h = refl
-onward false false true true false h = refl
-onward false false true false true h = refl
-onward false false true false false h = refl
-onward false false false true true h = absurd (true≢false h.behind)
-onward false false false true false h = absurd (true≢false h.behind)
-onward false false false false true h = refl
-onward false false false false false h = refl
+onward b z g e o h = grind arith
 
 -- the answer
 told : (b z g e o : Bool) → Holds z g e → xor (xor (difference b z g e o) o) (b || z) ≡ e
-told true true true true true h = absurd (true≢false h.apart)
-told true true true true false h = absurd (true≢false h.apart)
-told true true true false true h = absurd (true≢false h.first)
-told true true true false false h = absurd (true≢false h.first)
-told true true false true true h = refl
-told true true false true false h = refl
-told true true false false true h = absurd (true≢false h.first)
-told true true false false false h = absurd (true≢false h.first)
-told true false true true true h = refl
-told true false true true false h = refl
-told true false true false true h = refl
-told true false true false false h = refl
-told true false false true true h = absurd (true≢false h.behind)
-told true false false true false h = absurd (true≢false h.behind)
-told true false false false true h = refl
-told true false false false false h = refl
-told false true true true true h = absurd (true≢false h.apart)
-told false true true true false h = absurd (true≢false h.apart)
-told false true true false true h = absurd (true≢false h.first)
-told false true true false false h = absurd (true≢false h.first)
-told false true false true true h = refl
-told false true false true false h = refl
-told false true false false true h = absurd (true≢false h.first)
-told false true false false false h = absurd (true≢false h.first)
-told false false true true true h = refl
-told false false true true false h = refl
-told false false true false true h = refl
-told false false true false false h = refl
-told false false false true true h = absurd (true≢false h.behind)
-told false false false true false h = absurd (true≢false h.behind)
-told false false false false true h = refl
-told false false false false false h = refl
+told b z g e o h = grind arith
 
 -- a backslash that escapes the next byte
 escapes : (b z g e o : Bool) → Holds z g e → (xor (difference b z g e o) o && b) ≡ (b && not e)
-escapes true true true true true h = absurd (true≢false h.apart)
-escapes true true true true false h = absurd (true≢false h.apart)
-escapes true true true false true h = absurd (true≢false h.first)
-escapes true true true false false h = absurd (true≢false h.first)
-escapes true true false true true h = refl
-escapes true true false true false h = refl
-escapes true true false false true h = absurd (true≢false h.first)
-escapes true true false false false h = absurd (true≢false h.first)
-escapes true false true true true h = refl
-escapes true false true true false h = refl
-escapes true false true false true h = refl
-escapes true false true false false h = refl
-escapes true false false true true h = absurd (true≢false h.behind)
-escapes true false false true false h = absurd (true≢false h.behind)
-escapes true false false false true h = refl
-escapes true false false false false h = refl
-escapes false true true true true h = absurd (true≢false h.apart)
-escapes false true true true false h = absurd (true≢false h.apart)
-escapes false true true false true h = absurd (true≢false h.first)
-escapes false true true false false h = absurd (true≢false h.first)
-escapes false true false true true h = refl
-escapes false true false true false h = refl
-escapes false true false false true h = absurd (true≢false h.first)
-escapes false true false false false h = absurd (true≢false h.first)
-escapes false false true true true h = refl
-escapes false false true true false h = refl
-escapes false false true false true h = refl
-escapes false false true false false h = refl
-escapes false false false true true h = absurd (true≢false h.behind)
-escapes false false false true false h = absurd (true≢false h.behind)
-escapes false false false false true h = refl
-escapes false false false false false h = refl
-
-and-false : (a : Bool) → (a && false) ≡ false
-and-false true = refl
-and-false false = refl
-
-or-false : (a : Bool) → (a || false) ≡ a
-or-false true = refl
-or-false false = refl
-
-and-not : (a : Bool) → (a && not a) ≡ false
-and-not true = refl
-and-not false = refl
-
-next_behind : (b z e : Bool) → (z && not e) ≡ false → ((b && not e) && not (run b z || false)) ≡ false
-next_behind false z e h = refl
-next_behind true true true h = refl
-next_behind true true false h = h
-next_behind true false true h = refl
-next_behind true false false h = refl
+escapes b z g e o h = grind arith
 
 -- ---- the block
 
@@ -176,13 +64,12 @@ module _ (carry : Bool) (backslash : ℕ) where
   runs_lt h = omega (arith, and_le_l backslash (complement flag))
 
   run_bit : (i : ℕ) → i < 64 → is_set runs i ≡ run (is_set backslash i) (is_set flag i)
-  run_bit i h = is_set-and backslash (complement flag) i ∙ ap (λ x. is_set backslash i && x) (is_set-complement flag i (flag_lt carry) h)
+  run_bit i h = grind (arith, is_set-and, is_set-complement flag i (flag_lt carry) h)
 
   upper_bit : (i : ℕ) → i < 64 → is_set upper i ≡ (is_run_before i || is_odd i)
-  upper_bit zero h = is_set-or (shifted runs 1) 0xaaaa_aaaa_aaaa_aaaa 0 ∙ ap₂ (λ x y. x || y) (is_set-shifted_low runs 1 0 (omega arith) h) (odds 0 h)
+  upper_bit zero h = grind (arith, is_set-or, is_set-shifted_low runs 1 0 (omega arith) h, odds 0 h)
   upper_bit (suc i) h =
-      is_set-or (shifted runs 1) 0xaaaa_aaaa_aaaa_aaaa (suc i)
-      ∙ ap₂ (λ x y. x || y) (ap (is_set (shifted runs 1)) (sym (one-add i)) ∙ is_set-shifted runs 1 i (omega arith)) (odds (suc i) h)
+      grind (arith, is_set-or, is_set-shifted runs 1 i (omega arith), odds (suc i) h)
 
   pub record At (i : ℕ) : Type 0 where
     pub holds : Holds (is_set flag i) (is_run_before i) (is_escaped carry backslash i)
@@ -194,7 +81,7 @@ module _ (carry : Bool) (backslash : ℕ) where
     at zero h =
         let f = is_set-flag_zero carry in
         record {
-          holds = record { behind = ap (λ x. carry && not x) f ∙ and-not carry; first = ap (λ x. x && not carry) f ∙ and-not carry; apart = refl };
+          holds = record { behind = grind (arith, f); first = grind (arith, f); apart = refl };
           carried = carries-zero upper (complement runs);
         }
     at (suc i) h = next (at i (omega arith))
@@ -214,9 +101,9 @@ module _ (carry : Bool) (backslash : ℕ) where
             let majority = λ (x y c : Bool). (x && y) || (c && (x || y)) in
             record {
               holds = record {
-                behind = ap₂ (λ x y. (b && not e) && not (x || y)) (run_bit i h) past ∙ next_behind b z e now.holds.first;
-                first = ap (λ x. x && not (b && not e)) past;
-                apart = ap (λ x. is_set runs i && x) past ∙ and-false (is_set runs i);
+                behind = grind (arith, run_bit i h, past, now.holds.first);
+                first = grind (arith, past);
+                apart = grind (arith, past);
               };
               carried =
                   carries-suc upper (complement runs) i
@@ -227,18 +114,11 @@ module _ (carry : Bool) (backslash : ℕ) where
 
     mark_bit : (i : ℕ) → i < 64 → is_set marks i ≡ xor (difference (is_set backslash i) (is_set flag i) (is_run_before i) (is_escaped carry backslash i) (is_odd i)) (is_odd i)
     mark_bit i h =
-        let l = run (is_set backslash i) (is_set flag i) in
-        is_set-xor _ 0xaaaa_aaaa_aaaa_aaaa i
-        ∙ ap₂ xor
-        (is_set-difference upper runs i (runs_lt fits) h ∙ ap₂ (λ x y. xor (xor x (not y)) (carries upper (complement runs) i)) (upper_bit i h) (run_bit i h)
-        ∙ ap (xor (xor (is_run_before i || is_odd i) (not l))) (at i (omega arith)).carried)
-        (odds i h)
+        grind (arith, is_set-xor, is_set-difference upper runs i (runs_lt fits) h, upper_bit i h, run_bit i h, (at i (omega arith)).carried, odds i h)
 
     pub bits : HasBits (bit_xor marks (bit_or backslash flag)) (is_escaped carry backslash)
     bits i h =
-        let e = is_escaped carry backslash i in
-        is_set-xor marks (bit_or backslash flag) i ∙ ap₂ xor (mark_bit i h) (is_set-or backslash flag i)
-        ∙ told (is_set backslash i) (is_set flag i) (is_run_before i) e (is_odd i) (at i (omega arith)).holds
+        grind (arith, is_set-xor, is_set-or, mark_bit i h, told (is_set backslash i) (is_set flag i) (is_run_before i) (is_escaped carry backslash i) (is_odd i) (at i (omega arith)).holds)
 
     pub on : (bit_and marks backslash / 2 ^ 63 == 1) ≡ is_escaped carry backslash 64
     unfolding is_escaped

@@ -12,19 +12,7 @@ parity word i = is_odd (ones_below word i)
 
 pub parity-suc : (word i : ℕ) → parity word (suc i) ≡ xor (parity word i) (is_set word i)
 unfolding ones_below
-parity-suc word i = turned (is_set word i) (ones_below word i)
-  where
-    not_is : (a : Bool) → not a ≡ xor a true
-    not_is true = refl
-    not_is false = refl
-
-    same : (a : Bool) → a ≡ xor a false
-    same true = refl
-    same false = refl
-
-    turned : (b : Bool) (n : ℕ) → is_odd (cond b (suc n) n) ≡ xor (is_odd n) b
-    turned true n = odd_suc n ∙ not_is (is_odd n)
-    turned false n = same (is_odd n)
+parity-suc word i = grind (arith, odd_suc)
 
 pub parity-zero : (word : ℕ) → parity word 0 ≡ false
 unfolding ones_below
@@ -36,40 +24,21 @@ sum_down word i zero = false
 sum_down word zero (suc n) = is_set word zero
 sum_down word (suc i) (suc n) = xor (is_set word (suc i)) (sum_down word i n)
 
-xor-assoc : (a b c : Bool) → xor (xor a b) c ≡ xor a (xor b c)
-xor-assoc false b c = refl
-xor-assoc true false c = refl
-xor-assoc true true false = refl
-xor-assoc true true true = refl
-
-xor-comm : (a b : Bool) → xor a b ≡ xor b a
-xor-comm true true = refl
-xor-comm true false = refl
-xor-comm false true = refl
-xor-comm false false = refl
-
-xor-false : (a : Bool) → xor a false ≡ a
-xor-false a = xor-comm a false
-
 -- a sum in two parts, the lower of which begins n bits further down
 in_parts : (word n i j k m : ℕ) → i ≡ n + j → k ≡ n + m → sum_down word i k ≡ xor (sum_down word i n) (sum_down word j m)
 unfolding sum_down
-in_parts word zero i j k m e f =
-    let same : i ≡ j = omega arith in
-    let many : k ≡ m = omega arith in
-    ap₂ (sum_down word) same many
+in_parts word zero i j k m e f = grind arith
 in_parts word (suc n) zero j k m e f = absurd (omega arith)
 in_parts word (suc n) (suc i) j zero m e f = absurd (omega arith)
 in_parts word (suc n) (suc i) j (suc k) m e f =
-    ap (xor (is_set word (suc i))) (in_parts word n i j k m (omega arith) (omega arith)) ∙ sym (xor-assoc (is_set word (suc i)) (sum_down word i n) (sum_down word j m))
+    grind (arith, in_parts word n i j k m (omega arith) (omega arith))
 
 -- of more bits than there are, all are summed up
 all_down : (word i n : ℕ) → i < n → sum_down word i n ≡ parity_through word i
 unfolding sum_down
 all_down word i zero h = absurd (omega arith)
-all_down word zero (suc n) h = ap (λ b. xor b (is_set word zero)) (sym (parity-zero word)) ∙ sym (parity-suc word zero)
-all_down word (suc i) (suc n) h =
-    ap (xor (is_set word (suc i))) (all_down word i n (omega arith)) ∙ xor-comm (is_set word (suc i)) (parity word (suc i)) ∙ sym (parity-suc word (suc i))
+all_down word zero (suc n) h = grind (arith, parity-zero, parity-suc)
+all_down word (suc i) (suc n) h = grind (arith, all_down word i n (omega arith), parity-suc)
 
 -- each bit of the fold is the sum of n bits of the word
 pub record Folded (word n fold : ℕ) : Type 0 where
@@ -81,7 +50,7 @@ unfolded word = record { sums = λ i h. one i }
   where
     one : (i : ℕ) → is_set word i ≡ sum_down word i 1
     one zero = refl
-    one (suc i) = sym (xor-false (is_set word (suc i)))
+    one (suc i) = grind arith
 
 -- to fold once more doubles the bits that are summed up
 pub folded : (word n fold : ℕ) → Folded word n fold → Folded word (n + n) (bit_xor fold (shifted fold n))
@@ -89,8 +58,7 @@ folded word n fold f = record { sums = λ i h. is_set-xor fold (shifted fold n) 
   where
     lower : (i : ℕ) → i < 64 → i < n → xor (is_set fold i) (is_set (shifted fold n) i) ≡ sum_down word i (n + n)
     lower i h few =
-        ap (xor (is_set fold i)) (is_set-shifted_low fold n i few h) ∙ xor-false (is_set fold i)
-        ∙ f.sums i h ∙ all_down word i n few ∙ sym (all_down word i (n + n) (omega arith))
+        grind (arith, is_set-shifted_low fold n i few h, f.sums i h, all_down word i n few, all_down word i (n + n) (omega arith))
 
     upper : (i : ℕ) → i < 64 → n ≤ i → xor (is_set fold i) (is_set (shifted fold n) i) ≡ sum_down word i (n + n)
     upper i h many =

@@ -8,26 +8,7 @@ use Rattle.string_spans.proofs.Folds.{parity, parity-suc}
 
 -- a block that begins within a string turns every parity
 before : (s : Bool) (n : ℕ) → is_odd (cond s 1 0 + n) ≡ xor (is_odd n) s
-before true n = ap is_odd (one-add n) ∙ odd_suc n ∙ turned (is_odd n)
-  where
-    turned : (a : Bool) → not a ≡ xor a true
-    turned true = refl
-    turned false = refl
-before false n = ap is_odd (zero-add n) ∙ same (is_odd n)
-  where
-    same : (a : Bool) → a ≡ xor a false
-    same true = refl
-    same false = refl
-
-swapped : (a b s : Bool) → xor (xor a b) s ≡ xor (xor a s) b
-swapped true true true = refl
-swapped true true false = refl
-swapped true false true = refl
-swapped true false false = refl
-swapped false true true = refl
-swapped false true false = refl
-swapped false false true = refl
-swapped false false false = refl
+before s n = grind (arith, odd_suc)
 
 module _ (s : Bool) (q p : ℕ) (q_lt : q < 2 ^ 64) (p_lt : p < 2 ^ 64) (folds : HasBits p (parity_through q)) where
   -- the bytes within a string, an opening quote among them and a closing one not
@@ -45,35 +26,16 @@ module _ (s : Bool) (q p : ℕ) (q_lt : q < 2 ^ 64) (p_lt : p < 2 ^ 64) (folds :
 
   step : (i : ℕ) → i < 64 → is_set within i ≡ xor (odd i) (is_set q i)
   step i h =
-      is_within i h ∙ ap (λ b. xor b s) (parity-suc q i) ∙ swapped (parity q i) (is_set q i) s ∙ ap (λ b. xor b (is_set q i)) (sym (before s (ones_below q i)))
-
-  opens : (b o : Bool) → (xor o b && b) ≡ (b && not o)
-  opens true true = refl
-  opens true false = refl
-  opens false true = refl
-  opens false false = refl
-
-  closes : (b o : Bool) → (b && not (xor o b)) ≡ (b && o)
-  closes true true = refl
-  closes true false = refl
-  closes false true = refl
-  closes false false = refl
-
-  fills : (b o : Bool) → (xor o b && not b) ≡ (not b && o)
-  fills true true = refl
-  fills true false = refl
-  fills false true = refl
-  fills false false = refl
+      grind (arith, is_within i h, parity-suc q i, before s (ones_below q i))
 
   pub opening : HasBits (bit_and within q) (is_opening s q)
-  opening i h = is_set-and within q i ∙ ap (λ w. w && is_set q i) (step i h) ∙ opens (is_set q i) (odd i)
+  opening i h = grind (arith, is_set-and, step i h)
 
   pub closing : HasBits (bit_and q (complement within)) (is_closing s q)
-  closing i h =
-      is_set-and q _ i ∙ ap (λ w. is_set q i && w) (is_set-complement within i within_lt h ∙ ap not (step i h)) ∙ closes (is_set q i) (odd i)
+  closing i h = grind (arith, is_set-and, is_set-complement within i within_lt h, step i h)
 
   pub interior : HasBits (bit_and within (complement q)) (is_interior s q)
-  interior i h = is_set-and within _ i ∙ ap₂ (λ u w. u && w) (step i h) (is_set-complement q i q_lt h) ∙ fills (is_set q i) (odd i)
+  interior i h = grind (arith, is_set-and, is_set-complement q i q_lt h, step i h)
 
   pub last : (within / 2 ^ 63 == 1) ≡ odd 64
   last = top_bit within within_lt ∙ is_within 63 (omega arith) ∙ sym (before s (ones_below q 64))

@@ -19,16 +19,13 @@ or_cases true b h = inl refl
 or_cases false b h = inr h
 
 or-false : (a : Bool) → (a || false) ≡ a
-or-false true = refl
-or-false false = refl
+or-false x0 = grind arith
 
 or-true : (a : Bool) → (a || true) ≡ true
-or-true true = refl
-or-true false = refl
+or-true x0 = grind arith
 
 or-assoc : (a b c : Bool) → ((a || b) || c) ≡ (a || (b || c))
-or-assoc true b c = refl
-or-assoc false b c = refl
+or-assoc x0 b c = grind arith
 
 both : (a b : Bool) → (a && b) ≡ true → (a ≡ true) × (b ≡ true)
 both true true h = (refl, refl)
@@ -36,8 +33,7 @@ both true false h = absurd (false≢true h)
 both false b h = absurd (false≢true h)
 
 and-false : (a : Bool) → (a && false) ≡ false
-and-false true = refl
-and-false false = refl
+and-false x0 = grind arith
 
 -- ---- below a number
 
@@ -73,28 +69,21 @@ any_where p (suc n) h = go (or_cases (any_below p n) (p n) h) (any_where p n)
 
 any_along : (p : ℕ → Bool) (at n : ℕ) → any_below p (at + n) ≡ (any_below p at || any_below (λ i. p (at + i)) n)
 unfolding any_below
-any_along p at zero = ap (any_below p) (add-zero at) ∙ sym (or-false (any_below p at))
-any_along p at (suc n) =
-    ap (any_below p) (add-suc at n) ∙ ap (λ x. x || p (at + n)) (any_along p at n) ∙ or-assoc (any_below p at) (any_below (λ i. p (at + i)) n) (p (at + n))
+any_along p at zero = grind (arith, add-zero at, or-false (any_below p at))
+any_along p at (suc n) = grind (arith, add-suc at n, any_along p at n, or-assoc (any_below p at) (any_below (λ i. p (at + i)) n) (p (at + n)))
 
 -- ---- a word that is not zero has a bit
 
 pub bit_there : (word i : ℕ) → bit_at word i ≡ 1 → is_set word i ≡ true
 unfolding is_set
-bit_there word i h = ap (λ n. n == 1) h
+bit_there word i h = grind (arith, h)
 
 positive : (word : ℕ) (b : Bool) → (word == 0) ≡ b → 0 < word → not b ≡ true
-positive word false e h = refl
-positive word true e h =
-    let z : word ≡ 0 = eqb-true word 0 e in
-    let no : ⊥ = omega arith in
-    absurd no
+positive word x1 e h = grind (arith, no)
 
 any_bit : (word : ℕ) → word < 2 ^ 64 → not (word == 0) ≡ any_below (is_set word) 64
 any_bit zero h = sym (any_none (is_set 0) 64 is_set-zero)
-any_bit (suc word) h =
-    let found = bit_at-trailing_zeros w64 (suc word) (omega arith) h in
-    positive (suc word) (suc word == 0) refl (omega arith) ∙ sym (any_found (is_set (suc word)) 64 _ found.0 (bit_there (suc word) _ found.1))
+any_bit (suc word) h = let found = bit_at-trailing_zeros w64 (suc word) (omega arith) h in grind (arith, positive (suc word) (suc word == 0) refl (omega arith), any_found (is_set (suc word)) 64 _ found.0 (bit_there (suc word) _ found.1))
 
 any_or : (a b : ℕ) → not (bit_or a b == 0) ≡ (not (a == 0) || not (b == 0))
 any_or a b =
@@ -105,23 +94,19 @@ any_or a b =
 
 -- the words of blocks gathered in one, with that of one block more
 pub gathered : (p : ℕ → Bool) (at before word : ℕ) → word < 2 ^ 64 → not (before == 0) ≡ any_below p at → HasBits word (λ i. p (at + i)) → not (bit_or before word == 0) ≡ any_below p (at + 64)
-gathered p at before word lt starts bits =
-    any_or before word ∙ ap₂ (λ x y. x || y) starts (any_bit word lt ∙ any_same (is_set word) (λ i. p (at + i)) 64 bits) ∙ sym (any_along p at 64)
+gathered p at before word lt starts bits = grind (arith, any_or before word, starts, any_bit word lt, any_same (is_set word) (λ i. p (at + i)) 64 bits, any_along p at 64)
 
 -- ---- past the end there are spaces
 
 any_end : (p : ℕ → Bool) (end at : ℕ) → end ≤ at → ((i : ℕ) → p (end + i) ≡ false) → any_below p at ≡ any_below p end
-any_end p end at h none =
-    let e : at ≡ end + (at - end) = omega arith in
-    ap (any_below p) e ∙ any_along p end (at - end) ∙ ap (λ x. any_below p end || x) (any_none (λ i. p (end + i)) (at - end) none) ∙ or-false (any_below p end)
+any_end p end at h none = let e : at ≡ end + (at - end) = omega arith in grind (arith, e, any_along p end (at - end), any_none (λ i. p (end + i)) (at - end) none, or-false (any_below p end))
 
 module _ (text : List ℕ) where
   space : (i : ℕ) → byte text (length text + i) ≡ 32
   space i = get_or_past text (length text + i) 32 (omega arith)
 
   pub control_end : (at : ℕ) → length text ≤ at → any_below (is_control_inside text) at ≡ any_below (is_control_inside text) (length text)
-  control_end at h =
-      any_end (is_control_inside text) (length text) at h (λ i. ap (λ c. is_interior text (length text + i) && control_byte c) (space i) ∙ and-false (is_interior text (length text + i)))
+  control_end at h = grind (arith, any_end (is_control_inside text) (length text) at h (λ i. ap (λ c. is_interior text (length text + i) && control_byte c) (space i) ∙ and-false (is_interior text (length text + i))))
 
   pub control_told : (n : ℕ) (flag : Bool) → flag ≡ any_below (is_control_inside text) n → IsTrue flag ↔ HasControlInsideTo text n
   control_told n flag e = (

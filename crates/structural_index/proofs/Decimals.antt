@@ -10,7 +10,7 @@ digit_atom : (b : ℕ) → (48 ≤ b) × (b ≤ 57) → is_plain_atom b ≡ true
 digit_atom b h = let low = h.0 in let high = h.1 in grind (arith, nat_tests)
 
 known_atom : (b x : ℕ) → b ≡ x → is_plain_atom x ≡ true → is_plain_atom b ≡ true
-known_atom b x e h = ap is_plain_atom e ∙ h
+known_atom b x e h = grind (arith, e, h)
 
 pub decimal_atoms : (text : List ℕ) (i n : ℕ) → IsDecimal text i n → i + n ≤ length text → AreAtomsFrom text i (i + n)
 decimal_atoms text i n d room = λ k from to.

@@ -38,25 +38,18 @@ abbrev bit : Bool → ℕ
 bit b = cond b 1 0
 
 unset : (b : Bool) → bit b ≡ 0 → b ≡ false
-unset false e = refl
-unset true e = absurd (omega arith)
+unset x0 e = grind arith
 
 -- the bit of a lane is its highest
 told : (h n i : ℕ) (lanes : List ℕ) (x : ℕ) → n ≤ 64 → i < n → HasLane n i lanes x → bit_at (mask_l (map (top h) lanes) % 2 ^ 64) i ≡ bit (top h x)
-told h n i lanes x few inside lane =
-    let tops = map (top h) lanes in
-    let long = lane.many in
-    let whole = mask_l-mod tops 64 (omega (arith, length-map lanes (top h))) in
-    let at = get_or-map (top h) lanes i 0 false (omega arith) ∙ ap (top h) lane.here in
-    ap (λ m. bit_at m i) whole ∙ bit_mask_l tops i ∙ ap bit at
+told h n i lanes x few inside lane = let tops = map (top h) lanes in let long = lane.many in let whole = mask_l-mod tops 64 (omega (arith, length-map lanes (top h))) in let at = get_or-map (top h) lanes i 0 false (omega arith) ∙ ap (top h) lane.here in grind (arith, whole, bit_mask_l tops i, at)
 
 -- where the bit of a lane is not set, the lane has not its highest bit
 pub off : (h n i : ℕ) (lanes : List ℕ) (x : ℕ) → n ≤ 64 → i < n → HasLane n i lanes x → bit_at (mask_l (map (top h) lanes) % 2 ^ 64) i ≡ 0 → top h x ≡ false
 off h n i lanes x few inside lane clear = unset (top h x) (sym (told h n i lanes x few inside lane) ∙ clear)
 
 set_only : (b : Bool) → bit b ≡ 1 → b ≡ true
-set_only true e = refl
-set_only false e = absurd (omega arith)
+set_only x0 e = grind arith
 
 -- and where it is set, the lane has
 pub on : (h n i : ℕ) (lanes : List ℕ) (x : ℕ) → n ≤ 64 → i < n → HasLane n i lanes x → bit_at (mask_l (map (top h) lanes) % 2 ^ 64) i ≡ 1 → top h x ≡ true
@@ -75,11 +68,10 @@ set_within h n i lanes few long set = elim (cases_lt i n) [
 
 -- no bit of 0 is set
 pub none : (mask i : ℕ) → mask ≡ 0 → bit_at mask i ≡ 0
-none mask i e = ap (λ m. bit_at m i) e ∙ bit_at-zero i
+none mask i e = grind (arith, e, bit_at-zero i)
 
 some_bit : (m i : ℕ) → bit_at m i ≡ 1 → 0 < m
-some_bit zero i e = absurd (let z = bit_at-zero i in omega arith)
-some_bit (suc m) i e = omega arith
+some_bit x0 i e = grind arith
 
 -- a bit that is set behind the last lane ends the count
 module _ (stops n : ℕ) (fits : stops < 2 ^ 64) (inside : n < 64) where
@@ -99,10 +91,7 @@ module _ (stops n : ℕ) (fits : stops < 2 ^ 64) (inside : n < 64) where
   ]
 
   pub none_before : (i : ℕ) → i < trailing_zeros w64 ended → bit_at stops i ≡ 0
-  none_before i before =
-      let most = no_more in
-      let other : i ≢ n = λ e. omega arith in
-      sym (bit_at_set_other w64 stops n inside i other) ∙ lowest.2 i before
+  none_before i before = let most = no_more in let other : i ≢ n = λ e. omega arith in grind (arith, bit_at_set_other w64 stops n inside i other, lowest.2 i before)
 
 -- bits from one on, where bit 32 is set
 module _ (mask from : ℕ) (fits : mask < 2 ^ 64) (most : from ≤ 32) (end : bit_at mask 32 ≡ 1) where
@@ -110,10 +99,10 @@ module _ (mask from : ℕ) (fits : mask < 2 ^ 64) (most : from ≤ 32) (end : bi
   word = mask / 2 ^ from
 
   same_bit : (i : ℕ) → bit_at word i ≡ bit_at mask (from + i)
-  same_bit i = ap (λ x. x % 2) (shr-shr mask from i)
+  same_bit i = grind (arith, shr-shr mask from i)
 
   ends : bit_at word (32 - from) ≡ 1
-  ends = let back : from + (32 - from) ≡ 32 = omega arith in same_bit (32 - from) ∙ ap (bit_at mask) back ∙ end
+  ends = let back : from + (32 - from) ≡ 32 = omega arith in grind (arith, same_bit (32 - from), back, end)
 
   first_set : (trailing_zeros w64 word < 64) × (bit_at word (trailing_zeros w64 word) ≡ 1) × ((i : ℕ) → i < trailing_zeros w64 word → bit_at word i ≡ 0)
   first_set = let less = div-le_self mask (2 ^ from) in bit_at-trailing_zeros w64 word (some_bit word (32 - from) ends) (omega (arith, less, fits))
@@ -143,8 +132,7 @@ neither true false e = absurd (cc)
 neither true true e = absurd (cc)
 
 pub alone : (p : Bool) → top 7 (cond p 255 0) ≡ false → p ≡ false
-alone false e = refl
-alone true e = absurd (cc)
+alone x0 e = grind arith
 
 pub none_of : (p q r : Bool) → top 7 (bit_or (bit_or (cond p 255 0) (cond q 255 0)) (cond r 255 0)) ≡ false → (p ≡ false) × (q ≡ false) × (r ≡ false)
 none_of false false false e = (refl, refl, refl)
@@ -181,9 +169,7 @@ backslash_on x t = go (eqb x 92) refl t
     go false e t = absurd (cc)
 
 pub backslash_lane : (n i : ℕ) (v : List ℕ) (x : ℕ) → n ≤ 64 → i < n → HasLane n i v x → bit_at (mask_l (map (top 7) (zip2 equal v (replicate n 92))) % 2 ^ 64) i ≡ 1 → x ≡ 92
-backslash_lane n i v x few inside lane set =
-    let backslash = combined equal n i v (replicate n 92) x 92 inside lane (repeated n i 92 inside) in
-    backslash_on x (on 7 n i _ _ few inside backslash set)
+backslash_lane n i v x few inside lane set = let backslash = combined equal n i v (replicate n 92) x 92 inside lane (repeated n i 92 inside) in grind (arith, backslash_on x (on 7 n i _ _ few inside backslash set))
 
 pub backslash_within : (n i : ℕ) (v : List ℕ) (x : ℕ) → n ≤ 64 → 0 < n → HasLane n 0 v x → bit_at (mask_l (map (top 7) (zip2 equal v (replicate n 92))) % 2 ^ 64) i ≡ 1 → i < n
 backslash_within n i v x few some lane set = set_within 7 n i _ few (combined equal n 0 v (replicate n 92) x 92 some lane (repeated n 0 92 some)).many set

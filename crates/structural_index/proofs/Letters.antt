@@ -17,7 +17,7 @@ digits word a b c d w x y z ha hb hc hd hw hx hy hz e f =
     (p.0, q.0, r.0, r.1)
 
 pub take_next : (text : List ℕ) (i j n : ℕ) → i + 1 ≡ j → i < length text → take (suc n) (drop i text) ≡ get_or text i 0 ∷ take n (drop j text)
-take_next text i j n e l = ap (take (suc n)) (drop_more text i 0 l) ∙ ap (λ k. get_or text i 0 ∷ take n (drop k text)) e
+take_next text i j n e l = grind (arith, drop_more text i 0 l, e)
 
 -- the letters of a word whose first four are known
 pub four_letters : (text : List ℕ) (i n a b c d word : ℕ) → ((k : ℕ) → get_or text k 0 < 256) → i + 4 ≤ length text → word ≡ word_at text i

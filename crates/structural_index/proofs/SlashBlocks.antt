@@ -30,10 +30,7 @@ module _ (text blocks : List ℕ) (at word : ℕ) (fits : word < 2 ^ 64) (begins
     where
       go : (k : ℕ) → k < at + 64 → byte text k ≡ 0x5c → (k < at) ⊎ (at ≤ k) → (j : ℕ) × (j < length blocks) × IsInBlock (get_or blocks j 0) k
       go k l e (inl below) = before.all k below e
-      go k l e (inr above) =
-          let back : at + (k - at) ≡ k = omega arith in
-          let t = sym (is_set-zero (k - at)) ∙ ap (λ w. is_set w (k - at)) (sym z) ∙ bits (k - at) (omega arith) ∙ ap (is_backslash text) back ∙ ap (λ b. b == 0x5c) e in
-          absurd (false≢true t)
+      go k l e (inr above) = let back : at + (k - at) ≡ k = omega arith in let t = sym (is_set-zero (k - at)) ∙ ap (λ w. is_set w (k - at)) (sym z) ∙ bits (k - at) (omega arith) ∙ ap (is_backslash text) back ∙ ap (λ b. b == 0x5c) e in grind (arith, false≢true t)
 
   abbrev more : List ℕ
   more = blocks ++ at ∷ []
@@ -45,9 +42,7 @@ module _ (text blocks : List ℕ) (at word : ℕ) (fits : word < 2 ^ 64) (begins
   old j l = get_or_append_left blocks (at ∷ []) 0 j l
 
   new : (j : ℕ) → length blocks ≤ j → j < length more → get_or more j 0 ≡ at
-  new j a b =
-      let z : j - length blocks ≡ 0 = omega (arith, long) in
-      get_or-append_right blocks (at ∷ []) (length blocks) j 0 refl a ∙ ap (λ i. get_or (at ∷ []) i 0) z
+  new j a b = let z : j - length blocks ≡ 0 = omega (arith, long) in grind (arith, get_or-append_right blocks (at ∷ []) (length blocks) j 0 refl a, z)
 
   below : (j : ℕ) → j < length blocks → get_or blocks j 0 < at
   below j l = let (k, a, b, e) = before.each j l in omega (arith, a, b.0)
@@ -66,8 +61,8 @@ module _ (text blocks : List ℕ) (at word : ℕ) (fits : word < 2 ^ 64) (begins
       by_last i j h l (inr a) = let inside : i < length blocks = omega (arith, long) in omega (arith, below i inside, old i inside, new j a l)
 
       is_whole : (j : ℕ) → j < length more → (j < length blocks) ⊎ (length blocks ≤ j) → get_or more j 0 % 64 ≡ 0
-      is_whole j l (inl a) = ap (λ b. b % 64) (old j a) ∙ before.whole j a
-      is_whole j l (inr a) = ap (λ b. b % 64) (new j a l) ∙ begins
+      is_whole j l (inl a) = grind (arith, old j a, before.whole j a)
+      is_whole j l (inr a) = grind (arith, new j a l, begins)
 
       is_held : (j : ℕ) → j < length more → (j < length blocks) ⊎ (length blocks ≤ j) → (k : ℕ) × (k < at + 64) × IsInBlock (get_or more j 0) k × (byte text k ≡ 0x5c)
       is_held j l (inl a) = let (k, b, (c, d), e) = before.each j a in let same = old j a in (k, omega arith, (omega arith, omega arith), e)

@@ -20,7 +20,7 @@ unfolding run_before quotes_before after_other any_below
 none_carried text last = record { escaped = refl; inside = refl; other = refl; control = refl }
 
 pub none_listed : (text slashes : List ℕ) → slashes ≡ [] → AreSlashBlocksTo text 0 slashes
-none_listed text slashes e = subst (AreSlashBlocksTo text 0) (sym e) (no_block text)
+none_listed text slashes e = grind (arith, e, no_block text)
 
 pub indexed_told : (text : List ℕ) (n : ℕ) (found : Found) → IsIndexedTo text n found → IsToldTo text n found
 indexed_told text n found h = record { slashes_to = h.slashes_before; inside = h.carried.inside; control = h.carried.control }
@@ -57,11 +57,7 @@ stretched_reached text reach first found h = record {
 
 -- what is left is moved to the front, and the rest cut off
 pub moved_down : (xs ys zs : List ℕ) (count all : ℕ) → all ≡ length xs → count ≤ length xs → ys ≡ copy_within xs count all 0 → zs ≡ take (all - count) ys → zs ≡ drop count xs
-moved_down xs ys zs count all same few moved cut =
-    let n = length xs - count in
-    let long = length-drop count xs in
-    cut ∙ ap (take (all - count)) moved ∙ ap (λ k. take (k - count) (copy_within xs count k 0)) same ∙ ap (λ k. take k (copy_within xs count (length xs) 0)) (sym (zero-add n))
-    ∙ take-paste xs 0 (drop count xs) n (omega arith) (omega (arith, long)) ∙ take_rest xs count
+moved_down xs ys zs count all same few moved cut = let n = length xs - count in let long = length-drop count xs in grind (arith, cut, moved, same, zero-add n, take-paste xs 0 (drop count xs) n (omega arith) (omega (arith, long)), take_rest xs count)
 
 -- fewer places are kept
 pub reached_less : (r : Reached) (number : ℕ) (places : List ℕ) → IsReached r → r.first ≤ number → number ≤ r.first + length r.places → places ≡ drop (number - r.first) r.places
@@ -81,7 +77,7 @@ reached_less r number places h from to e = record {
     begun = h.begun
 
     all : length r.places ≡ length (places_to r.text r.reach) - r.first
-    all = ap (λ l. length l) h.places_are ∙ length-drop r.first (places_to r.text r.reach)
+    all = grind (arith, h.places_are, length-drop r.first (places_to r.text r.reach))
 
     together : r.first + (number - r.first) ≡ number
     together = omega (arith, from)

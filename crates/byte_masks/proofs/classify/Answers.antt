@@ -6,13 +6,7 @@ use Rattle.byte_masks.proofs.Classes.{no_control, near_is, space_is}
 use Rattle.byte_masks.proofs.classify.Goals as goal
 
 pub returns-then-has_control-clause-op : goal.returns-then-has_control-clause-op
-returns-then-has_control-clause-op c i h =
-    let control = c.controls-control.result in
-    let lane = get_or c.args.lanes i 0 in
-    let fits : i < length c.args.lanes = omega (arith, c.fits-lanes.0) in
-    is_set-and c.near_ops-near.result (18446744073709551615 - control) i
-    ∙ ap₂ (λ x y. x && y) (c.near_ops-near.ensures i h) (is_set-complement control i c.controls-control.type_inv h ∙ ap not (c.controls-control.ensures i h))
-    ∙ no_control lane (Each1-get_or (Fits w8) c.args.lanes i 0 fits c.fits-lanes.1).fits
+returns-then-has_control-clause-op c i h = let control = c.controls-control.result in let lane = get_or c.args.lanes i 0 in let fits : i < length c.args.lanes = omega (arith, c.fits-lanes.0) in grind (arith, is_set-and c.near_ops-near.result (18446744073709551615 - control) i, c.near_ops-near.ensures i h, is_set-complement control i c.controls-control.type_inv h, c.controls-control.ensures i h, no_control lane (Each1-get_or (Fits w8) c.args.lanes i 0 fits c.fits-lanes.1).fits)
 
 pub returns-clause-op : goal.returns-clause-op
 returns-clause-op c i h = c.near_ops-near.ensures i h ∙ near_is (get_or c.args.lanes i 0) (c.has_control.ensures c.if-has_control.false i h)

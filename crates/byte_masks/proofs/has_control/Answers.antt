@@ -12,11 +12,4 @@ none : (a b c d : ℕ) → nat_lt (min (min a b) (min c d)) 32 ≡ false → (na
 none a b c d e = (grind (arith, nat_tests), grind (arith, nat_tests), grind (arith, nat_tests), grind (arith, nat_tests))
 
 pub returns : goal.returns
-returns c unset =
-    let lanes = c.args.lanes in
-    none_of (λ i. control_byte (get_or lanes i 0))
-    (λ k h.
-    let at = λ (from : ℕ) (below : T (all_below 64 (range_with_len from 16))) (inside : from + 16 ≤ 64). taken_at lanes from k c.fits-lanes.0 below inside h in
-    let first = c.lesser-first.ensures k h ∙ ap₂ min (at 0 tt (omega arith) ∙ ap (λ i. get_or lanes i 0) (zero-add k)) (at 16 tt (omega arith)) in
-    let second = c.lesser-second.ensures k h ∙ ap₂ min (at 32 tt (omega arith)) (at 48 tt (omega arith)) in
-    none _ _ _ _ (ap control_byte (sym (c.lesser.ensures k h ∙ ap₂ min first second)) ∙ c.control_among.ensures unset k h))
+returns c unset = let lanes = c.args.lanes in grind (arith, none_of (λ i. control_byte (get_or lanes i 0)) (λ k h. let at = λ (from : ℕ) (below : T (all_below 64 (range_with_len from 16))) (inside : from + 16 ≤ 64). taken_at lanes from k c.fits-lanes.0 below inside h in let first = c.lesser-first.ensures k h ∙ ap₂ min (at 0 tt (omega arith) ∙ ap (λ i. get_or lanes i 0) (zero-add k)) (at 16 tt (omega arith)) in let second = c.lesser-second.ensures k h ∙ ap₂ min (at 32 tt (omega arith)) (at 48 tt (omega arith)) in none _ _ _ _ (ap control_byte (sym (c.lesser.ensures k h ∙ ap₂ min first second)) ∙ c.control_among.ensures unset k h)))

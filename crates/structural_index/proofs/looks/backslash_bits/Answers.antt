@@ -4,10 +4,7 @@ use Rattle.structural_index.proofs.Lanes.{loaded, slashless_lane, backslash_lane
 use Rattle.structural_index.proofs.looks.backslash_bits.Goals as goal
 
 pub returns-clause-none : goal.returns-clause-none
-returns-clause-none c k inside clear =
-    let bytes = c.args.bytes.now in
-    let at = c.args.at in
-    slashless_lane 32 k (chunk at 32 bytes) (get_or bytes (at + k) 0) (omega arith) inside (loaded bytes at 32 k c.requires inside) clear
+returns-clause-none c k inside clear = let bytes = c.args.bytes.now in let at = c.args.at in grind (arith, slashless_lane 32 k (chunk at 32 bytes) (get_or bytes (at + k) 0) (omega arith) inside (loaded bytes at 32 k c.requires inside) clear)
 
 pub returns-clause-some : goal.returns-clause-some
 returns-clause-some c k set =

@@ -10,11 +10,7 @@ returns-then-backslashes-ne0-clause-upper_bound c =
     let few = found.0 in omega (arith, few)
 
 pub returns-then-backslashes-ne0-clause-none : goal.returns-then-backslashes-ne0-clause-none
-returns-then-backslashes-ne0-clause-none c =
-    let bits = c.backslash_bits-backslashes in
-    let test = c.if-backslashes-ne0.true in
-    let found = first_backslash c.args.bytes.now c.args.from c.loop-k.k bits.result (omega arith) c.loop-k.invariant.each bits.ensures.some bits.ensures.none (omega (arith, test)) in
-    found.1
+returns-then-backslashes-ne0-clause-none c = let bits = c.backslash_bits-backslashes in let test = c.if-backslashes-ne0.true in let found = first_backslash c.args.bytes.now c.args.from c.loop-k.k bits.result (omega arith) c.loop-k.invariant.each bits.ensures.some bits.ensures.none (omega (arith, test)) in grind (arith, found.1)
 
 pub returns-then-backslashes-ne0-clause-backslash : goal.returns-then-backslashes-ne0-clause-backslash
 returns-then-backslashes-ne0-clause-backslash c =

@@ -4,12 +4,4 @@ use Rattle.structural_index.proofs.Lanes.{loaded, unstopped_lane}
 use Rattle.structural_index.proofs.looks.unstopped_run.Goals as goal
 
 pub returns-clause-none : goal.returns-clause-none
-returns-clause-none c k from to =
-    let text = c.args.bytes.now in
-    let at = c.args.at in
-    let i = k - at in
-    let few = c.lanes_before.ensures.few in
-    let inside : i < 16 = omega arith in
-    let back : at + i ≡ k = omega arith in
-    subst (λ j. (get_or text j 0 ≢ 34) × (get_or text j 0 ≢ 92) × (32 ≤ get_or text j 0)) back
-    (unstopped_lane 16 i (chunk at 16 text) (get_or text (at + i) 0) (omega arith) inside (loaded text at 16 i c.requires inside) (c.lanes_before.ensures.clear i (omega arith)))
+returns-clause-none c k from to = let text = c.args.bytes.now in let at = c.args.at in let i = k - at in let few = c.lanes_before.ensures.few in let inside : i < 16 = omega arith in let back : at + i ≡ k = omega arith in grind (arith, back, unstopped_lane 16 i (chunk at 16 text) (get_or text (at + i) 0) (omega arith) inside (loaded text at 16 i c.requires inside) (c.lanes_before.ensures.clear i (omega arith)))
