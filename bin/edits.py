@@ -3,12 +3,18 @@
     file: src/lib.rt     the file that the pairs after it change, below src/, specs/ or proofs/ of its crate
     old: TEXT            a text that stands exactly once in that file, as the pairs before it left it
     new: TEXT            what takes its place
+
+An edit is judged by the functions that it changes. One of anything else, as of a definition, names those that have to refuse it in a line of its own:
+
+    # by: laws::one_tree    the paths of functions in the crate
 """
 import re
 from pathlib import Path
 
-TOGETHER = 16
-FUNCTION = re.compile(r"( *)(?:pub(?:\([a-z]+\))? )?(?:const )?(?:unsafe )?fn (\w+)")
+TOGETHER = 24
+FUNCTION = re.compile(r"( *)(?:pub(?:\([a-z]+\))? )?(const )?(?:unsafe )?fn (\w+)")
+BLOCK = re.compile(r" *(?:pub(?:\([a-z]+\))? )?(?:unsafe )?(impl|trait|mod)\b")
+CYCLE = re.compile(r"^ *#\[cycle\((\w+)\)\]\n", re.M)
 # the lines of a check that tell of an open goal: where in a source file, or in which proof file
 OPEN = re.compile(r"note: (?:\./)?(src/\S+?):(\d+):\d+: it is not proved that|note: `[^`]+` of (proofs/\S+) must prove|(?:\./)?(proofs/\S+?):\d+:\d+: error: ")
 # of these, a proof that names what is gone
@@ -35,7 +41,7 @@ def pairs_of(lines):
         elif line.startswith("new:") and old is not None:
             found.append((file, old, text))
             old = None
-        elif line.strip():
+        elif line.strip() and not line.startswith("# by: "):
             raise Misfit(f"line {number} is no 'file:', 'old:' or 'new:' in its place: {line[:60]}")
     if old is not None:
         raise Misfit("its last 'old:' has no 'new:'")
@@ -86,13 +92,28 @@ def is_open(line):
 
 
 class Function:
-    """A function of a source file: its name, its lines from its first attribute on, and its text."""
+    """A function of a source file that has a body: its path in its crate, its lines from its first attribute on, and its parts."""
 
-    def __init__(self, file, name, first, last, text):
-        self.file, self.name, self.first, self.last, self.text = file, name, first, last, text
+    def __init__(self, file, blocks, lines, first, start, opening, last):
+        self.file, self.name, self.first, self.last = file, FUNCTION.match(lines[start])[3], first + 1, last + 1
+        module = [it for it in Path(file).with_suffix("").parts[1:] if it not in ("lib", "main", "mod")]
+        self.path = "::".join([*module, *[it.name for it in blocks], self.name])
+        self.text = "\n".join(lines[start : last + 1])
+        self.body = "\n".join(lines[opening : last + 1])
+        self.opening = opening + 1
+        head = "\n".join(lines[first : opening + 1])
+        cycle = CYCLE.search(head)
+        self.cycle = (file, cycle[1]) if cycle else None
+        self.is_const = bool(FUNCTION.match(lines[start])[2])
+        # the prover wants these whole: what a trait or a test has, and a result whose type only the body tells
+        self.stays = any(it.kind == "trait" or it.is_test for it in blocks) or bool(re.search(r"#\[test\]|-> [^{]*\bimpl\b", head))
 
     def calls(self, other):
         return bool(re.search(rf"\b{other.name}(::<[^(]*>)?\(", self.text))
+
+    def proof(self):
+        """The folder of its proof, in its crate."""
+        return f"proofs/{self.path.replace('::', '/')}"
 
     def is_at(self, line):
         """Whether a line of a check tells of an open goal of this function."""
@@ -101,50 +122,104 @@ class Function:
         found = OPEN.match(line)
         if found[1]:
             return found[1] == self.file and self.first <= int(found[2]) <= self.last
-        parts = Path(found[3] or found[4]).parts[1:-1]
-        module = Path(self.file).stem
-        return parts[-1:] == (self.name,) and (module in ("lib", "main") or module in parts[:-1])
+        folder = Path(found[3] or found[4]).parent
+        if self.cycle and folder.name == f"+{self.cycle[1]}":
+            return bool(re.search(rf"`{self.name}(-[^`]*)?`", line))
+        return str(folder) == self.proof()
+
+
+class Block:
+    """An `impl`, a trait or a module within a source file: its last line, and its name in the paths of its functions."""
+
+    def __init__(self, kind, head, last, is_test):
+        self.kind, self.last, self.is_test = kind, last, is_test
+        self.name = type_name(head.split(":")[0]) if kind != "impl" else impl_name(head)
+
+
+def without_parameters(text):
+    while re.search(r"<[^<>]*>", text):
+        text = re.sub(r"<[^<>]*>", "", text)
+    return text
+
+
+def type_name(text):
+    """The name of a type or a trait, without its parameters and the modules that it lies in."""
+    return re.sub(r"\bwhere\b.*", "", without_parameters(text), flags=re.S).strip().lstrip("&").split("::")[-1].strip()
+
+
+def impl_name(head):
+    """The name of an `impl`: the type's, then the trait's, then those of the trait's own parameters, as `FaultFromIoError`."""
+    head, depth = head.strip(), 0
+    for at, char in enumerate(head if head.startswith("<") else ""):
+        depth += (char == "<") - (char == ">")
+        if depth == 0:
+            head = head[at + 1 :].strip()
+            break
+    trait, is_of, owner = head.partition(" for ")
+    if not is_of:
+        return type_name(head)
+    inner = re.fullmatch(r"[^<]*<(.*)>", trait.strip())
+    types = [it for it in re.split(r",(?![^<]*>)", inner[1]) if not it.strip().startswith("'")] if inner else []
+    spelled = (without_parameters(it).strip().lstrip("&").split("::") for it in types)
+    return type_name(owner) + type_name(trait) + "".join(part[:1].upper() + part[1:] for it in spelled for part in it)
 
 
 def functions_of(file, text):
-    """The functions of a formatted text: each ends at the brace that stands as far right as its first line."""
+    """The functions of a formatted text, but those within another's body. A body opens in the first line that stands as far left as the
+    function and ends in a brace, and what opens so closes at the next brace alone in a line that stands as far left."""
     lines = text.split("\n")
-    found = []
+    found, blocks, past = [], [], 0
     for number, line in enumerate(lines):
-        start = FUNCTION.match(line)
-        if not start:
+        blocks = [it for it in blocks if it.last > number]
+        far = len(line) - len(line.lstrip())
+        is_left = lambda at: lines[at].startswith(" " * far) and lines[at][far : far + 1] not in ("", " ")
+        if number < past or not (FUNCTION.match(line) or BLOCK.match(line)) or line.endswith(("}", ";")):
             continue
-        first = number
-        while first and re.match(r" *(#\[|///)", lines[first - 1]):
-            first -= 1
-        last = number
-        while last < len(lines) and lines[last].rstrip() not in (f"{start[1]}}}", f"{start[1]}{{}}") and not (last == number and line.endswith(("}", ";"))):
-            last += 1
-        found.append(Function(file, start[2], first + 1, last + 1, "\n".join(lines[number : last + 1])))
+        opening = next((at for at in range(number, len(lines)) if lines[at].endswith(";") or is_left(at) and lines[at].endswith(("{", "{}"))), None)
+        if opening is None or lines[opening].endswith(";"):
+            continue
+        last = opening if lines[opening].endswith("{}") else next((at for at in range(opening + 1, len(lines)) if lines[at] == " " * far + "}"), len(lines) - 1)
+        if FUNCTION.match(line):
+            first = number
+            while first and re.match(r" *(#\[|//)", lines[first - 1]):
+                first -= 1
+            found.append(Function(file, blocks, lines, first, number, opening, last))
+            past = last + 1
+        else:
+            head = " ".join(lines[number : opening + 1]).rstrip("{} ").lstrip()
+            blocks.append(Block(BLOCK.match(line)[1], head[head.index(BLOCK.match(line)[1]) + len(BLOCK.match(line)[1]) :], last, number > 0 and lines[number - 1].strip() == "#[cfg(test)]"))
     return found
 
 
-def around(text, file, old):
-    """The function that a text of a source file lies in, or nothing."""
-    start = text.index(old)
-    first, last = text.count("\n", 0, start) + 1, text.count("\n", 0, start + len(old)) + 1
-    inside = [it for it in functions_of(file, text) if it.first <= first and last <= it.last]
-    return inside[-1] if inside else None
-
-
 class Edit:
-    """An edit of a crate: its pairs and, where all of them lie in one function, that function."""
+    """An edit of a crate: its pairs, the functions that they lie in where all of them lie in one, and the paths of those that judge it."""
 
     def __init__(self, path, crate):
         self.name, self.pairs = path.name, pairs_in(path)
-        file, old, _ = self.pairs[0]
-        function = around((crate / file).read_text(encoding="utf-8"), file, old) if file.startswith("src/") else None
-        lies_inside = function and all(other == file and text in function.text for other, text, _ in self.pairs)
-        self.function = function if lies_inside else None
+        named = [line.split()[2:] for line in path.read_text(encoding="utf-8").splitlines() if line.startswith("# by: ")]
+        places, texts = [], {}
+        for file, old, new in self.pairs:
+            before = texts.get(file)
+            apply([(file, old, new)], crate, texts)
+            places.append(place_of(file, before or (crate / file).read_text(encoding="utf-8"), old))
+        self.functions = list({it.path: it for it, _ in places if it}.values()) if all(it for it, _ in places) else []
+        self.is_of_bodies = bool(self.functions) and all(is_inside for _, is_inside in places)
+        self.judges = [it.path for it in self.functions] or [it for words in named for it in words]
 
     def goes_with(self, other):
-        mine, others = self.function, other.function
-        return mine.name != others.name and not mine.calls(others) and not others.calls(mine)
+        """Whether the two may be tried together: bodies of different functions may, and where one changes a clause, what calls its function may not."""
+        mine, others = self.functions, other.functions
+        if not mine or not others or {it.name for it in mine} & {it.name for it in others}:
+            return False
+        return self.is_of_bodies and other.is_of_bodies or not any(one.calls(two) or two.calls(one) for one in mine for two in others)
+
+
+def place_of(file, text, old):
+    """The function that a part of a source file's text lies in, or nothing, and whether it lies in that function's body."""
+    start = text.index(old)
+    first, last = text.count("\n", 0, start) + 1, text.count("\n", 0, start + len(old)) + 1
+    inside = [it for it in functions_of(file, text) if it.first <= first and last <= it.last] if file.startswith("src/") else []
+    return (inside[-1], inside[-1].opening < first) if inside else (None, False)
 
 
 def fit_together(edits, crate):
@@ -159,7 +234,7 @@ def fit_together(edits, crate):
 
 
 def in_groups(edits, crate):
-    """The edits of a crate that lie in a function, in groups that may be tried together."""
+    """The edits of a crate in groups that may be tried together."""
     groups = []
     for edit in edits:
         fitting = (group for group in groups if len(group) < TOGETHER and all(edit.goes_with(it) for it in group) and fit_together([*group, edit], crate))
