@@ -6,7 +6,8 @@ use Rattle.tenant_store.specs.declared.faults.StoreFault.TheVariants as f
 use Rattle.tenant_store.specs.Statuses.{status_of}
 use Rattle.tenant_store.specs.Maps.{Map, documents_of}
 use Rattle.tenant_store.specs.Answers.{RefusesPut, RefusesPutNew, FailsVerdict, missing}
-use Rattle.tenant_store.specs.Payloads.{Text, query_fault, payload_limit, found_in, RefusesQuery, IsFault}
+use Rattle.store_names.specs.Lengths.{payload_limit}
+use Rattle.tenant_store.specs.Payloads.{Text, query_fault, found_in, RefusesQuery, IsFault}
 use Rattle.tenant_store.specs.Tenancy.{Tenancy, place_in, with_map}
 use Rattle.tape_select.specs.Budget.{budget}
 use Rattle.tape_select.specs.Charge.{charge}

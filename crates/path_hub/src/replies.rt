@@ -1,7 +1,7 @@
 //! One request of a tenant, answered.
 ghost use Rattle.std.specs.Prelude.{◌≡◌, ◌≤◌, ◌+◌, ◌++◌, length, take, drop, vec_len, [], OnOk, IfErr, IsTrue, Result};
 ghost use Rattle.std.specs.Vec.{vec_capacity};
-ghost use Rattle.tenant_store.specs.Payloads.{payload_limit};
+ghost use Rattle.store_names.specs.Lengths.{payload_limit};
 ghost use Rattle.tenant_store.specs.Statuses.{status_of};
 ghost use Rattle.wire_frames.specs.Replies.{reply};
 ghost use Rattle.wire_frames.specs.Requests.{Get, Put, Remove, ListNames, Query, DropCollection, Usage, PutNew};
