@@ -17,8 +17,8 @@ use Rattle.path_server.specs.declared.call_streams.CallStreamFault.{CallStreamFa
 use Rattle.path_server.specs.declared.call_streams.CallStreamFault.TheVariants as calling
 use Rattle.path_server.specs.declared.keys.KeysFault.{KeysFault}
 use Rattle.path_server.specs.declared.keys.KeysFault.TheVariants as keys
-use Rattle.tenant_store.specs.declared.tenants.TenantsFault.{TenantsFault}
-use Rattle.tenant_store.specs.declared.tenants.TenantsFault.TheVariants as tenants
+use Rattle.tenant_map.specs.declared.tenants.TenantsFault.{TenantsFault}
+use Rattle.tenant_map.specs.declared.tenants.TenantsFault.TheVariants as tenants
 use Rattle.command_line.specs.declared.failure.Failure.{Failure}
 use Rattle.command_line.specs.declared.failure.Failure.TheVariants.{CommandLine, Words, Query, Keys, Replay, Tenants, Net, Write, Read, Call, Memory}
 

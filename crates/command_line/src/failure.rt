@@ -13,7 +13,7 @@ use path_server::{
 use standard_streams::ReadFault;
 use std::fmt;
 use std::io::{self, ErrorKind};
-use tenant_store::TenantsFault;
+use tenant_map::TenantsFault;
 
 /// Why the program ends early.
 #[derive(Debug, Drop)]

@@ -3,7 +3,7 @@
 use crate::queries::{Counted, REFUSED};
 use path_types::compile;
 use std::alloc::Global;
-use tenant_store::{CollName, DocName, Tenant};
+use tenant_store::{CollName, DocName, Queries, Tenant};
 
 fn names(alloc: Global, documents: usize) -> Option<Vec<String>> {
     let Ok(mut names) = Vec::with_capacity(alloc, documents) else {

@@ -4,8 +4,8 @@ use Rattle.std.proofs.Common.{sym, ap, ◌∙◌, subst, cond, inl, inr, arith}
 use Rattle.std.specs.Bool.{MatchBool}
 use Rattle.std.proofs.lemmas.Slice.Eq.{bytes_eq-Decides}
 use Rattle.std.proofs.lemmas.Bool.Decides.{nat_tests}
-use Rattle.tenant_store.specs.Maps.{Map}
-use Rattle.tenant_store.specs.Tenancy.{Tenancy}
+use Rattle.tenant_map.specs.Maps.{Map}
+use Rattle.tenant_map.specs.Tenancy.{Tenancy}
 use Rattle.wire_frames.specs.Requests.{key_of, number_of}
 use Rattle.wire_frames.specs.Replies.{reply}
 use Rattle.path_hub.specs.Answers.{Answers, Alone, is_no_memory}

@@ -8,7 +8,7 @@ use Rattle.std.specs.BTreeMap.{is_at}
 use Rattle.std.proofs.lemmas.Bool.{false≢true}
 use Rattle.wire_frames.specs.Framing.{Framing, with_piece}
 use Rattle.wire_frames.specs.Splitting.{Splitting}
-use Rattle.tenant_store.specs.Tenancy.{Tenancy}
+use Rattle.tenant_map.specs.Tenancy.{Tenancy}
 use Rattle.path_hub.specs.Sessions.{Sessions, session, Sets}
 use Rattle.path_hub.specs.Pending.{Answered, IsIdle, pending}
 use Rattle.path_hub.specs.Into.{AnswersInto, TakesPiece, IsTaken, AnswersOne, AnswersNone}

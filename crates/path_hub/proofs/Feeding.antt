@@ -12,7 +12,7 @@ use Rattle.wire_frames.specs.Splitting.{Splitting}
 use Rattle.wire_frames.specs.Framing.{Framing, with_piece}
 use Rattle.path_hub.specs.declared.event.Event.{Event}
 use Rattle.path_hub.specs.declared.event.Reply.{Reply}
-use Rattle.tenant_store.specs.Tenancy.{Tenancy}
+use Rattle.tenant_map.specs.Tenancy.{Tenancy}
 use Rattle.path_hub.specs.Items.{Streams, items_of, opened}
 use Rattle.path_hub.specs.Runs.{Run}
 use Rattle.path_hub.specs.Pending.{IsSound, pending, item, told, AnswersSome}

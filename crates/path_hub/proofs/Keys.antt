@@ -6,9 +6,9 @@ use Rattle.std.proofs.lemmas.List.{get_or-set_same, get_or-set_other, length-set
 use Rattle.std.proofs.lemmas.Option.{slice_get-get_or, slice_get_within, slice_get_past, get_or_from_slice_get, slice_get_cases}
 use Rattle.std.proofs.lemmas.Map.Text.{is_eq-slice_cmp}
 use Rattle.std.proofs.lemmas.Slice.Eq.{bytes_eq-Decides}
-use Rattle.tenant_store.specs.Keyed.{at}
-use Rattle.tenant_store.specs.Maps.{Map}
-use Rattle.tenant_store.specs.Tenancy.{Tenancy, place_in, with_map}
+use Rattle.tenant_map.specs.Keyed.{at}
+use Rattle.tenant_map.specs.Maps.{Map}
+use Rattle.tenant_map.specs.Tenancy.{Tenancy, place_in, with_map}
 use Rattle.path_hub.specs.Tenants.{map_of, with_map_of, put_at, fresh}
 
 -- a key that passes the test of another is that key

@@ -4,7 +4,7 @@ use Rattle.std.proofs.lemmas.List.{append-nil, append_assoc, map_push, flat_map_
 use Rattle.wire_frames.specs.Frames.{Whole, Wait, Fault, front, Split, split, rest, is_fault}
 use Rattle.wire_frames.specs.Splitting.{Splitting}
 use Rattle.wire_frames.specs.Framing.{Framing}
-use Rattle.tenant_store.specs.Tenancy.{Tenancy}
+use Rattle.tenant_map.specs.Tenancy.{Tenancy}
 use Rattle.path_hub.specs.declared.event.Reply.{Reply}
 use Rattle.path_hub.specs.Runs.{StepItem, Run}
 use Rattle.path_hub.proofs.Alone.{run-append}

@@ -8,14 +8,15 @@ use Rattle.path_types.specs.Validity.{is_valid}
 use Rattle.path_types.specs.Verdict.{IsValidQuery, RefusesQueryText}
 use Rattle.path_types.specs.declared.query_text.QueryFault.{QueryFault}
 use Rattle.path_types.specs.declared.query_text.QueryFault.TheVariants as q
-use Rattle.tenant_store.specs.declared.faults.StoreFault.{StoreFault}
-use Rattle.tenant_store.specs.declared.faults.StoreFault.TheVariants as f
-use Rattle.tenant_store.specs.Statuses.{status_of}
-use Rattle.tenant_store.specs.Maps.{Map, documents_of}
-use Rattle.tenant_store.specs.Answers.{RefusesPut, RefusesPutNew, missing}
-use Rattle.tenant_store.specs.Laws.{PutsAnswerOnce, QueriesAnswerOnce}
+use Rattle.tenant_map.specs.declared.faults.StoreFault.{StoreFault}
+use Rattle.tenant_map.specs.declared.faults.StoreFault.TheVariants as f
+use Rattle.tenant_map.specs.Statuses.{status_of}
+use Rattle.tenant_map.specs.Maps.{Map, documents_of}
+use Rattle.tenant_map.specs.Answers.{RefusesPut, RefusesPutNew, missing}
+use Rattle.tenant_map.specs.Laws.{PutsAnswerOnce}
+use Rattle.tenant_store.specs.Laws.{QueriesAnswerOnce}
 use Rattle.tenant_store.specs.Payloads.{AnswersQuery, RefusesQuery}
-use Rattle.tenant_store.specs.Tenancy.{Tenancy}
+use Rattle.tenant_map.specs.Tenancy.{Tenancy}
 use Rattle.wire_frames.specs.Requests.{Asked, Put, Get, Remove, ListNames, Query, DropCollection, Usage, PutNew, Reading, Short, BadCommand, BadFields, Asks, reading, key_of}
 use Rattle.wire_frames.specs.Replies.{reply}
 use Rattle.path_hub.specs.Answers.{Does, Refuses, Finds, RefusesText, RefusesHits, IsMissing, query_status, HasStatus, IsAnswer, AnswersReading, Alone, is_no_memory}

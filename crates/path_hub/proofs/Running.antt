@@ -3,7 +3,7 @@ use Rattle.std.proofs.Common.{◌≡◌, ℕ, ◌<◌, ◌≤◌, ◌+◌, List,
 use Rattle.std.proofs.lemmas.List.{append-nil, append_assoc, map-append, take_more, drop_more, take_all, take-append-drop}
 use Rattle.path_hub.specs.declared.event.Event.{Event}
 use Rattle.path_hub.specs.declared.event.Reply.{Reply}
-use Rattle.tenant_store.specs.Tenancy.{Tenancy}
+use Rattle.tenant_map.specs.Tenancy.{Tenancy}
 use Rattle.path_hub.specs.Items.{Item, Streams, after_event, items_at, items_from, streams_after, no_streams, items}
 use Rattle.path_hub.specs.Runs.{Run}
 use Rattle.path_hub.proofs.Alone.{run-append, isolated_from_run}

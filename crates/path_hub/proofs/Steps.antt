@@ -1,13 +1,14 @@
 -- How a step is made.
 use Rattle.std.proofs.Common.{◌≡◌, ◌≢◌, ℕ, ◌<◌, ◌+◌, Bool, true, false, eqb, List, [], ◌∷◌, ◌++◌, length, sym, ap, ◌∙◌, subst, refl, Option, Some, None, cond, take, drop, get_or, arith, nat_lt, not, ◌&&◌, inl, inr}
 use Rattle.std.specs.Bool.{MatchBool}
-use Rattle.tenant_store.specs.declared.faults.StoreFault.{StoreFault}
-use Rattle.tenant_store.specs.declared.faults.StoreFault.TheVariants as f
-use Rattle.tenant_store.specs.Statuses.{status_of}
-use Rattle.tenant_store.specs.Maps.{Map, documents_of}
-use Rattle.tenant_store.specs.Answers.{RefusesPut, RefusesPutNew, FailsVerdict, missing}
-use Rattle.tenant_store.specs.Payloads.{Text, query_fault, payload_limit, found_in, RefusesQuery, IsFault}
-use Rattle.tenant_store.specs.Tenancy.{Tenancy, place_in, with_map}
+use Rattle.tenant_map.specs.declared.faults.StoreFault.{StoreFault}
+use Rattle.tenant_map.specs.declared.faults.StoreFault.TheVariants as f
+use Rattle.tenant_map.specs.Statuses.{status_of}
+use Rattle.tenant_map.specs.Maps.{Map, documents_of}
+use Rattle.tenant_map.specs.Answers.{RefusesPut, RefusesPutNew, FailsVerdict, missing}
+use Rattle.store_names.specs.Lengths.{payload_limit}
+use Rattle.tenant_store.specs.Payloads.{Text, query_fault, found_in, RefusesQuery, IsFault}
+use Rattle.tenant_map.specs.Tenancy.{Tenancy, place_in, with_map}
 use Rattle.tape_select.specs.Budget.{budget}
 use Rattle.tape_select.specs.Charge.{charge}
 use Rattle.json_tape.specs.Answer.{NoneApplies}

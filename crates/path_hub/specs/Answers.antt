@@ -6,14 +6,15 @@ use Rattle.path_grammar.specs.Tree.{Segments}
 use Rattle.path_types.specs.Verdict.{IsValidQuery, RefusesQueryText}
 use Rattle.path_types.specs.declared.query_text.QueryFault.{QueryFault}
 use Rattle.path_types.specs.declared.query_text.QueryFault.TheVariants as query
-use Rattle.tenant_store.specs.declared.faults.StoreFault.{StoreFault}
-use Rattle.tenant_store.specs.declared.faults.StoreFault.TheVariants as store
-use Rattle.tenant_store.specs.Statuses.{status_of}
-use Rattle.tenant_store.specs.Keyed.{at}
-use Rattle.tenant_store.specs.Maps.{Map, text_at, documents_of, remove_text, drop_texts}
-use Rattle.tenant_store.specs.Answers.{AcceptsPut, RefusesPut, AcceptsPutNew, RefusesPutNew, missing}
-use Rattle.tenant_store.specs.Payloads.{number, listing, AnswersQuery, RefusesQuery}
-use Rattle.tenant_store.specs.Quotas.{usage_of}
+use Rattle.tenant_map.specs.declared.faults.StoreFault.{StoreFault}
+use Rattle.tenant_map.specs.declared.faults.StoreFault.TheVariants as store
+use Rattle.tenant_map.specs.Statuses.{status_of}
+use Rattle.tenant_map.specs.Keyed.{at}
+use Rattle.tenant_map.specs.Maps.{Map, text_at, documents_of, remove_text, drop_texts}
+use Rattle.tenant_map.specs.Answers.{AcceptsPut, RefusesPut, AcceptsPutNew, RefusesPutNew, missing}
+use Rattle.tenant_map.specs.Listings.{number, listing}
+use Rattle.tenant_store.specs.Payloads.{AnswersQuery, RefusesQuery}
+use Rattle.tenant_map.specs.Quotas.{usage_of}
 use Rattle.wire_frames.specs.Requests.{Asked, Put, Get, Remove, ListNames, Query, DropCollection, Usage, PutNew, Reading, Short, BadCommand, BadFields, Asks, reading}
 use Rattle.wire_frames.specs.Replies.{reply}
 

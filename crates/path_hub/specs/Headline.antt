@@ -1,8 +1,8 @@
 -- The headline: what a run of events gives (this project's own). However the connections' bytes are cut and interleaved, and whatever other tenants send, a tenant's replies, those that memory ran out for aside, are those that its own requests get from a plain map of its texts.
 use Rattle.std.specs.Prelude.{◌≡◌, ◌≢◌, ◌⊎◌, ℕ, List, [], ◌++◌, map, Contains, Result, Ok, Err}
-use Rattle.tenant_store.specs.Tenancy.{Tenancy, AcceptsKeys, RefusesKeys}
-use Rattle.tenant_store.specs.declared.tenants.TenantsFault.{TenantsFault}
-use Rattle.tenant_store.specs.declared.tenants.TenantsFault.TheVariants as refusal
+use Rattle.tenant_map.specs.Tenancy.{Tenancy, AcceptsKeys, RefusesKeys}
+use Rattle.tenant_map.specs.declared.tenants.TenantsFault.{TenantsFault}
+use Rattle.tenant_map.specs.declared.tenants.TenantsFault.TheVariants as refusal
 use Rattle.path_hub.specs.declared.event.Reply.{Reply}
 use Rattle.path_hub.specs.declared.fault.RunFault.{RunFault}
 use Rattle.path_hub.specs.declared.fault.RunFault.TheVariants as fault

@@ -1,7 +1,7 @@
 -- What a hub holds: a framer's state for each connection, and the tenants. Compiled queries that it keeps are no part of it.
 use Rattle.std.specs.Prelude.{ℕ, List}
 use Rattle.wire_frames.specs.Framing.{Framing}
-use Rattle.tenant_store.specs.Tenancy.{Tenancy}
+use Rattle.tenant_map.specs.Tenancy.{Tenancy}
 
 pub record HubState : Type 0 where
   pub sessions : List (ℕ × Framing)

@@ -3,7 +3,7 @@ use Rattle.std.specs.Prelude.{◌≡◌, ◌<◌, ℕ, List, [], ◌++◌, lengt
 use Rattle.std.specs.List.{flat_map}
 use Rattle.wire_frames.specs.Frames.{rest}
 use Rattle.wire_frames.specs.Framing.{Framing, with_piece}
-use Rattle.tenant_store.specs.Tenancy.{Tenancy}
+use Rattle.tenant_map.specs.Tenancy.{Tenancy}
 use Rattle.path_hub.specs.declared.fault.TakeFault.{TakeFault}
 use Rattle.path_hub.specs.declared.fault.TakeFault.TheVariants as take
 use Rattle.path_hub.specs.declared.fault.HubFault.{HubFault}

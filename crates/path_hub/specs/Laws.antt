@@ -1,8 +1,8 @@
 -- What follows from the contracts of the hub: this project's own laws.
 use Rattle.std.specs.Prelude.{◌≡◌, ℕ, List, [], ◌∷◌, ◌++◌, map, Some, false}
 use Rattle.path_hub.specs.declared.wire.ConnEnd.TheVariants.{Done}
-use Rattle.tenant_store.specs.Maps.{Map}
-use Rattle.tenant_store.specs.Tenancy.{Tenancy}
+use Rattle.tenant_map.specs.Maps.{Map}
+use Rattle.tenant_map.specs.Tenancy.{Tenancy}
 use Rattle.path_hub.specs.Answers.{Alone, is_no_memory}
 use Rattle.path_hub.specs.Tenants.{map_of}
 use Rattle.path_hub.specs.Items.{Item}

@@ -2,7 +2,7 @@
 use Rattle.std.specs.Prelude.{◌≡◌, ◌⊎◌, ℕ, List, [], ◌∷◌, ◌++◌, map, Option, Some, None, true, false, if◌then◌else◌}
 use Rattle.wire_frames.specs.Frames.{Whole, Wait, Fault, front, frames, rest, is_broken}
 use Rattle.wire_frames.specs.Framing.{Framing}
-use Rattle.tenant_store.specs.Tenancy.{Tenancy}
+use Rattle.tenant_map.specs.Tenancy.{Tenancy}
 use Rattle.path_hub.specs.declared.event.Reply.{Reply}
 use Rattle.path_hub.specs.Items.{Item}
 use Rattle.path_hub.specs.Runs.{Told, StepItem, Run}

@@ -3,7 +3,7 @@ use Rattle.std.specs.Prelude.{◌≡◌, ℕ, List, [], ◌∷◌, length, Optio
 use Rattle.wire_frames.specs.Requests.{key_of}
 use Rattle.wire_frames.specs.Replies.{reply}
 use Rattle.std.specs.Cmp.Lexicographic.{pointwise}
-use Rattle.tenant_store.specs.Tenancy.{Tenancy}
+use Rattle.tenant_map.specs.Tenancy.{Tenancy}
 use Rattle.path_hub.specs.Tenants.{Step}
 use Rattle.path_hub.specs.Answers.{is_no_memory}
 use Rattle.path_hub.specs.Items.{Item}

@@ -1,8 +1,8 @@
 -- Many tenants, each with a key and a map: one body served. It is this project's own rule that a step reads and changes the map of its own key alone.
 use Rattle.std.specs.Prelude.{◌≡◌, ℕ, List, [], ◌++◌, length, replicate, slice_get, Option, Some, None, option_and_then, Bool, nat_lt, if◌then◌else◌, IsTrue}
 use Rattle.std.specs.Bool.{MatchBool}
-use Rattle.tenant_store.specs.Maps.{Map}
-use Rattle.tenant_store.specs.Tenancy.{Tenancy, place_in, with_map}
+use Rattle.tenant_map.specs.Maps.{Map}
+use Rattle.tenant_map.specs.Tenancy.{Tenancy, place_in, with_map}
 use Rattle.wire_frames.specs.Requests.{number_of, key_of, reading}
 use Rattle.wire_frames.specs.Replies.{reply}
 use Rattle.path_hub.specs.Answers.{Answers, is_no_memory, reading_wants}

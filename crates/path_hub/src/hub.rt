@@ -3,7 +3,7 @@ ghost use Rattle.std.specs.Prelude.{◌≡◌, OnOk, OnErr, None, IfOk, IfErr, [
 ghost use Rattle.std.specs.Bool.{MatchBool};
 ghost use Rattle.std.specs.Option.{option_map_or};
 ghost use Rattle.wire_frames.specs.Framing.{fresh as fresh_framing};
-ghost use Rattle.tenant_store.specs.Tenancy.{Tenancy, AcceptsKeys, RefusesKeys};
+ghost use Rattle.tenant_map.specs.Tenancy.{Tenancy, AcceptsKeys, RefusesKeys};
 ghost use Rattle.path_hub.specs.Sessions.{session, Sets, opened_session, Feeds, FeedsSome, Applies, AppliesSome};
 ghost use Rattle.path_hub.specs.Into.{Bytes, Takes, AnswersOne, AnswersNone};
 ghost use Rattle.path_hub.specs.HubState.{state};

@@ -1,6 +1,6 @@
 //! What follows from the contracts of the hub: each function does nothing, and its contract is the law.
 ghost use Rattle.std.specs.Prelude.{◌≡◌, ℕ, List};
-ghost use Rattle.tenant_store.specs.Maps.{Map};
+ghost use Rattle.tenant_map.specs.Maps.{Map};
 ghost use Rattle.path_hub.specs.Answers.{Alone};
 ghost use Rattle.path_hub.specs.Laws.{ServedBytes, ServedOnce, RunsApart};
 ghost use Rattle.path_hub.specs.Standing.{Standing};

@@ -1,8 +1,8 @@
 //! One request of a tenant, answered.
 ghost use Rattle.std.specs.Prelude.{◌≡◌, ◌≤◌, ◌+◌, ◌++◌, length, take, drop, vec_len, [], OnOk, IfErr, IsTrue, Result};
 ghost use Rattle.std.specs.Vec.{vec_capacity};
-ghost use Rattle.tenant_store.specs.Payloads.{payload_limit};
-ghost use Rattle.tenant_store.specs.Statuses.{status_of};
+ghost use Rattle.store_names.specs.Lengths.{payload_limit};
+ghost use Rattle.tenant_map.specs.Statuses.{status_of};
 ghost use Rattle.wire_frames.specs.Replies.{reply};
 ghost use Rattle.wire_frames.specs.Requests.{Get, Put, Remove, ListNames, Query, DropCollection, Usage, PutNew};
 ghost use Rattle.wire_frames.specs.Readings.{asked_of, refusal};
@@ -13,7 +13,7 @@ ghost use Rattle.path_hub.specs.Tenants.{Serves};
 use path_types::QueryFault;
 use query_cache::Cache;
 use std::alloc::Global;
-use tenant_store::{CollName, DocName, StoreFault, Tenant, Tenants};
+use tenant_store::{CollName, DocName, Queries, StoreFault, Tenant, Tenants};
 use wire_frames::{Command, RequestFault, read_request, reply_head, write_reply};
 
 const OK: u8 = 0;

@@ -7,7 +7,7 @@ use Rattle.std.proofs.lemmas.List.{append-nil}
 use Rattle.std.proofs.lemmas.Bool.{cases_Bool, eqb-true, eqb-false}
 use Rattle.std.proofs.lemmas.Bool.Decides.{nat_tests, Decides-eqb}
 use Rattle.wire_frames.specs.Framing.{Framing, fresh as fresh_framing, with_piece}
-use Rattle.tenant_store.specs.Tenancy.{Tenancy}
+use Rattle.tenant_map.specs.Tenancy.{Tenancy}
 use Rattle.outbox.specs.Lines.{Line, Event, Readable, Declined, Answered, Writable, Ends, Fails, fresh, after, run, reads, gathered, taken_at, replied_at, taken, replied, read, lost, sent as sent_by}
 use Rattle.outbox.specs.Turns.{DoesAll}
 use Rattle.path_hub.specs.HubState.{HubState}

@@ -2,7 +2,7 @@
 use Rattle.std.specs.Prelude.{◌≡◌, ℕ, List, ◌++◌, map, Option, Some}
 use Rattle.wire_frames.specs.Framing.{fresh as fresh_framing}
 use Rattle.outbox.specs.Lines.{Line, Event, fresh, run, read, sent, lost}
-use Rattle.tenant_store.specs.Maps.{Map}
+use Rattle.tenant_map.specs.Maps.{Map}
 use Rattle.path_hub.specs.HubState.{HubState}
 use Rattle.path_hub.specs.Items.{Item}
 use Rattle.path_hub.specs.Runs.{Told, Run, own_requests, own_replies}

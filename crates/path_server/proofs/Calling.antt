@@ -5,7 +5,7 @@ use Rattle.std.proofs.lemmas.List.{append-nil, append_assoc, drop_at, length-app
 use Rattle.std.proofs.Math.Seq.{drop-append-add, split_at}
 use Rattle.std.proofs.lemmas.List.Concat.{flat_map-append}
 use Rattle.std.proofs.lemmas.List.Elements.{All-nil, All-push}
-use Rattle.tenant_store.specs.Payloads.{longest_reply}
+use Rattle.store_names.specs.Lengths.{longest_reply}
 use Rattle.wire_frames.specs.Frames.{frame}
 use Rattle.path_hub.specs.Into.{joined}
 use Rattle.path_hub.specs.Wires.{Meaning, Move, Gave, Took, Moved, read_in, written_in}

@@ -7,7 +7,7 @@ use Rattle.std.proofs.lemmas.Nat.{from_be_bytes-to_be_bytes_4}
 use Rattle.std.proofs.lemmas.Bool.{false≢true}
 use Rattle.std.proofs.lemmas.Slice.Eq.{bytes_eq-Decides}
 use Rattle.std.specs.Str.{bytes_eq}
-use Rattle.tenant_store.specs.Payloads.{longest_reply}
+use Rattle.store_names.specs.Lengths.{longest_reply}
 use Rattle.wire_frames.specs.Frames.{body_length, frame, longest_body}
 use Rattle.path_server.specs.Calls.{HoldsNoReply, IsRequest}
 use Rattle.path_server.specs.Exchanges.{IsReply, SpellsLength}

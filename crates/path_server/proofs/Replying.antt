@@ -4,7 +4,7 @@ use Rattle.std.proofs.lemmas.List.{append-nil, map_push, map-append, take_at, ta
 use Rattle.std.specs.Int.{w32, from_be_bytes}
 use Rattle.path_hub.specs.Into.{joined}
 use Rattle.path_hub.specs.Wires.{Meaning, Gave, Took, Moved, Reads, Faults, WritesAll, HasEnded}
-use Rattle.tenant_store.specs.Payloads.{longest_reply}
+use Rattle.store_names.specs.Lengths.{longest_reply}
 use Rattle.wire_frames.specs.Frames.{body_length}
 use Rattle.path_server.specs.Calls.{HoldsNoReply, IsReadFault}
 use Rattle.path_server.specs.Exchanges.{EndsReply, EndsExchange, Exchanges, IsCutShort, IsReply, ReadsBytes, ReadsReply, SpellsLength}

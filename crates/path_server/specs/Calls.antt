@@ -2,7 +2,7 @@
 use Rattle.std.specs.Prelude.{◌≡◌, ◌≢◌, ◌⊎◌, ◌+◌, ◌<◌, ◌≤◌, ℕ, List, [], ◌∷◌, ◌++◌, length, map, drop, flat_map, Result, Ok, Err}
 use Rattle.std.specs.List.{All}
 use Rattle.hex.specs.Hex.{decode_of}
-use Rattle.tenant_store.specs.Payloads.{longest_reply}
+use Rattle.store_names.specs.Lengths.{longest_reply}
 use Rattle.wire_frames.specs.Frames.{frame, body_length, longest_body}
 use Rattle.path_hub.specs.Into.{joined}
 use Rattle.path_hub.specs.Wires.{Move, Gave, Took, Meaning, Moved, HasEnded, read_in, written_in}

@@ -1,7 +1,7 @@
 -- One request sent and the reply to it read, in the contracts of private functions: this project's own.
 use Rattle.std.specs.Prelude.{◌≡◌, ◌⊎◌, ◌+◌, ◌<◌, ◌≤◌, ℕ, List, [], ◌++◌, length, take, map, Result, Ok, Err}
 use Rattle.std.specs.Int.{w32, to_be_bytes}
-use Rattle.tenant_store.specs.Payloads.{longest_reply}
+use Rattle.store_names.specs.Lengths.{longest_reply}
 use Rattle.wire_frames.specs.Frames.{frame, body_length}
 use Rattle.path_hub.specs.Into.{joined}
 use Rattle.path_hub.specs.Wires.{Gave, Took, Meaning, Moved, HasEnded}

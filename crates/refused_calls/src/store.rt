@@ -5,7 +5,7 @@ use path_types::compile;
 use query_cache::Cache;
 use std::alloc::{AllocError, Global};
 use std::io;
-use tenant_store::{CollName, DocName, StoreFault, Tenant, Tenants};
+use tenant_store::{CollName, DocName, Queries, StoreFault, Tenant, Tenants};
 
 /// The keys of two tenants.
 pub const KEYS: [[u8; 16]; 2] = [

@@ -6,8 +6,9 @@ use Rattle.std.proofs.lemmas.Bool.Decides.{nat_tests}
 use Rattle.path_grammar.specs.Tree.{Segments}
 use Rattle.tape_select.specs.Budget.{budget}
 use Rattle.tape_select.specs.Charge.{total_of, charge}
-use Rattle.tenant_store.specs.declared.faults.StoreFault.TheVariants.{ReplyTooLarge, Costly}
-use Rattle.tenant_store.specs.Payloads.{Text, found_in, found_bytes, payload_limit, query_fault}
+use Rattle.tenant_map.specs.declared.faults.StoreFault.TheVariants.{ReplyTooLarge, Costly}
+use Rattle.store_names.specs.Lengths.{payload_limit}
+use Rattle.tenant_store.specs.Payloads.{Text, found_in, found_bytes, query_fault}
 use Rattle.tenant_store.specs.FirstFault.{ShowsCostly, QueriesRefuseInOrder}
 use Rattle.tenant_store.proofs.Walking.{fault_over, fault_large, fault_next, no_fault_left}
 use Rattle.tenant_store.proofs.Single.{OneTree, texts_once}

@@ -3,9 +3,10 @@ use Rattle.std.specs.Prelude.{◌<◌, ◌≤◌, ◌↔◌, ◌+◌, ℕ, suc, 
 use Rattle.path_grammar.specs.Tree.{Segments}
 use Rattle.tape_select.specs.Budget.{budget}
 use Rattle.tape_select.specs.Charge.{total_of, charge}
-use Rattle.tenant_store.specs.declared.faults.StoreFault.TheVariants.{ReplyTooLarge, Costly}
-use Rattle.tenant_store.specs.Maps.{Documents}
-use Rattle.tenant_store.specs.Payloads.{Text, AreTextsOf, found_bytes, payload, payload_limit, AnswersQuery, RefusesQuery}
+use Rattle.tenant_map.specs.declared.faults.StoreFault.TheVariants.{ReplyTooLarge, Costly}
+use Rattle.tenant_map.specs.Maps.{Documents}
+use Rattle.store_names.specs.Lengths.{payload_limit}
+use Rattle.tenant_store.specs.Payloads.{Text, AreTextsOf, found_bytes, payload, AnswersQuery, RefusesQuery}
 
 -- the charge on the documents up to the one at this place
 abbrev pub charge_through : Segments → List Text → ℕ → ℕ

@@ -1,7 +1,7 @@
 -- How a request is written: this project's own commands, from the side of who asks. A body is a command byte, a number in four bytes, a key of 16 bytes and the command's fields.
 use Rattle.std.specs.Prelude.{◌≡◌, ℕ, ◌<◌, ◌^◌, List, [], ◌∷◌, ◌++◌, length, IsTrue}
 use Rattle.std.specs.Int.{w32, to_be_bytes}
-use Rattle.tenant_store.specs.Names.{is_collection_name, is_document_name}
+use Rattle.store_names.specs.Names.{is_collection_name, is_document_name}
 use Rattle.wire_frames.specs.Requests.{Asked, Put, Get, Remove, ListNames, Query, DropCollection, Usage, PutNew, Asks, reading}
 
 abbrev pub command_byte : Asked → ℕ

@@ -1,7 +1,7 @@
 -- What the body of a request asks: this project's own commands. A body is a command byte, a number in four bytes, a key of 16 bytes and the command's fields.
 use Rattle.std.specs.Prelude.{ℕ, ◌==◌, List, [], ◌∷◌, length, take, drop, slice_index, nat_lt, nat_le, if◌then◌else◌, Bool, Option, Some, None, ◌&&◌, option_and_then}
 use Rattle.std.specs.Int.{w32, from_be_bytes}
-use Rattle.tenant_store.specs.Names.{is_collection_name, is_document_name}
+use Rattle.store_names.specs.Names.{is_collection_name, is_document_name}
 
 -- a command with its fields
 pub data Asked : Type 0 where

@@ -1,14 +1,14 @@
 //! The frames of replies.
 ghost use Rattle.std.specs.Prelude.{◌≡◌, ◌≤◌, ◌+◌, ◌++◌, length, OnOk, OnErr, IsOk, vec_len};
 ghost use Rattle.std.specs.Vec.{vec_capacity};
-ghost use Rattle.tenant_store.specs.Payloads.{payload_limit};
+ghost use Rattle.store_names.specs.Lengths.{payload_limit};
 ghost use Rattle.wire_frames.specs.Replies.{head, reply};
 
 use std::alloc::AllocError;
-use tenant_store::BEFORE_PAYLOAD;
+use store_names::BEFORE_PAYLOAD;
 
 /// The first bytes of a reply frame, up to its payload, of which only the length is asked: at most
-/// [`tenant_store::PAYLOAD_LIMIT`] bytes.
+/// [`store_names::PAYLOAD_LIMIT`] bytes.
 pub fn reply_head(status: u8, number: u32, payload: u32) -> [u8; 9]
     requires { payload ≤ payload_limit }
     ensures { result ≡ head status number payload }
@@ -18,7 +18,7 @@ pub fn reply_head(status: u8, number: u32, payload: u32) -> [u8; 9]
     [a, b, c, d, status, e, f, g, h]
 }
 
-/// Appends a reply frame with a payload of at most [`tenant_store::PAYLOAD_LIMIT`] bytes. It grows the vector at most once.
+/// Appends a reply frame with a payload of at most [`store_names::PAYLOAD_LIMIT`] bytes. It grows the vector at most once.
 ///
 /// # Errors
 ///

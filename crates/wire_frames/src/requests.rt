@@ -1,11 +1,11 @@
 //! What the body of a request frame asks.
 ghost use Rattle.std.specs.Prelude.{◌≡◌, ◌==◌, is_some, length};
 ghost use Rattle.std.specs.Option.{option_map};
-ghost use Rattle.tenant_store.specs.Names.{is_collection_name, is_document_name};
+ghost use Rattle.store_names.specs.Names.{is_collection_name, is_document_name};
 ghost use Rattle.wire_frames.specs.Requests.{reading, asked_at, is_known, place_at, whole_place_at, whole_collection_at, name_at, prefixed};
 ghost use Rattle.wire_frames.specs.Readings.{reading_of, asked_by, place_of};
 
-use tenant_store::{CollName, DocName};
+use store_names::{CollName, DocName};
 use thiserror::Error;
 
 const PUT: u8 = 1;

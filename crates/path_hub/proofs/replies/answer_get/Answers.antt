@@ -1,7 +1,7 @@
 use Rattle.std.proofs.Common.{refl, ap, ◌∙◌, ◌++◌, []}
 use Rattle.wire_frames.specs.Requests.{Get}
 use Rattle.wire_frames.specs.Replies.{reply}
-use Rattle.tenant_store.specs.Maps.{text_at}
+use Rattle.tenant_map.specs.Maps.{text_at}
 use Rattle.path_hub.proofs.Steps.{gives_done, gives_memory, gives_missing, may_want_by, not_missing}
 use Rattle.path_hub.proofs.replies.answer_get.Goals as goal
 

@@ -1,5 +1,5 @@
 use Rattle.std.proofs.Common.{refl, ap, ◌∙◌, ◌++◌, [], length, arith, ◌≡◌}
-use Rattle.tenant_store.specs.Statuses.{status_of}
+use Rattle.tenant_map.specs.Statuses.{status_of}
 use Rattle.wire_frames.specs.Requests.{ListNames}
 use Rattle.wire_frames.specs.Replies.{reply}
 use Rattle.path_hub.proofs.Steps.{begun_and_done, gives_done, gives_memory, may_want_by, taken_back}

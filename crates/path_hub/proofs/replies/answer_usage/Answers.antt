@@ -1,7 +1,7 @@
 use Rattle.std.proofs.Common.{◌≡◌, ◌++◌, ◌∷◌, [], ℕ, List, refl, ap, ◌∙◌, get_or}
 use Rattle.std.specs.Int.{w32, to_be_bytes}
-use Rattle.tenant_store.specs.Payloads.{number}
-use Rattle.tenant_store.specs.declared.usage.Usage.{Usage as Counted}
+use Rattle.tenant_map.specs.Listings.{number}
+use Rattle.tenant_map.specs.declared.usage.Usage.{Usage as Counted}
 use Rattle.wire_frames.specs.Requests.{Usage}
 use Rattle.path_hub.proofs.Steps.{gives_done}
 use Rattle.path_hub.proofs.replies.answer_usage.Goals as goal

@@ -2,7 +2,7 @@ use Rattle.std.proofs.Common.{◌≡◌, ◌<◌, ◌++◌, ◌∷◌, [], List,
 use Rattle.std.specs.Bool.{MatchBool}
 use Rattle.wire_frames.specs.Framing.{Framing}
 use Rattle.wire_frames.specs.Splitting.{Splitting}
-use Rattle.tenant_store.specs.Tenancy.{Tenancy}
+use Rattle.tenant_map.specs.Tenancy.{Tenancy}
 use Rattle.path_hub.specs.declared.event.Reply.{Reply}
 use Rattle.path_hub.specs.Pending.{pending, AnswersSome, Answered, IsIdle}
 use Rattle.path_hub.proofs.Loop.{some_none, some_more, pending_idle, left_falls, left}

@@ -3,7 +3,7 @@ use Rattle.wire_frames.specs.declared.framing.Next.TheVariants.{Frame}
 use Rattle.wire_frames.specs.Frames.{Front, Whole, Wait, Fault, front}
 use Rattle.wire_frames.specs.NextFrame.{next_of, next_at, lent_as}
 use Rattle.wire_frames.specs.Framing.{Framing, framing_after, after_at}
-use Rattle.tenant_store.specs.Tenancy.{Tenancy}
+use Rattle.tenant_map.specs.Tenancy.{Tenancy}
 use Rattle.path_hub.specs.Tenants.{Serves, Step}
 use Rattle.path_hub.specs.Pending.{Answered, Takes}
 use Rattle.path_hub.proofs.step.answer_next.Goals as goal

@@ -1,0 +1,10 @@
+pub mod Seen
+pub mod Mapped
+pub mod Ordered
+pub mod Counts
+pub mod Keeping
+pub mod Quotas
+pub mod Refusing
+pub mod Places
+pub mod Single
+pub mod Extent

@@ -1,0 +1,9 @@
+pub mod Statuses
+pub mod Keyed
+pub mod Maps
+pub mod Quotas
+pub mod Answers
+pub mod Listings
+pub mod Kept
+pub mod Laws
+pub mod Tenancy

@@ -1,5 +1,0 @@
-use Rattle.tenant_store.proofs.Extent.{same_texts}
-use Rattle.tenant_store.proofs.laws.same_texts.Goals as goal
-
-pub returns : goal.returns
-returns c = same_texts
