@@ -10,8 +10,8 @@ use Rattle.wire_frames.specs.Framing.{Framing, with_piece}
 use Rattle.wire_frames.specs.Splitting.{Splitting}
 use Rattle.tenant_map.specs.Tenancy.{Tenancy}
 use Rattle.path_hub.specs.Sessions.{Sessions, session, Sets}
-use Rattle.path_hub.specs.Pending.{Answered, IsIdle, pending}
-use Rattle.path_hub.specs.Into.{AnswersInto, TakesPiece, IsTaken, AnswersOne, AnswersNone}
+use Rattle.path_hub.specs.Pending.{Answered, IsIdle, IsDue, pending}
+use Rattle.path_hub.specs.Into.{AnswersInto, TakesPiece, IsTaken, AnswersOne, AnswersNone, HasDue}
 use Rattle.path_hub.specs.HubState.{HubState, state}
 use Rattle.path_hub.proofs.Loop.{into_none, into_more, pending_idle, left_falls, left}
 use Rattle.path_hub.proofs.Feeding.{set_value_same}
@@ -46,6 +46,11 @@ steps laws conn ss ss' os os' f f' before after (Err e) h sets stay a = a
 pub refused_step : {A E : Type 0} (ss ss' : Sessions) (os os' : Tenancy) (f f' : Framing) (r : Result A E) → (f' ≡ f → ss' ≡ ss) → OnErr r (f' ≡ f) → OnErr r (os' ≡ os) → OnErr r (state ss' os' ≡ state ss os)
 refused_step ss ss' os os' f f' (Ok a) stay x y = x
 refused_step ss ss' os os' f f' (Err e) stay x y = ap (λ s. state s os') (stay x) ∙ ap (state ss) y
+
+-- what is due on a framer is due on its connection
+pub due_there : {A E : Type 0} (conn : ℕ) (ss : Sessions) (os : Tenancy) (f : Framing) (r : Result A E) → session conn ss ≡ Some f → OnErr r (IsDue f) → OnErr r (HasDue conn (state ss os))
+due_there conn ss os f (Ok a) h d = d
+due_there conn ss os f (Err e) h d = record { framing = f; was = h; due = d }
 
 -- ---- A piece, taken and answered step by step
 
@@ -93,8 +98,8 @@ taken_all conn piece old mid new before out out' t n =
       all_is = λ e. n.none t.left (sets_here conn (Some t.left) old.sessions mid.sessions t.sets);
     }))
 
-pub taken_stays : (conn : ℕ) (piece : List ℕ) (old mid new : HubState) (before out out' : List ℕ) → TakesPiece conn piece old before mid out false → new ≡ mid → out' ≡ out → TakesPiece conn piece old before new out' false
-taken_stays conn piece old mid new before out out' t e o = subst (λ h. TakesPiece conn piece old before h out' false) (sym e) (subst (λ x. TakesPiece conn piece old before mid x false) (sym o) t)
+pub taken_stays : (conn : ℕ) (piece : List ℕ) (old mid new : HubState) (before out out' : List ℕ) → TakesPiece conn piece old before mid out false → HasDue conn mid → new ≡ mid → out' ≡ out → TakesPiece conn piece old before new out' false × HasDue conn new
+taken_stays conn piece old mid new before out out' t d e o = subst (λ h. TakesPiece conn piece old before h out' false × HasDue conn h) (sym e) (subst (λ x. TakesPiece conn piece old before mid x false) (sym o) t, d)
 
 -- what is left on a connection falls
 left_in : Option Framing → ℕ

@@ -110,7 +110,7 @@ unfolding is_ok_of
 answers_of laws conn s p f h h' bytes (Ok u) z w b = open_left laws conn s p f h h' bytes true z b (same_some b.framing f (sym b.was ∙ w))
 answers_of laws conn s p f h h' bytes (Err fault.NoConnection) z w b = none_answered conn s p h h' bytes b.1 b.2
 answers_of laws conn s p f h h' bytes (Err fault.Closed) z w b = none_answered conn s p h h' bytes b.1 b.2
-answers_of laws conn s p f h h' bytes (Err (fault.Memory true)) z w b = open_left laws conn s p f h h' bytes false z b (same_some b.framing f (sym b.was ∙ w))
+answers_of laws conn s p f h h' bytes (Err (fault.Memory true)) z w b = open_left laws conn s p f h h' bytes false z b.0 (same_some b.0.framing f (sym b.0.was ∙ w))
 answers_of laws conn s p f h h' bytes (Err (fault.Memory false)) z w b = none_answered conn s p h h' bytes b.1 b.2
 
 pub ok_of : (r : Result (Unit {0}) HubFault) (b : Bool) → b ≡ is_err r → b ≡ false → is_ok_of r ≡ true

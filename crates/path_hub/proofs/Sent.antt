@@ -3,7 +3,7 @@ use Rattle.std.proofs.Common.{◌≡◌, ℕ, ◌+◌, Bool, true, false, List, 
 use Rattle.std.proofs.lemmas.List.{append-nil, append_assoc, map-append}
 use Rattle.std.proofs.lemmas.Bool.{false≢true}
 use Rattle.path_hub.specs.HubState.{HubState}
-use Rattle.path_hub.specs.Into.{joined, AnswersOne, AnswersNone, IsTaken, TakesPiece, Takes}
+use Rattle.path_hub.specs.Into.{joined, AnswersOne, AnswersNone, IsTaken, TakesPiece, Takes, HasDue}
 use Rattle.path_hub.specs.Wires.{Meaning, Took, Moved, WritesAll, rise}
 use Rattle.wire_frames.specs.Splitting.{Splitting}
 use Rattle.path_hub.specs.Sending.{Sending, Sends, SendsMore}
@@ -103,10 +103,10 @@ sends_all conn piece before after h mid new m n k written done s a more = record
   writes = more m s.sent s.writes;
 }
 
-pub sends_some : (conn : ℕ) (piece before after : List ℕ) (h mid new : HubState) (m n k : Meaning) (written done : Bool) → Sending conn piece h m written before mid n → new ≡ mid → after ≡ before → SendsMore n written after done k → Sends conn piece h m (Err (fault.Memory true)) done new k
-sends_some conn piece before after h mid new m n k written done s same out more = record {
+pub sends_some : (conn : ℕ) (piece before after : List ℕ) (h mid new : HubState) (m n k : Meaning) (written done : Bool) → Sending conn piece h m written before mid n → HasDue conn mid → new ≡ mid → after ≡ before → SendsMore n written after done k → Sends conn piece h m (Err (fault.Memory true)) done new k
+sends_some conn piece before after h mid new m n k written done s due same out more = record {
   bytes = s.sent ++ after;
-  answers = taken_stays conn piece h mid new [] (s.sent ++ before) (s.sent ++ after) s.answers same (ap (λ x. s.sent ++ x) out);
+  answers = taken_stays conn piece h mid new [] (s.sent ++ before) (s.sent ++ after) s.answers due same (ap (λ x. s.sent ++ x) out);
   writes = more m s.sent s.writes;
 }
 

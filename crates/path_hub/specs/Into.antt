@@ -9,7 +9,7 @@ use Rattle.path_hub.specs.declared.fault.TakeFault.TheVariants as take
 use Rattle.path_hub.specs.declared.fault.HubFault.{HubFault}
 use Rattle.path_hub.specs.declared.fault.HubFault.TheVariants as fault
 use Rattle.path_hub.specs.Runs.{Told, Run}
-use Rattle.path_hub.specs.Pending.{Answered, pending, item, IsSound}
+use Rattle.path_hub.specs.Pending.{Answered, IsDue, pending, item, IsSound}
 use Rattle.path_hub.specs.Sessions.{session, Sets}
 use Rattle.path_hub.specs.HubState.{HubState}
 
@@ -80,10 +80,16 @@ pub record AnswersNone (conn : ℕ) (old : HubState) (before : List ℕ) (new : 
   pub same : new ≡ old
   pub out : after ≡ before
 
--- What a call of the hub with a piece leaves. Only a piece that was taken changes anything.
+-- a whole frame, or a fault, waits on the connection
+pub record HasDue (conn : ℕ) (h : HubState) : Type 0 where
+  pub framing : Framing
+  pub was : session conn h.sessions ≡ Some framing
+  pub due : IsDue framing
+
+-- What a call of the hub with a piece leaves. Memory is wanted only for a piece that has bytes, or once it is taken for what waits then. Only a piece that was taken changes anything.
 abbrev pub Bytes : ℕ → List ℕ → HubState → List ℕ → Result (Unit {0}) HubFault → HubState → List ℕ → Type 0
 Bytes conn piece old before (Ok u) new after = TakesPiece conn piece old before new after true
 Bytes conn piece old before (Err fault.NoConnection) new after = (session conn old.sessions ≡ None) × (new ≡ old) × (after ≡ before)
 Bytes conn piece old before (Err fault.Closed) new after = IsClosed conn old × (new ≡ old) × (after ≡ before)
-Bytes conn piece old before (Err (fault.Memory true)) new after = TakesPiece conn piece old before new after false
+Bytes conn piece old before (Err (fault.Memory true)) new after = TakesPiece conn piece old before new after false × HasDue conn new
 Bytes conn piece old before (Err (fault.Memory false)) new after = CanTake conn piece old × (new ≡ old) × (after ≡ before)

@@ -1,5 +1,5 @@
 -- What a connection still has to be answered: this project's own.
-use Rattle.std.specs.Prelude.{◌≡◌, ◌⊎◌, ℕ, List, [], ◌∷◌, ◌++◌, map, Option, Some, None, true, false, if◌then◌else◌}
+use Rattle.std.specs.Prelude.{◌≡◌, ◌≢◌, ◌⊎◌, ℕ, List, [], ◌∷◌, ◌++◌, map, Option, Some, None, true, false, if◌then◌else◌}
 use Rattle.wire_frames.specs.Frames.{Whole, Wait, Fault, front, frames, rest, is_broken}
 use Rattle.wire_frames.specs.Framing.{Framing}
 use Rattle.tenant_map.specs.Tenancy.{Tenancy}
@@ -37,6 +37,11 @@ pub record IsIdle (f : Framing) (os : Tenancy) (before : List ℕ) (f' : Framing
   pub tenants : os' ≡ os
   pub out : after ≡ before
   pub none : (f.closed ≡ true) ⊎ (front f.waiting ≡ Wait)
+
+-- a whole frame, or a fault, waits
+pub record IsDue (f : Framing) : Type 0 where
+  pub open' : f.closed ≡ false
+  pub some : front f.waiting ≢ Wait
 
 abbrev pub item : ℕ → Option (List ℕ) → Item
 item conn body = record { conn = conn; body = body }

@@ -5,7 +5,7 @@ ghost use Rattle.std.specs.Option.{option_map_or};
 ghost use Rattle.wire_frames.specs.Framing.{fresh as fresh_framing};
 ghost use Rattle.tenant_map.specs.Tenancy.{Tenancy, AcceptsKeys, RefusesKeys};
 ghost use Rattle.path_hub.specs.Sessions.{session, Sets, opened_session, Feeds, FeedsSome, Applies, AppliesSome};
-ghost use Rattle.path_hub.specs.Into.{Bytes, Takes, AnswersOne, AnswersNone};
+ghost use Rattle.path_hub.specs.Into.{Bytes, Takes, AnswersOne, AnswersNone, HasDue};
 ghost use Rattle.path_hub.specs.HubState.{state};
 ghost use Rattle.path_hub.specs.Items.{items};
 ghost use Rattle.path_hub.specs.Headline.{Runs};
@@ -132,7 +132,8 @@ impl Hub {
     ///
     /// # Errors
     ///
-    /// Where room for a short reply was refused. Nothing changes, and the frame goes on waiting.
+    /// Where room for a short reply was refused, which is asked for only where a frame or a fault waits. Nothing changes, and it goes on
+    /// waiting.
     pub fn answer_next(
         &mut self,
         alloc: Global,
@@ -142,6 +143,7 @@ impl Hub {
         ensures step { IfOk result (λ more. MatchBool more
             (AnswersOne conn self.old out.old.items self.new out.new.items)
             (AnswersNone conn self.old out.old.items self.new out.new.items)) }
+        ensures due { OnErr result (HasDue conn self.old) }
         ensures unchanged { OnErr result (self.new ≡ self.old) }
         ensures unwritten { OnErr result (out.new.items ≡ out.old.items) }
     {
@@ -161,7 +163,7 @@ impl Hub {
     ///
     /// `NoConnection` where the connection has no session, `Closed` where a framing fault came before. `Memory` where a growth
     /// was refused: where the piece was not taken, nothing changes; where it was, the first frames are answered, in
-    /// order, and the others wait for the next call, which may bring an empty piece.
+    /// order, and the others, of which there is one at least, wait for the next call, which may bring an empty piece.
     pub fn bytes(
         &mut self,
         alloc: Global,
@@ -243,6 +245,7 @@ fn answer_at(
     ensures step { IfOk result (λ more. MatchBool more
         (AnswersOne conn (state sessions.old.entries tenants.old) out.old.items (state sessions.new.entries tenants.new) out.new.items)
         (AnswersNone conn (state sessions.old.entries tenants.old) out.old.items (state sessions.new.entries tenants.new) out.new.items)) }
+    ensures due { OnErr result (HasDue conn (state sessions.old.entries tenants.old)) }
     ensures unchanged { OnErr result (state sessions.new.entries tenants.new ≡ state sessions.old.entries tenants.old) }
     ensures unwritten { OnErr result (out.new.items ≡ out.old.items) }
 {

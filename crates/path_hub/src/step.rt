@@ -1,7 +1,7 @@
 //! One step of a connection: a frame or a fault is taken and answered.
 ghost use Rattle.std.specs.Prelude.{◌≡◌, IfOk, OnOk, OnErr, []};
 ghost use Rattle.std.specs.Bool.{MatchBool};
-ghost use Rattle.path_hub.specs.Pending.{Answered, IsIdle, AnswersSome, pending};
+ghost use Rattle.path_hub.specs.Pending.{Answered, IsIdle, IsDue, AnswersSome, pending};
 
 use crate::event::Reply;
 use crate::replies::{serve_body, write_small};
@@ -15,8 +15,8 @@ const SHORT_REPLY: usize = 21;
 
 const FRAME_FAULT: u8 = 255;
 
-/// Takes one frame or fault of a connection and answers it. A refusal changes nothing, and there is `false` where none
-/// is whole.
+/// Takes one frame or fault of a connection and answers it. There is `false` where none is whole. Only where one is, growth may be
+/// refused, and that changes nothing.
 pub fn answer_next(
     framer: &mut Framer,
     tenants: &mut Tenants,
@@ -27,6 +27,7 @@ pub fn answer_next(
     ensures step { IfOk result (λ more. MatchBool more
         (Answered framer.old tenants.old out.old.items framer.new tenants.new out.new.items)
         (IsIdle framer.old tenants.old out.old.items framer.new tenants.new out.new.items)) }
+    ensures due { OnErr result (IsDue framer.old) }
     ensures same_framer { OnErr result (framer.new ≡ framer.old) }
     ensures same_tenants { OnErr result (tenants.new ≡ tenants.old) }
     ensures same_out { OnErr result (out.new.items ≡ out.old.items) }

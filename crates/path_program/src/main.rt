@@ -9,7 +9,7 @@ use crate::end_lines::EndLines;
 use command_line::{Failure, Request, read_request};
 use path_hub::Hub;
 use path_server::{call_stream, query_stream, read_call, read_keys, replay_stream};
-use socket_wire::{StreamWire, serve_streams};
+use socket_wire::{StreamListener, StreamWire, serve_streams};
 use std::net::{Net, OpenListener, OpenStream, TcpListener, TcpStream};
 use std::process::ExitCode;
 use std::rt::{Clock, Env, Files};
@@ -51,7 +51,7 @@ fn serve<R: Print + Eprint + Net + AllocGlobal>(
     serve_streams(
         rt.alloc(),
         &mut hub,
-        &listener,
+        &mut StreamListener::new(&listener),
         count,
         &mut EndLines::new(rt),
     )

@@ -3,7 +3,7 @@ use Rattle.std.proofs.Common.{◌≡◌, ℕ, List, [], ◌∷◌, ◌++◌, Opt
 use Rattle.std.specs.Prelude.{OnErr}
 use Rattle.std.specs.Io.KnownBytes.{Appends}
 use Rattle.std.proofs.KnownBytes.{Appends-nil, Appends-trans}
-use Rattle.standard_streams.specs.Fronts.{WritesBut, WritesFront}
+use Rattle.standard_streams.specs.Fronts.{StopsShort, WritesBut, WritesFront}
 
 pub at_err : {T E P : Type 0} (r : Result T E) → P → OnErr r P
 at_err (Ok value) p = tt
@@ -14,6 +14,9 @@ unwritten bytes known = record { front = []; split = refl; written = Appends-nil
 
 pub no_front : (bytes : List ℕ) (known : Option (List ℕ)) → WritesFront bytes known known
 no_front bytes known = (bytes, unwritten bytes known)
+
+pub front_of : (bytes : List ℕ) (old new : Option (List ℕ)) → StopsShort bytes old new → WritesFront bytes old new
+front_of bytes old new w = (w.0, w.2)
 
 whole : (bytes : List ℕ) (old new : Option (List ℕ)) → Appends old new bytes → WritesBut [] bytes old new
 whole bytes old new w = record { front = bytes; split = sym (append-nil bytes); written = w }

@@ -4,7 +4,8 @@ use Rattle.std.specs.Prelude.{IfOk, IfSome}
 use Rattle.std.specs.Io.KnownBytes.{Appends}
 use Rattle.std.proofs.lemmas.List.{length-take, take_all}
 use Rattle.path_server.specs.Replays.{RefusesScript, Replays}
-use Rattle.path_server.specs.ReplayStream.{ReplaysStream}
+use Rattle.standard_streams.specs.Fronts.{StopsShort}
+use Rattle.path_server.specs.ReplayStream.{ReplaysStream, BreaksOff}
 use Rattle.path_server.specs.CallStream.{IsReadFrom}
 use Rattle.path_server.specs.declared.replay.ScriptFault.{ScriptFault}
 use Rattle.path_server.specs.declared.replay.ScriptFault.TheVariants.{TooLong, BadLine, Keys, Memory}
@@ -33,6 +34,11 @@ pub script_replayed : (keys : List (List ℕ)) (cut lines : List ℕ) (left old 
     → ReplaysStream keys left old new
 script_replayed keys cut lines None old new e r w = tt
 script_replayed keys cut lines (Some script) old new e r w = (lines, replays_whole keys script [] lines (rw e at r), w)
+
+pub script_broken : (keys : List (List ℕ)) (cut lines : List ℕ) (left old new : Option (List ℕ)) → IfSome left (λ script. cut ≡ take 67108865 script) → Replays keys cut [] lines → StopsShort lines old new
+    → BreaksOff keys left old new
+script_broken keys cut lines None old new e r w = tt
+script_broken keys cut lines (Some script) old new e r w = (lines, replays_whole keys script [] lines (rw e at r), w)
 
 -- ---- the lines of a call
 

@@ -8,6 +8,7 @@ use Rattle.json_tape.specs.declared.tape.TextFault.TheVariants as text
 use Rattle.standard_streams.specs.Fronts.{WritesFront}
 use Rattle.path_server.specs.QueryText.{Refuses, Answers}
 use Rattle.path_server.specs.QueryStream.{AnswersStream, BreaksOff}
+use Rattle.path_server.proofs.Refusals.{memory_wanted}
 use Rattle.path_server.specs.declared.fault.QueryTextFault.{QueryTextFault}
 use Rattle.path_server.specs.declared.fault.QueryTextFault.TheVariants.{TooLong, NotUtf8, NotJson, TooDeep, NumberLimit, LoneSurrogate, DuplicateName, QueryTooLong, NotWellFormed, NotValid, Costly, Memory}
 
@@ -35,7 +36,7 @@ refuses_whole query document QueryTooLong r = rw (whole document (r.0.1.1 text.T
 refuses_whole query document NotWellFormed r = rw (whole document (r.0.1.1 text.TooLong)) at r
 refuses_whole query document NotValid r = rw (whole document (r.0.1.1 text.TooLong)) at r
 refuses_whole query document Costly (t, q, a, v, r) = (t, q, (rw (whole document (a.1 text.TooLong)) at a), v, r)
-refuses_whole query document Memory r = tt
+refuses_whole query document Memory r = rw (whole document (r text.TooLong (omega arith))) at r
 
 pub answers_whole : (query document old new : List ℕ) → Answers query (take (text_limit + 1) document) old new → Answers query document old new
 answers_whole query document old new a = rw (whole document (a.accepted.1 text.TooLong)) at a
@@ -52,9 +53,9 @@ pub breaks_whole : (query cut lines : List ℕ) (left old new : Option (List ℕ
 breaks_whole query cut lines None old new e a w = tt
 breaks_whole query cut lines (Some document) old new e a w = (lines, answers_whole query document [] lines (rw e at a), w)
 
-pub not_refused : (query : List ℕ) (left : Option (List ℕ)) → IfSome left (λ document. Refuses query document Memory)
-not_refused query None = tt
-not_refused query (Some document) = tt
+-- memory may be wanted with the lines of a text that is accepted
+pub lines_want : (query cut lines : List ℕ) (left : Option (List ℕ)) → IfSome left (λ document. cut ≡ take (text_limit + 1) document) → Answers query cut [] lines → IfSome left (λ document. Refuses query document Memory)
+lines_want query cut lines left e a = refused_whole query cut left Memory e (memory_wanted query cut a.tree a.accepted)
 
 pub keeps_same : (known : Option (List ℕ)) → Keeps known known
 keeps_same None = tt

@@ -2,6 +2,7 @@
 use Rattle.std.specs.Prelude.{◌≡◌, ◌<◌, ◌≤◌, ℕ, ◌++◌, List}
 use Rattle.json_tape.specs.Tree.{Tree}
 use Rattle.json_tape.specs.Verdict.{IsRefused, IsAccepted}
+use Rattle.json_tape.specs.Answer.{NoneApplies}
 use Rattle.json_tape.specs.declared.tape.TextFault.TheVariants as text
 use Rattle.path_grammar.specs.Tree.{Segments}
 use Rattle.path_types.specs.Verdict.{IsValidQuery, RefusesQueryText}
@@ -17,7 +18,7 @@ use Rattle.path_server.specs.declared.fault.QueryTextFault.TheVariants.{TooLong,
 abbrev pub IsDocument : List ℕ → Type 0
 IsDocument document = (t : Tree) × IsAccepted document t
 
--- why a query on a document is refused: the first refusal that applies, in the order of the cases
+-- Why a query on a document is refused: the first refusal that applies, in the order of the cases. Want of memory is met only with a document that is neither too long nor not UTF-8.
 abbrev pub Refuses : (query document : List ℕ) → QueryTextFault → Type 0
 Refuses query document TooLong = IsRefused document text.TooLong
 Refuses query document NotUtf8 = IsRefused document text.NotUtf8
@@ -30,7 +31,7 @@ Refuses query document QueryTooLong = IsDocument document × RefusesQueryText qu
 Refuses query document NotWellFormed = IsDocument document × RefusesQueryText query verdict.NotWellFormed
 Refuses query document NotValid = IsDocument document × RefusesQueryText query verdict.NotValid
 Refuses query document Costly = (t : Tree) × (q : Segments) × IsAccepted document t × IsValidQuery query q × (budget < charge t q)
-Refuses query document Memory = Unit {0}
+Refuses query document Memory = NoneApplies document 2
 
 -- the query is answered: the lines of its hits stand behind what stood there before
 pub record Answers (query document old new : List ℕ) : Type 0 where

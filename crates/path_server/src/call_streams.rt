@@ -38,7 +38,7 @@ pub fn read_call<R: Read + Drop>(alloc: Global, reader: R) -> Result<Vec<u8>, Re
 /// Does what [`call_over`] does, and then writes what it appends, also where it ended with a fault.
 ///
 /// The lines are those that [`read_call`] gave. The call's own fault is told (Call or Unwritten) before that of the writer (Write).
-/// Where the lines of the replies are not written whole (Unwritten or Write), some of their bytes may be written.
+/// Where the lines of the replies are not written whole (Unwritten or Write), a front of them is written and no other byte.
 pub fn call_stream<V: Wire, W: Write>(
     alloc: Global,
     wire: &mut V,

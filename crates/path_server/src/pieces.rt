@@ -6,7 +6,7 @@ ghost use Rattle.std.specs.Io.KnownBytes.{Appends};
 ghost use Rattle.json_tape.specs.Document.{count, node_at};
 ghost use Rattle.tape_select.specs.Nodelists.{nodes_of};
 ghost use Rattle.tenant_store.specs.Hits.{hit_of};
-ghost use Rattle.standard_streams.specs.Fronts.{WritesBut, WritesFront};
+ghost use Rattle.standard_streams.specs.Fronts.{StopsShort, WritesBut, WritesFront};
 ghost use Rattle.path_server.specs.Lines.{line_of, lines_of};
 
 use crate::lines::write_head;
@@ -43,7 +43,7 @@ impl From<WriteFault> for PieceFault {
 fn write_held<W: Write>(held: &mut Vec<u8>, writer: &mut W) -> Result<(), WriteFault>
     ensures written { OnOk result (WritesBut [] held.old.items (W.contents writer.old) (W.contents writer.new)) }
     ensures none { OnOk result (held.new.items ≡ []) }
-    ensures front { OnErr result (WritesFront held.old.items (W.contents writer.old) (W.contents writer.new)) }
+    ensures short { OnErr result (StopsShort held.old.items (W.contents writer.old) (W.contents writer.new)) }
 {
     write_whole(writer, held.as_slice())?;
     held.clear();

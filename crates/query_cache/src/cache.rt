@@ -1,7 +1,8 @@
 //! The cache.
-ghost use Rattle.std.specs.Prelude.{◌≡◌, ◌≤◌, [], length, IfOk, IfErr, OnErr, IsTrue, None, is_none, false};
+ghost use Rattle.std.specs.Prelude.{◌≡◌, ◌≤◌, [], length, IfOk, IfErr, OnErr, IsTrue, None, is_none, is_some, false};
 ghost use Rattle.std.specs.Borrow.{sem};
 ghost use Rattle.std.specs.Map.{lookup};
+ghost use Rattle.lru.specs.LruCache.{lru_cache, promoted};
 ghost use Rattle.path_grammar.specs.View.{query_view};
 ghost use Rattle.path_types.specs.Verdict.{IsValidQuery, RefusesQueryText};
 ghost use Rattle.query_cache.specs.Texts.{is_held, Admits, IsWithin};
@@ -111,7 +112,7 @@ impl Cache {
         if text.len() > QUERY_LIMIT {
             return Err(QueryFault::QueryTooLong);
         }
-        if queries.promote(text) {
+        if bring_forward(queries, text) {
             return Ok(None);
         }
         let query = compile(alloc, text)?;
@@ -133,6 +134,14 @@ impl Cache {
     {
         self.unlisted.insert(query)
     }
+}
+
+/// Brings a text that is held to the front, and tells whether it is held.
+fn bring_forward(queries: &mut LruCache<Vec<u8>, ValidQuery>, text: &[u8]) -> bool
+    ensures held { result ≡ is_some (lookup (is_text text.now) queries.old.entries) }
+    ensures order { queries.new ≡ lru_cache (promoted (is_text text.now) queries.old.entries) queries.old.cap }
+{
+    queries.promote(text)
 }
 
 /// Puts the query of a text that is not held to the front, or hands it back where there is no room for it.

@@ -1,2 +1,3 @@
+pub mod Listeners
 pub mod Served
 pub mod StreamWires

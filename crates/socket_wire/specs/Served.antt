@@ -1,12 +1,12 @@
--- Connections served one after the other over one hub, each on a wire of its own: this project's own.
-use Rattle.std.specs.Prelude.{◌≡◌, ℕ, zero, suc, List, [], ◌∷◌, ◌++◌, Option, Some, None}
+-- Connections served one after the other over one hub, each over a wire of its own: this project's own.
+use Rattle.std.specs.Prelude.{◌≡◌, ◌<◌, ℕ, zero, suc, List, [], ◌∷◌, ◌++◌, Option, Some, None}
 use Rattle.path_hub.specs.declared.wire.ConnEnd.{ConnEnd}
 use Rattle.path_hub.specs.declared.wire.ConnEnd.TheVariants.{Done, ReadFault, WriteFault, FrameFault, TurnLimit, Memory}
 use Rattle.path_hub.specs.HubState.{HubState}
 use Rattle.path_hub.specs.Sessions.{session}
 use Rattle.path_hub.specs.Serving.{ServesConnection}
 use Rattle.path_hub.specs.Wires.{Meaning}
-use Rattle.socket_wire.specs.StreamWires.{unused}
+use Rattle.socket_wire.specs.Listeners.{Listening, Gives, Fails, Closes}
 use Rattle.socket_wire.specs.declared.end_log.Ending.{Ending}
 
 -- no connection is open
@@ -27,18 +27,37 @@ TellsFault number FrameFault old new = Tells old (record { number = number; how 
 TellsFault number TurnLimit old new = Tells old (record { number = number; how = TurnLimit }) new
 TellsFault number Memory old new = Tells old (record { number = number; how = Memory }) new
 
--- a connection is served on a wire of its own
-pub record ServedStream (number : ℕ) (h : HubState) (end' : ConnEnd) (h' : HubState) : Type 0 where
-  pub after : Meaning
-  pub serves : ServesConnection number h unused end' h' after
+-- the hub, what the listener tells and what the log was told
+pub record Service : Type 0 where
+  pub hub : HubState
+  pub listening : Option Listening
+  pub told : Option (List Ending)
 
--- and told of
-pub record ServedOne (number : ℕ) (h : HubState) (told : Option (List Ending)) (h' : HubState) (told' : Option (List Ending)) : Type 0 where
+abbrev pub service : HubState → Option Listening → Option (List Ending) → Service
+service hub listening told = record { hub = hub; listening = listening; told = told }
+
+-- The next connection is accepted, served from its first byte to its end, closed as serving left it, and told of.
+pub record ServedOne (number : ℕ) (s t : Service) : Type 0 where
+  pub accepted : Meaning
+  pub given : Option Listening
+  pub gives : Gives s.listening accepted given
   pub how : ConnEnd
-  pub served : ServedStream number h how h'
-  pub tells : TellsFault number how told told'
+  pub left : Meaning
+  pub serves : ServesConnection number s.hub accepted how t.hub left
+  pub closes : Closes given left t.listening
+  pub tells : TellsFault number how s.told t.told
 
 -- So many connections are served one after the other, numbered from 0: before the last one all the others.
-abbrev pub Served : ℕ → HubState → Option (List Ending) → HubState → Option (List Ending) → Type 0
-Served zero h told h' told' = (h' ≡ h) × (told' ≡ told)
-Served (suc n) h told h' told' = (before : HubState) × (told_before : Option (List Ending)) × Served n h told before told_before × ServedOne n before told_before h' told'
+abbrev pub Served : ℕ → Service → Service → Type 0
+Served zero s t = t ≡ s
+Served (suc n) s t = (before : Service) × Served n s before × ServedOne n before t
+
+-- fewer are served, and then none could be accepted
+pub record ServedFewer (count : ℕ) (s t : Service) : Type 0 where
+  pub number : ℕ
+  pub few : number < count
+  pub before : Service
+  pub served : Served number s before
+  pub hub : t.hub ≡ before.hub
+  pub fails : Fails before.listening t.listening
+  pub told : t.told ≡ before.told

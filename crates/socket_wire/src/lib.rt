@@ -2,9 +2,11 @@
 #![tactic(auto)]
 
 mod end_log;
+mod listener;
 mod serving;
 mod stream_wire;
 
 pub use end_log::{EndLog, Ending};
-pub use serving::{AcceptFault, serve_streams};
+pub use listener::{AcceptFault, Listener, StreamListener};
+pub use serving::serve_streams;
 pub use stream_wire::StreamWire;

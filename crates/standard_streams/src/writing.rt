@@ -2,7 +2,7 @@
 
 ghost use Rattle.std.specs.Prelude.{OnErr, OnOk};
 ghost use Rattle.std.specs.Io.KnownBytes.{Appends};
-ghost use Rattle.standard_streams.specs.Fronts.{WritesFront};
+ghost use Rattle.standard_streams.specs.Fronts.{StopsShort};
 
 use std::io::{ErrorKind, Write};
 use thiserror::Error;
@@ -14,11 +14,11 @@ pub struct WriteFault;
 
 /// Writes all bytes to a writer.
 ///
-/// WriteFault comes where a write fails or takes nothing: a front of the bytes may be written then. A write that a signal interrupted
+/// WriteFault comes where a write fails or takes nothing: a front of the bytes may be written then, and not all of them. A write that a signal interrupted
 /// is tried again.
 pub fn write_whole<W: Write>(writer: &mut W, bytes: &[u8]) -> Result<(), WriteFault>
     ensures written { OnOk result (Appends (W.contents writer.old) (W.contents writer.new) bytes.now) }
-    ensures front { OnErr result (WritesFront bytes.now (W.contents writer.old) (W.contents writer.new)) }
+    ensures short { OnErr result (StopsShort bytes.now (W.contents writer.old) (W.contents writer.new)) }
 {
     let mut rest = bytes;
     for _ in 0..u64::MAX {
@@ -32,5 +32,9 @@ pub fn write_whole<W: Write>(writer: &mut W, bytes: &[u8]) -> Result<(), WriteFa
             Err(_) => return Err(WriteFault),
         }
     }
-    Err(WriteFault)
+    if rest.is_empty() {
+        Ok(())
+    } else {
+        Err(WriteFault)
+    }
 }

@@ -2,3 +2,4 @@ pub mod Splits
 pub mod OneSplit
 pub mod Cutting
 pub mod ReadBack
+pub mod Written

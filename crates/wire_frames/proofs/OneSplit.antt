@@ -27,13 +27,13 @@ front_frame : (body more : List ℕ) → length body ≤ longest_body → front 
 front_frame body more small = front_of (frame body ++ more) (to_be_bytes w32 (length body)) body more (append_assoc (to_be_bytes w32 (length body)) body more) refl (from_be_bytes-to_be_bytes_4 (length body) (omega arith)) small
 
 -- a read of bytes is a byte, past the end too
-read_fits : (bytes : List ℕ) → AllByRecursion IsByte bytes → (i : ℕ) → get_or bytes i 0 < 256
+pub read_fits : (bytes : List ℕ) → AllByRecursion IsByte bytes → (i : ℕ) → get_or bytes i 0 < 256
 read_fits [] all i = omega arith
 read_fits (byte ∷ bytes) all zero = all.0
 read_fits (byte ∷ bytes) all (suc i) = read_fits bytes all.1 i
 
 -- four bytes are those of the number that they spell
-head_bytes : (stream : List ℕ) (n : ℕ) → All IsByte stream → 4 ≤ length stream → n ≡ body_length stream → to_be_bytes w32 n ≡ take 4 stream
+pub head_bytes : (stream : List ℕ) (n : ℕ) → All IsByte stream → 4 ≤ length stream → n ≡ body_length stream → to_be_bytes w32 n ≡ take 4 stream
 head_bytes stream n bytes four spelled = be_bytes_4 (take 4 stream) n (omega (arith, length-take 4 stream)) (read_fits (take 4 stream) (recursion_from_All IsByte (take 4 stream) (All-take IsByte 4 stream bytes))) spelled
 
 -- the frame of the body is what stands there

@@ -40,7 +40,7 @@ whole_collection_back c p =
     ap (λ x. option_and_then (λ (p : List ℕ × List ℕ). cond (eqb (length p.1) 0) (Some p.0) None) (name_at is_collection_name x)) (sym (append-nil (name_field c)))
     ∙ ap (λ o. option_and_then (λ (p : List ℕ × List ℕ). cond (eqb (length p.1) 0) (Some p.0) None) o) (name_back is_collection_name c [] p)
 
-asked_back : (asked : Asked) → IsNamed asked → asked_at (command_byte asked) (fields asked) ≡ Some asked
+pub asked_back : (asked : Asked) → IsNamed asked → asked_at (command_byte asked) (fields asked) ≡ Some asked
 unfolding asked_at
 asked_back (Put c d text) n = ap (λ o. option_and_then (λ (p : List ℕ × List ℕ × List ℕ). Some (Put p.0 p.1 p.2)) o) (place_back c d text n.0 n.1)
 asked_back (Get c d) n = ap (λ o. option_and_then (λ (p : List ℕ × List ℕ). Some (Get p.0 p.1)) o) (whole_place_back c d n.0 n.1)

@@ -7,4 +7,5 @@ pub mod Splitting
 pub mod Requests
 pub mod Readings
 pub mod Encoding
+pub mod Written
 pub mod Replies

@@ -7,6 +7,7 @@ ghost use Rattle.wire_frames.specs.Framing.{fresh};
 ghost use Rattle.wire_frames.specs.Cuts.{Step, stream_of, taken, left};
 ghost use Rattle.wire_frames.specs.Splitting.{Splitting};
 ghost use Rattle.wire_frames.specs.Encoding.{ReadsBack};
+ghost use Rattle.wire_frames.specs.Written.{ReadsOnlyWritten};
 
 /// A stream of bytes is split in one way only.
 pub fn splits_one_way()
@@ -44,4 +45,10 @@ pub fn splits_from_the_front()
 /// A request that is written is read back as it was.
 pub fn reads_what_is_written()
     ensures { ReadsBack }
+{}
+
+/// What is read as a request was written as that request, and the fields of a known command are refused exactly where they are those
+/// of no request.
+pub fn reads_only_what_is_written()
+    ensures { ReadsOnlyWritten }
 {}

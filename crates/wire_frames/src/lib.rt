@@ -12,8 +12,8 @@ mod requests;
 
 pub use framing::{AcceptFault, Framer, Front, LONGEST_BODY, Next};
 pub use laws::{
-    cuts_do_not_matter, nothing_follows_a_fault, prefix_comes_first, reads_what_is_written,
-    splits_from_the_front, splits_one_way,
+    cuts_do_not_matter, nothing_follows_a_fault, prefix_comes_first, reads_only_what_is_written,
+    reads_what_is_written, splits_from_the_front, splits_one_way,
 };
 pub use replies::{reply_head, write_reply};
 pub use requests::{Command, Request, RequestFault, read_request};

@@ -1,6 +1,6 @@
 use Rattle.std.proofs.Common.{◌≡◌, Some, sym, ap, is_some}
 use Rattle.path_hub.specs.Sessions.{session, Sets}
-use Rattle.path_hub.proofs.Calls.{kept, steps, refused_step}
+use Rattle.path_hub.proofs.Calls.{kept, steps, refused_step, due_there}
 use Rattle.path_hub.proofs.hub.answer_at.Goals as goal
 
 pub returns-in-Some-clause-step : goal.returns-in-Some-clause-step
@@ -19,3 +19,6 @@ returns-in-Some-clause-unchanged c =
     let holds = c.get_mut.follows.holds c.answer_next.new.framer in
     refused_step c.args.sessions.now.entries lender.entries c.args.tenants.now c.answer_next.new.tenants c.in-Some.framer.now c.answer_next.new.framer c.answer_next.result
     (λ e. kept c.args.conn c.args.sessions.now.entries lender.entries c.in-Some.framer.now c.answer_next.new.framer h e holds.0) c.answer_next.ensures.same_framer c.answer_next.ensures.same_tenants
+
+pub returns-in-Some-clause-due : goal.returns-in-Some-clause-due
+returns-in-Some-clause-due c = due_there c.args.conn c.args.sessions.now.entries c.args.tenants.now c.in-Some.framer.now c.answer_next.result (sym c.in-Some.ensures.value) c.answer_next.ensures.due

@@ -25,4 +25,4 @@ pub returns-in-Ok-false : goal.returns-in-Ok-false
 returns-in-Ok-false g c = sends_all c.args.conn c.args.piece.now c.frames.out.items c.answer_next.new.out.items c.args.hub.now c.frames.hub c.answer_next.new.self (g.W.Wire.meaning c.args.wire.now) (g.W.Wire.meaning c.frames.wire) (g.W.Wire.meaning c.send.new.wire) c.frames.written c.send.result c.frames.invariant (at_false c.in-Ok-false.field-0 _ _ c.in-Ok-false.field-0-test c.in-Ok-false.ensures.step) c.send.ensures.sent
 
 pub returns-in-Err : goal.returns-in-Err
-returns-in-Err g c = sends_some c.args.conn c.args.piece.now c.frames.out.items c.answer_next.new.out.items c.args.hub.now c.frames.hub c.answer_next.new.self (g.W.Wire.meaning c.args.wire.now) (g.W.Wire.meaning c.frames.wire) (g.W.Wire.meaning c.send-in-Err.new.wire) c.frames.written c.send-in-Err.result c.frames.invariant c.in-Err.ensures.unchanged c.in-Err.ensures.unwritten c.send-in-Err.ensures.sent
+returns-in-Err g c = sends_some c.args.conn c.args.piece.now c.frames.out.items c.answer_next.new.out.items c.args.hub.now c.frames.hub c.answer_next.new.self (g.W.Wire.meaning c.args.wire.now) (g.W.Wire.meaning c.frames.wire) (g.W.Wire.meaning c.send-in-Err.new.wire) c.frames.written c.send-in-Err.result c.frames.invariant c.in-Err.ensures.due c.in-Err.ensures.unchanged c.in-Err.ensures.unwritten c.send-in-Err.ensures.sent

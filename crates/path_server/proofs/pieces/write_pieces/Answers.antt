@@ -1,4 +1,4 @@
-use Rattle.path_server.proofs.Breaking.{at_err, front_further, front_behind}
+use Rattle.path_server.proofs.Breaking.{at_err, front_of, front_further, front_behind}
 use Rattle.path_server.proofs.Walking.{next_breaks, next_is_written}
 use Rattle.path_server.proofs.pieces.write_pieces.Goals as goal
 
@@ -16,4 +16,4 @@ loop-node-preserved g c =
 
 pub returns-in_err-write_held-clause-front : goal.returns-in_err-write_held-clause-front
 returns-in_err-write_held-clause-front g c =
-    at_err c.from_residual-in_err-write_held.result (front_further _ _ _ _ _ c.loop-node.invariant (front_behind _ _ _ _ c.in_err-write_held.ensures.front))
+    at_err c.from_residual-in_err-write_held.result (front_further _ _ _ _ _ c.loop-node.invariant (front_behind _ _ _ _ (front_of _ _ _ c.in_err-write_held.ensures.short)))

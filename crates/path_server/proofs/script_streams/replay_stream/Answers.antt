@@ -1,4 +1,4 @@
-use Rattle.path_server.proofs.WholeScripts.{script_refused, script_replayed}
+use Rattle.path_server.proofs.WholeScripts.{script_refused, script_replayed, script_broken}
 use Rattle.path_server.proofs.WholeTexts.{keeps_same}
 use Rattle.path_server.proofs.script_streams.replay_stream.Goals as goal
 
@@ -12,3 +12,9 @@ returns-in-Ok-write_whole-clause-answered g c =
     let answered = rw (c.as_slice.ensures.value, c.new-lines.ensures.items) at c.in_default.ensures.answered in
     let written = rw c.as_slice-2.ensures.value at c.in-Ok-write_whole.ensures.written in
     script_replayed c.args.keys.now c.in-Ok.script.items _ _ _ _ c.in-Ok.ensures.read answered written
+
+pub returns-clause-failed : goal.returns-clause-failed
+returns-clause-failed g c =
+    let answered = rw (c.as_slice.ensures.value, c.new-lines.ensures.items) at c.in_default.ensures.answered in
+    let broken = rw c.as_slice-2.ensures.value at c.in-Err-write_whole.ensures.short in
+    script_broken c.args.keys.now c.in-Ok.script.items _ _ _ _ c.in-Ok.ensures.read answered broken

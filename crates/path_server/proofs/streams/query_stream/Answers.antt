@@ -1,6 +1,6 @@
 use Rattle.std.proofs.Common.{inl, inr, refl}
 use Rattle.path_server.proofs.Refusals.{text_refuses}
-use Rattle.path_server.proofs.WholeTexts.{refused_whole, answered_whole, breaks_whole, keeps_same, not_refused}
+use Rattle.path_server.proofs.WholeTexts.{refused_whole, answered_whole, breaks_whole, keeps_same, lines_want}
 use Rattle.path_server.proofs.streams.query_stream.Goals as goal
 
 pub returns-in-Err-read_owned-clause-failed : goal.returns-in-Err-read_owned-clause-failed
@@ -23,7 +23,7 @@ pub returns-in-Err-Memory-clause-failed : goal.returns-in-Err-Memory-clause-fail
 returns-in-Err-Memory-clause-failed g c =
     let answered = rw c.in-Ok-read_owned.ensures.0 at c.in-Ok-find.ensures.answered in
     let front = rw c.as_slice.ensures.value at c.in-Err-Memory.ensures.front in
-    (not_refused c.args.query.now _, inr (refl, breaks_whole c.args.query.now c.in-Ok.text.items _ _ _ _ c.in-Ok.ensures.read answered front))
+    (lines_want c.args.query.now c.in-Ok.text.items _ _ c.in-Ok.ensures.read answered, inr (refl, breaks_whole c.args.query.now c.in-Ok.text.items _ _ _ _ c.in-Ok.ensures.read answered front))
 
 pub returns-clause-failed : goal.returns-clause-failed
 returns-clause-failed g c =

@@ -15,4 +15,4 @@ pub returns-in-Ok-false : goal.returns-in-Ok-false
 returns-in-Ok-false c = taken_all c.args.conn c.args.piece.now c.args.self.now c.frames.self c.answer_next.new.self c.args.out.now.items c.frames.out.items c.answer_next.new.out.items c.frames.invariant (at_false c.in-Ok-false.field-0 _ _ c.in-Ok-false.field-0-test c.in-Ok-false.ensures.step)
 
 pub returns-in-Err : goal.returns-in-Err
-returns-in-Err c = taken_stays c.args.conn c.args.piece.now c.args.self.now c.frames.self c.answer_next.new.self c.args.out.now.items c.frames.out.items c.answer_next.new.out.items c.frames.invariant c.in-Err.ensures.unchanged c.in-Err.ensures.unwritten
+returns-in-Err c = taken_stays c.args.conn c.args.piece.now c.args.self.now c.frames.self c.answer_next.new.self c.args.out.now.items c.frames.out.items c.answer_next.new.out.items c.frames.invariant c.in-Err.ensures.due c.in-Err.ensures.unchanged c.in-Err.ensures.unwritten

@@ -11,54 +11,54 @@ returns-then-text-gt-QUERY_LIMIT-clause-unheld c =
     sym (ap (λ (h : Held). is_held c.args.text.now h.texts) c.self.view_is)
     ∙ long_not_held c.args.text.now c.self.inside.queries.entries c.self.inside.queries.cap c.self.invariant (omega (arith, c.if-text-gt-QUERY_LIMIT.true))
 
-pub invariant_of-self-then-promote : goal.invariant_of-self-then-promote
-invariant_of-self-then-promote c = cache_stays c.args.text.now c.self.inside.queries c.promote.new.self c.self.invariant c.promote.ensures.entries
+pub invariant_of-self-then-bring_forward : goal.invariant_of-self-then-bring_forward
+invariant_of-self-then-bring_forward c = cache_stays c.args.text.now c.self.inside.queries c.bring_forward.new.queries c.self.invariant c.bring_forward.ensures.order
 
-pub returns-then-promote-clause-list : goal.returns-then-promote-clause-list
-returns-then-promote-clause-list c =
-    subst (λ h. Admits c.args.text.now true h (view_of c.promote.new.self)) c.self.view_is
-    (admits_promoted c.args.text.now c.self.inside.queries c.promote.new.self (sym c.promote.ensures.value ∙ c.if-promote.true) c.promote.ensures.entries)
+pub returns-then-bring_forward-clause-list : goal.returns-then-bring_forward-clause-list
+returns-then-bring_forward-clause-list c =
+    subst (λ h. Admits c.args.text.now true h (view_of c.bring_forward.new.queries)) c.self.view_is
+    (admits_promoted c.args.text.now c.self.inside.queries c.bring_forward.new.queries (sym c.bring_forward.ensures.held ∙ c.if-bring_forward.true) c.bring_forward.ensures.order)
 
-pub returns-then-promote-clause-few : goal.returns-then-promote-clause-few
-returns-then-promote-clause-few c =
-    within c.promote.new.self.entries c.promote.new.self.cap (cache_stays c.args.text.now c.self.inside.queries c.promote.new.self c.self.invariant c.promote.ensures.entries)
+pub returns-then-bring_forward-clause-few : goal.returns-then-bring_forward-clause-few
+returns-then-bring_forward-clause-few c =
+    within c.bring_forward.new.queries.entries c.bring_forward.new.queries.cap (cache_stays c.args.text.now c.self.inside.queries c.bring_forward.new.queries c.self.invariant c.bring_forward.ensures.order)
 
 pub invariant_of-self-in_err-query : goal.invariant_of-self-in_err-query
-invariant_of-self-in_err-query c = cache_stays c.args.text.now c.self.inside.queries c.promote.new.self c.self.invariant c.promote.ensures.entries
+invariant_of-self-in_err-query c = cache_stays c.args.text.now c.self.inside.queries c.bring_forward.new.queries c.self.invariant c.bring_forward.ensures.order
 
 pub returns-in_err-query-clause-few : goal.returns-in_err-query-clause-few
 returns-in_err-query-clause-few c =
-    within c.promote.new.self.entries c.promote.new.self.cap (cache_stays c.args.text.now c.self.inside.queries c.promote.new.self c.self.invariant c.promote.ensures.entries)
+    within c.bring_forward.new.queries.entries c.bring_forward.new.queries.cap (cache_stays c.args.text.now c.self.inside.queries c.bring_forward.new.queries c.self.invariant c.bring_forward.ensures.order)
 
 pub returns-in_err-query-clause-unheld : goal.returns-in_err-query-clause-unheld
 returns-in_err-query-clause-unheld c =
     on_err c.from_residual.result _
-    (sym (ap (λ (h : Held). is_held c.args.text.now h.texts) c.self.view_is) ∙ sym (held_entry c.args.text.now c.self.inside.queries.entries) ∙ sym c.promote.ensures.value ∙ c.if-promote.false)
+    (sym (ap (λ (h : Held). is_held c.args.text.now h.texts) c.self.view_is) ∙ sym (held_entry c.args.text.now c.self.inside.queries.entries) ∙ sym c.bring_forward.ensures.held ∙ c.if-bring_forward.false)
 
 pub returns-in_err-query-clause-unchanged : goal.returns-in_err-query-clause-unchanged
 returns-in_err-query-clause-unchanged c =
-    on_err c.from_residual.result _ (ap view_of (stays c.args.text.now c.self.inside.queries c.promote.new.self (sym c.promote.ensures.value ∙ c.if-promote.false) c.promote.ensures.entries) ∙ c.self.view_is)
+    on_err c.from_residual.result _ (ap view_of (stays c.args.text.now c.self.inside.queries c.bring_forward.new.queries (sym c.bring_forward.ensures.held ∙ c.if-bring_forward.false) c.bring_forward.ensures.order) ∙ c.self.view_is)
 
 pub keep-requires : goal.keep-requires
 keep-requires c =
-    let none = sym c.promote.ensures.value ∙ c.if-promote.false in
-    let s = stays c.args.text.now c.self.inside.queries c.promote.new.self none c.promote.ensures.entries in
+    let none = sym c.bring_forward.ensures.held ∙ c.if-bring_forward.false in
+    let s = stays c.args.text.now c.self.inside.queries c.bring_forward.new.queries none c.bring_forward.ensures.order in
     ap (λ l. lookup (is_text c.args.text.now) l.entries) s ∙ not_held c.args.text.now c.self.inside.queries.entries none
 
 pub invariant_of-self-2 : goal.invariant_of-self-2
 invariant_of-self-2 c =
-    cache_kept c.args.text.now c.in_ok-query.query c.promote.new.self c.keep.new.queries c.keep.result c.in_ok-query.ensures.valid
-    (cache_stays c.args.text.now c.self.inside.queries c.promote.new.self c.self.invariant c.promote.ensures.entries) c.keep.ensures
+    cache_kept c.args.text.now c.in_ok-query.query c.bring_forward.new.queries c.keep.new.queries c.keep.result c.in_ok-query.ensures.valid
+    (cache_stays c.args.text.now c.self.inside.queries c.bring_forward.new.queries c.self.invariant c.bring_forward.ensures.order) c.keep.ensures
 
 pub returns-clause-list : goal.returns-clause-list
 returns-clause-list c =
-    let none = sym c.promote.ensures.value ∙ c.if-promote.false in
-    let s = stays c.args.text.now c.self.inside.queries c.promote.new.self none c.promote.ensures.entries in
+    let none = sym c.bring_forward.ensures.held ∙ c.if-bring_forward.false in
+    let s = stays c.args.text.now c.self.inside.queries c.bring_forward.new.queries none c.bring_forward.ensures.order in
     subst (λ h. Admits c.args.text.now (is_none c.keep.result) h (view_of c.keep.new.queries)) (ap view_of s ∙ c.self.view_is)
-    (admits_kept c.args.text.now c.in_ok-query.query c.promote.new.self c.keep.new.queries c.keep.result (ap (λ l. is_some (lookup (is_text c.args.text.now) l.entries)) s ∙ none) c.keep.ensures)
+    (admits_kept c.args.text.now c.in_ok-query.query c.bring_forward.new.queries c.keep.new.queries c.keep.result (ap (λ l. is_some (lookup (is_text c.args.text.now) l.entries)) s ∙ none) c.keep.ensures)
 
 pub returns-clause-few : goal.returns-clause-few
 returns-clause-few c =
     within c.keep.new.queries.entries c.keep.new.queries.cap
-    (cache_kept c.args.text.now c.in_ok-query.query c.promote.new.self c.keep.new.queries c.keep.result c.in_ok-query.ensures.valid
-    (cache_stays c.args.text.now c.self.inside.queries c.promote.new.self c.self.invariant c.promote.ensures.entries) c.keep.ensures)
+    (cache_kept c.args.text.now c.in_ok-query.query c.bring_forward.new.queries c.keep.new.queries c.keep.result c.in_ok-query.ensures.valid
+    (cache_stays c.args.text.now c.self.inside.queries c.bring_forward.new.queries c.self.invariant c.bring_forward.ensures.order) c.keep.ensures)
