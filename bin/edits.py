@@ -191,8 +191,14 @@ def functions_of(file, text):
     return found
 
 
+def functions_in(crate):
+    """The functions of all source files of a crate."""
+    files = sorted((crate / "src").rglob("*.rt"))
+    return [it for file in files for it in functions_of(str(file.relative_to(crate)), file.read_text(encoding="utf-8"))]
+
+
 class Edit:
-    """An edit of a crate: its pairs, the functions that they lie in where all of them lie in one, and the paths of those that judge it."""
+    """An edit of a crate: its pairs, the functions that they lie in, which are none where one lies elsewhere, and the paths of those that judge it."""
 
     def __init__(self, path, crate):
         self.name, self.pairs = path.name, pairs_in(path)

@@ -1,6 +1,7 @@
 #!/usr/bin/env python3
 """Tests bin/check-edits on a made crate: an edit that fits passes, and each that does not is named with its reason. And of bin/edits.py
-that edits are tried together only where each is in a function of its own, and that an open goal counts for its own function alone."""
+what judges an edit, that edits are tried together only where none changes what another one is judged by, and that an open goal counts for its
+own function alone."""
 import subprocess
 import sys
 import tempfile
@@ -9,11 +10,12 @@ from pathlib import Path
 CHECK = Path(__file__).resolve().parent.parent / "bin/check-edits"
 sys.path.insert(0, str(CHECK.parent))
 from edits import Edit, functions_of, in_groups, joined
-SOURCE = "fn one() -> u8 {\n    1\n}\nfn two() -> u8 {\n    2\n}\n"
+SOURCE = "const ZERO: u8 = 0;\nfn one() -> u8 {\n    1\n}\nfn two() -> u8 {\n    2\n}\n"
 FITTING = {
     "must-fail/turned": "file: src/lib.rt\nold:     1\nnew:     3\n",
     "must-fail/emptied": "file: src/lib.rt\nold:     2\nnew:\n",
     "planted/one_after_the_other": "file: src/lib.rt\nold:     1\nnew:     3\nold:     3\nnew:     4\n",
+    "planted/named": "# by: one two\nfile: src/lib.rt\nold: = 0\nnew: = 1\n",
 }
 MISFITS = {
     "planted/gone": ("file: src/lib.rt\nold:     7\nnew:     3\n", "stands 0 times"),
@@ -26,6 +28,8 @@ MISFITS = {
     "must-fail/outside": ("file: crates.txt\nold: a\nnew: b\n", "no file below"),
     "must-fail/missing": ("file: src/none.rt\nold: a\nnew: b\n", "cannot be read"),
     "must-fail/remark": ("# a remark\nfile: src/lib.rt\nold:     1\nnew:     3\n", "line 1 is no"),
+    "planted/unnamed": ("file: src/lib.rt\nold: = 0\nnew: = 1\n", "names none that judges it"),
+    "planted/misnamed": ("# by: three\nfile: src/lib.rt\nold: = 0\nnew: = 1\n", "names three, which is no function"),
     "planted/turned": ("file: src/lib.rt\nold:     1\nnew:     3\n", "has its name"),
 }
 
@@ -64,7 +68,14 @@ impl Two {
     }
 }
 """
-PLACES = {"three_a": ("{ 30 }", "{ 28 + 2 }"), "two": ("+ 2", "+ 7"), "one": ("    1", "    7"), "three_b": ("{ 31 }", "{ 7 }"), "limit": ("u8 = 9", "u8 = 7")}
+PLACES = {
+    "three_a": ("{ 30 }", "{ 28 + 2 }"),
+    "clause_of_two": ("≡ 3", "≡ 4"),
+    "one": ("    1", "    7"),
+    "two": ("+ 2", "+ 7"),
+    "three_b": ("{ 31 }", "{ 7 }"),
+    "limit": ("u8 = 9", "u8 = 7"),
+}
 OPEN = {
     "note: src/made.rt:4:1: it is not proved that what the function ensures holds when it returns (`returns`)": ["one"],
     "note: src/made.rt:13:9: it is not proved that this sum fits (`add`)": ["two"],
@@ -86,9 +97,9 @@ def test_groups(crate):
     for name, (old, new) in PLACES.items():
         (crate / f"{name}.edit").write_text(f"file: src/made.rt\nold: {old}\nnew: {new}\n")
     edits = {name: Edit(crate / f"{name}.edit", crate) for name in PLACES}
-    assert [name for name, edit in edits.items() if not edit.function] == ["limit"], edits
-    groups = [[it.name.split(".")[0] for it in group] for group in in_groups([edit for edit in edits.values() if edit.function], crate)]
-    assert groups == [["three_a", "one"], ["two", "three_b"]], groups
+    assert [edit.judges for edit in edits.values()] == [["made::Two::three"], ["made::Two::two"], ["made::one"], ["made::Two::two"], ["made::Two::three"], []], edits
+    groups = [[it.name.split(".")[0] for it in group] for group in in_groups(edits.values(), crate)]
+    assert groups == [["three_a", "clause_of_two"], ["one", "two", "three_b"], ["limit"]], groups
     for lines, wanted in OPEN.items():
         (line,) = joined(lines.split("\n"))
         assert [it.name for it in functions_of("src/made.rt", CALLS) if it.is_at(line)] == wanted, lines
@@ -99,7 +110,7 @@ def main():
         test_groups(Path(folder) / "made")
     with tempfile.TemporaryDirectory() as root:
         write(root, FITTING)
-        assert said_of(root) == (0, ["3 edits, 0 of them do not fit"]), said_of(root)
+        assert said_of(root) == (0, [f"{len(FITTING)} edits, 0 of them do not fit"]), said_of(root)
         write(root, {name: text for name, (text, _) in MISFITS.items()})
         status, lines = said_of(root)
         assert status == 1 and lines[-1] == f"{len(FITTING) + len(MISFITS)} edits, {len(MISFITS)} of them do not fit", lines
