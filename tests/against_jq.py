@@ -175,7 +175,7 @@ def of_program(text, query):
 
 def main():
     if "PATH_SERVER" not in os.environ:
-        subprocess.run([TOP / "bin/path_server", "--help"], stdout=subprocess.DEVNULL, check=True)
+        subprocess.run([TOP / "bin/path_server", "--proved", "--help"], stdout=subprocess.DEVNULL, check=True)
     rounds = int(sys.argv[1]) if len(sys.argv) > 1 else 50
     seed = int(sys.argv[2]) if len(sys.argv) > 2 else 1
     chance = random.Random(seed)

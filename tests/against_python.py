@@ -61,7 +61,7 @@ def changed(chance, source):
 
 def main():
     if "PATH_SERVER" not in os.environ:
-        subprocess.run([TOP / "bin/path_server", "--help"], stdout=subprocess.DEVNULL, check=True)
+        subprocess.run([TOP / "bin/path_server", "--proved", "--help"], stdout=subprocess.DEVNULL, check=True)
     rounds = int(sys.argv[1]) if len(sys.argv) > 1 else 5000
     chance = random.Random(int(sys.argv[2]) if len(sys.argv) > 2 else 1)
     counts, differing = {}, 0

@@ -129,7 +129,7 @@ def waiting_connections(checks):
 
 def main():
     if not os.environ.get("PATH_SERVER"):
-        subprocess.run([TOP / "bin/path_server", "--help"], check=True, stdout=subprocess.DEVNULL)
+        subprocess.run([TOP / "bin/path_server", "--proved", "--help"], check=True, stdout=subprocess.DEVNULL)
     checks = Checks()
     each_end(checks)
     waiting_connections(checks)

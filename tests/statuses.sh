@@ -3,7 +3,7 @@
 # standard error. The program is the one that bin/path_server builds, or the one that the environment's PATH_SERVER names.
 set -u
 cd "$(dirname "$0")/.."
-[ -n "${PATH_SERVER:-}" ] || bin/path_server --help >/dev/null || exit 2
+[ -n "${PATH_SERVER:-}" ] || bin/path_server --proved --help >/dev/null || exit 2
 program=${PATH_SERVER:-crates/path_program/out/path_program}
 room=$(mktemp -d)
 trap 'rm -rf "$room"' EXIT

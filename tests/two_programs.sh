@@ -4,7 +4,7 @@
 # environment's PATH_SERVER names.
 set -u
 cd "$(dirname "$0")/.."
-[ -n "${PATH_SERVER:-}" ] || bin/path_server --help >/dev/null || exit 2
+[ -n "${PATH_SERVER:-}" ] || bin/path_server --proved --help >/dev/null || exit 2
 program=${PATH_SERVER:-crates/path_program/out/path_program}
 key=00112233445566778899aabbccddeeff
 requests="0000002001 00000001 $key 0163 0164 7b2261223a317d
