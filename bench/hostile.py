@@ -5,7 +5,7 @@ Each text has up to 1,048,576 bytes, or as many as the environment's MEBIBYTES (
 the shape, how the program ended, its seconds of processor time, and the aim: 1 s for each mebibyte, and at least 1.5 s for what has a
 charge of nearly 10,000,000 units. The program has a stack of 256 KiB, and is stopped after so many SECONDS (5). With a WORD, only the rows that have it in their names are run. The
 last line is the number of rows above their aim, and the exit status is 1 where there is one. The program is the one that
-bin/path_server builds, or the one that the environment's PATH_SERVER names.
+bin/build makes, or the one that the environment's PATH_SERVER names.
 """
 import collections
 import functools
@@ -306,7 +306,7 @@ def main():
     seconds = float(sys.argv[1]) if len(sys.argv) > 1 else 5.0
     word = sys.argv[2] if len(sys.argv) > 2 else ""
     if not os.access(PROGRAM, os.X_OK):
-        sys.exit(f"no program {PROGRAM}: bin/path_server builds it")
+        sys.exit(f"no program {PROGRAM}: bin/build makes it")
     count = above = 0
     print("| shape | end | seconds | aim |\n|---|---|---|---|")
     for made, aim in ROWS.items():

@@ -4,7 +4,7 @@
 It compiles bench/many_echo.c and bench/many_load.c (cc), starts the program as `path_server listen` and the loop in C, and loads them in
 turns: each line has, for both, the middle one of five rates and the times of a request, and the ratio of the rates. Before
 that, what a connection takes in the process that is idle or has announced the longest body, and at last the times of requests beside others
-that take long or come without a pause (bench/many_flood.c). Build the program first, as bin/path_server does, or name it in the environment's
+that take long or come without a pause (bench/many_flood.c). Build the program first, with bin/build, or name it in the environment's
 PATH_SERVER.
 """
 import os

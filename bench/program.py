@@ -2,7 +2,7 @@
 """Times the program `path_server query` on a text: bench/program.py FILE [QUERY].
 
 Prints the best wall time of many runs and the greatest resident memory of one, for the file and for a text of 13 bytes.
-Build the program first, as bin/path_server does. The memory is read by the command time (/usr/bin/time).
+Build the program first, with bin/build. The memory is read by the command time (/usr/bin/time).
 """
 import os
 import subprocess

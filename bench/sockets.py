@@ -3,7 +3,7 @@
 
 It compiles bench/echo.c and bench/rounds.c (cc), starts the program as `path_server serve` and the echo, and times rounds of a request and
 its reply in turns: each line has, for both, the middle one of five medians and the least time, and the ratios of these. Where there is
-redis-server, its GET and SET of the same texts follow, timed the same way. Build the program first, as bin/path_server does, or name it
+redis-server, its GET and SET of the same texts follow, timed the same way. Build the program first, with bin/build, or name it
 in the environment's PATH_SERVER.
 """
 import os

@@ -3,7 +3,7 @@
 
 Each query is written twice, as a JSONPath query and as a jq program that says the same in jq's terms (a slice by the bounds of
 RFC 9535, section 2.3.4.2.2). Paths, values and their order have to agree. It needs jq (Debian: jq), and runs
-the program that bin/path_server builds, or the one that the environment's PATH_SERVER names. Numbers are small, since jq reads them as doubles.
+the program that bin/build makes, or the one that the environment's PATH_SERVER names. Numbers are small, since jq reads them as doubles.
 """
 import json
 import os

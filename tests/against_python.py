@@ -2,7 +2,7 @@
 """Compares the verdicts of `path_server query` on random texts with those of Python's json: tests/against_python.py [ROUNDS [SEED]].
 
 A text is written from a random value, with blanks and escapes of its own, and then a few of its bytes are changed (json_verdict.py has
-the verdict). It runs the program that bin/path_server builds, or the one that the environment's PATH_SERVER names.
+the verdict). It runs the program that bin/build makes, or the one that the environment's PATH_SERVER names.
 """
 import os
 import random

@@ -1,7 +1,7 @@
 #!/usr/bin/env python3
 """Serves connections that end in each way by the program, and compares its replies, its lines on standard error and its status.
 
-The program is the one that bin/path_server builds, or the one that the environment's PATH_SERVER names. All numbers below are those of
+The program is the one that bin/build makes, or the one that the environment's PATH_SERVER names. All numbers below are those of
 docs/PROTOCOL.md: the replies are written out by hand.
 """
 import os

@@ -3,7 +3,7 @@
 
 The head of the table says what its lines are. A short exchange is run again with all pieces cut into single bytes, and one
 that the table marks also with its connections by turns, or its bytes in two pieces in every cut. Beside them stand scripts and keys that are refused, each with its
-line on standard error. With a WORD, only what has it in its name is run. The program is the one that bin/path_server builds,
+line on standard error. With a WORD, only what has it in its name is run. The program is the one that bin/build makes,
 or the one that the environment's PATH_SERVER names.
 """
 import itertools
@@ -157,7 +157,7 @@ def refuse(report, word):
 
 def main():
     if not os.access(PROGRAM, os.X_OK):
-        sys.exit(f"no program {PROGRAM}: bin/path_server builds it")
+        sys.exit(f"no program {PROGRAM}: bin/build makes it")
     report, word = Report(), sys.argv[1] if len(sys.argv) > 1 else ""
     count = run_all(report, word)
     refuse(report, word)

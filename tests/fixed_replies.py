@@ -2,7 +2,7 @@
 """Runs `path_server call` against peers that answer with fixed bytes, and compares its lines, its status and what it sent.
 
 A peer waits for the first request, gives its bytes and their end, and takes what else comes. So a reply ends early at each byte, requests
-and replies have each limit, and a line is bad. The program is the one that bin/path_server builds, or the one that the environment's
+and replies have each limit, and a line is bad. The program is the one that bin/build makes, or the one that the environment's
 PATH_SERVER names.
 """
 import socket

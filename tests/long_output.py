@@ -3,7 +3,7 @@
 
 The output's length and SHA-256 are compared with those that are worked out here, a line at a time; the program's resident
 memory stays below 64 MiB, whatever it writes. Then its output is closed in the middle: WriteFault, status 4. HITS (200) is the
-number of lines of half a megabyte. The program is the one that bin/path_server builds, or the one that the environment's
+number of lines of half a megabyte. The program is the one that bin/build makes, or the one that the environment's
 PATH_SERVER names.
 """
 import hashlib
@@ -88,7 +88,7 @@ def try_row(report, name, query, text, lines):
 
 def main():
     if not os.access(PROGRAM, os.X_OK):
-        sys.exit(f"no program {PROGRAM}: bin/path_server builds it")
+        sys.exit(f"no program {PROGRAM}: bin/build makes it")
     report = Report()
     for row in rows(int(sys.argv[1]) if len(sys.argv) > 1 else 200):
         try_row(report, *row)

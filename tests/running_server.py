@@ -1,6 +1,6 @@
 """A running `path_server serve` or `path_server listen`, connections to it byte by byte, and a report of what failed, for the scripts of tests/.
 
-The program is the one that bin/path_server builds, or the one that the environment's PATH_SERVER names. It picks a free port itself.
+The program is the one that bin/build makes, or the one that the environment's PATH_SERVER names. It picks a free port itself.
 Every process that was started has ended when a script ends, however that comes.
 """
 import os
@@ -53,7 +53,7 @@ class Running:
 
     def __init__(self, keys, count, **more):
         if not os.access(PROGRAM, os.X_OK):
-            sys.exit(f"no program {PROGRAM}: bin/path_server builds it")
+            sys.exit(f"no program {PROGRAM}: bin/build makes it")
         signal.signal(signal.SIGTERM, lambda *_: sys.exit(143))
         self.errors = tempfile.TemporaryFile()
         self.start(["serve", "127.0.0.1:0", ",".join(key.hex() for key in keys), str(count)], stdin=subprocess.DEVNULL, **more)

@@ -1,6 +1,6 @@
 #!/usr/bin/env bash
 # Runs the program on inputs of each exit status and each name that it prints, and compares the status, the output and the line on
-# standard error. The program is the one that bin/path_server builds, or the one that the environment's PATH_SERVER names.
+# standard error. The program is the one that bin/build makes, or the one that the environment's PATH_SERVER names.
 set -u
 cd "$(dirname "$0")/.."
 [ -n "${PATH_SERVER:-}" ] || bin/path_server --proved --help >/dev/null || exit 2

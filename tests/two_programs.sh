@@ -1,6 +1,6 @@
 #!/usr/bin/env bash
 # Serves one connection by one run of the program, sends it four requests by another, and compares the replies: a put of {"a":1}, the
-# query $.a, a get and the usage. Both runs have to end with 0. The program is the one that bin/path_server builds, or the one that the
+# query $.a, a get and the usage. Both runs have to end with 0. The program is the one that bin/build makes, or the one that the
 # environment's PATH_SERVER names.
 set -u
 cd "$(dirname "$0")/.."
