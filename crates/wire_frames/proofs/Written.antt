@@ -7,7 +7,7 @@ use Rattle.std.proofs.lemmas.Bool.{eqb-true}
 use Rattle.std.proofs.lemmas.Bool.Decides.{nat_tests}
 use Rattle.std.proofs.lemmas.List.{take-append-drop, length-take-le, drop-drop}
 use Rattle.std.proofs.lemmas.List.Elements.{All-drop, All-take, recursion_from_All}
-use Rattle.tenant_store.specs.Names.{is_collection_name, is_document_name}
+use Rattle.store_names.specs.Names.{is_collection_name, is_document_name}
 use Rattle.wire_frames.specs.Frames.{IsByte}
 use Rattle.wire_frames.specs.Requests.{Asked, Put, Get, Remove, ListNames, Query, DropCollection, Usage, PutNew, Reading, Short, BadCommand, BadFields, Asks, reading, with_fields, is_known, command_of, number_of, key_of, fields_of, prefixed, name_at, place_at, whole_place_at, whole_collection_at, asked_at}
 use Rattle.wire_frames.specs.Encoding.{command_byte, name_field, fields, IsNamed}
