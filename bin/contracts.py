@@ -12,7 +12,7 @@ from pathlib import Path
 
 from edits import type_name
 
-ITEM = re.compile(r" *(pub )?(?:pub\([a-z]+\) )?(?:(?:const |unsafe )*(fn)|(impl|trait|mod|struct|enum|ghost use|ghost|use|const|static|type))\b ?(\w*)")
+ITEM = re.compile(r" *(pub )?(?:pub\([a-z]+\) )?(?:(?:const |unsafe |extern \S+ )*(fn)|(impl|trait|mod|struct|enum|ghost use|ghost|use|const|static|type))\b ?(\w*)")
 CLAUSES = re.compile(r"^ *(?:requires|ensures)\b", re.M)
 IMPORT = re.compile(r"(pub )?use Rattle\.(\w+)\.specs\.([A-Z]\w*)(?: as (\w+))?(?:\.\{([^}]*)\})?")
 # a definition's first line, which gives its name
@@ -128,26 +128,29 @@ class Contract:
         self.crate, self.path, self.owner, self.text, self.scope = crate, path, owner, text, scope
 
 
-def exports_of(modules):
-    """What a crate's lib.rt exports: its own items by module and name, with their public paths, and of other crates' the crate by the name."""
+def exports_of(modules, inside="", front=""):
+    """What a module exports, of which the path begins so: its crate's own items by module and name, with their public paths, and by the path of one that
+    another crate has, its path there."""
     own, others = {}, {}
-    for item in filter(lambda it: it.is_public, modules[""]):
+    for item in filter(lambda it: it.is_public, modules[inside]):
         if item.kind == "mod":
-            own.update({(item.name, it.name): f"{item.name}::{it.name}" for it in modules[item.name] if it.is_public})
+            more = exports_of(modules, f"{inside}::{item.name}".strip(":"), f"{front}{item.name}::")
+            own.update(more[0])
+            others.update(more[1])
         elif item.kind == "use":
-            module, names = re.fullmatch(r"pub use ([\w:]+)::(\w+(?: as \w+)?|\{.*\});", " ".join(map(str.strip, item.head))).groups()
+            path, names = re.fullmatch(r"pub use (?:crate::)?([\w:]+)::(\w+(?: as \w+)?|\{.*\});", " ".join(map(str.strip, item.head))).groups()
             for there, _, here in (it.strip().partition(" as ") for it in names.strip("{} ,").split(",")):
-                if module in modules:
-                    own[module, there] = here or there
+                if path in modules:
+                    own[path, there] = front + (here or there)
                 else:
-                    others[here or there] = module
+                    others[front + (here or there)] = f"{path}::{there}"
         else:
-            own["", item.name] = item.name
+            own[inside, item.name] = front + item.name
     return own, others
 
 
 class Crate:
-    """A crate's exported contracts, and the crates by the names that it hands on."""
+    """A crate's exported contracts, and what it hands on of other crates."""
 
     def __init__(self, folder):
         self.name, self.contracts = folder.name, []
@@ -156,6 +159,9 @@ class Crate:
             parts = [it for it in path.relative_to(folder / "src").with_suffix("").parts if it not in ("lib", "mod")]
             modules["::".join(parts)] = items_of(path.read_text(encoding="utf-8").split("\n"))
         self.own, self.others = exports_of(modules)
+        for module, name in self.own:
+            if not any(it.name == name for it in modules[module]):
+                raise LookupError(f"{self.name} exports {name}, which is not found in {module}")
         kinds = ("struct", "enum", "trait")
         self.private = {it.name for module, items in modules.items() for it in items if it.kind in kinds and (module, it.name) not in self.own}
         for module, items in modules.items():
@@ -247,9 +253,12 @@ class Sources:
         crate = self.crates.get(name)
         if crate is None:
             return []
-        found = [it for it in crate.contracts if not inner or f"{it.path}::".startswith(f"{inner}::")]
-        other = crate.others.get(inner.split("::")[0])
-        return found + (self.contracts_of(f"{other}::{inner}") if other else [])
+        front = f"{inner}::" if inner else ""
+        found = [it for it in crate.contracts if f"{it.path}::".startswith(front)]
+        for here, there in crate.others.items():
+            if f"{here}::".startswith(front) or front.startswith(f"{here}::"):
+                found += self.contracts_of(there + inner[len(here) :])
+        return found
 
     def of_values(self, contracts):
         """What the values stand for of the types whose contracts these are: the types of their models' values, and the functions of such a value alone."""

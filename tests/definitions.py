@@ -126,14 +126,26 @@ pub fn is_lawful()
 fn is_private() {}
 """,
     "high/src/lib.rt": """ghost use Rattle.low.specs.Handed.{IsHanded};
+ghost use Rattle.low.specs.Called.{is_called};
+
+pub mod laws;
 
 pub use low::Kept;
+
+#[unsafe(no_mangle)]
+pub extern "C" fn call() -> bool
+    ensures { result ≡ is_called }
+{
+    true
+}
 
 pub struct Fact {
     pub byte: u8,
     ghost small: { IsHanded byte },
 }
 """,
+    "high/src/laws.rt": "pub use low::laws::is_lawful;\n",
+    "low/specs/Called.antt": "-- What is called.\nabbrev pub is_called : Bool\nis_called = true\n",
     "low/specs/Lib.antt": "pub mod Named\n",
     "low/specs/Named.antt": """-- What is named.
 use Rattle.low.specs.Reached.{reached, Chosen}
@@ -198,14 +210,14 @@ may_tell = 0
     "low/specs/Views.antt": "-- What a view is.\nabbrev pub view_of : ℕ\nview_of = 0\n",
     "low/specs/Beside.antt": "-- What stands beside.\nabbrev pub beside : ℕ\nbeside = 0\n",
 }
-LIST = ["Choices †", "Handed", "Lawful", "Named", "Reached †", "Traits", "Trees †", "Values"]
+LIST = ["Called", "Choices †", "Handed", "Lawful", "Named", "Reached †", "Traits", "Trees †", "Values"]
 PAGE = """# Definitions
 
 Not in a table: `low/specs/Private.antt`.
 
 | notion | source | file |
 |---|---|---|
-| a notion | | `low/specs/Choices.antt` †, `Handed.antt` |
+| a notion | | `low/specs/Called.antt`, `Choices.antt` †, `Handed.antt` |
 | another | RFC 8259 | `low/specs/Lawful.antt`, `low/specs/Named.antt`, `Reached.antt` † |
 | a third | | `low/specs/Traits.antt`, `Trees.antt` †, `low/specs/Values.antt` |
 """
@@ -224,6 +236,8 @@ BELIEVED = {
     "low::count_of": ["     2 of   16  low/specs/Named.antt", "     2 of   11  low/specs/Values.antt", "2 files, 4 lines"],
     "low::laws": ["     2 of    3  low/specs/Lawful.antt", "1 file, 2 lines"],
     "high::Kept::told": ["0 files, 0 lines", OWN, "     2 of   16  low/specs/Named.antt", "     2 of   11  low/specs/Values.antt", "2 files, 4 lines"],
+    "high::laws": ["     2 of    3  low/specs/Lawful.antt", "1 file, 2 lines"],
+    "high::call": ["     2 of    3  low/specs/Called.antt", "1 file, 2 lines"],
     "high::Fact": ["     2 of    3  low/specs/Handed.antt", "1 file, 2 lines"],
 }
 
@@ -256,6 +270,9 @@ def main():
         status, lines = said(root, "--check")
         assert status == 1 and lines[0].endswith("low/specs/Choices.antt does not begin with a sentence on what it defines"), lines
         (root / "crates/low/specs/Lawful.antt").write_text("-- None.\n", encoding="utf-8")
+        assert said(root)[0] == 1
+        (root / "crates/low/specs/Lawful.antt").write_text(FILES["low/specs/Lawful.antt"], encoding="utf-8")
+        (root / "crates/low/src/laws.rt").write_text("pub use crate::hidden::gone;\n", encoding="utf-8")
         assert said(root)[0] == 1
     print(f"{len(LIST)} files are listed, {len(WRONG) + 1} wrong pages are told, and what {len(BELIEVED)} paths stand on")
 
