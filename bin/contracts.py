@@ -16,7 +16,7 @@ ITEM = re.compile(r" *(pub )?(?:pub\([a-z]+\) )?(?:(?:const |unsafe |extern \S+ 
 CLAUSES = re.compile(r"^ *(?:requires|ensures)\b", re.M)
 IMPORT = re.compile(r"(pub )?use Rattle\.(\w+)\.specs\.([A-Z]\w*)(?: as (\w+))?(?:\.\{([^}]*)\})?")
 # a definition's first line, which gives its name
-HEAD = re.compile(r" *(?:(?:abbrev|unfoldable|pub|record|data) )+([^\s:({]+)|(?: *(?:abbrev )?(?:mutual|module)\b)")
+HEAD = re.compile(r" *(?:(?:abbrev )?(?:mutual|module)\b|(?:(?:abbrev|unfoldable|pub|record|data) )+([^\s:({]+))")
 # the first line of a function of one argument that gives data
 FUNCTION_OF_ONE = re.compile(r".* : (\w+) → (?!Type )[^→]+")
 CONSTRUCTORS = re.compile(r" *((?:[^\s:(){}→]+ )+): ")
@@ -164,6 +164,7 @@ class Crate:
                 raise LookupError(f"{self.name} exports {name}, which is not found in {module}")
         kinds = ("struct", "enum", "trait")
         self.private = {it.name for module, items in modules.items() for it in items if it.kind in kinds and (module, it.name) not in self.own}
+        self.private -= {name for _, name in self.own}
         for module, items in modules.items():
             scope = imports_of("\n".join(it.text() for it in items if it.kind == "ghost use"))
             for item in items:
