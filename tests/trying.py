@@ -1,5 +1,5 @@
 #!/usr/bin/env python3
-"""Tests bin/try-edits on a made crate, with the prover: an edit that turns a body or a definition is refused, at the function that it is about,
+"""Tests `bin/edits try` on a made crate, with the prover: an edit that turns a body or a definition is refused, at the function that it is about,
 though others have no proof; one that is still proved, that cannot be read, or that says nothing is told; what was refused is not tried again; and
 where a function is not proved as it stands, no edit counts as refused."""
 import os
@@ -9,7 +9,7 @@ import sys
 import tempfile
 from pathlib import Path
 
-TRY = Path(__file__).resolve().parent.parent / "bin/try-edits"
+EDITS_TOOL = Path(__file__).resolve().parent.parent / "bin/edits"
 SOURCE = """//! Made for a test.
 #![tactic(auto)]
 ghost use Rattle.std.specs.Prelude.{◌≡◌};
@@ -65,7 +65,7 @@ def write(root, source):
 
 
 def tried(root, *more):
-    words = [sys.executable, TRY, "must-fail", "--root", root, "--libraries", root, *more]
+    words = [sys.executable, EDITS_TOOL, "--root", root, "try", "must-fail", "--libraries", root, *more]
     done = subprocess.run(words, stdin=subprocess.DEVNULL, stdout=subprocess.PIPE, env={**os.environ, "XDG_CACHE_HOME": f"{root}/kept"}, encoding="utf-8")
     return done.returncode, done.stdout.splitlines()
 

@@ -1,5 +1,5 @@
 #!/usr/bin/env python3
-"""Tests bin/check-edits on a made crate: an edit that fits passes, and each that does not is named with its reason. And of bin/edits.py
+"""Tests `bin/edits fit` on a made crate: an edit that fits passes, and each that does not is named with its reason. And of bin/tools/edits.py
 what judges an edit, that edits are tried together only where none changes what another one is judged by, and that an open goal counts for its
 own function alone."""
 import subprocess
@@ -7,8 +7,8 @@ import sys
 import tempfile
 from pathlib import Path
 
-CHECK = Path(__file__).resolve().parent.parent / "bin/check-edits"
-sys.path.insert(0, str(CHECK.parent))
+BIN = Path(__file__).resolve().parent.parent / "bin"
+sys.path.insert(0, str(BIN / "tools"))
 from edits import Edit, functions_of, in_groups, joined
 SOURCE = "const ZERO: u8 = 0;\nfn one() -> u8 {\n    1\n}\nfn two() -> u8 {\n    2\n}\n"
 FITTING = {
@@ -35,7 +35,7 @@ MISFITS = {
 
 
 def said_of(root):
-    done = subprocess.run([sys.executable, CHECK, "--root", root], stdout=subprocess.PIPE, universal_newlines=True)
+    done = subprocess.run([sys.executable, BIN / "edits", "--root", root, "fit"], stdout=subprocess.PIPE, universal_newlines=True)
     return done.returncode, done.stdout.splitlines()
 
 

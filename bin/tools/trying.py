@@ -1,30 +1,8 @@
-#!/usr/bin/env python3
-"""Has the prover refuse edits: bin/try-edits KIND [NAME..], where KIND is must-fail or planted.
-
-It tries those of crates/NAME/KIND/, of the crates that are named or of all that have some, as the work tree stands, committed or not. An edit
-is judged by the functions that it changes, or by those that it names (bin/edits.py), and is refused where a goal of one of these is open. The
-others' proofs play no part in that, so each check is of a copy of the crate in which they are holes (bin/holes.py), over the
-libraries below.
-
-First comes a control: the same functions as they stand, of which no goal may be open. Where one is, none of the crate's edits counts as
-refused. Then edits are tried together where none changes what another one is judged by, and those that no goal refused again, each
-alone. Where nothing but a proof no longer fits, since it names what the edit took away, the edit counts as not refused: it wants a form that keeps
-the names.
-
-Libraries are proved first where they are missing. --libraries FOLDER takes those of FOLDER/crates/NAME/out/rlib, where rt ci leaves them, and
---as-named each of them once its crate's name comes on standard input, in a line of its own.
-
-What was refused is kept, by the content of all that it rests on: the crate, the libraries below it, the edit, the toolchain and this
-tool. --anew tries all. Crates are tried side by side, --jobs of them at a time (by default as many as processors and memory allow). --only WORD
-tries only edits whose name has WORD. Each edit has a line with the goal that refused it, or what is to be said against it. The
-last line is `N passed, M failed`, and the exit status is 0 where M is 0.
-"""
-import argparse
+"""Has the prover refuse the edits of crates; `bin/edits try --help` says how."""
 import hashlib
 import os
 import re
 import shutil
-import signal
 import subprocess
 import sys
 import tempfile
@@ -34,10 +12,9 @@ from pathlib import Path
 
 from edits import Edit, apply, in_groups, is_open, joined
 from holes import PARTS, HoledCopy, front_end
-from proving import Crates, Task, lanes, run_all
+from proving import Task, run_all
 
-TOP = Path(__file__).resolve().parent.parent
-TOOLS = [TOP / "bin" / it for it in ("edits.py", "holes.py", "try-edits")]
+TOOLS = [Path(__file__).resolve().parent / it for it in ("edits.py", "holes.py", "trying.py")]
 SECONDS = 1800
 SILENCE = 60
 UNREAD = re.compile(r"(?:\./)?(src|specs)/\S+?:\d+:\d+: error: (?!`[^`]*`: )|(?:\./)?specs/\S+?:\d+:\d+: error: .*(is not in scope|has no field|is no name)")
@@ -228,41 +205,24 @@ def prove_libraries(crates, names):
     return True
 
 
-def main():
-    parser = argparse.ArgumentParser(description=__doc__, formatter_class=argparse.RawDescriptionHelpFormatter)
-    parser.add_argument("kind", choices=("must-fail", "planted"))
-    parser.add_argument("--root", type=Path, default=TOP, help="the repository (default: this one)")
-    parser.add_argument("--libraries", type=Path, metavar="FOLDER")
-    parser.add_argument("--as-named", action="store_true")
-    parser.add_argument("--anew", action="store_true")
-    parser.add_argument("--jobs", type=int, default=lanes())
-    parser.add_argument("--only", default="", metavar="WORD")
-    parser.add_argument("names", nargs="*", metavar="NAME")
-    given = parser.parse_intermixed_args()
-    signal.signal(signal.SIGTERM, lambda *_: sys.exit(143))
-    crates = Crates(given.root.resolve())
-    unknown = [name for name in given.names if name not in crates.uses]
-    if unknown or not shutil.which("rt"):
-        sys.exit(f"bin/try-edits: no crate {unknown[0]} in crates.txt" if unknown else "bin/try-edits: there is no command rt on the PATH")
+def try_edits(crates, kind, names, word, folder, are_named, is_anew, many):
+    """Tries the edits of a kind whose name has the word, of the crates that are named or of all, many crates at a time. The libraries stand in a folder like
+    that of the repository, which may be told to come as they are named on standard input; with no folder they are proved first. Prints what
+    comes of them; how many were refused, and how many were not."""
     kit = Path(shutil.which("rt")).resolve().parent.parent
-    edits = {name: sorted(it for it in (crates.folder(name) / given.kind).glob("*.edit") if given.only in it.name) for name in given.names or crates.uses}
+    edits = {name: sorted(it for it in (crates.folder(name) / kind).glob("*.edit") if word in it.name) for name in names or crates.uses}
     edits = {name: files for name, files in edits.items() if files}
     print("trying " + ", ".join(f"{len(files)} edits of {name}" for name, files in edits.items()), flush=True)
-    if not given.libraries and not prove_libraries(crates, edits):
-        sys.exit(1)
-    libraries = Libraries((given.libraries or crates.top).resolve(), given.as_named)
-    kept = Kept(kit, given.anew)
+    total = sum(len(files) for files in edits.values())
+    if not folder and not prove_libraries(crates, edits):
+        return 0, max(total, 1)
+    libraries, kept = Libraries((folder or crates.top).resolve(), are_named), Kept(kit, is_anew)
     trials = {name: Trial(crates, name, files, kit, libraries, kept) for name, files in edits.items()}
 
     def tell(task, how):
         lines = [f"still at {', '.join(how)}"] if task is None else trials[task.name].said
         print(*lines, sep="\n", flush=True)
 
-    run_all([Task(name, [], it.run) for name, it in trials.items()], max(given.jobs, 1), tell, SILENCE)
+    run_all([Task(name, [], it.run) for name, it in trials.items()], many, tell, SILENCE)
     passed = sum(it.refused for it in trials.values())
-    failed = sum(len(files) for files in edits.values()) - passed
-    print(f"{passed} passed, {failed} failed")
-    sys.exit(1 if failed else 0)
-
-
-main()
+    return passed, total - passed
