@@ -1,4 +1,4 @@
--- The exit statuses of the program, by what happened: 0 for help and the version, 1 for a refused text, script or line, 2 for a refused query, 3 for a command line or keys that are none, 4 for the streams, the network and memory.
+-- The exit statuses of the program (this project's own), by what happened: 0 for help and the version, 1 for a refused text, script or line, 2 for a refused query, 3 for a command line or keys that are none, 4 for the streams, the network and memory.
 use Rattle.std.specs.Prelude.{ℕ}
 use Rattle.clap.specs.Values.{kind_of}
 use Rattle.clap.specs.declared.error.kind.ErrorKind.{ErrorKind}

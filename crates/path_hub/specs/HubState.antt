@@ -1,4 +1,4 @@
--- What a hub holds: a framer's state for each connection, and the tenants. Compiled queries that it keeps are no part of it.
+-- What a hub holds (this project's own): a framer's state for each connection, and the tenants. Compiled queries that it keeps are no part of it.
 use Rattle.std.specs.Prelude.{ℕ, List}
 use Rattle.wire_frames.specs.Framing.{Framing}
 use Rattle.tenant_map.specs.Tenancy.{Tenancy}

@@ -1,4 +1,4 @@
--- The refusals of the parts as refusals of the whole.
+-- The refusals of the parts as refusals of the whole: this project's own.
 use Rattle.json_tape.specs.declared.tape.TextFault.{TextFault}
 use Rattle.json_tape.specs.declared.tape.TextFault.TheVariants as text
 use Rattle.path_types.specs.declared.query_text.QueryFault.{QueryFault}

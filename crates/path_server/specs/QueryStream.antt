@@ -1,4 +1,4 @@
--- What a query on a stream does: to the text that a reader has left it answers or refuses as to a text at hand, and only an answer is written.
+-- What a query on a stream does (this project's own): to the text that a reader has left it answers or refuses as to a text at hand, and only an answer is written.
 use Rattle.std.specs.Prelude.{◌≡◌, ◌⊎◌, ℕ, List, [], IfSome}
 use Rattle.std.specs.Io.KnownBytes.{Keeps, Appends}
 use Rattle.std.specs.declared.option.Option.{Option}

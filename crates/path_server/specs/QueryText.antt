@@ -1,4 +1,4 @@
--- What a query on a text answers: the first refusal that applies, or a line for each hit.
+-- What a query on a text answers (this project's own): the first refusal that applies, or a line for each hit.
 use Rattle.std.specs.Prelude.{◌≡◌, ◌<◌, ◌≤◌, ℕ, ◌++◌, List}
 use Rattle.json_tape.specs.Tree.{Tree}
 use Rattle.json_tape.specs.Verdict.{IsRefused, IsAccepted}

@@ -1,4 +1,4 @@
--- What a tenant answers to a command that puts, removes or drops: the first refusal that applies, in the order of the statuses, and the map after it.
+-- What a tenant answers to a command that puts, removes or drops (this project's own): the first refusal that applies, in the order of the statuses, and the map after it.
 use Rattle.std.specs.Prelude.{◌≡◌, ◌⊎◌, ℕ, List, Option, Some, None}
 use Rattle.json_tape.specs.Tree.{Tree}
 use Rattle.json_tape.specs.Verdict.{IsAccepted, IsRefused}

@@ -1,4 +1,4 @@
--- What is kept of each document: its name's bytes, and the text with its tree.
+-- What is kept of each document (this project's own): its name's bytes, and the text with its tree.
 use Rattle.std.specs.Prelude.{ℕ, ◌≤◌, List, length}
 use Rattle.std.specs.List.{AllByRecursion}
 use Rattle.std.specs.declared.vec.Vec.{Vec}

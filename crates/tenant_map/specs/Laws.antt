@@ -1,4 +1,4 @@
--- Each put has one answer: what the relations say of a map and a put settles it, want of memory aside.
+-- Each put has one answer (a law of this project's own): what the relations say of a map and a put settles it, want of memory aside.
 use Rattle.std.specs.Prelude.{◌≡◌, ◌≢◌, ℕ, List}
 use Rattle.tenant_map.specs.declared.faults.StoreFault.{StoreFault}
 use Rattle.tenant_map.specs.declared.faults.StoreFault.TheVariants.{NoMemory}

@@ -1,4 +1,4 @@
--- What a tenant answers to a command that lists: the payload of the reply. All numbers are big-endian.
+-- What a tenant answers to a command that lists (this project's own): the payload of the reply. All numbers are big-endian.
 use Rattle.std.specs.Prelude.{ℕ, List, ◌∷◌, ◌++◌, length, flat_map}
 use Rattle.std.specs.Map.{keys_of}
 use Rattle.std.specs.Int.{w32, to_be_bytes}

@@ -1,4 +1,4 @@
--- A tenant's map: a text under the names of a collection and of a document, both in key order. A collection is there while it holds a document.
+-- A tenant's map (this project's own): a text under the names of a collection and of a document, both in key order. A collection is there while it holds a document.
 use Rattle.std.specs.Prelude.{◌≡◌, ◌<◌, ◌&&◌, cond, ℕ, List, [], ◌∷◌, length, Option, Some, None, option_and_then, unwrap_or}
 use Rattle.std.specs.List.{sum_by, AllByRecursion}
 use Rattle.std.specs.Map.{lookup, remove_entry, set_value, values_of}

@@ -1,4 +1,4 @@
--- How much a tenant holds, and how much it may.
+-- How much a tenant holds, and how much it may: this project's own limits.
 use Rattle.std.specs.Prelude.{◌≡◌, ℕ, ◌≤◌, List, length, nat_lt, if◌then◌else◌, Option, Some, None}
 use Rattle.std.specs.Map.{lookup}
 use Rattle.tenant_map.specs.declared.faults.StoreFault.{StoreFault}

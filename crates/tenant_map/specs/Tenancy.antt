@@ -1,4 +1,4 @@
--- All tenants: a key and a map for each, in the order of the keys given.
+-- All tenants (this project's own): a key and a map for each, in the order of the keys given.
 use Rattle.std.specs.Prelude.{◌≡◌, ℕ, ◌<◌, ◌≤◌, List, [], ◌∷◌, length, replicate, slice_set, Bool, true, false, ◌||◌, Option}
 use Rattle.std.specs.List.{list_any, position_from}
 use Rattle.std.specs.Map.{lookup}

@@ -1,4 +1,4 @@
--- Which document decides that a query is refused: the first, in key order, that shows a fault.
+-- Which document decides that a query is refused (this project's own rule): the first, in key order, that shows a fault.
 use Rattle.std.specs.Prelude.{◌<◌, ◌≤◌, ◌↔◌, ◌+◌, ℕ, suc, List, ◌++◌, length, take}
 use Rattle.path_grammar.specs.Tree.{Segments}
 use Rattle.tape_select.specs.Budget.{budget}

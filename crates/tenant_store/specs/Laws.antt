@@ -1,4 +1,4 @@
--- Each query has one answer: what the relations say of a collection and a query settles it, want of memory aside.
+-- Each query has one answer (a law of this project's own): what the relations say of a collection and a query settles it, want of memory aside.
 use Rattle.std.specs.Prelude.{◌≡◌, ◌≢◌, ℕ, List}
 use Rattle.path_grammar.specs.Tree.{Segments}
 use Rattle.tenant_map.specs.declared.faults.StoreFault.{StoreFault}

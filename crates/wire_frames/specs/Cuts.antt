@@ -1,4 +1,4 @@
--- A stream that comes in pieces, while frames are taken at any time between them.
+-- A stream that comes in pieces, while frames are taken at any time between them: this project's own framing.
 use Rattle.std.specs.Prelude.{ℕ, List, [], ◌∷◌, ◌++◌, Bool, true, false}
 use Rattle.wire_frames.specs.Frames.{Front, Whole, Wait, Fault, front}
 use Rattle.wire_frames.specs.Framing.{Framing, with_piece, framing_after}

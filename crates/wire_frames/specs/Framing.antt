@@ -1,4 +1,4 @@
--- What a framer holds, and what becomes of it: the bytes that wait, and whether it was closed by a fault.
+-- What a framer holds, and what becomes of it (this project's own framing): the bytes that wait, and whether it was closed by a fault.
 use Rattle.std.specs.Prelude.{◌≡◌, ℕ, List, [], ◌++◌, Bool, true, false, IsTrue}
 use Rattle.wire_frames.specs.Frames.{Front, Whole, Wait, Fault, front, is_whole}
 

@@ -1,4 +1,4 @@
--- What the program's requests and their refusals stand for.
+-- What the program's requests and their refusals stand for: this project's own.
 use Rattle.std.specs.Prelude.{ℕ, List, Option, Result, Ok, Err}
 use Rattle.std.specs.Option.{option_map}
 use Rattle.wire_frames.specs.Requests as r
