@@ -3,8 +3,8 @@
 
 The pages are README.md, CONTRIBUTING.md, those of docs/, and the README.md of each crate and client. In each:
 
-- A block whose first line begins with `$ ` is a session. Such a line is a command, one that ends with a backslash goes on in the next line, and
-  the lines behind it are what it prints, on standard output and standard error. `..` in such a line stands for any characters, and a line that is
+- A block whose first line begins with `$ ` is a session. Such a line is a command, one that ends with a backslash goes on behind `> `,
+  and the lines behind it are what it prints, on standard output and standard error. `..` in such a line stands for any characters, and a line that is
   `..` alone for any lines. The sessions of a page run in one shell, in a folder of their own that has this repository's files in it. Ports are
   exchanged for free ones.
 - Commands that prove, build, install or take long (LONG) are not run: that what they name is there is all that is tested.
@@ -34,12 +34,12 @@ LONG = re.compile(r"(?:\w+=\S* )*(?:nice )?(bin/(?:check\b(?!-)|build\b|edits tr
 FOLDERS = "bin|bench|clients|crates|deploy|docs|tests"
 PATH = re.compile(rf"`((?:{FOLDERS})/[\w./-]*\w/?)(?:[ `].*)?")
 ADDRESS = re.compile(r"127\.0\.0\.1:([1-9]\d{3,4})")
-COUNTED = re.compile(r"`bin/definitions ([\w:]+)`[^|]*\|(?:[^|]*\|)*? *(\d+ files?, [\d,]+ lines)")
+COUNTED = re.compile(r"`bin/definitions (\w+::[\w:]+)`[^|]*\|(?:[^|]*\|)*? *(\d+ files?, [\d,]+ lines)")
 SETTLES = 0.3
 
 
 def pages():
-    found = [TOP / "README.md", TOP / "CONTRIBUTING.md", TOP / "CHANGELOG.md", *sorted((TOP / "docs").glob("*.md"))]
+    found = [TOP / "README.md", TOP / "CONTRIBUTING.md", TOP / "CHANGELOG.md", *sorted((TOP / "docs").glob("*.md")), TOP / "tests/README.md"]
     return [*found, *sorted((TOP / "crates").glob("*/README.md")), *sorted((TOP / "clients").glob("*/README.md"))]
 
 
@@ -72,8 +72,8 @@ def sessions(text):
             continue
         command, printed = None, []
         for line in block:
-            if command is not None and command.endswith("\\") and not printed:
-                command += "\n" + line
+            if command is not None and command.endswith("\\") and line.startswith("> "):
+                command += "\n" + line[2:]
             elif line.startswith("$ "):
                 if command is not None:
                     yield command, printed
@@ -213,6 +213,8 @@ def try_examples(report, chosen):
 
 
 def main():
+    if not os.access(PROGRAM, os.X_OK):
+        sys.exit(f"no program {PROGRAM}: bin/build makes it")
     report, chosen = Report(), [it for it in pages() if not sys.argv[1:] or str(it.relative_to(TOP)) in sys.argv[1:]]
     for page in chosen:
         name, text = str(page.relative_to(TOP)), page.read_text(encoding="utf-8")
