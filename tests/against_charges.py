@@ -1,7 +1,7 @@
 #!/usr/bin/env python3
 """Compares random queries' nodes and charges with those of a plain evaluator: tests/against_charges.py [QUERIES [SEED]].
 
-The evaluator is plain_queries.py. The nodes are compared with what `path_server query` prints, of the program that
+The evaluator is lib/plain_queries.py. The nodes are compared with what `path_server query` prints, of the program that
 bin/path_server builds or the one that the environment's PATH_SERVER names. Where the environment's CASE_TABLES names the
 program case_tables, the charges are handed to it as lines `charge NUMBER QUERY TEXT`, where NUMBER is `Costly` above
 10,000,000 (docs/TABLES.md), on random texts and on wider ones, and it says which differ.
@@ -14,9 +14,9 @@ import subprocess
 import sys
 import tempfile
 
-from against_jq import COMMON, Queries, document
-from plain_queries import charge, hits, query_of
-from running_server import PROGRAM, Report
+from lib.plain_queries import charge, hits, query_of
+from lib.random_queries import COMMON, Queries, document
+from lib.running_server import PROGRAM, Report
 
 PER_TEXT = 20
 BUDGET = 10_000_000

@@ -10,7 +10,7 @@ import subprocess
 import sys
 from pathlib import Path
 
-from json_verdict import verdict
+from lib.json_verdict import verdict
 
 TOP = Path(__file__).resolve().parent.parent
 PROGRAM = os.environ.get("PATH_SERVER") or TOP / "crates/path_program/out/path_program"

@@ -15,10 +15,10 @@ import socket
 import sys
 import time
 
-from against_model import COLLECTIONS, KEYS, Traffic
+from lib.plain_model import Server, number
+from lib.running_server import Report, Running, frames_of, open_connection, reset, talk
+from lib.traffic import COLLECTIONS, KEYS, Traffic
 from path_client import REQUEST_LIMIT, Refused, Request, connect
-from plain_model import Server, number
-from running_server import Report, Running, frames_of, open_connection, reset, talk
 
 BYSTANDER = KEYS[0]
 VICTIMS = 200

@@ -5,8 +5,8 @@ do then stands in docs/PROTOCOL.md.
 import socket
 import threading
 
+from lib.running_server import Report
 from path_client import REQUEST_LIMIT, BrokenConnection, Hit, Refused, Request, Usage, connect
-from running_server import Report
 
 KEY = bytes(16)
 SOUND = {

@@ -12,7 +12,7 @@ import re
 import subprocess
 import sys
 
-from running_server import PATIENCE, PROGRAM, TOP, Report
+from lib.running_server import PATIENCE, PROGRAM, TOP, Report
 
 KEYS = {"A": "00112233445566778899aabbccddeeff", "B": "ffeeddccbbaa99887766554433221100"}
 SHORT = 3_000

@@ -9,7 +9,7 @@ import socket
 import subprocess
 import threading
 
-from running_server import PATIENCE, PROGRAM, Report
+from lib.running_server import PATIENCE, PROGRAM, Report
 
 KEY = "00112233445566778899aabbccddeeff"
 REQUESTS = [f"00000020 01 00000001 {KEY} 0163 0164 7b2261223a317d", f"0000001a 05 00000002 {KEY} 0163 242e61",

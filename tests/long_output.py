@@ -12,7 +12,7 @@ import subprocess
 import sys
 import tempfile
 
-from running_server import PROGRAM, Report
+from lib.running_server import PROGRAM, Report
 
 MOST_KIB = 64 << 10
 NAME = "n" * 500_000

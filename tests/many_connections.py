@@ -2,7 +2,7 @@
 """Many connections at once to `path_server listen`, against a plain model: tests/many_connections.py [CONNECTIONS [REQUESTS [SEED]]].
 
 So many connections (2,000) of several tenants are open at once, over which so many requests (20,000) go: random ones, cut anywhere, frames
-held open in part while others go on, connections cut at random and opened again. The model (plain_model.py) keeps a dictionary of
+held open in part while others go on, connections cut at random and opened again. The model (lib/plain_model.py) keeps a dictionary of
 dictionaries. Then each limit on its own: peers that never read beside some that do, a small bound on memory, more connections than
 descriptors and than the limit, a frame held open in part, idle connections, floods, a framing fault with bytes behind it, keys in a
 file, and the end of standard input.
@@ -17,10 +17,10 @@ import sys
 import tempfile
 import time
 
-from against_model import KEYS, UNKNOWN, Traffic
+from lib.plain_model import Server, number
+from lib.running_server import GIVE_BACK, PATIENCE, Listening, Report, frames_of, open_connection, reset, talk
+from lib.traffic import KEYS, UNKNOWN, Traffic
 from path_client import REQUEST_LIMIT, Request, connect, parse_address
-from plain_model import Server, number
-from running_server import GIVE_BACK, PATIENCE, Listening, Report, frames_of, open_connection, reset, talk
 
 TENANTS = 64
 MEBIBYTE = 1 << 20

@@ -4,17 +4,17 @@
 So many requests (10,000) go over one connection, and so many again over one connection after the other, 20 to each. They are of every
 command and of several tenants: two with requests as against_model.py makes them, some of them malformed, one that stands at its quotas of
 collections and documents, one at its quota of bytes with texts of a mebibyte, and one whose queries meet their limits. Their stream is
-cut anywhere: byte by byte, or many requests in a piece. The model (plain_model.py) keeps a dictionary of dictionaries.
+cut anywhere: byte by byte, or many requests in a piece. The model (lib/plain_model.py) keeps a dictionary of dictionaries.
 """
 import random
 import sys
 import time
 
-from against_model import KEYS, Traffic
-from json_verdict import TEXT_LIMIT
+from lib.json_verdict import TEXT_LIMIT
+from lib.plain_model import STATUS, Server, named, number
+from lib.running_server import Report, Running, compare_replies, open_connection, talk
+from lib.traffic import KEYS, Traffic
 from path_client import REQUEST_LIMIT
-from plain_model import STATUS, Server, named, number
-from running_server import Report, Running, compare_replies, open_connection, talk
 
 CROWDED, HEAVY, WIDE = (bytes([place] * 16) for place in (1, 2, 3))
 FAULTS = [number(REQUEST_LIMIT + 1), b"\xff\xff\xff\xff"]

@@ -11,8 +11,8 @@ import subprocess
 import sys
 from contextlib import redirect_stdout
 
+from lib.running_server import PROGRAM, TOP, Report, Running, compare_replies, open_connection, talk
 from path_client import Request, Status, connect
-from running_server import PROGRAM, TOP, Report, Running, compare_replies, open_connection, talk
 
 KEY = bytes.fromhex("00112233445566778899aabbccddeeff")
 OTHER = bytes.fromhex("aabbccddeeff00112233445566778899")

@@ -2,7 +2,7 @@
 """Has each growth of each public call refused in turn: tests/refused_calls.py [NAME..], on Linux.
 
 The program `refused_calls` makes the call that its word names twice and prints what it answered and left each time. A library
-(failing_calls.c, compiled by `cc` into a temporary folder; where there is no cc, nothing is run) refuses the Nth growth of the first
+(lib/failing_calls.c, compiled by `cc` into a temporary folder; where there is no cc, nothing is run) refuses the Nth growth of the first
 call, alone or with all behind it, for each N up to the last one. A call is refused then and has left all as it was, and answers as
 before where it is made again; or it answers in the way that its row names: a request on a hub is answered NoMemory and the map stays,
 replies that came before stay, and a query that only finds no place in the cache is answered. The answers with ample memory stand in
@@ -16,10 +16,10 @@ import sys
 import tempfile
 from pathlib import Path
 
-from against_model import KEYS
-from plain_model import named, number
+from lib.plain_model import named, number
+from lib.running_server import TOP, Report
+from lib.traffic import KEYS
 from refused_growths import Calls
-from running_server import TOP, Report
 
 PROGRAM = os.environ.get("REFUSED_CALLS") or TOP / "crates/refused_calls/out/refused_calls"
 PATIENCE = 20

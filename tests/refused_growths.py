@@ -1,11 +1,11 @@
 #!/usr/bin/env python3
 """Lets each call for memory, each read and each write of the program fail: tests/refused_growths.py [SHARE [SEED]], on Linux.
 
-A library (failing_calls.c, compiled by `cc` into a temporary folder; where there is no cc, nothing is run) makes the Nth call
+A library (lib/failing_calls.c, compiled by `cc` into a temporary folder; where there is no cc, nothing is run) makes the Nth call
 fail, alone or with all behind it, for each N up to the last call that there is; with a SHARE, for so many of 100. Each run of
 `query` and `replay` ends with the output of one with ample memory, or with the fault's status, its name, and no output but a
 part of it where writing failed or where more than one write has room. Each reply of `replay` and `serve` is the plain model's
-(plain_model.py), or NoMemory where docs/PROTOCOL.md lets it be, and then the model's map stays as it was, and later replies
+(lib/plain_model.py), or NoMemory where docs/PROTOCOL.md lets it be, and then the model's map stays as it was, and later replies
 have to fit. `call` prints the replies that came before the fault. A connection ends as that page says of its end; the next one
 is served and finds what the replies before said. No run takes more than 20 seconds.
 """
@@ -18,10 +18,10 @@ import sys
 import tempfile
 from pathlib import Path
 
-from against_model import KEYS
+from lib.plain_model import STATUS, Server, named, number
+from lib.running_server import END_LINE, PROGRAM, TOP, Report, Running
+from lib.traffic import KEYS
 from path_client import Request, connect, parse_address
-from plain_model import STATUS, Server, named, number
-from running_server import END_LINE, PROGRAM, TOP, Report, Running
 
 PATIENCE = 20
 KINDS = ("memory", "read", "write")
@@ -59,7 +59,7 @@ class Calls:
 
     def __init__(self, folder):
         self.library, self.file = folder / "failing_calls.so", folder / "counts"
-        words = ["cc", "-O1", "-shared", "-fPIC", "-o", str(self.library), str(TOP / "tests/failing_calls.c")]
+        words = ["cc", "-O1", "-shared", "-fPIC", "-o", str(self.library), str(TOP / "tests/lib/failing_calls.c")]
         subprocess.run(words, check=True)
         self.file.write_bytes(bytes(8 * len(COUNTS)))
 

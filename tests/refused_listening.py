@@ -1,10 +1,10 @@
 #!/usr/bin/env python3
 """Lets each call of `listen` fail while several connections are open: tests/refused_listening.py [SHARE [SEED]], on Linux.
 
-A library (failing_calls.c, compiled by `cc` into a temporary folder; where there is no cc, nothing is run) makes the Nth call for
+A library (lib/failing_calls.c, compiled by `cc` into a temporary folder; where there is no cc, nothing is run) makes the Nth call for
 memory, read, write, accept or wait fail, alone or with all behind it, for each N up to the last one that there is; with a SHARE, for
 so many of 100. Two tenants send their requests at the same time over a connection each, two more connections are idle, and a further
-one comes at the end. Each reply is the plain model's (plain_model.py), or NoMemory where docs/PROTOCOL.md lets it be, and then the
+one comes at the end. Each reply is the plain model's (lib/plain_model.py), or NoMemory where docs/PROTOCOL.md lets it be, and then the
 model's map stays as it was. One call that fails ends one connection at most, and all others are answered; or the program ends with
 status 4 and a name that README.md gives it. Otherwise it ends with status 0 once its standard input is closed, or, where that could
 not be waited for, goes on serving. No wait takes more than 20 seconds.
@@ -18,11 +18,11 @@ import sys
 import tempfile
 from pathlib import Path
 
-from against_model import KEYS
+from lib.plain_model import named, number
+from lib.running_server import END_LINE, PROGRAM, Report
+from lib.traffic import KEYS
 from path_client import parse_address
-from plain_model import named, number
 from refused_growths import NO_MEMORY, Calls, Judge, Refusals, body, received
-from running_server import END_LINE, PROGRAM, Report
 
 PATIENCE = 20
 ALL_KINDS = ("memory", "read", "write", "accept", "poll")

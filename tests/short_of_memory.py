@@ -12,10 +12,10 @@ import resource
 import sys
 from pathlib import Path
 
-from against_model import KEYS
+from lib.plain_model import STATUS, Server
+from lib.running_server import GIVE_BACK, Report, Running, open_connection
+from lib.traffic import KEYS
 from over_sockets import CROWDED, HEAVY, WIDE, Requests
-from plain_model import STATUS, Server
-from running_server import GIVE_BACK, Report, Running, open_connection
 
 WITHOUT_MEMORY = {STATUS[name] for name in "Short NoTenant BadCommand BadFields TooLong NotUtf8 NotFound QueryTooLong".split()}
 ROOM = [0, 256 << 10, 2 << 20, 3 << 20, 4 << 20, 5 << 20]

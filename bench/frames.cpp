@@ -8,7 +8,7 @@
 #include <cstdlib>
 #include <vector>
 
-#include "../memory.hpp"
+#include "memory.hpp"
 
 // ---- what the static library exports, and the memory that it asks for
 

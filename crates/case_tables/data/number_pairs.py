@@ -3,7 +3,7 @@
 The order of a pair comes from Python's exact fractions, so every exponent here is small enough to
 be written out. Pairs with exponents near the limit stand in the table by hand.
 
-    python3 pairs.py
+    python3 crates/case_tables/data/number_pairs.py
 """
 import random
 from fractions import Fraction

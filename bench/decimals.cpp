@@ -3,7 +3,7 @@
 //
 // It is linked with the static library path_bench, which exports `decimal_order::compare` as decimal_compare, with -1, 0 or
 // 1 for less, equal or greater:
-//     c++ -O2 -std=c++17 bench/decimal_order/compare.cpp crates/path_bench/out/libpath_bench.a -o compare && ./compare
+//     c++ -O2 -std=c++17 bench/decimals.cpp crates/path_bench/out/libpath_bench.a -o decimals && ./decimals
 #include <chrono>
 #include <cstdint>
 #include <cstdio>
@@ -11,7 +11,7 @@
 #include <string>
 #include <vector>
 
-#include "../memory.hpp"
+#include "memory.hpp"
 
 extern "C" int32_t decimal_compare(const uint8_t *a, size_t a_len, const uint8_t *b, size_t b_len);
 

@@ -5,9 +5,10 @@ Queries are answered by the plain evaluator, but for a few that are refused. Tex
 import re
 import struct
 
-from json_verdict import verdict
 from path_client import REPLY_LIMIT, REQUEST_LIMIT
-from plain_queries import asked
+
+from .json_verdict import verdict
+from .plain_queries import asked
 
 PAYLOAD_LIMIT = REPLY_LIMIT - 5
 BUDGET = 10_000_000

@@ -1,5 +1,5 @@
 #!/usr/bin/env python3
-"""Looks whether traffic leaves memory behind: tests/long_traffic.py [MEBIBYTES [SEED]], on Linux alone.
+"""Looks whether traffic leaves memory behind: tests/long/long_traffic.py [MEBIBYTES [SEED]], on Linux alone.
 
 So many mebibytes (1,024) of puts and gets of texts up to the limit, of queries whose hits are as large, and of refused requests go to a
 server, over connections of 16 mebibytes each. Each text that comes back is compared. Each connection ends with the same documents kept as
@@ -10,9 +10,11 @@ import os
 import random
 import sys
 import time
+from pathlib import Path
 
+sys.path.insert(0, str(Path(__file__).resolve().parent.parent))
+from lib.running_server import GIVE_BACK, Report, Running
 from path_client import Hit, Refused, Request, connect
-from running_server import GIVE_BACK, Report, Running
 
 KEY = bytes(range(16))
 MEBIBYTE = 1 << 20

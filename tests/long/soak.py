@@ -1,9 +1,9 @@
 #!/usr/bin/env python3
-"""Keeps a server busy for so many minutes and compares all that it does: tests/soak.py MINUTES [SEED [SECONDS]], on Linux alone.
+"""Keeps a server busy for so many minutes and compares all that it does: tests/long/soak.py MINUTES [SEED [SECONDS]], on Linux alone.
 
 Connection after connection comes with requests of several tenants, one in ten malformed, one at a time or cut anywhere;
 clients that are killed or reset at random moments; and texts and queries that were made to take long. Each reply is compared
-with that of the plain model (plain_model.py), or of the plain evaluator (plain_queries.py). No reply to one request is late by
+with that of the plain model (lib/plain_model.py), or of the plain evaluator (lib/plain_queries.py). No reply to one request is late by
 more than SECONDS (2). Every minute all that is kept is dropped: the memory and the descriptors in use are then those of the
 first time, but for 4 MiB of memory. The server is stopped at the end, and its lines on standard error are what
 docs/PROTOCOL.md says of the connections' ends.
@@ -13,14 +13,16 @@ import random
 import struct
 import sys
 import time
+from pathlib import Path
 
-from against_model import KEYS
+sys.path.insert(0, str(Path(__file__).resolve().parent.parent))
 from broken_clients import BROKEN, Victim, documents, drop_all, end_by_kill, end_by_reset
+from lib.plain_model import Server, named, number
+from lib.plain_queries import hits
+from lib.running_server import GIVE_BACK, Report, Running, open_connection, reset
+from lib.traffic import KEYS
 from over_sockets import CROWDED, FAULTS, HEAVY, WIDE, Requests, body, send, tail_of
 from path_client import Request, connect
-from plain_model import Server, named, number
-from plain_queries import hits
-from running_server import GIVE_BACK, Report, Running, open_connection, reset
 
 HOSTILE, VICTIM = bytes([9] * 16), bytes([0]) + b"victim".ljust(15, b".")
 ALL_KEYS = [*KEYS, CROWDED, HEAVY, WIDE, HOSTILE, VICTIM]

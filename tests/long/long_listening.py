@@ -1,5 +1,5 @@
 #!/usr/bin/env python3
-"""Keeps `path_server listen` busy for so many minutes and compares all that it does: tests/long_listening.py MINUTES [SEED], on Linux alone.
+"""Keeps `path_server listen` busy for so many minutes and compares all that it does: tests/long/long_listening.py MINUTES [SEED], on Linux alone.
 
 Round after round 200 connections of 64 tenants are open at once, over which 20,000 requests go as in many_connections.py, against its plain
 model: random ones, cut anywhere, frames held open in part, connections cut at random and opened again. Beside them stand a peer that asks for
@@ -10,10 +10,12 @@ import os
 import random
 import sys
 import time
+from pathlib import Path
 
+sys.path.insert(0, str(Path(__file__).resolve().parent.parent))
+from lib.running_server import GIVE_BACK, Listening, Report, open_connection, reset
 from many_connections import FAULT, FAULT_REPLY, LARGE, PUT_LARGE, TENANTS, Crowd, exchange, frame
 from path_client import Request, connect
-from running_server import GIVE_BACK, Listening, Report, open_connection, reset
 
 CONNECTIONS, REQUESTS, FIRST_ROUNDS = 200, 20_000, 3
 MOST_GROWN = 4 << 10

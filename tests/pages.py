@@ -1,0 +1,228 @@
+#!/usr/bin/env python3
+"""Runs the commands of the pages and compares what they print with what the pages show: tests/pages.py [PAGE..].
+
+The pages are README.md, CONTRIBUTING.md, those of docs/, and the README.md of each crate and client. In each:
+
+- A block whose first line begins with `$ ` is a session. Such a line is a command, one that ends with a backslash goes on in the next line, and
+  the lines behind it are what it prints, on standard output and standard error. `..` in such a line stands for any characters, and a line that is
+  `..` alone for any lines. The sessions of a page run in one shell, in a folder of their own that has this repository's files in it. Ports are
+  exchanged for free ones.
+- Commands that prove, build, install or take long (LONG) are not run: that what they name is there is all that is tested.
+- A table below a line "On `TEXT`:" whose rows are a query and the values that it selects is asked of the program.
+- An example in Rust of a crate's page is a test. `rt try --test` compiles and runs them all, where there is rt.
+- A link to a file, and what stands between backquotes and begins with a folder of this repository, is there.
+- A line below "bin/definitions PATH" in a table, `N files, M lines`, is what that command counts.
+
+It runs the program that bin/build makes, or the one that the environment's PATH_SERVER names.
+"""
+import os
+import re
+import select
+import shutil
+import signal
+import socket
+import subprocess
+import sys
+import tempfile
+import time
+from pathlib import Path
+
+from lib.running_server import PATIENCE, PROGRAM, TOP, Report
+
+LONG = re.compile(r"(?:\w+=\S* )*(?:nice )?(bin/(?:check\b(?!-)|build\b|edits try|check-layout|unproved|path_server --proved)\S*|tests/\S+|bench/\S+|rt\b|g\+\+|c\+\+|apt-get|"
+                  r"git clone|pip|npm|systemctl|docker|\./\w+$|\(cd )")
+FOLDERS = "bin|bench|clients|crates|deploy|docs|tests"
+PATH = re.compile(rf"`((?:{FOLDERS})/[\w./-]*\w/?)(?:[ `].*)?")
+ADDRESS = re.compile(r"127\.0\.0\.1:([1-9]\d{3,4})")
+COUNTED = re.compile(r"`bin/definitions ([\w:]+)`[^|]*\|(?:[^|]*\|)*? *(\d+ files?, [\d,]+ lines)")
+SETTLES = 0.3
+
+
+def pages():
+    found = [TOP / "README.md", TOP / "CONTRIBUTING.md", TOP / "CHANGELOG.md", *sorted((TOP / "docs").glob("*.md"))]
+    return [*found, *sorted((TOP / "crates").glob("*/README.md")), *sorted((TOP / "clients").glob("*/README.md"))]
+
+
+def blocks(text):
+    """The blocks of a page, indented by four or between fences, each as its language and its lines."""
+    lines, language, block = text.splitlines(), None, []
+    for line in [*lines, ""]:
+        fence = re.fullmatch(r"```(\w*)", line)
+        if language is not None:
+            if fence:
+                yield language, block
+                language, block = None, []
+            else:
+                block.append(line)
+        elif fence:
+            language, block = fence[1], []
+        elif line.startswith("    ") or block and not line:
+            block.append(line[4:])
+        elif block:
+            while block and not block[-1]:
+                block.pop()
+            yield "", block
+            block = []
+
+
+def sessions(text):
+    """Each command of a page's sessions with the lines that it prints."""
+    for _, block in blocks(text):
+        if not block or not block[0].startswith("$ "):
+            continue
+        command, printed = None, []
+        for line in block:
+            if command is not None and command.endswith("\\") and not printed:
+                command += "\n" + line
+            elif line.startswith("$ "):
+                if command is not None:
+                    yield command, printed
+                command, printed = line[2:], []
+            else:
+                printed.append(line)
+        yield command, printed
+
+
+def fits(wanted, got):
+    """Whether lines are those of a page, where `..` may stand for what differs from run to run."""
+    pattern = ""
+    for line in wanted:
+        pattern += r"(?:.*\n)*?" if line == ".." else ".*?".join(map(re.escape, line.split(".."))) + "\n"
+    return re.fullmatch(pattern, "".join(line + "\n" for line in got)) is not None
+
+
+def free_port():
+    with socket.socket() as one:
+        one.bind(("127.0.0.1", 0))
+        return str(one.getsockname()[1])
+
+
+class Shell:
+    """A shell in a folder with the repository's files, where bin/path_server is the program."""
+
+    END = "-- end of a command --"
+
+    def __init__(self, folder):
+        for it in TOP.iterdir():
+            if it.name not in ("bin", ".git", "build"):
+                (folder / it.name).symlink_to(it)
+        (folder / "bin").mkdir()
+        for it in (TOP / "bin").iterdir():
+            (folder / "bin" / it.name).symlink_to(PROGRAM if it.name == "path_server" else it)
+        self.process = subprocess.Popen(["bash", "--norc"], cwd=folder, stdin=subprocess.PIPE, stdout=subprocess.PIPE, stderr=subprocess.STDOUT, start_new_session=True,
+                                        env={**os.environ, "PATH_SERVER": str(PROGRAM), "PYTHONDONTWRITEBYTECODE": "1"})
+        os.set_blocking(self.process.stdout.fileno(), False)
+        self.rest = ""
+
+    def __enter__(self):
+        return self
+
+    def __exit__(self, *_):
+        os.killpg(self.process.pid, signal.SIGKILL)
+        self.process.wait()
+
+    def more(self, seconds):
+        """Takes what the shell prints within these seconds. False at its end."""
+        if select.select([self.process.stdout], [], [], seconds)[0]:
+            data = self.process.stdout.read()
+            self.rest += (data or b"").decode("utf-8", "replace")
+            return bool(data)
+        return True
+
+    def run(self, command, wanted):
+        """The lines that a command prints; those of one in the background, as soon as they are the wanted ones."""
+        self.process.stdin.write(f"{command}\necho '{self.END}'\n".encode())
+        self.process.stdin.flush()
+        is_behind, until = command.rstrip().endswith("&"), time.monotonic() + PATIENCE
+        while time.monotonic() < until:
+            printed = [line for line in self.rest.splitlines() if line != self.END]
+            if self.END in self.rest and (not is_behind or fits(wanted, printed)):
+                break
+            if not self.more(SETTLES):
+                break
+        self.rest = ""
+        return printed
+
+
+def run_sessions(report, name, text):
+    ports = {}
+    with tempfile.TemporaryDirectory(prefix="path-server-pages-") as at, Shell(Path(at)) as shell:
+        for command, wanted in sessions(text):
+            long = LONG.match(command)
+            if long:
+                there = re.match(r"(?:bin|tests|bench)/[\w./-]+", long[1])
+                report.case(f"{name}: what a command names", command, True, not there or (TOP / there[0]).exists())
+                continue
+            for port in ADDRESS.findall(command + "\n".join(wanted)):
+                ports[port] = ports.get(port) or free_port()
+
+            def exchanged(line):
+                return ADDRESS.sub(lambda it: f"127.0.0.1:{ports[it[1]]}", line)
+
+            wanted = [exchanged(line) for line in wanted]
+            got = shell.run(exchanged(command), wanted)
+            report.case(f"{name}: $ {command}", "", wanted, wanted if fits(wanted, got) else got)
+
+
+def ask_tables(report, name, text):
+    """The queries of tables, on the text that stands in front of them."""
+    for given, table in re.findall(r"^On `(.+)`:\n\n((?:\|.*\n)+)", text, re.M):
+        for query, values in re.findall(r"^\| `(.+?)` \| ((?:`[^`]+`(?:, )?)+) \|$", table, re.M):
+            ran = subprocess.run([PROGRAM, "query", query.replace("\\|", "|")], input=given.encode(), capture_output=True, timeout=PATIENCE)
+            got = [line.partition("\t")[2] for line in ran.stdout.decode().splitlines()]
+            report.case(f"{name}: {query}", given, re.findall("`([^`]+)`", values), got)
+
+
+def look_for_files(report, name, text):
+    folder = (TOP / name).parent
+    for link in re.findall(r"\]\(([^)#:]+)(?:#[^)]*)?\)", text):
+        report.case(f"{name}: a link", link, True, (folder / link).exists())
+    for path in [it for it in PATH.findall(text) if "NAME" not in it]:
+        is_there = any(TOP.glob(path)) or "/out/" in path or (TOP / f"{path}.rt").exists()
+        report.case(f"{name}: a file or folder", path, True, is_there)
+
+
+def count_definitions(report, name, text):
+    for path, wanted in COUNTED.findall(text):
+        ran = subprocess.run([TOP / "bin/definitions", path], capture_output=True, encoding="utf-8")
+        found = re.search(r"^\d+ files?, \d+ lines$", ran.stdout, re.M)
+        report.case(f"{name}: bin/definitions {path}", "", wanted.replace(",", ""), found[0].replace(",", "") if found else ran.stderr)
+
+
+def try_examples(report, chosen):
+    """The examples in Rust, as the tests of a crate in a copy of the sources."""
+    found = {page.parent.name: "\n".join(block) for page in chosen for language, block in blocks(page.read_text(encoding="utf-8")) if language == "rust"}
+    if not found or not shutil.which("rt"):
+        return
+    with tempfile.TemporaryDirectory(prefix="path-server-examples-") as at:
+        room = Path(at)
+        shutil.copytree(TOP / "crates", room / "crates", ignore=shutil.ignore_patterns("out", "must-fail", "planted", "proofs"))
+        sources = room / "crates/page_examples/src"
+        sources.mkdir(parents=True)
+        names = sorted(found)
+        for name in names:
+            (sources / f"{name}_page.rt").write_text(found[name] + "\n", encoding="utf-8")
+        modules = "".join(f"#[cfg(test)]\nmod {name}_page;\n" for name in names)
+        (sources / "lib.rt").write_text(f"#![tactic(auto)]\n\n{modules}", encoding="utf-8")
+        used = sorted({it for code in found.values() for it in re.findall(r"^use (\w+)::", code, re.M)} - {"std"})
+        (room / "crates.txt").write_text((TOP / "crates.txt").read_text(encoding="utf-8") + f"page_examples: {' '.join(used)}\n", encoding="utf-8")
+        ran = subprocess.run(["rt", "try", "--test"], cwd=sources.parent, stdin=subprocess.DEVNULL, stdout=subprocess.PIPE, stderr=subprocess.STDOUT, encoding="utf-8", timeout=600)
+        for name in names:
+            passed = re.search(rf"^test {name}_page::\w+ \.\.\. ok$", ran.stdout, re.M)
+            report.case(f"crates/{name}/README.md: its example", found[name], True, bool(passed) or ran.stdout[-400:])
+
+
+def main():
+    report, chosen = Report(), [it for it in pages() if not sys.argv[1:] or str(it.relative_to(TOP)) in sys.argv[1:]]
+    for page in chosen:
+        name, text = str(page.relative_to(TOP)), page.read_text(encoding="utf-8")
+        run_sessions(report, name, text)
+        ask_tables(report, name, text)
+        look_for_files(report, name, text)
+        count_definitions(report, name, text)
+    try_examples(report, chosen)
+    report.close(f"{len(chosen)} pages")
+
+
+if __name__ == "__main__":
+    main()
