@@ -183,7 +183,7 @@ def many(report, count, requests, seed):
         crowd.run(requests)
         crowd.close()
         server.finish(report)
-        names = {"connections", "ReadFault", "WriteFault"}
+        names = {"connections", "ReadFault", "WriteFault", "dropped"}
         said = [line for line in server.said().splitlines() if not set(line.replace(",", "").split()) & names]
         report.case("the lines on standard error", "", [], said)
         print(f"{count} connections at once, {crowd.opened} in all, {sum(lane.replies for lane in crowd.lanes)} replies", flush=True)
@@ -375,7 +375,7 @@ def framing_fault(report):
 
 def keys_in_a_file(report):
     with tempfile.NamedTemporaryFile("w", suffix=".txt") as file:
-        file.write(f"{KEYS[1].hex()}\n{bytes(range(16)).hex()}\n")
+        file.write(f"# two of them\r\n\r\n{KEYS[1].hex()}\r\n  # the last one\n{bytes(range(16)).hex()}\n")
         file.flush()
         with Listening([KEY], "--keys", file.name) as server:
             for key in (KEY, KEYS[1], bytes(range(16))):

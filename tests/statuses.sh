@@ -154,12 +154,14 @@ compare_fault 'path_server: ReadFault' "$("$program" call nowhere </ 2>"$room/er
 expect 3 '' any '' listen 127.0.0.1:0
 expect 3 '' any '' listen 127.0.0.1:0 "$key" --connections 0
 expect 3 '' 'path_server: BadKeys' '' listen 127.0.0.1:0 "$key,"
-expect 4 '' 'path_server: NetFault' '' listen nowhere "$key"
+expect 4 '' "path_server: NetFault${newline}nowhere: invalid input parameter" '' listen nowhere "$key"
 expect 4 '' 'path_server: ReadFault' '' listen 127.0.0.1:0 --keys "$room/none"
 printf '%s\n' "$key" >"$room/keys"
 expect 3 '' 'path_server: RepeatedKey' '' listen 127.0.0.1:0 "$key" --keys "$room/keys"
-printf '%s\n\n' "$key" >"$room/keys"
-expect 3 '' 'path_server: BadKeys' '' listen 127.0.0.1:0 --keys "$room/keys"
+printf '# tenants\r\n\r\n%s\r\n  # more\n%s,%s\n' "$key" "$other" "${key%?}" >"$room/keys"
+expect 3 '' "path_server: BadKeys${newline}$room/keys: line 5" '' listen 127.0.0.1:0 --keys "$room/keys"
+printf '# none\n' >"$room/keys"
+expect 3 '' 'path_server: NoKeys' '' listen 127.0.0.1:0 --keys "$room/keys"
 for place in $(seq 1000 1256); do printf '%032d\n' "$place"; done >"$room/keys"
 expect 3 '' 'path_server: TooManyKeys' '' listen 127.0.0.1:0 --keys "$room/keys"
 times 70000 0 >"$room/keys"

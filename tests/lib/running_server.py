@@ -20,7 +20,8 @@ PROGRAM = os.environ.get("PATH_SERVER") or str(TOP / "crates/path_program/out/pa
 PATIENCE = 60.0
 GIVE_BACK = {"MALLOC_MMAP_THRESHOLD_": "65536", "MALLOC_TRIM_THRESHOLD_": "65536"}
 """Has glibc give back at once what is freed, so that a process has the memory that is in use and no more."""
-END_LINE = re.compile(r"connection (\d+): (\w+)")
+END_LINE = re.compile(r"(?:\d{4}-\d\d-\d\dT\d\d:\d\d:\d\dZ )?connection (\d+)(?: from \S+)?: (\w+)")
+"""The line of an end: `serve` names the connection's number and the reason, `listen` the time and the peer's address too."""
 
 
 class Report:

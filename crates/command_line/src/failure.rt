@@ -32,6 +32,10 @@ pub enum Failure {
     Tenants(TenantsFault),
     /// The address is none, or it could not be bound or connected to, or a connection could not be accepted.
     Net,
+    /// The same, with the address and the system's reason.
+    Address(AddressFault),
+    /// A line of a file of keys is not of their written form.
+    KeyLine(KeyLine),
     /// The line with the bound address could not be printed.
     Write,
     /// The request frames on standard input could not be read.
@@ -40,6 +44,32 @@ pub enum Failure {
     Call(CallStreamFault),
     /// A growth was refused.
     Memory,
+}
+
+/// An address, and why the system refused it.
+#[derive(Debug, Drop)]
+pub struct AddressFault {
+    pub address: String,
+    pub reason: ErrorKind,
+}
+
+impl fmt::Display for AddressFault {
+    fn fmt<W: fmt::Write>(&self, f: &mut fmt::Formatter<W>) -> fmt::Result {
+        write!(f, "{}: {}", self.address, self.reason)
+    }
+}
+
+/// A line of a file, numbered from 1.
+#[derive(Debug, Drop)]
+pub struct KeyLine {
+    pub file: String,
+    pub number: u64,
+}
+
+impl fmt::Display for KeyLine {
+    fn fmt<W: fmt::Write>(&self, f: &mut fmt::Formatter<W>) -> fmt::Result {
+        write!(f, "{}: line {}", self.file, self.number)
+    }
 }
 
 impl Failure {
@@ -76,6 +106,8 @@ impl Failure {
             Failure::Replay(fault) => replay_status(*fault),
             Failure::Tenants(fault) => tenants_status(*fault),
             Failure::Net => 4,
+            Failure::Address(_) => 4,
+            Failure::KeyLine(_) => 3,
             Failure::Write => 4,
             Failure::Read(_) => 4,
             Failure::Call(fault) => call_stream_status(*fault),
@@ -114,6 +146,8 @@ impl fmt::Display for Failure {
             Failure::Replay(fault) => writeln!(f, "path_server: {fault}"),
             Failure::Tenants(fault) => writeln!(f, "path_server: {fault}"),
             Failure::Net => writeln!(f, "path_server: NetFault"),
+            Failure::Address(fault) => writeln!(f, "path_server: NetFault\n{fault}"),
+            Failure::KeyLine(line) => writeln!(f, "path_server: BadKeys\n{line}"),
             Failure::Write => writeln!(f, "path_server: WriteFault"),
             Failure::Read(fault) => writeln!(f, "path_server: {fault}"),
             Failure::Call(fault) => writeln!(f, "path_server: {fault}"),
@@ -320,6 +354,18 @@ mod tests {
             assert_end(&rt, &Failure::Tenants(fault), name, status)?;
         }
         assert_end(&rt, &Failure::Net, "NetFault", 4)?;
+        let address = AddressFault {
+            address: String::from_str(rt.alloc(), "127.0.0.1:7000")?,
+            reason: ErrorKind::AddrInUse,
+        };
+        let told = "NetFault\n127.0.0.1:7000: address in use";
+        assert_end(&rt, &Failure::Address(address), told, 4)?;
+        let line = KeyLine {
+            file: String::from_str(rt.alloc(), "keys.txt")?,
+            number: 3,
+        };
+        let told = "BadKeys\nkeys.txt: line 3";
+        assert_end(&rt, &Failure::KeyLine(line), told, 3)?;
         assert_end(&rt, &Failure::Write, "WriteFault", 4)?;
         assert_end(&rt, &Failure::Keys(KeysFault::BadKeys), "BadKeys", 3)?;
         assert_end(&rt, &Failure::Keys(KeysFault::Memory), "NoMemory", 4)?;

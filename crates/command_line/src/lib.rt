@@ -6,5 +6,5 @@
 mod failure;
 mod request;
 
-pub use failure::Failure;
+pub use failure::{AddressFault, Failure, KeyLine};
 pub use request::{Listening, Request, VERSION, read_request};

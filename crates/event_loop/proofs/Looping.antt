@@ -1,12 +1,12 @@
 -- The steps of a loop as the acts that a law speaks of.
-use Rattle.std.proofs.Common.{◌≡◌, ℕ, Bool, true, false, List, [], ◌∷◌, sym, ap, ◌∙◌, subst, refl, cond, eqb, inl, inr}
+use Rattle.std.proofs.Common.{◌≡◌, ℕ, Bool, true, false, List, [], ◌∷◌, sym, ap, ◌∙◌, subst, refl, inl, inr}
 use Rattle.std.specs.Prelude.{◌==◌, if◌then◌else◌}
 use Rattle.std.proofs.lemmas.Bool.{cases_Bool, eqb-true, eqb-false}
 use Rattle.outbox.specs.Lines.{Line, fresh, run}
 use Rattle.outbox.specs.Turns.{DoesAll}
 use Rattle.path_hub.specs.HubState.{HubState}
 use Rattle.path_listen.specs.Answering.{takes, Answers}
-use Rattle.path_listen.specs.Acts.{Act, Opened, Turned, Closed, changed}
+use Rattle.path_listen.specs.Acts.{Opened, Turned, Closed, changed}
 use Rattle.path_listen.specs.Served.{TurnsAreServed}
 use Rattle.event_loop.specs.Turning.{TakesTurn}
 use Rattle.event_loop.specs.Looping.{Step, TakenIn, HasTurn, LetGo, OthersStay, DoesEach, ActsOf, LoopIsServed}

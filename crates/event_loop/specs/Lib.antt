@@ -3,3 +3,4 @@ pub mod Loads
 pub mod Turning
 pub mod Looping
 pub mod Servers
+pub mod Sockets

@@ -12,7 +12,7 @@ use mio::net::TcpStream;
 use outbox::{Core, Outbox, Readiness, turn};
 use std::alloc::Global;
 use std::io::{ErrorKind, Read};
-use std::net::Shutdown;
+use std::net::{Shutdown, SocketAddr};
 use std::time::Clock;
 
 /// The seconds for which what a peer still sends is read and thrown away, so that the last replies reach it.
@@ -42,6 +42,8 @@ pub(crate) enum Outcome {
 #[derive(Drop)]
 pub(crate) struct Connection {
     pub number: u64,
+    /// The address of its peer.
+    pub peer: SocketAddr,
     /// The number that the hub knows it by.
     pub conn: u32,
     pub socket: Socket<TcpStream>,
@@ -62,9 +64,17 @@ pub(crate) struct Connection {
 
 impl Connection {
     /// One that was just taken in.
-    pub fn new(alloc: Global, number: u64, conn: u32, stream: TcpStream, now: u64) -> Connection {
+    pub fn new(
+        alloc: Global,
+        number: u64,
+        peer: SocketAddr,
+        conn: u32,
+        stream: TcpStream,
+        now: u64,
+    ) -> Connection {
         Connection {
             number,
+            peer,
             conn,
             socket: Socket::new(stream),
             outbox: Outbox::new(alloc),

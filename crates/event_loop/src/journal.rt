@@ -1,6 +1,7 @@
 //! What a server tells while it runs.
 
 use crate::counts::Counts;
+use std::net::SocketAddr;
 
 /// How a connection ended.
 #[derive(Clone, Copy, Debug, PartialEq, Eq)]
@@ -34,11 +35,25 @@ pub struct Totals {
     pub written: u64,
 }
 
-/// Something that is told what a server does.
+/// A connection that ended.
+#[derive(Clone, Copy)]
+pub struct Ending {
+    /// Connections are numbered from 0 on, in the order in which they were taken in.
+    pub number: u64,
+    /// The address of its peer.
+    pub peer: SocketAddr,
+    /// How it ended.
+    pub how: End,
+}
+
+/// Something that is told what a server does. A call must not wait, since all connections would wait for it.
 pub trait Journal {
-    /// A connection ended. They are numbered from 0 on, in the order in which they were taken in.
-    fn ended(&mut self, number: u64, how: End);
+    /// A connection ended.
+    fn ended(&mut self, ending: &Ending);
 
     /// A minute passed.
     fn counted(&mut self, totals: &Totals);
+
+    /// A second passed: what could not be told before may be told now.
+    fn ticked(&mut self);
 }

@@ -7,15 +7,18 @@
 mod connection;
 mod counted;
 mod counts;
+mod gate;
 mod journal;
 mod laws;
 mod limits;
 mod load;
+mod seconds;
 mod server;
 mod socket;
 
 pub use counts::Counts;
-pub use journal::{End, Journal, Totals};
+pub use gate::Gate;
+pub use journal::{End, Ending, Journal, Totals};
 pub use laws::loop_is_served;
 pub use limits::Limits;
 pub use server::{LoopFault, Server};

@@ -4,9 +4,10 @@ ghost use Rattle.event_loop.specs.Servers.{IsOver};
 
 use crate::connection::{Connection, Outcome, Phase};
 use crate::counted::Counted;
-use crate::journal::{End, Journal, Totals};
+use crate::journal::{End, Ending, Journal, Totals};
 use crate::limits::Limits;
 use crate::load::Load;
+use crate::seconds::Seconds;
 use mio::event::Event;
 use mio::net::{TcpListener, TcpStream};
 use mio::unix::SourceFd;
@@ -18,7 +19,7 @@ use std::io::{self, ErrorKind};
 use std::marker::Model;
 use std::mem;
 use std::net::{Net, SocketAddr};
-use std::time::{Clock, Duration, Instant};
+use std::time::{Clock, Duration};
 use thiserror::Error;
 
 /// The most bytes that one turn reads.
@@ -46,17 +47,17 @@ const INPUT: Token = Token(usize::MAX - 1);
 /// Why a server ends early.
 #[derive(Clone, Copy, Debug, PartialEq, Eq, Error)]
 pub enum LoopFault {
-    /// The address could not be bound, or the system did not say what is ready.
+    /// The address could not be bound, or the system did not say what is ready, for this reason of the system.
     #[error("NetFault")]
-    Net,
+    Net(ErrorKind),
     /// A growth was refused.
     #[error("NoMemory")]
     Memory,
 }
 
 impl From<io::Error> for LoopFault {
-    fn from(_: io::Error) -> LoopFault {
-        LoopFault::Net
+    fn from(error: io::Error) -> LoopFault {
+        LoopFault::Net(error.kind())
     }
 }
 
@@ -97,9 +98,8 @@ pub struct Server<'r, R: Clock> {
     // Those that could go on, but are held back.
     paused: Vec<usize>,
     load: Load,
-    // The seconds since the start.
-    start: Instant,
-    second: u64,
+    seconds: Seconds<'r, R>,
+    // When the journal was last told of counts.
     told: u64,
     taken: u64,
     read: u64,
@@ -134,7 +134,7 @@ impl<'r, R: Net + Clock + AllocGlobal> Server<'r, R> {
         ensures limits { IfOk result (λ server. server.limits ≡ limits) }
     {
         let alloc = rt.alloc();
-        let start = Instant::now(rt)?;
+        let seconds = Seconds::new(rt)?;
         let events = Events::with_capacity(alloc, EVENTS)?;
         let buffer = Box::new(alloc, [0; PIECE])?;
         let (poll, listener) = listen(rt, addr)?;
@@ -157,8 +157,7 @@ impl<'r, R: Net + Clock + AllocGlobal> Server<'r, R> {
                 limit: limits.memory,
                 held: 0,
             },
-            start,
-            second: 0,
+            seconds,
             told: 0,
             taken: 0,
             read: 0,
@@ -178,7 +177,7 @@ impl<'r, R: Clock> Server<'r, R> {
     {
         match &self.listener {
             Some(listener) => Ok(listener.local_addr()?),
-            None => Err(LoopFault::Net),
+            None => Err(LoopFault::Net(ErrorKind::NotConnected)),
         }
     }
 
@@ -204,24 +203,24 @@ impl<'r, R: Clock> Server<'r, R> {
     /// # Errors
     ///
     /// `Net` where the system does not say what is ready, `Memory` where a growth was refused that no connection asked for.
-    pub fn serve<J: Journal>(&mut self, rt: &R, journal: &mut J) -> Result<(), LoopFault>
+    pub fn serve<J: Journal>(&mut self, journal: &mut J) -> Result<(), LoopFault>
         ensures over { OnOk result (IsOver self.new) }
     {
         'waits: for _ in 0..u64::MAX {
             if self.is_over() {
                 return Ok(());
             }
-            self.wait()?;
-            let is_later = self.look(rt);
-            self.accept();
-            self.take_turns(journal)?;
+            let is_later = self.is_later();
+            self.wait(is_later)?;
             if is_later {
                 self.tick(journal)?;
             } else if self.load.is_light() && !self.paused.is_empty() {
                 self.resume()?;
             }
+            self.accept();
+            self.take_turns(journal)?;
         }
-        Err(LoopFault::Net)
+        Err(LoopFault::Net(ErrorKind::Other))
     }
 
     // Whether it takes in no connection any more, and none is open.
@@ -231,9 +230,13 @@ impl<'r, R: Clock> Server<'r, R> {
         self.listener.is_none() && self.connections.is_empty()
     }
 
-    // Waits for what is ready and notes it.
-    fn wait(&mut self) -> Result<(), LoopFault> {
-        let timeout = self.timeout();
+    // Waits for what is ready and notes it; where a second passed, only looks.
+    fn wait(&mut self, is_later: bool) -> Result<(), LoopFault> {
+        let timeout = if is_later {
+            Some(Duration::from_millis(0))
+        } else {
+            self.timeout()
+        };
         self.poll.poll(&mut self.events, timeout)?;
         let mut is_closed = false;
         'events: for event in &self.events {
@@ -260,14 +263,10 @@ impl<'r, R: Clock> Server<'r, R> {
         }
     }
 
-    // Looks at the clock, and tells whether a second passed. Where the clock fails, none did.
-    fn look(&mut self, rt: &R) -> bool {
-        let Ok(elapsed) = self.start.elapsed(rt) else {
-            return false;
-        };
-        let before = self.second;
-        self.second = elapsed.as_secs();
-        self.second > before
+    // Reads the clock, and tells whether a second passed.
+    fn is_later(&mut self) -> bool {
+        let before = self.seconds.last();
+        self.seconds.read() > before
     }
 
     // Whether no further connection is taken in for now.
@@ -287,7 +286,7 @@ impl<'r, R: Clock> Server<'r, R> {
                 None => return,
             };
             match accepted {
-                Ok((stream, _)) => self.take_in(stream),
+                Ok((stream, peer)) => self.take_in(stream, peer),
                 Err(error) => match error.kind() {
                     ErrorKind::WouldBlock => self.is_asked = false,
                     ErrorKind::ConnectionAborted => {}
@@ -302,7 +301,7 @@ impl<'r, R: Clock> Server<'r, R> {
     }
 
     // Takes a connection in. Where memory is refused, or it can't be waited for, it is closed.
-    fn take_in(&mut self, stream: TcpStream) {
+    fn take_in(&mut self, stream: TcpStream, peer: SocketAddr) {
         // without it no reply is wrong, and some come later
         let _ = stream.set_nodelay(true);
         let key = self.connections.vacant_key();
@@ -312,7 +311,7 @@ impl<'r, R: Clock> Server<'r, R> {
         if !self.makes_room() || self.core.core().connect(conn).is_err() {
             return;
         }
-        if self.insert(key, conn, stream) {
+        if self.insert(key, conn, stream, peer) {
             self.taken = self.taken.saturating_add(1);
             self.bound = self.bound.max(key.saturating_add(1));
         } else {
@@ -329,7 +328,7 @@ impl<'r, R: Clock> Server<'r, R> {
     }
 
     // Has what is ready of a stream reported, and keeps its connection under the key that is next.
-    fn insert(&mut self, key: usize, conn: u32, mut stream: TcpStream) -> bool {
+    fn insert(&mut self, key: usize, conn: u32, mut stream: TcpStream, peer: SocketAddr) -> bool {
         let interests = Interest::READABLE | Interest::WRITABLE;
         let registry = self.poll.registry();
         if registry
@@ -338,7 +337,14 @@ impl<'r, R: Clock> Server<'r, R> {
         {
             return false;
         }
-        let connection = Connection::new(self.alloc, self.taken, conn, stream, self.second);
+        let connection = Connection::new(
+            self.alloc,
+            self.taken,
+            peer,
+            conn,
+            stream,
+            self.seconds.last(),
+        );
         self.connections.insert(connection).is_ok()
     }
 
@@ -389,7 +395,7 @@ impl<'r, R: Clock> Server<'r, R> {
             is_held_back,
         );
         if read > 0 || written > 0 {
-            connection.moved = self.second;
+            connection.moved = self.seconds.read();
         }
         self.read = self.read.saturating_add(read);
         self.written = self.written.saturating_add(written);
@@ -445,7 +451,11 @@ impl<'r, R: Clock> Server<'r, R> {
         journal: &mut J,
     ) -> Result<(), LoopFault> {
         if let Some(connection) = self.connections.get(key) {
-            journal.ended(connection.number, how);
+            journal.ended(&Ending {
+                number: connection.number,
+                peer: connection.peer,
+                how,
+            });
         }
         match how {
             End::FrameFault | End::Memory => self.linger(key),
@@ -459,7 +469,7 @@ impl<'r, R: Clock> Server<'r, R> {
     // Ends a connection's session, and reads what still comes for a little while.
     fn linger(&mut self, key: usize) -> Result<(), LoopFault> {
         if let Some(connection) = self.connections.get_mut(key) {
-            connection.linger(self.second);
+            connection.linger(self.seconds.last());
             connection.hold(0, &mut self.load);
             self.core.core().disconnect(connection.conn);
         }
@@ -476,11 +486,12 @@ impl<'r, R: Clock> Server<'r, R> {
 
     // What is done once a second: connections whose time is up are closed, and those that were held back looked at.
     fn tick<J: Journal>(&mut self, journal: &mut J) -> Result<(), LoopFault> {
+        journal.ticked();
         'keys: for key in 0..self.bound {
             self.expire(key, journal)?;
         }
-        if self.second.saturating_sub(self.told) >= MINUTE {
-            self.told = self.second;
+        if self.seconds.last().saturating_sub(self.told) >= MINUTE {
+            self.told = self.seconds.last();
             journal.counted(&self.totals());
         }
         self.resume()
@@ -491,7 +502,7 @@ impl<'r, R: Clock> Server<'r, R> {
         let Some(connection) = self.connections.get(key) else {
             return Ok(());
         };
-        if !connection.expires(self.second, self.limits.idle) {
+        if connection.is_due || !connection.expires(self.seconds.last(), self.limits.idle) {
             return Ok(());
         }
         match connection.phase {

@@ -1,4 +1,7 @@
 //! A wire over a stream that never waits.
+ghost use Rattle.std.specs.Prelude.{None};
+ghost use Rattle.outbox.specs.Moves.{Gives, Takes};
+ghost use Rattle.event_loop.specs.Sockets.{GivesFrom, TakesTo};
 
 use outbox::{Given, Taken, Wire};
 use std::io::{ErrorKind, Read, Write};
@@ -56,11 +59,12 @@ impl<S: Read + Write> Socket<S> {
 }
 
 impl<S: Read + Write> Wire for Socket<S> {
-    ghost use Rattle.std.specs.Prelude.{None};
-
     ghost told = { λ _. None };
 
-    fn read(&mut self, buffer: &mut [u8]) -> Given {
+    fn read(&mut self, buffer: &mut [u8]) -> Given
+        ensures gives { Gives None result buffer.new None }
+        ensures stream { GivesFrom (S.remaining self.old.stream) (S.remaining self.new.stream) result buffer.new }
+    {
         if self.is_drained {
             return Given::Blocked;
         }
@@ -82,7 +86,10 @@ impl<S: Read + Write> Wire for Socket<S> {
         }
     }
 
-    fn write(&mut self, bytes: &[u8]) -> Taken {
+    fn write(&mut self, bytes: &[u8]) -> Taken
+        ensures takes { Takes None bytes.now result None }
+        ensures stream { TakesTo (S.contents self.old.stream) (S.contents self.new.stream) result bytes.now }
+    {
         match self.stream.write(bytes) {
             Ok(count) if count > 0 || bytes.is_empty() => {
                 self.written = self.written.saturating_add(count as u64);

@@ -1,7 +1,9 @@
 //! The lines on standard error that a server of many connections prints.
 
-use event_loop::{End, Journal, Totals};
+use event_loop::{End, Ending, Gate, Journal, Totals};
+use jiff::Timestamp;
 use std::fmt;
+use std::time::{Clock, SystemTime, UNIX_EPOCH};
 
 /// The names of the statuses from 0 on, as the protocol has them. 19 is never given.
 const STATUSES: [&str; 24] = [
@@ -31,32 +33,136 @@ const STATUSES: [&str; 24] = [
     "Exists",
 ];
 
-/// Prints a line for each connection that did not end by the end of its input, and one with counts each minute where that is asked for. A
-/// line that can't be printed is lost.
+/// The most lines that are printed in a second.
+const MOST_LINES: u32 = 100;
+
+/// Prints a line for each connection that did not end by the end of its input, and one with counts each minute where that is asked for,
+/// each behind its time. It never waits: a line for which standard error has no room, and one above the most of a second, is dropped and
+/// counted, and the count is told once there is room.
 #[derive(Drop)]
-pub struct LoopLines<'a, R: Eprint> {
+pub struct LoopLines<'a, R: Eprint + Clock> {
     rt: &'a R,
+    gate: Gate,
     has_counts: bool,
+    // The second since 1970 that was last printed in, and how many lines were.
+    second: u64,
+    printed: u32,
+    // The lines that were dropped since that was last told.
+    dropped: u64,
 }
 
-impl<'a, R: Eprint> LoopLines<'a, R> {
-    /// Lines on this standard error, those with counts only where asked for.
-    pub fn new(rt: &'a R, has_counts: bool) -> LoopLines<'a, R> {
-        LoopLines { rt, has_counts }
+impl<'a, R: Eprint + Clock> LoopLines<'a, R> {
+    /// Lines on this standard error, which takes some where the gate is open; those with counts only where asked for.
+    pub fn new(rt: &'a R, gate: Gate, has_counts: bool) -> LoopLines<'a, R> {
+        LoopLines {
+            rt,
+            gate,
+            has_counts,
+            second: 0,
+            printed: 0,
+            dropped: 0,
+        }
+    }
+
+    // Prints a line, or counts it as dropped.
+    fn tell(&mut self, line: Line<'_>) {
+        self.tell_dropped();
+        if self.takes_one() {
+            let second = self.second;
+            let _ = eprintln!(self.rt; "{} {line}", Time(second));
+        } else {
+            self.dropped = self.dropped.saturating_add(1);
+        }
+    }
+
+    // Tells how many lines were dropped, where some were and there is room.
+    fn tell_dropped(&mut self) {
+        if self.dropped > 0 && self.takes_one() {
+            let (second, dropped) = (self.second, self.dropped);
+            self.dropped = 0;
+            let _ = eprintln!(self.rt; "{} {dropped} lines dropped", Time(second));
+        }
+    }
+
+    // Whether a line may be printed now, which is counted.
+    fn takes_one(&mut self) -> bool {
+        let second = second_of(self.rt);
+        if second != self.second {
+            self.second = second;
+            self.printed = 0;
+        }
+        let takes = self.printed < MOST_LINES && self.gate.is_open();
+        if takes {
+            self.printed = self.printed.saturating_add(1);
+        }
+        takes
     }
 }
 
-impl<'a, R: Eprint> Journal for LoopLines<'a, R> {
-    fn ended(&mut self, number: u64, how: End) {
-        if how != End::Done {
-            let name = name_of(how);
-            let _ = eprintln!(self.rt; "connection {number}: {name}");
+impl<'a, R: Eprint + Clock> Journal for LoopLines<'a, R> {
+    fn ended(&mut self, ending: &Ending) {
+        if ending.how != End::Done {
+            self.tell(Line::Ended(*ending));
         }
     }
 
     fn counted(&mut self, totals: &Totals) {
         if self.has_counts {
-            let _ = eprintln!(self.rt; "{}", CountLine(totals));
+            self.tell(Line::Counts(totals));
+        }
+    }
+
+    fn ticked(&mut self) {
+        self.tell_dropped();
+    }
+}
+
+// The second since 1970 that it is, and 0 where the clock does not tell.
+fn second_of<R: Clock>(rt: &R) -> u64 {
+    let Ok(now) = SystemTime::now(rt) else {
+        return 0;
+    };
+    match now.duration_since(UNIX_EPOCH) {
+        Ok(since) => since.as_secs(),
+        Err(_) => 0,
+    }
+}
+
+/// The time so many seconds after the beginning of 1970, as RFC 3339 has it.
+#[derive(Clone, Copy)]
+struct Time(u64);
+
+impl fmt::Display for Time {
+    fn fmt<W: fmt::Write>(&self, f: &mut fmt::Formatter<W>) -> fmt::Result {
+        let second = i64::try_from(self.0).unwrap_or(0);
+        match Timestamp::from_second(second) {
+            Ok(time) => write!(f, "{time}"),
+            Err(_) => write!(f, "-"),
+        }
+    }
+}
+
+/// A line, without its time and its line feed.
+#[derive(Clone, Copy)]
+enum Line<'a> {
+    /// A connection ended.
+    Ended(Ending),
+    /// What was done so far.
+    Counts(&'a Totals),
+}
+
+impl<'a> fmt::Display for Line<'a> {
+    fn fmt<W: fmt::Write>(&self, f: &mut fmt::Formatter<W>) -> fmt::Result {
+        match self {
+            Line::Ended(ending) => {
+                let name = name_of(ending.how);
+                write!(
+                    f,
+                    "connection {} from {}: {name}",
+                    ending.number, ending.peer
+                )
+            }
+            Line::Counts(totals) => write!(f, "{}", CountLine(totals)),
         }
     }
 }
@@ -100,6 +206,7 @@ impl<'a> fmt::Display for CountLine<'a> {
 mod tests {
     use super::*;
     use event_loop::Counts;
+    use std::net::{Ipv4Addr, SocketAddr, SocketAddrV4};
     use std::test::Fail;
 
     #[test]
@@ -122,6 +229,19 @@ mod tests {
         let printed = format!(in rt.alloc(); "{}", CountLine(&totals))?;
         let wanted =
             "connections 4, open 3, requests 9, read 1000, written 2000, NotFound 2, Exists 1, FrameFault 1";
+        assert_eq!(rt; printed.as_str(), wanted);
+        Ok(())
+    }
+
+    #[test]
+    fn ends(rt: HostRuntime) -> Result<(), Fail> {
+        let ending = Ending {
+            number: 7,
+            peer: SocketAddr::V4(SocketAddrV4::new(Ipv4Addr::LOCALHOST, 40_001)),
+            how: End::FrameFault,
+        };
+        let printed = format!(in rt.alloc(); "{} {}", Time(1_764_155_575), Line::Ended(ending))?;
+        let wanted = "2025-11-26T11:12:55Z connection 7 from 127.0.0.1:40001: FrameFault";
         assert_eq!(rt; printed.as_str(), wanted);
         Ok(())
     }

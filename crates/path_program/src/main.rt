@@ -2,6 +2,7 @@
 #![tactic(auto)]
 
 mod end_lines;
+mod key_file;
 mod loop_lines;
 mod many;
 

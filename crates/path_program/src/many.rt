@@ -1,44 +1,93 @@
 //! A server of many connections at once.
 
-ghost use Rattle.std.specs.Prelude.{◌≡◌, ◌↔◌};
+ghost use Rattle.std.specs.Prelude.{◌≡◌};
 ghost use Rattle.command_line.specs.Statuses.{status_of};
 
+use crate::key_file::read_key_file;
 use crate::loop_lines::LoopLines;
-use command_line::{Failure, Listening};
-use event_loop::{Limits, LoopFault, Server};
+use command_line::{AddressFault, Failure, Listening};
+use event_loop::{Gate, Limits, LoopFault, Server, Totals};
 use path_hub::Hub;
 use path_listen::HubCore;
-use path_server::{KeysFault, read_keys};
-use standard_streams::{ReadFault, read_past};
-use std::fs;
-use std::net::{Net, ToSocketAddrs};
+use path_server::read_keys;
+use std::alloc::Global;
+use std::io::ErrorKind;
+use std::net::{Net, SocketAddr, ToSocketAddrs};
 use std::rt::{Clock, Files};
 
-/// The most bytes of a file of keys.
-const MOST_BYTES: u64 = 65_536;
+/// The descriptor of standard error.
+const STANDARD_ERROR: i32 = 2;
 
 /// Answers `path_server listen`.
 pub fn listen<R: Print + Eprint + Net + Files + Clock + AllocGlobal>(
     rt: &R,
     wanted: &Listening<'_>,
 ) -> Result<(), Failure> {
-    let text = keys_text(rt, wanted.keys, wanted.file)?;
-    let keys = read_keys(rt.alloc(), text.as_slice()).map_err(Failure::Keys)?;
-    let hub = Hub::new(rt.alloc(), keys.as_slice()).map_err(Failure::Tenants)?;
-    let limits = Limits {
-        connections: wanted.connections,
-        memory: wanted.memory,
-        idle: wanted.idle,
-    };
-    let mut server = bind(rt, wanted.address, HubCore::new(rt.alloc(), hub), limits)?;
-    let bound = server.local_addr().map_err(failure_of)?;
-    if println!(rt; "listening {bound}").is_err() {
-        return Err(Failure::Write);
+    let keys = keys_of(rt, wanted)?;
+    serve(rt, wanted, keys.as_slice())
+}
+
+// Serves tenants of these keys.
+fn serve<R: Print + Eprint + Net + Clock + AllocGlobal>(
+    rt: &R,
+    wanted: &Listening<'_>,
+    keys: &[[u8; 16]],
+) -> Result<(), Failure> {
+    let mut server = bind(rt, wanted, keys)?;
+    begin(rt, wanted, &server)?;
+    let lines = lines(rt, wanted)?;
+    run(rt, wanted, &mut server, lines)?;
+    end(rt, &server.totals())
+}
+
+// Prints the line with the bound address.
+fn begin<R: Print + AllocGlobal>(
+    rt: &R,
+    wanted: &Listening<'_>,
+    server: &Server<'_, R>,
+) -> Result<(), Failure>
+where
+    R: Net + Clock,
+{
+    match server.local_addr() {
+        Ok(bound) => print_line(rt, &bound),
+        Err(fault) => Err(failure_of(rt.alloc(), wanted.address, fault)),
     }
-    server
-        .serve(rt, &mut LoopLines::new(rt, wanted.log))
-        .map_err(failure_of)?;
-    let totals = server.totals();
+}
+
+fn print_line<R: Print>(rt: &R, bound: &SocketAddr) -> Result<(), Failure> {
+    match println!(rt; "listening {bound}") {
+        Ok(()) => Ok(()),
+        Err(_) => Err(Failure::Write),
+    }
+}
+
+// The lines on standard error.
+fn lines<'r, R: Eprint + Net + Clock + AllocGlobal>(
+    rt: &'r R,
+    wanted: &Listening<'_>,
+) -> Result<LoopLines<'r, R>, Failure> {
+    match Gate::new(rt, rt.alloc(), STANDARD_ERROR) {
+        Ok(gate) => Ok(LoopLines::new(rt, gate, wanted.log)),
+        Err(_) => Err(Failure::Memory),
+    }
+}
+
+// Serves until the end.
+fn run<R: Eprint + Net + Clock + AllocGlobal>(
+    rt: &R,
+    wanted: &Listening<'_>,
+    server: &mut Server<'_, R>,
+    mut lines: LoopLines<'_, R>,
+) -> Result<(), Failure> {
+    match server.serve(&mut lines) {
+        Ok(()) => Ok(()),
+        Err(fault) => Err(failure_of(rt.alloc(), wanted.address, fault)),
+    }
+}
+
+// Prints what was served.
+fn end<R: Print>(rt: &R, totals: &Totals) -> Result<(), Failure> {
     let (connections, requests) = (totals.connections, totals.counts.requests);
     match println!(rt; "served {connections} connections, {requests} requests") {
         Ok(()) => Ok(()),
@@ -47,70 +96,78 @@ pub fn listen<R: Print + Eprint + Net + Files + Clock + AllocGlobal>(
 }
 
 // What the end of a server of many connections means that came early.
-fn failure_of(fault: LoopFault) -> Failure
-    ensures memory { (result ≡ Failure.Memory) ↔ (fault ≡ LoopFault.Memory) }
-    ensures status { status_of result ≡ 4 }
+fn failure_of(alloc: Global, address: &str, fault: LoopFault) -> Failure
+    ensures { status_of result ≡ 4 }
 {
     match fault {
-        LoopFault::Net => Failure::Net,
+        LoopFault::Net(reason) => address_fault(alloc, address, reason),
         LoopFault::Memory => Failure::Memory,
     }
 }
 
-// Binds the first address of those that the text names.
+// The fault of an address. Where there is no memory for it, it is told without one.
+fn address_fault(alloc: Global, address: &str, reason: ErrorKind) -> Failure
+    ensures { status_of result ≡ 4 }
+{
+    match String::from_str(alloc, address) {
+        Ok(address) => Failure::Address(AddressFault { address, reason }),
+        Err(_) => Failure::Net,
+    }
+}
+
+// A server at the first address of those that the command line names.
 fn bind<'r, R: Net + Clock + AllocGlobal>(
     rt: &'r R,
-    address: &str,
-    core: HubCore,
-    limits: Limits,
+    wanted: &Listening<'_>,
+    keys: &[[u8; 16]],
 ) -> Result<Server<'r, R>, Failure> {
-    let Ok(mut addresses) = address.to_socket_addrs(rt) else {
-        return Err(Failure::Net);
-    };
-    match addresses.next() {
-        Some(addr) => Server::bind(rt, addr, core, limits).map_err(failure_of),
-        None => Err(Failure::Net),
+    let addr = address_of(rt, wanted.address)?;
+    let hub = Hub::new(rt.alloc(), keys).map_err(Failure::Tenants)?;
+    match Server::bind(rt, addr, HubCore::new(rt.alloc(), hub), limits_of(wanted)) {
+        Ok(server) => Ok(server),
+        Err(fault) => Err(failure_of(rt.alloc(), wanted.address, fault)),
     }
 }
 
-// The keys of the command line and those of the file, joined by commas.
-fn keys_text<R: Files + AllocGlobal>(
+// The first address that a text names.
+fn address_of<R: Net + AllocGlobal>(rt: &R, text: &str) -> Result<SocketAddr, Failure> {
+    match text.to_socket_addrs(rt) {
+        Ok(mut addresses) => match addresses.next() {
+            Some(addr) => Ok(addr),
+            None => Err(address_fault(rt.alloc(), text, ErrorKind::AddrNotAvailable)),
+        },
+        Err(error) => Err(address_fault(rt.alloc(), text, error.kind())),
+    }
+}
+
+fn limits_of(wanted: &Listening<'_>) -> Limits {
+    Limits {
+        connections: wanted.connections,
+        memory: wanted.memory,
+        idle: wanted.idle,
+    }
+}
+
+// The keys of the file, and then those of the command line.
+fn keys_of<R: Files + AllocGlobal>(
     rt: &R,
-    keys: Option<&str>,
-    file: Option<&str>,
-) -> Result<Vec<u8>, Failure> {
-    let mut text = match file {
-        Some(path) => file_text(rt, path)?,
+    wanted: &Listening<'_>,
+) -> Result<Vec<[u8; 16]>, Failure> {
+    let mut keys = match wanted.file {
+        Some(path) => read_key_file(rt, path)?,
         None => Vec::new(rt.alloc()),
     };
-    if let Some(words) = keys {
-        let is_first = text.is_empty();
-        let comma = if is_first { "" } else { "," };
-        if text.extend_from_slice(comma.as_bytes()).is_err()
-            || text.extend_from_slice(words.as_bytes()).is_err()
-        {
-            return Err(Failure::Memory);
-        }
+    if let Some(words) = wanted.keys {
+        add_words(rt.alloc(), words, &mut keys)?;
     }
-    Ok(text)
+    Ok(keys)
 }
 
-// The keys of a file, joined by commas. A line feed joins them as well, and may stand behind the last one. A file above the limit has none.
-fn file_text<R: Files + AllocGlobal>(rt: &R, path: &str) -> Result<Vec<u8>, Failure> {
-    let Ok(file) = fs::open(rt, path) else {
-        return Err(Failure::Read(ReadFault::Failed));
-    };
-    let mut text = read_past(rt.alloc(), file, MOST_BYTES).map_err(Failure::Read)?;
-    if text.len() as u64 > MOST_BYTES {
-        return Err(Failure::Keys(KeysFault::BadKeys));
+// Appends the keys of a word of the command line.
+fn add_words(alloc: Global, words: &str, keys: &mut Vec<[u8; 16]>) -> Result<(), Failure> {
+    let more = read_keys(alloc, words.as_bytes()).map_err(Failure::Keys)?;
+    match keys.extend_from_slice(more.as_slice()) {
+        Ok(()) => Ok(()),
+        Err(_) => Err(Failure::Memory),
     }
-    if text.last() == Some(&b'\n') {
-        text.truncate(text.len() - 1);
-    }
-    'bytes: for byte in text.iter_mut() {
-        if *byte == b'\n' {
-            *byte = b',';
-        }
-    }
-    Ok(text)
 }

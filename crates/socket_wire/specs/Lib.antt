@@ -1,3 +1,4 @@
 pub mod Listeners
 pub mod Served
 pub mod StreamWires
+pub mod MemoryListeners

@@ -33,6 +33,7 @@ pub trait Listener {
 }
 
 /// The listener over one of the system, whose connections are streams. It tells nothing of them.
+#[derive(Drop)]
 pub struct StreamListener<'a, L> {
     listener: &'a L,
 }

@@ -1,0 +1,4 @@
+pub mod There
+pub mod Verdicts
+pub mod Kept
+pub mod Answered

@@ -1,0 +1,92 @@
+//! The keys of a file.
+
+use command_line::{Failure, KeyLine};
+use path_server::{KeysFault, read_keys};
+use standard_streams::{ReadFault, read_past};
+use std::alloc::Global;
+use std::fs;
+use std::rt::Files;
+
+/// The most bytes of a file of keys.
+const MOST_BYTES: u64 = 65_536;
+
+/// The keys of a file, in its order: in each line some keys, joined by commas. Blank lines, and those that begin with `#`, have none. A
+/// file above the limit is one line that is too long.
+pub fn read_key_file<R: Files + AllocGlobal>(rt: &R, path: &str) -> Result<Vec<[u8; 16]>, Failure> {
+    let Ok(file) = fs::open(rt, path) else {
+        return Err(Failure::Read(ReadFault::Failed));
+    };
+    let text = read_past(rt.alloc(), file, MOST_BYTES).map_err(Failure::Read)?;
+    if text.len() as u64 > MOST_BYTES {
+        return Err(Failure::Keys(KeysFault::BadKeys));
+    }
+    keys_of(rt.alloc(), path, text.as_slice())
+}
+
+// The keys of a file's text.
+fn keys_of(alloc: Global, path: &str, text: &[u8]) -> Result<Vec<[u8; 16]>, Failure> {
+    let mut keys = Vec::new(alloc);
+    let mut number = 0u64;
+    'lines: for line in text.split(|byte| *byte == b'\n') {
+        number = number.saturating_add(1);
+        match add_keys(alloc, line, &mut keys) {
+            Ok(()) => {}
+            Err(KeysFault::BadKeys) => return Err(bad_line(alloc, path, number)),
+            Err(KeysFault::Memory) => return Err(Failure::Memory),
+        }
+    }
+    Ok(keys)
+}
+
+// Appends the keys of a line.
+fn add_keys(alloc: Global, line: &[u8], keys: &mut Vec<[u8; 16]>) -> Result<(), KeysFault> {
+    let line = line.trim_ascii();
+    if line.is_empty() || line.first() == Some(&b'#') {
+        return Ok(());
+    }
+    let more = read_keys(alloc, line)?;
+    match keys.extend_from_slice(more.as_slice()) {
+        Ok(()) => Ok(()),
+        Err(_) => Err(KeysFault::Memory),
+    }
+}
+
+// A line that is not of the keys' written form.
+fn bad_line(alloc: Global, path: &str, number: u64) -> Failure {
+    match String::from_str(alloc, path) {
+        Ok(file) => Failure::KeyLine(KeyLine { file, number }),
+        Err(_) => Failure::Memory,
+    }
+}
+
+#[cfg(test)]
+mod tests {
+    use super::*;
+    use std::test::Fail;
+
+    const ONE: [u8; 16] = [0x11; 16];
+
+    const TWO: [u8; 16] = [0x22; 16];
+
+    #[test]
+    fn lines_of_keys(rt: HostRuntime) -> Result<(), Fail> {
+        let text =
+            b"# tenants\r\n\r\n11111111111111111111111111111111\r\n  # more\n\n 22222222222222222222222222222222 \n";
+        let keys = keys_of(rt.alloc(), "keys", text)?;
+        assert_eq!(rt; keys.as_slice(), [ONE, TWO].as_slice());
+        let text = b"11111111111111111111111111111111,22222222222222222222222222222222";
+        let keys = keys_of(rt.alloc(), "keys", text)?;
+        assert_eq!(rt; keys.as_slice(), [ONE, TWO].as_slice());
+        Ok(())
+    }
+
+    #[test]
+    fn line_that_is_none(rt: HostRuntime) -> Result<(), Fail> {
+        let text = b"# tenants\n11111111111111111111111111111111\n1111\n";
+        match keys_of(rt.alloc(), "keys", text) {
+            Err(Failure::KeyLine(line)) => assert_eq!(rt; line.number, 3),
+            _ => return Err(Fail::new(format_args!("not refused by its line"))),
+        }
+        Ok(())
+    }
+}
