@@ -1,6 +1,6 @@
 #!/usr/bin/env python3
-"""Tests the client in path_client.py on what no server of ours sends: replies that are none, a connection that ends, silence. What it must
-do then stands in docs/PROTOCOL.md.
+"""Tests the client of clients/python on what no server of ours sends: replies that are none, a connection that ends, silence. What it must
+do then stands in docs/PROTOCOL.md. Its tests with a server stand in clients/python/tests.
 """
 import socket
 import threading
@@ -94,7 +94,7 @@ def check_what_is_not_sent(report):
         report.case("a body above the limit", "", "ValueError", result_of(lambda: client.put("c", "d", " " * REQUEST_LIMIT)))
         report.case("a name of 256 bytes", "", "ValueError", result_of(lambda: client.list("c" * 256)))
         report.case("the next request", "", SOUND["usage"][1], result_of(client.usage))
-    longest = Request.put("c", "d", b" " * (REQUEST_LIMIT - 25))
+    longest = Request(1, b" " * (REQUEST_LIMIT - 21), bytes)
     report.case("the longest frame", "", "00600000", longest.frame(KEY, 0)[:4].hex())
     report.case("a key of 15 bytes", "", "ValueError", result_of(lambda: connect("127.0.0.1:1", bytes(15))))
     report.case("no address", "", "ValueError", result_of(lambda: connect("127.0.0.1", KEY)))
@@ -105,7 +105,7 @@ def main():
     check_answers(report)
     check_silence(report)
     check_what_is_not_sent(report)
-    report.close("tests/path_client.py")
+    report.close("clients/python")
 
 
 if __name__ == "__main__":
