@@ -180,18 +180,20 @@ def generated():
 
 
 def split_file(path):
-    """The elements of the largest array of a JSON file, or its members' values, each as it stands in the file: 900 at most."""
-    text, decoder = path.read_text(encoding="utf-8"), json.JSONDecoder()
-    found = []
-    for match in re.finditer(r"[{\[\"]", text):
-        if len(found) >= 900:
+    """Values in a JSON file as they stand there, each of 16 KiB at most: 900 at most."""
+    text, decoder, found, at = path.read_text(encoding="utf-8"), json.JSONDecoder(), [], 0
+    while len(found) < 900:
+        start = re.compile(r'[{\["0-9tfn-]').search(text, at)
+        if not start:
             break
         try:
-            _, end = decoder.raw_decode(text, match.start())
+            _, end = decoder.raw_decode(text, start.start())
         except ValueError:
-            continue
-        if end - match.start() <= 16_384:
-            found.append(text[match.start():end].encode())
+            end = len(text)
+        at = start.end()
+        if end - start.start() <= 16_384:
+            found.append(text[start.start():end].encode())
+            at = end
     return {f"{ALPHABET[place % len(ALPHABET)]}{place}.{path.stem}"[:128]: it for place, it in enumerate(found)}
 
 
@@ -277,30 +279,38 @@ def most_memory(process):
         return 0
 
 
-def check_many(report, room, count):
-    """So many documents loaded: the memory that it takes, and where there are enough of them, its rate beside that of their frames alone."""
-    texts = [json.dumps({"id": place, "name": "tea", "price": place / 7}).encode() for place in range(count)]
-    frames = b"".join(Request.put("c", str(place % 900), text).frame(KEY, place) for place, text in enumerate(texts))
-    began = time.monotonic()
-    talk(open_connection(room.address), (frames[at:at + 65_536] for at in range(0, len(frames), 65_536)))
-    alone = time.monotonic() - began
-    lines = b"".join(json.dumps({"name": str(place % 900), "text": text.decode()}).encode() + b"\n" for place, text in enumerate(texts))
-    began = time.monotonic()
+def load_once(report, room, path, wanted):
+    """One load of a file: the seconds that it took, and the most memory that the program had, in KiB."""
     environment = {**os.environ, "PATH_SERVER_AT": room.address, "PATH_SERVER_KEY_FILE": str(room.folder / "key")}
-    with open(room.file("many", lines), "rb") as given:
-        process = subprocess.Popen([PROGRAM, "load", "c"], stdin=given, stdout=subprocess.PIPE, env=environment)
-        memory = 0
+    began, memory = time.monotonic(), 0
+    with open(path, "rb") as given, subprocess.Popen([PROGRAM, "load", "c"], stdin=given, stdout=subprocess.PIPE, env=environment) as process:
         while process.poll() is None:
             memory = max(memory, most_memory(process.pid))
             time.sleep(0.01)
-        output = process.stdout.read()
-    took = time.monotonic() - began
-    process.stdout.close()
-    report.case("many documents", "", (0, f"loaded {count} documents, {sum(map(len, texts))} bytes\n".encode()), (process.returncode, output))
+        took, output = time.monotonic() - began, process.stdout.read()
+    report.case("many documents", "", (0, wanted), (process.returncode, output))
+    return took, memory
+
+
+def check_many(report, room, count):
+    """So many documents loaded: the memory that it takes, and where there are enough of them, its rate beside that of their frames alone, each
+    the best of three.
+    """
+    texts = [json.dumps({"id": place, "name": "tea", "price": place / 7}).encode() for place in range(count)]
+    frames = b"".join(Request.put("c", str(place % 900), text).frame(KEY, place) for place, text in enumerate(texts))
+    lines = b"".join(json.dumps({"name": str(place % 900), "text": text.decode()}).encode() + b"\n" for place, text in enumerate(texts))
+    path, wanted = room.file("many", lines), f"loaded {count} documents, {sum(map(len, texts))} bytes\n".encode()
+    alone, loads = [], []
+    for _ in range(3):
+        began = time.monotonic()
+        talk(open_connection(room.address), (frames[at:at + 65_536] for at in range(0, len(frames), 65_536)))
+        alone.append(time.monotonic() - began)
+        loads.append(load_once(report, room, path, wanted))
+    took, memory = min(loads)[0], max(it for _, it in loads)
     report.case("the memory of many documents in KiB", "", True, 0 < memory < MEMORY_KIB or memory)
-    print(f"{count} documents loaded at {count / took:.0f} a second, with {memory} KiB; their frames are taken at {count / alone:.0f} a second")
+    print(f"{count} documents loaded at {count / took:.0f} a second, with {memory} KiB; their frames are taken at {count / min(alone):.0f} a second")
     if count >= 100_000:
-        report.case("the rate beside that of the frames alone", "", True, took <= 2 * alone or (took, alone))
+        report.case("the rate beside that of the frames alone", "", True, took <= 2 * min(alone) or (took, alone))
     room.case(["drop", "c"], 0)
 
 

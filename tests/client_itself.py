@@ -56,11 +56,14 @@ class Answering:
                 pass
             if self.reply is None:
                 return
-            connection.recv(1 << 16)
-            for place in range(len(self.reply)):
-                connection.sendall(self.reply[place:place + 1])
-            connection.shutdown(socket.SHUT_WR)
-            connection.recv(1)
+            try:
+                connection.recv(1 << 16)
+                for place in range(len(self.reply)):
+                    connection.sendall(self.reply[place:place + 1])
+                connection.shutdown(socket.SHUT_WR)
+                connection.recv(1)
+            except OSError:
+                pass  # the client has seen enough
 
 
 def result_of(call):
