@@ -9,6 +9,7 @@ and with 100,000 or more at no less than half of the rate at which the server ta
 
 The programs are those of crates/*/out/, or those that the environment's PATH_SERVER and PATH_CLIENT name.
 """
+import io
 import json
 import os
 import pty
@@ -20,6 +21,7 @@ import subprocess
 import sys
 import tempfile
 import time
+from contextlib import redirect_stdout
 from pathlib import Path
 
 from client_itself import Answering
@@ -279,6 +281,31 @@ def most_memory(process):
         return 0
 
 
+def blocks_of(page):
+    """The indented blocks of a page."""
+    return [re.sub("(?m)^    ", "", it) for it in re.findall(r"(?:^    .*\n)+", page, re.M)]
+
+
+def check_page(report, room):
+    """Runs the lines of docs/CLIENTS.md behind those that start a server, and compares what they print with the block behind them."""
+    text = (TOP / "docs/CLIENTS.md").read_text(encoding="utf-8")
+    blocks = blocks_of(text[text.index("## Each command"):])
+    environment = {**os.environ, "PATH_SERVER_AT": room.address, "PATH_SERVER_KEY_FILE": str(room.folder / "key")}
+    with connect(room.address, KEY) as client:
+        for place, block in enumerate(blocks):
+            behind = blocks[place + 1] if place + 1 < len(blocks) else ""
+            wanted = "" if re.match("bin/|echo|printf|for |from |const ", behind) else behind
+            if re.match("bin/|echo|printf", block):
+                script = block.replace("bin/path_client", PROGRAM)
+                ran = subprocess.run(["bash", "-c", script], stdout=subprocess.PIPE, stderr=subprocess.STDOUT, env=environment, cwd=room.folder, timeout=60)
+                report.case("lines of docs/CLIENTS.md", block, wanted, ran.stdout.decode())
+            elif block.startswith("for "):
+                with redirect_stdout(io.StringIO()) as printed:
+                    exec(block, {"client": client})
+                report.case("lines of Python of docs/CLIENTS.md", block, wanted, printed.getvalue())
+        client.pipeline(Request.drop(name) for name in ("copy", "shop", "things"))
+
+
 def load_once(report, room, path, wanted):
     """One load of a file: the seconds that it took, and the most memory that the program had, in KiB."""
     environment = {**os.environ, "PATH_SERVER_AT": room.address, "PATH_SERVER_KEY_FILE": str(room.folder / "key")}
@@ -331,6 +358,7 @@ def main():
             check_load(report, room)
             check_progress(report, room)
             check_three_clients(report, room)
+            check_page(report, room)
             check_many(report, room, int(sys.argv[1]) if len(sys.argv) > 1 else 10_000)
         finally:
             shutil.rmtree(room.folder)

@@ -30,6 +30,7 @@ UNSOUND = [
     ("the number of an earlier request", "put", "00000005 00 00000000"),
     ("a framing fault", "put", "00000005 ff 00000000"),
     ("a payload where none is", "put", "00000006 00 00000001 00"),
+    ("a payload behind a refusal", "drop", "00000006 0f 00000001 00"),
     ("a payload too short", "usage", "00000010 00 00000001 00000001 00000002 000000"),
     ("a payload too long", "usage", "00000012 00 00000001 00000001 00000002 00000003 00"),
     ("fewer names than their number", "list", "0000000b 00 00000001 00000002 0161"),

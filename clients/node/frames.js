@@ -85,7 +85,9 @@ export function frame(key, number, { code, fields }) {
 export function outcome({ status, number, payload }, wanted, { read }) {
   if (status === FRAME_FAULT) throw new BrokenConnection('the server met a framing fault');
   if (number !== wanted) throw new BrokenConnection(`a reply has the number ${number} in the place of ${wanted}`);
-  return status === 0 ? read(payload) : new Refused(status);
+  if (status === 0) return read(payload);
+  if (payload.length > 0) throw new BrokenConnection('a refusal has a payload');
+  return new Refused(status);
 }
 
 /** Cuts the bytes that come from the server into replies, however the pieces fall. */

@@ -166,7 +166,11 @@ class Request:
             raise BrokenConnection("the server met a framing fault")
         if reply.number != number:
             raise BrokenConnection("a reply has the number {} in the place of {}".format(reply.number, number))
-        return self.read(reply.payload) if reply.status == Status.Ok else Refused(reply.status)
+        if reply.status == Status.Ok:
+            return self.read(reply.payload)
+        if reply.payload:
+            raise BrokenConnection("a refusal has a payload")
+        return Refused(reply.status)
 
 
 def as_bytes(text: Text) -> bytes:
