@@ -52,12 +52,12 @@ class Watch:
 
     def fill(self):
         with self.client() as client:
-            client.pipelined([Request.put("b", name, text) for name, text in TEXTS.items()])
+            client.pipeline([Request.put("b", name, text) for name, text in TEXTS.items()])
 
     def look(self, name, sent, victim=None, states=None):
         """The next client is served: the bystander's documents are those put, and the victim's are one of the states."""
         with self.client() as client:
-            found = client.pipelined([Request.get("b", text) for text in TEXTS] + [Request.list("b"), Request.usage()])
+            found = client.pipeline([Request.get("b", text) for text in TEXTS] + [Request.list("b"), Request.usage()])
             wanted = [*TEXTS.values(), sorted(TEXTS), (1, len(TEXTS), sum(map(len, TEXTS.values())))]
             self.report.case(f"{name}: another tenant's documents", sent, wanted, found)
             if victim:
@@ -78,9 +78,9 @@ class Watch:
 def documents(client):
     """A tenant's collections with their documents, by requests over a connection."""
     names = [name.decode() for name in COLLECTIONS]
-    lists = client.pipelined([Request.list(name) for name in names])
+    lists = client.pipeline([Request.list(name) for name in names])
     pairs = [(name, document) for name, found in zip(names, lists) for document in found]
-    texts = client.pipelined([Request.get(*pair) for pair in pairs])
+    texts = client.pipeline([Request.get(*pair) for pair in pairs])
     left = {name: {} for name, found in zip(names, lists) if found}
     for (name, document), text in zip(pairs, texts):
         left[name][document] = text
@@ -199,7 +199,7 @@ def key_of(moment):
 
 def drop_all(watch, moment):
     with watch.client(key_of(moment)) as client:
-        client.pipelined([Request.drop(name) for name in COLLECTIONS])
+        client.pipeline([Request.drop(name) for name in COLLECTIONS])
 
 
 def never_reads(watch):

@@ -1,6 +1,6 @@
 #!/usr/bin/env python3
-"""Tests the client in path_client.py on what no server of ours sends: replies that are none, a connection that ends, silence. What it must
-do then stands in docs/PROTOCOL.md.
+"""Tests the client of clients/python on what no server of ours sends: replies that are none, a connection that ends, silence. What it must
+do then stands in docs/PROTOCOL.md. Its tests with a server stand in clients/python/tests.
 """
 import socket
 import threading
@@ -30,6 +30,7 @@ UNSOUND = [
     ("the number of an earlier request", "put", "00000005 00 00000000"),
     ("a framing fault", "put", "00000005 ff 00000000"),
     ("a payload where none is", "put", "00000006 00 00000001 00"),
+    ("a payload behind a refusal", "drop", "00000006 0f 00000001 00"),
     ("a payload too short", "usage", "00000010 00 00000001 00000001 00000002 000000"),
     ("a payload too long", "usage", "00000012 00 00000001 00000001 00000002 00000003 00"),
     ("fewer names than their number", "list", "0000000b 00 00000001 00000002 0161"),
@@ -56,11 +57,14 @@ class Answering:
                 pass
             if self.reply is None:
                 return
-            connection.recv(1 << 16)
-            for place in range(len(self.reply)):
-                connection.sendall(self.reply[place:place + 1])
-            connection.shutdown(socket.SHUT_WR)
-            connection.recv(1)
+            try:
+                connection.recv(1 << 16)
+                for place in range(len(self.reply)):
+                    connection.sendall(self.reply[place:place + 1])
+                connection.shutdown(socket.SHUT_WR)
+                connection.recv(1)
+            except OSError:
+                pass  # the client has seen enough
 
 
 def result_of(call):
@@ -94,7 +98,7 @@ def check_what_is_not_sent(report):
         report.case("a body above the limit", "", "ValueError", result_of(lambda: client.put("c", "d", " " * REQUEST_LIMIT)))
         report.case("a name of 256 bytes", "", "ValueError", result_of(lambda: client.list("c" * 256)))
         report.case("the next request", "", SOUND["usage"][1], result_of(client.usage))
-    longest = Request.put("c", "d", b" " * (REQUEST_LIMIT - 25))
+    longest = Request(1, b" " * (REQUEST_LIMIT - 21), bytes)
     report.case("the longest frame", "", "00600000", longest.frame(KEY, 0)[:4].hex())
     report.case("a key of 15 bytes", "", "ValueError", result_of(lambda: connect("127.0.0.1:1", bytes(15))))
     report.case("no address", "", "ValueError", result_of(lambda: connect("127.0.0.1", KEY)))
@@ -105,7 +109,7 @@ def main():
     check_answers(report)
     check_silence(report)
     check_what_is_not_sent(report)
-    report.close("tests/path_client.py")
+    report.close("clients/python")
 
 
 if __name__ == "__main__":

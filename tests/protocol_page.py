@@ -8,14 +8,12 @@ of the table, and each status of the table has been met but NoMemory, which no r
 import io
 import re
 import subprocess
-import sys
 from contextlib import redirect_stdout
 
 from lib.running_server import PROGRAM, TOP, Report, Running, compare_replies, open_connection, talk
 from path_client import Request, Status, connect
 
 KEY = bytes.fromhex("00112233445566778899aabbccddeeff")
-OTHER = bytes.fromhex("aabbccddeeff00112233445566778899")
 PAGE = (TOP / "docs/PROTOCOL.md").read_text(encoding="utf-8")
 LINE = re.compile(r"    ([0-9a-f]{8}(?: .*?)?)(?: *# (.*))?")
 
@@ -94,36 +92,15 @@ def check_python(report, address):
     report.case("the page's lines of Python", script, block("d $['a']"), output.getvalue())
 
 
-def check_command(report, address):
-    """The client as a command: its output and its exit statuses."""
-    def run(status, output, errors, *arguments, text=b""):
-        command = [sys.executable, str(TOP / "tests/path_client.py"), address, *arguments]
-        ran = subprocess.run(command, input=text, capture_output=True, timeout=60)
-        report.case("the client as a command", arguments, (status, output, errors), (ran.returncode, ran.stdout, ran.stderr))
-
-    key = OTHER.hex()
-    run(0, b"", b"", key, "put", "c", "d", text=b'{"a":[1, 2]}')
-    run(0, b'{"a":[1, 2]}', b"", key, "get", "c", "d")
-    run(0, b"d $['a'][1] 2\n", b"", key, "query", "c", "$.a[1]")
-    run(1, b"", b"Exists\n", key, "put_new", "c", "d", text=b"1")
-    run(0, b"d\n", b"", key, "list", "c")
-    run(0, b"collections 1 documents 1 bytes 12\n", b"", key, "usage")
-    run(0, b"", b"", key, "remove", "c", "d")
-    run(1, b"", b"NotFound\n", key, "drop", "c")
-    run(1, b"", b"NoTenant\n", "0" * 32, "usage")
-    run(2, b"", b"a key has 16 bytes, not 1\n", "00", "usage")
-
-
 def main():
     report = Report()
-    with Running([KEY, OTHER], 13) as server:
+    with Running([KEY], 4) as server:
         check_shell(report, server.address)
         check_python(report, server.address)
         with connect(server.address, KEY) as client:
-            left = client.pipelined([Request.get("c", "d"), Request.drop("c")])
+            left = client.pipeline([Request.get("c", "d"), Request.drop("c")])
             report.case("what the page's first lines left", "", [b'{"a":1}', None], left)
         check_session(report, server.address)
-        check_command(report, server.address)
         server.finish(report)
         report.case("the ends on standard error", "", {3: "FrameFault"}, server.ends())
     report.close("docs/PROTOCOL.md")

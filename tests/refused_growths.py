@@ -197,7 +197,7 @@ def call_runs(refusals):
 def drop_all(address):
     for key in KEYS:
         with connect(address, key) as client:
-            client.pipelined([Request.drop(name) for name in ("c", "x")])
+            client.pipeline([Request.drop(name) for name in ("c", "x")])
 
 
 class Served:

@@ -59,7 +59,7 @@ class Rounds:
         """Drops all that is kept, and looks at descriptors and memory."""
         for key in [*self.keys, OWN_KEY]:
             with connect(self.server.address, key) as client:
-                client.pipelined([Request.drop(name) for name in [*model.tenants.get(key, {}), b"c"]])
+                client.pipeline([Request.drop(name) for name in [*model.tenants.get(key, {}), b"c"]])
                 self.report.case("what is left of a tenant", key, (0, 0, 0), tuple(client.usage()))
         time.sleep(0.5)
         resident, descriptors = self.server.resident(), len(os.listdir(f"/proc/{self.server.process.pid}/fd"))

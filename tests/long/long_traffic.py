@@ -42,7 +42,7 @@ def round_trip(report, client, chance, kept):
     wanted = [None, text, "NotFound", "NotJson", [str(number) for number in range(TEXTS)], [Hit("only", "$[0]", text[1:-1])]]
     requests = [Request.put("q", "only", text), Request.get("c", str(place)), Request.get("c", "none"),
                 Request.put("c", str(place), text[:-1]), Request.list("c"), Request.query("q", "$[0]")]
-    found = [it.name if isinstance(it, Refused) else it for it in client.pipelined(requests)]
+    found = [it.name if isinstance(it, Refused) else it for it in client.pipeline(requests)]
     report.case("a put, and what comes back", f"{len(text)} bytes as {place}", wanted, found)
     client.remove("c", str(other))
     return 5 * moved + keep(client, chance, kept, other)
@@ -64,7 +64,7 @@ def connection(report, server, seed, mebibytes):
         while moved < mebibytes * MEBIBYTE:
             moved += round_trip(report, client, chance, kept)
         keep_all(client, kept)
-        client.pipelined([Request.drop("q")])
+        client.pipeline([Request.drop("q")])
         report.case("what is kept at the end", "", (1, TEXTS, sum(map(len, kept.values()))), tuple(client.usage()))
     return resident
 

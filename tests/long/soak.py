@@ -155,7 +155,7 @@ class Soak:
         for key in ALL_KEYS:
             with self.client(key) as client:
                 names = [*self.model.tenants[key], b"c"]
-                client.pipelined([Request.drop(name) for name in names])
+                client.pipeline([Request.drop(name) for name in names])
                 self.report.case("what is left of a tenant", key, (0, 0, 0), tuple(client.usage()))
             self.model.tenants[key] = {}
         self.open()

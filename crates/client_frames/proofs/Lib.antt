@@ -1,0 +1,4 @@
+pub mod Sending
+pub mod Framed
+pub mod Back
+pub mod Items

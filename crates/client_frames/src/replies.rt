@@ -1,0 +1,65 @@
+//! Replies among the bytes that came.
+
+ghost use Rattle.std.specs.Prelude.{◌≡◌, ◌≤◌, ◌+◌, ◌∷◌, ◌++◌, length};
+ghost use Rattle.std.specs.Int.{w32, to_be_bytes};
+ghost use Rattle.client_frames.specs.Came.{Shows};
+
+use crate::numbers::spelled;
+use store_names::LONGEST_REPLY;
+
+/// The bytes of a frame's length.
+const LENGTH_BYTES: usize = 4;
+
+/// The bytes of a reply's body before its payload: the status and the number.
+const BEFORE_PAYLOAD: usize = 5;
+
+/// A reply: its status, the number of its request and its payload, which only the status Ok (0) has.
+#[derive(Clone, Copy, Debug)]
+pub struct Reply<'a> {
+    pub status: u8,
+    pub number: u32,
+    pub payload: &'a [u8],
+}
+
+/// What bytes begin with.
+#[derive(Clone, Copy, Debug)]
+pub enum Front<'a> {
+    /// A whole reply, and the bytes behind it.
+    Whole(Reply<'a>, &'a [u8]),
+    /// Less than a reply.
+    Wait,
+    /// A length that no reply has: no reply comes, whatever follows.
+    NoReply,
+}
+
+/// What bytes that came from a server begin with.
+pub fn front_of(bytes: &[u8]) -> Front<'_>
+    ensures { Shows bytes.now result }
+{
+    if bytes.len() < LENGTH_BYTES {
+        return Front::Wait;
+    }
+    let length = spelled(bytes) as usize;
+    if length < BEFORE_PAYLOAD || length > LONGEST_REPLY {
+        return Front::NoReply;
+    }
+    if bytes.len() - LENGTH_BYTES < length {
+        return Front::Wait;
+    }
+    let (body, rest) = bytes.split_at(LENGTH_BYTES).1.split_at(length);
+    Front::Whole(reply_of(body), rest)
+}
+
+/// The parts of a reply's body.
+fn reply_of(body: &[u8]) -> Reply<'_>
+    requires { 5 ≤ length body.now }
+    ensures parts { body.now ≡ result.status ∷ (to_be_bytes w32 result.number ++ result.payload.now) }
+    ensures long { length body.now ≡ 5 + length result.payload.now }
+{
+    let behind = body.split_at(1).1;
+    Reply {
+        status: body[0],
+        number: spelled(behind),
+        payload: behind.split_at(4).1,
+    }
+}

@@ -1,0 +1,7 @@
+use Rattle.std.proofs.Common.{◌≡◌, ◌++◌, drop, flat_map, map}
+use Rattle.client_frames.specs.Readings.{found_of}
+use Rattle.client_lines.specs.Lines.{hit_lines}
+use Rattle.client_lines.proofs.hits.append_hits.Given as goal
+
+abbrev pub invariant-loop-hit : goal.invariant-loop-hit
+invariant-loop-hit l = l.out.items ++ hit_lines (map found_of (drop l.hit-index l.hits)) ≡ l.fn.out.items ++ hit_lines (map found_of l.hits)

@@ -1,0 +1,29 @@
+-- The lines that a client prints of a reply: this project's own.
+use Rattle.std.specs.Prelude.{ℕ, ◌==◌, List, [], ◌∷◌, ◌++◌, if◌then◌else◌, map, flat_map, codes}
+use Rattle.json.specs.Print.{quoted}
+use Rattle.client_frames.specs.Payloads.{Found}
+
+-- the document, a tab, the path, a tab and the value
+abbrev pub hit_line : Found → List ℕ
+hit_line f = f.document ++ (9 ∷ (f.path ++ (9 ∷ (f.value ++ 10 ∷ []))))
+
+abbrev pub hit_lines : List Found → List ℕ
+hit_lines hits = flat_map hit_line hits
+
+-- a line feed, which stands between the parts of a value alone, is turned to a blank
+abbrev pub blanked : ℕ → ℕ
+blanked byte = if byte == 10 then 32 else byte
+
+-- the same as a JSON object
+unfoldable pub json_line : Found → List ℕ
+json_line f = codes "{\"document\":\"" ++ (f.document ++ (codes "\",\"path\":" ++ (quoted f.path ++ (codes ",\"value\":" ++ (map blanked f.value ++ codes "}\n")))))
+
+abbrev pub json_lines : List Found → List ℕ
+json_lines hits = flat_map json_line hits
+
+-- a line for each name
+abbrev pub name_line : List ℕ → List ℕ
+name_line name = name ++ 10 ∷ []
+
+abbrev pub name_lines : List (List ℕ) → List ℕ
+name_lines names = flat_map name_line names

@@ -1,0 +1,162 @@
+//! The lines of a dump.
+
+ghost use Rattle.std.specs.Prelude.{◌≡◌, ◌++◌, Some, codes, option_and_then, string_bytes, IfOk, OnOk};
+ghost use Rattle.std.specs.Option.{option_map};
+ghost use Rattle.serde_json.specs.Find.{as_str, get};
+ghost use Rattle.serde_json.specs.Read.{read};
+ghost use Rattle.serde_json.specs.View.{view};
+ghost use Rattle.client_lines.specs.Documents as spec;
+ghost use Rattle.client_lines.specs.Documents.{HasString, document, document_line};
+
+use json_tape::TextFault;
+use serde_json::{Category, Value, json};
+use std::alloc::{AllocError, AllocFailed, Global};
+use thiserror::Error;
+
+/// Why a line was not read or written.
+#[derive(Clone, Copy, Debug, Drop, PartialEq, Eq, Error)]
+pub enum LineFault {
+    /// It is not UTF-8.
+    #[error("it is not UTF-8")]
+    NotUtf8,
+    /// It is no JSON text (RFC 8259).
+    #[error("it is no JSON text")]
+    NotJson,
+    /// It has no string under `name`, or where a query says.
+    #[error("it has no name")]
+    NoName,
+    /// It has no string under `text`.
+    #[error("it has no text")]
+    NoText,
+    /// It is no document.
+    #[error("it is no document: {0}")]
+    NoDocument(TextFault),
+    /// A growth was refused.
+    #[error("a growth was refused")]
+    Memory,
+}
+
+impl LineFault {
+    /// The name of what the line is refused for, as the protocol has it where it has one.
+    pub fn name(&self) -> &'static str {
+        match self {
+            LineFault::NotUtf8 => "NotUtf8",
+            LineFault::NotJson => "NotJson",
+            LineFault::NoName => "NoName",
+            LineFault::NoText => "NoText",
+            LineFault::NoDocument(fault) => text_fault_name(*fault),
+            LineFault::Memory => "NoMemory",
+        }
+    }
+
+    /// What a refused text means.
+    pub fn of_text(fault: TextFault) -> LineFault {
+        match fault {
+            TextFault::Memory => LineFault::Memory,
+            _ => LineFault::NoDocument(fault),
+        }
+    }
+}
+
+fn text_fault_name(fault: TextFault) -> &'static str {
+    match fault {
+        TextFault::TooLong => "TooLong",
+        TextFault::NotUtf8 => "NotUtf8",
+        TextFault::NotJson => "NotJson",
+        TextFault::TooDeep => "TooDeep",
+        TextFault::NumberLimit => "NumberLimit",
+        TextFault::LoneSurrogate => "LoneSurrogate",
+        TextFault::DuplicateName => "DuplicateName",
+        TextFault::Memory => "NoMemory",
+    }
+}
+
+impl From<AllocError> for LineFault {
+    fn from(_: AllocError) -> LineFault {
+        LineFault::Memory
+    }
+}
+
+impl<T: Drop> From<AllocFailed<T>> for LineFault {
+    fn from(_: AllocFailed<T>) -> LineFault {
+        LineFault::Memory
+    }
+}
+
+/// A document's name and its text.
+#[derive(Drop)]
+pub struct NamedText {
+    pub name: String,
+    pub text: String,
+}
+
+/// Appends the line of a document, a JSON object with the strings `name` and `text`.
+pub fn append_document(
+    alloc: Global,
+    name: &str,
+    text: &str,
+    out: &mut Vec<u8>,
+) -> Result<(), AllocError>
+    ensures { OnOk result (out.new.items ≡ out.old.items ++ document_line name.now text.now) }
+{
+    let line = document_text(alloc, name, text)?;
+    out.extend_from_slice(line.as_bytes())?;
+    out.extend_from_slice(b"\n")
+}
+
+fn document_value(alloc: Global, name: &str, text: &str) -> Result<Value, AllocError>
+    ensures { IfOk result (λ v. view v ≡ document name.now text.now) }
+{
+    json!(in alloc; {"name": name, "text": text})
+}
+
+/// The text of an object with the strings `name` and `text`, as which it is read back.
+fn document_text(alloc: Global, name: &str, text: &str) -> Result<String, AllocError>
+    ensures line { IfOk result (λ s. string_bytes s ≡ spec.document_text name.now text.now) }
+    ensures reads { IfOk result (λ s. read (string_bytes s) ≡ Some (document name.now text.now)) }
+{
+    let value = document_value(alloc, name, text)?;
+    value.to_string(alloc)
+}
+
+fn parse(alloc: Global, line: &[u8]) -> Result<Value, LineFault>
+    ensures value { IfOk result (λ v. read line.now ≡ Some (view v)) }
+{
+    let Ok(text) = simdutf8::basic::from_utf8(line) else {
+        return Err(LineFault::NotUtf8);
+    };
+    match Value::from_str(alloc, text) {
+        Ok(value) => Ok(value),
+        Err(error) if error.classify() == Category::Memory => Err(LineFault::Memory),
+        Err(_) => Err(LineFault::NotJson),
+    }
+}
+
+/// A copy of the string under a name, if there is one.
+fn string_at(alloc: Global, value: &Value, key: &str) -> Result<Option<String>, AllocError>
+    ensures { IfOk result (λ o. option_map string_bytes o ≡ option_and_then as_str (get key.now (view value.now))) }
+{
+    match value.get(key).and_then(Value::as_str) {
+        Some(text) => Ok(Some(String::from_str(alloc, text)?)),
+        None => Ok(None),
+    }
+}
+
+/// The name and the text of a line of a dump.
+///
+/// # Errors
+///
+/// NotUtf8, NotJson, NoName or NoText where the line has not both, Memory where a growth was refused.
+pub fn read_document(alloc: Global, line: &[u8]) -> Result<NamedText, LineFault>
+    ensures name { IfOk result (λ d. HasString line.now (codes "name") (string_bytes d.name)) }
+    ensures text { IfOk result (λ d. HasString line.now (codes "text") (string_bytes d.text)) }
+{
+    let value = parse(alloc, line)?;
+    let Some(name) = string_at(alloc, &value, "name")? else {
+        return Err(LineFault::NoName);
+    };
+    let Some(text) = string_at(alloc, &value, "text")? else {
+        return Err(LineFault::NoText);
+    };
+    Ok(NamedText { name, text })
+}

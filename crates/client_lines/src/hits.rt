@@ -1,0 +1,86 @@
+//! The lines of hits and names.
+
+ghost use Rattle.std.specs.Prelude.{◌≡◌, ◌++◌, map, codes, string_bytes, IfOk, OnOk};
+ghost use Rattle.json.specs.Print.{quoted};
+ghost use Rattle.client_frames.specs.Readings.{found_of, name_of};
+ghost use Rattle.client_lines.specs.Lines.{hit_line, hit_lines, json_line, json_lines, name_lines};
+
+use crate::documents::LineFault;
+use crate::pieces::{append_all, append_blanked};
+use client_frames::Hit;
+use serde_json::json;
+use std::alloc::{AllocError, Global};
+use store_names::DocName;
+
+fn append_hit(hit: &Hit<'_>, out: &mut Vec<u8>) -> Result<(), AllocError>
+    ensures { OnOk result (out.new.items ≡ out.old.items ++ hit_line (found_of hit.now)) }
+{
+    append_all(
+        &[hit.document.bytes, b"\t", hit.path, b"\t", hit.value, b"\n"],
+        out,
+    )
+}
+
+/// Appends a line for each hit: the document, a tab, the path, a tab and the value. A value with line feeds takes several lines.
+pub fn append_hits(hits: &[Hit<'_>], out: &mut Vec<u8>) -> Result<(), AllocError>
+    ensures { OnOk result (out.new.items ≡ out.old.items ++ hit_lines (map found_of hits.now)) }
+{
+    for hit in hits {
+        append_hit(hit, out)?;
+    }
+    Ok(())
+}
+
+/// A text as a JSON string.
+fn quote(alloc: Global, text: &str) -> Result<String, AllocError>
+    ensures { IfOk result (λ s. string_bytes s ≡ quoted text.now) }
+{
+    json!(in alloc; text)?.to_string(alloc)
+}
+
+#[tactic(auto, unfolding(crate::specs::Lines::json_line))]
+fn append_json_hit(alloc: Global, hit: &Hit<'_>, out: &mut Vec<u8>) -> Result<(), LineFault>
+    ensures { OnOk result (out.new.items ≡ out.old.items ++ json_line (found_of hit.now)) }
+{
+    let Ok(path) = simdutf8::basic::from_utf8(hit.path) else {
+        return Err(LineFault::NotUtf8);
+    };
+    let path = quote(alloc, path)?;
+    append_all(
+        &[
+            b"{\"document\":\"",
+            hit.document.bytes,
+            b"\",\"path\":",
+            path.as_bytes(),
+            b",\"value\":",
+        ],
+        out,
+    )?;
+    append_blanked(hit.value, out)?;
+    Ok(out.extend_from_slice(b"}\n")?)
+}
+
+/// Appends a line for each hit, a JSON object with the members `document`, `path` and `value`: the value's own bytes, in which line feeds
+/// are blanks.
+///
+/// # Errors
+///
+/// NotUtf8 where a path is not UTF-8, Memory where a growth was refused.
+pub fn append_json_hits(alloc: Global, hits: &[Hit<'_>], out: &mut Vec<u8>) -> Result<(), LineFault>
+    ensures { OnOk result (out.new.items ≡ out.old.items ++ json_lines (map found_of hits.now)) }
+{
+    for hit in hits {
+        append_json_hit(alloc, hit, out)?;
+    }
+    Ok(())
+}
+
+/// Appends a line for each name.
+pub fn append_names(names: &[DocName<'_>], out: &mut Vec<u8>) -> Result<(), AllocError>
+    ensures { OnOk result (out.new.items ≡ out.old.items ++ name_lines (map name_of names.now)) }
+{
+    for name in names {
+        append_all(&[name.bytes, b"\n"], out)?;
+    }
+    Ok(())
+}

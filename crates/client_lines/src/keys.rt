@@ -1,0 +1,70 @@
+//! A file with a tenant's key.
+
+ghost use Rattle.std.specs.Prelude.{◌≡◌, ◌≤◌, length, IfOk};
+ghost use Rattle.std.specs.List.{list_all};
+ghost use Rattle.client_lines.specs.Keys.{HoldsKey};
+ghost use Rattle.client_lines.specs.Keys as keys;
+
+use hex::FromHex;
+use thiserror::Error;
+
+/// Why a text holds no key.
+#[derive(Clone, Copy, Debug, Drop, PartialEq, Eq, Error)]
+pub enum KeyFault {
+    /// There is none.
+    #[error("it has no key")]
+    NoKey,
+    /// There are several words.
+    #[error("it has several keys")]
+    SeveralKeys,
+    /// The word is not 32 hexadecimal digits.
+    #[error("a key has 32 hexadecimal digits")]
+    BadKey,
+}
+
+fn is_separator(byte: u8) -> bool
+    ensures { result ≡ keys.is_separator byte }
+{
+    matches!(byte, b'\t' | b'\n' | b'\r' | b' ' | b',')
+}
+
+fn are_separators(bytes: &[u8]) -> bool
+    ensures { result ≡ list_all keys.is_separator bytes.now }
+{
+    bytes.iter().all(|byte| is_separator(*byte))
+}
+
+/// The bytes before the first that is a separator, or before the first that is none.
+fn bytes_before(text: &[u8], separator: bool) -> usize
+    ensures { result ≤ length text.now }
+{
+    match text
+        .iter()
+        .position(|byte| is_separator(*byte) == separator)
+    {
+        Some(place) => place,
+        None => text.len(),
+    }
+}
+
+/// The key that a text holds: 32 hexadecimal digits of either case, with separators around them.
+///
+/// # Errors
+///
+/// NoKey where the text has separators alone, SeveralKeys where it has several words, BadKey where its word is not a key.
+pub fn read_key(text: &[u8]) -> Result<[u8; 16], KeyFault>
+    ensures { IfOk result (λ key. HoldsKey text.now key) }
+{
+    let (before, rest) = text.split_at(bytes_before(text, false));
+    if rest.is_empty() {
+        return Err(KeyFault::NoKey);
+    }
+    let (digits, after) = rest.split_at(bytes_before(rest, true));
+    if !are_separators(before) || !are_separators(after) {
+        return Err(KeyFault::SeveralKeys);
+    }
+    match <[u8; 16] as FromHex>::from_hex(digits) {
+        Ok(key) => Ok(key),
+        Err(_) => Err(KeyFault::BadKey),
+    }
+}

@@ -1,0 +1,133 @@
+//! One request for each subcommand, and what is printed of its reply.
+
+use crate::connection::{Connection, open};
+use crate::documents::{dump, of_document, query};
+use crate::failure::{Context, Failure};
+use crate::keys;
+use crate::loading::load;
+use crate::options::{Asked, Verb};
+use client_frames::{Usage, read_names, read_usage};
+use client_lines::append_names;
+use standard_streams::write_whole;
+use std::io::{self, Read, Write};
+use std::net::Net;
+use std::rt::{Clock, Files};
+use std::time::Instant;
+use store_names::CollName;
+use wire_frames::Command;
+
+/// Answers a subcommand that asks a server.
+pub fn answer<R: Input + Print + Eprint + Net + Files + Clock + AllocGlobal>(
+    rt: &R,
+    asked: &Asked<'_>,
+    context: &Context<'_>,
+) -> Result<(), Failure> {
+    if context.address.is_empty() {
+        return Err(Failure::AddressMissing);
+    }
+    let key = keys::read(rt, context.key_file)?;
+    match asked.verb {
+        Verb::Usage => usage(
+            rt,
+            open(rt, context.address, key, asked.timeout)?,
+            asked.json,
+        ),
+        Verb::Ping => ping(rt, open(rt, context.address, key, asked.timeout)?),
+        _ => of_collection(rt, asked, context, key),
+    }
+}
+
+// Answers a subcommand on a collection.
+fn of_collection<R: Input + Print + Eprint + Net + Files + Clock + AllocGlobal>(
+    rt: &R,
+    asked: &Asked<'_>,
+    context: &Context<'_>,
+    key: [u8; 16],
+) -> Result<(), Failure> {
+    let Some(collection) = CollName::read(asked.collection.as_bytes()) else {
+        return Err(Failure::CollectionName);
+    };
+    let connection = open(rt, context.address, key, asked.timeout)?;
+    match asked.verb {
+        Verb::List => list(rt, connection, collection),
+        Verb::Query => query(rt, connection, collection, asked),
+        Verb::Drop => drop_collection(connection, collection),
+        Verb::Load => load(rt, connection, collection, asked, context.is_terminal),
+        Verb::Dump => dump(rt, connection, collection),
+        _ => of_document(rt, connection, collection, asked),
+    }
+}
+
+fn list<R: Print + AllocGlobal, S: Read + Write + Drop>(
+    rt: &R,
+    mut connection: Connection<S>,
+    collection: CollName<'_>,
+) -> Result<(), Failure> {
+    let payload = connection.ask(&Command::List { collection })?;
+    let names = read_names(rt.alloc(), payload).map_err(Failure::of_payload)?;
+    let mut out = Vec::new(rt.alloc());
+    match append_names(names.as_slice(), &mut out) {
+        Ok(()) => print(rt, out.as_slice()),
+        Err(_) => Err(Failure::Memory),
+    }
+}
+
+fn drop_collection<S: Read + Write + Drop>(
+    mut connection: Connection<S>,
+    collection: CollName<'_>,
+) -> Result<(), Failure> {
+    connection.ask(&Command::DropCollection { collection })?;
+    Ok(())
+}
+
+fn usage_of<S: Read + Write + Drop>(connection: &mut Connection<S>) -> Result<Usage, Failure> {
+    let payload = connection.ask(&Command::Usage)?;
+    read_usage(payload).ok_or(Failure::NoReply)
+}
+
+fn usage<R: Print, S: Read + Write + Drop>(
+    rt: &R,
+    mut connection: Connection<S>,
+    json: bool,
+) -> Result<(), Failure> {
+    let Usage {
+        collections,
+        documents,
+        bytes,
+    } = usage_of(&mut connection)?;
+    let printed = if json {
+        println!(rt;
+            "{{\"collections\":{collections},\"documents\":{documents},\"bytes\":{bytes}}}"
+        )
+    } else {
+        println!(rt; "collections {collections}, documents {documents}, bytes {bytes}")
+    };
+    printed.map_err(|_| Failure::Write)
+}
+
+fn ping<R: Print + Clock, S: Read + Write + Drop>(
+    rt: &R,
+    mut connection: Connection<S>,
+) -> Result<(), Failure> {
+    let began = Instant::now(rt);
+    usage_of(&mut connection)?;
+    let micros = match began {
+        Ok(instant) => micros_since(rt, &instant),
+        Err(_) => 0,
+    };
+    let (millis, rest) = (micros / 1_000, micros % 1_000);
+    println!(rt; "{millis}.{rest:03} ms").map_err(|_| Failure::Write)
+}
+
+/// The microseconds since then, or 0 where the clock cannot be read.
+pub fn micros_since<R: Clock>(rt: &R, began: &Instant) -> u64 {
+    match began.elapsed(rt) {
+        Ok(took) => u64::try_from(took.as_micros()).unwrap_or(u64::MAX),
+        Err(_) => 0,
+    }
+}
+
+/// Writes bytes to standard output.
+pub fn print<R: Print>(rt: &R, bytes: &[u8]) -> Result<(), Failure> {
+    write_whole(&mut io::writer(rt), bytes).map_err(|_| Failure::Write)
+}

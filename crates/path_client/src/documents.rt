@@ -1,0 +1,183 @@
+//! The subcommands that have texts.
+
+use crate::asking::print;
+use crate::connection::Connection;
+use crate::failure::Failure;
+use crate::options::{Asked, Verb};
+use client_frames::{read_hits, read_names};
+use client_lines::{LineFault, append_document, append_hits, append_json_hits};
+use json_tape::TEXT_LIMIT;
+use standard_streams::{ReadFault, read_past};
+use std::alloc::Global;
+use std::fs;
+use std::io::{Read, Write};
+use std::rt::Files;
+use store_names::{CollName, DocName};
+use wire_frames::Command;
+
+fn whole<I: Read + Drop>(alloc: Global, input: I) -> Result<Vec<u8>, Failure> {
+    match read_past(alloc, input, TEXT_LIMIT as u64) {
+        Ok(text) => Ok(text),
+        Err(ReadFault::Memory) => Err(Failure::Memory),
+        Err(ReadFault::Failed) => Err(Failure::Read),
+    }
+}
+
+// The text of the file, or of standard input.
+fn text_of<R: Input + Files + AllocGlobal>(rt: &R, file: Option<&str>) -> Result<Vec<u8>, Failure> {
+    match file {
+        Some(path) => match fs::open(rt, path) {
+            Ok(file) => whole(rt.alloc(), file),
+            Err(_) => Err(Failure::Read),
+        },
+        None => whole(rt.alloc(), rt.reader()),
+    }
+}
+
+/// Answers a subcommand on a document.
+pub fn of_document<R: Input + Print + Files + AllocGlobal, S: Read + Write + Drop>(
+    rt: &R,
+    mut connection: Connection<S>,
+    collection: CollName<'_>,
+    asked: &Asked<'_>,
+) -> Result<(), Failure> {
+    let Some(document) = DocName::read(asked.document.as_bytes()) else {
+        return Err(Failure::DocumentName);
+    };
+    match asked.verb {
+        Verb::Get => get(rt, &mut connection, collection, document),
+        Verb::Remove => done(
+            &mut connection,
+            &Command::Remove {
+                collection,
+                document,
+            },
+        ),
+        verb => put(rt, &mut connection, collection, document, verb, asked.file),
+    }
+}
+
+fn done<S: Read + Write + Drop>(
+    connection: &mut Connection<S>,
+    command: &Command<'_>,
+) -> Result<(), Failure> {
+    connection.ask(command)?;
+    Ok(())
+}
+
+fn get<R: Print, S: Read + Write + Drop>(
+    rt: &R,
+    connection: &mut Connection<S>,
+    collection: CollName<'_>,
+    document: DocName<'_>,
+) -> Result<(), Failure> {
+    let text = connection.ask(&Command::Get {
+        collection,
+        document,
+    })?;
+    print(rt, text)
+}
+
+fn put<R: Input + Files + AllocGlobal, S: Read + Write + Drop>(
+    rt: &R,
+    connection: &mut Connection<S>,
+    collection: CollName<'_>,
+    document: DocName<'_>,
+    verb: Verb,
+    file: Option<&str>,
+) -> Result<(), Failure> {
+    let text = text_of(rt, file)?;
+    let text = text.as_slice();
+    let command = match verb {
+        Verb::PutNew => Command::PutNew {
+            collection,
+            document,
+            text,
+        },
+        _ => Command::Put {
+            collection,
+            document,
+            text,
+        },
+    };
+    done(connection, &command)
+}
+
+/// Prints a line for each hit.
+pub fn query<R: Print + AllocGlobal, S: Read + Write + Drop>(
+    rt: &R,
+    mut connection: Connection<S>,
+    collection: CollName<'_>,
+    asked: &Asked<'_>,
+) -> Result<(), Failure> {
+    let query = asked.query.as_bytes();
+    let payload = connection.ask(&Command::Query { collection, query })?;
+    let lines = hit_lines(rt.alloc(), payload, asked.json)?;
+    print(rt, lines.as_slice())
+}
+
+fn hit_lines(alloc: Global, payload: &[u8], json: bool) -> Result<Vec<u8>, Failure> {
+    let hits = read_hits(alloc, payload).map_err(Failure::of_payload)?;
+    let mut out = Vec::new(alloc);
+    let appended = if json {
+        append_json_hits(alloc, hits.as_slice(), &mut out).map_err(Failure::of_line)
+    } else {
+        append_hits(hits.as_slice(), &mut out).map_err(|_| Failure::Memory)
+    };
+    match appended {
+        Ok(()) => Ok(out),
+        Err(failure) => Err(failure),
+    }
+}
+
+// The names of a collection's documents, each behind its length.
+fn names_of<S: Read + Write + Drop>(
+    alloc: Global,
+    connection: &mut Connection<S>,
+    collection: CollName<'_>,
+) -> Result<Vec<u8>, Failure> {
+    let payload = connection.ask(&Command::List { collection })?;
+    Vec::from_slice(alloc, payload).map_err(|_| Failure::Memory)
+}
+
+/// Prints each document of a collection as a line of JSON.
+pub fn dump<R: Print + AllocGlobal, S: Read + Write + Drop>(
+    rt: &R,
+    mut connection: Connection<S>,
+    collection: CollName<'_>,
+) -> Result<(), Failure> {
+    let payload = names_of(rt.alloc(), &mut connection, collection)?;
+    let names = read_names(rt.alloc(), payload.as_slice()).map_err(Failure::of_payload)?;
+    for name in &names {
+        dump_one(rt, &mut connection, collection, *name)?;
+    }
+    Ok(())
+}
+
+fn dump_one<R: Print + AllocGlobal, S: Read + Write + Drop>(
+    rt: &R,
+    connection: &mut Connection<S>,
+    collection: CollName<'_>,
+    document: DocName<'_>,
+) -> Result<(), Failure> {
+    let text = connection.ask(&Command::Get {
+        collection,
+        document,
+    })?;
+    let line = document_line(rt.alloc(), document.bytes, text)?;
+    print(rt, line.as_slice())
+}
+
+fn document_line(alloc: Global, name: &[u8], text: &[u8]) -> Result<Vec<u8>, Failure> {
+    let (Ok(name), Ok(text)) = (
+        simdutf8::basic::from_utf8(name),
+        simdutf8::basic::from_utf8(text),
+    ) else {
+        return Err(Failure::NoReply);
+    };
+    let mut line = Vec::new(alloc);
+    match append_document(alloc, name, text, &mut line) {
+        Ok(()) => Ok(line),
+        Err(_) => Err(Failure::Memory),
+    }
+}

@@ -1,0 +1,50 @@
+//! Keys: the one of a file, and new ones.
+
+use crate::failure::Failure;
+use client_lines::read_key;
+use standard_streams::{ReadFault, read_past};
+use std::fs;
+use std::io::Read;
+use std::rt::Files;
+
+/// The most bytes of a file with a key.
+const MOST_BYTES: u64 = 65_536;
+
+/// Where the system gives random bytes.
+const RANDOM: &str = "/dev/urandom";
+
+/// The key of a file.
+pub fn read<R: Files + AllocGlobal>(rt: &R, path: &str) -> Result<[u8; 16], Failure> {
+    if path.is_empty() {
+        return Err(Failure::NoKeyFile);
+    }
+    let Ok(file) = fs::open(rt, path) else {
+        return Err(Failure::KeyFileUnread);
+    };
+    match read_past(rt.alloc(), file, MOST_BYTES) {
+        Ok(text) => read_key(text.as_slice()).map_err(Failure::KeyFile),
+        Err(ReadFault::Memory) => Err(Failure::Memory),
+        Err(ReadFault::Failed) => Err(Failure::KeyFileUnread),
+    }
+}
+
+// Sixteen random bytes of the system.
+fn random<R: Files>(rt: &R) -> Result<[u8; 16], Failure> {
+    let mut key = [0; 16];
+    match fs::open(rt, RANDOM) {
+        Ok(mut file) => match file.read_exact(&mut key) {
+            Ok(()) => Ok(key),
+            Err(_) => Err(Failure::NoRandom),
+        },
+        Err(_) => Err(Failure::NoRandom),
+    }
+}
+
+/// Prints a new random key.
+pub fn print_new<R: Print + Files + AllocGlobal>(rt: &R) -> Result<(), Failure> {
+    let key = random(rt)?;
+    let Ok(digits) = hex::encode(rt.alloc(), key) else {
+        return Err(Failure::Memory);
+    };
+    println!(rt; "{digits}").map_err(|_| Failure::Write)
+}

@@ -1,0 +1,308 @@
+//! Documents put, a line of input each, with many requests on their way.
+
+use crate::asking::micros_since;
+use crate::connection::Connection;
+use crate::failure::{Failure, status_name};
+use crate::options::Asked;
+use client_frames::SendFault;
+use client_lines::{LineFault, NameQuery, NamedText, read_document};
+use std::alloc::Global;
+use std::collections::VecDeque;
+use std::fs;
+use std::io::{BufRead, BufReader, Read, Write};
+use std::rt::{Clock, Files};
+use std::time::Instant;
+use store_names::{CollName, DocName};
+use wire_frames::Command;
+
+/// The most requests that wait for a reply.
+const MOST_WAITING: usize = 64;
+
+/// How many still wait when the next are sent.
+const HALF: usize = 32;
+
+/// The bytes of frames that are sent at a time.
+const PIECE: usize = 65_536;
+
+/// The most bytes of a line: each byte of a text may be spelled by six.
+const LONGEST_LINE: u64 = 25_165_824;
+
+/// How long a line of progress stands, in microseconds.
+const PROGRESS: u64 = 200_000;
+
+/// A put that waits for its reply.
+#[derive(Drop)]
+struct Waiting {
+    line: u64,
+    number: u32,
+    name: String,
+    bytes: u64,
+}
+
+/// What was done so far.
+#[derive(Clone, Copy)]
+struct Counts {
+    documents: u64,
+    refused: u64,
+    bytes: u64,
+}
+
+/// Documents on their way.
+#[derive(Drop)]
+struct Loading<S: Drop> {
+    connection: Connection<S>,
+    frames: Vec<u8>,
+    waiting: VecDeque<Waiting>,
+    counts: Counts,
+    naming: Option<NameQuery>,
+}
+
+/// When a load began, and when its progress was told last.
+#[derive(Drop)]
+struct Progress {
+    began: Option<Instant>,
+    told: u64,
+}
+
+/// Puts the documents of the file, or of standard input.
+pub fn load<R: Input + Print + Eprint + Files + Clock + AllocGlobal, S: Read + Write + Drop>(
+    rt: &R,
+    connection: Connection<S>,
+    collection: CollName<'_>,
+    asked: &Asked<'_>,
+    is_terminal: bool,
+) -> Result<(), Failure> {
+    let alloc = rt.alloc();
+    let naming = match asked.name {
+        Some(query) => match NameQuery::read(alloc, query.as_bytes()) {
+            Some(naming) => Some(naming),
+            None => return Err(Failure::NameQuery),
+        },
+        None => None,
+    };
+    let mut loading = Loading {
+        connection,
+        frames: Vec::new(alloc),
+        waiting: VecDeque::new(alloc),
+        counts: Counts {
+            documents: 0,
+            refused: 0,
+            bytes: 0,
+        },
+        naming,
+    };
+    match asked.file {
+        Some(path) => match fs::open(rt, path) {
+            Ok(file) => load_all(rt, &mut loading, collection, file, is_terminal)?,
+            Err(_) => return Err(Failure::Read),
+        },
+        None => load_all(rt, &mut loading, collection, rt.reader(), is_terminal)?,
+    }
+    end(rt, loading.counts)
+}
+
+// Tells how many documents were put.
+fn end<R: Print>(rt: &R, counts: Counts) -> Result<(), Failure> {
+    let (documents, bytes) = (counts.documents, counts.bytes);
+    if println!(rt; "loaded {documents} documents, {bytes} bytes").is_err() {
+        return Err(Failure::Write);
+    }
+    if counts.refused > 0 {
+        return Err(Failure::SomeRefused);
+    }
+    Ok(())
+}
+
+fn load_all<R: Eprint + Clock + AllocGlobal, S: Read + Write + Drop, I: Read + Drop>(
+    rt: &R,
+    loading: &mut Loading<S>,
+    collection: CollName<'_>,
+    input: I,
+    is_terminal: bool,
+) -> Result<(), Failure> {
+    let Ok(mut reader) = BufReader::new(rt.alloc(), input) else {
+        return Err(Failure::Memory);
+    };
+    let mut progress = Progress::new(rt, is_terminal);
+    let mut line = Vec::new(rt.alloc());
+    for number in 1..u64::MAX {
+        if !next_line(&mut reader, &mut line)? {
+            break;
+        }
+        loading.put(rt, collection, number, without_end(line.as_slice()))?;
+        if loading.is_full() {
+            loading.settle(rt, HALF)?;
+            progress.tell(rt, loading.counts, PROGRESS);
+        }
+    }
+    loading.settle(rt, 0)?;
+    progress.tell(rt, loading.counts, 0);
+    Ok(())
+}
+
+// Reads the next line in the place of what stood there; whether there was one. Of a line above the limit, the first bytes.
+fn next_line<I: BufRead + Drop>(reader: &mut I, line: &mut Vec<u8>) -> Result<bool, Failure> {
+    line.clear();
+    match reader.by_ref().take(LONGEST_LINE).read_until(b'\n', line) {
+        Ok(0) => Ok(false),
+        Ok(_) => {
+            if !line.ends_with(b"\n") && reader.skip_until(b'\n').is_err() {
+                return Err(Failure::Read);
+            }
+            Ok(true)
+        }
+        Err(_) => Err(Failure::Read),
+    }
+}
+
+// A line without its line end.
+fn without_end(line: &[u8]) -> &[u8] {
+    let line = line.strip_suffix(b"\n").unwrap_or(line);
+    line.strip_suffix(b"\r").unwrap_or(line)
+}
+
+impl Progress {
+    // The clock is read on a terminal alone.
+    fn new<R: Clock>(rt: &R, is_terminal: bool) -> Progress {
+        let began = if is_terminal {
+            Instant::now(rt).ok()
+        } else {
+            None
+        };
+        Progress { began, told: 0 }
+    }
+
+    // Tells how far a load is, where so many microseconds are past since it was told.
+    fn tell<R: Eprint + Clock>(&mut self, rt: &R, counts: Counts, pause: u64) {
+        let Some(began) = &self.began else {
+            return;
+        };
+        let now = micros_since(rt, began);
+        if now.saturating_sub(self.told) < pause {
+            return;
+        }
+        self.told = now;
+        let (documents, bytes) = (counts.documents, counts.bytes);
+        let rate = documents.saturating_mul(1_000_000) / now.max(1);
+        let _ = eprint!(rt; "\r{documents} documents, {bytes} bytes, {rate} documents/s");
+        if pause == 0 {
+            let _ = eprintln!(rt;);
+        }
+    }
+}
+
+impl<S: Read + Write + Drop> Loading<S> {
+    fn is_full(&self) -> bool {
+        self.waiting.len() >= MOST_WAITING || self.frames.len() >= PIECE
+    }
+
+    // Tells of a line that was not put, and counts it.
+    fn tell<R: Eprint>(&mut self, rt: &R, line: u64, name: &str, document: &str) {
+        self.counts.refused = self.counts.refused.saturating_add(1);
+        let _ = if document.is_empty() {
+            eprintln!(rt; "path_client: line {line}: {name}")
+        } else {
+            eprintln!(rt; "path_client: line {line}: {name}: {document}")
+        };
+    }
+
+    // Adds the request of a line, or tells why there is none.
+    fn put<'x, R: Eprint + AllocGlobal>(
+        &mut self,
+        rt: &R,
+        collection: CollName<'x>,
+        line: u64,
+        text: &'x [u8],
+    ) -> Result<(), Failure> {
+        if text.is_empty() {
+            return Ok(());
+        }
+        match &self.naming {
+            Some(naming) => match naming.name_in(rt.alloc(), text) {
+                Ok(name) => self.add(rt, collection, line, name, text),
+                Err(fault) => self.refuse(rt, line, fault),
+            },
+            None => match read_document(rt.alloc(), text) {
+                Ok(NamedText { name, text }) => self.add(
+                    rt,
+                    collection,
+                    line,
+                    name,
+                    text.as_bytes(),
+                ),
+                Err(fault) => self.refuse(rt, line, fault),
+            },
+        }
+    }
+
+    fn refuse<R: Eprint>(&mut self, rt: &R, line: u64, fault: LineFault) -> Result<(), Failure> {
+        match fault {
+            LineFault::Memory => Err(Failure::Memory),
+            _ => {
+                self.tell(rt, line, fault.name(), "");
+                Ok(())
+            }
+        }
+    }
+
+    fn add<'x, R: Eprint>(
+        &mut self,
+        rt: &R,
+        collection: CollName<'x>,
+        line: u64,
+        name: String,
+        text: &'x [u8],
+    ) -> Result<(), Failure> {
+        let Some(document) = DocName::read(name.as_bytes()) else {
+            self.tell(rt, line, "BadName", name.as_str());
+            return Ok(());
+        };
+        let command = Command::Put {
+            collection,
+            document,
+            text,
+        };
+        match self.connection.add(&command, &mut self.frames) {
+            Ok(number) => self.wait(Waiting {
+                line,
+                number,
+                name,
+                bytes: text.len() as u64,
+            }),
+            Err(Failure::Send(SendFault::TextTooLong)) => {
+                self.tell(rt, line, "TooLong", name.as_str());
+                Ok(())
+            }
+            Err(failure) => Err(failure),
+        }
+    }
+
+    fn wait(&mut self, waiting: Waiting) -> Result<(), Failure> {
+        self.waiting.push_back(waiting).map_err(|_| Failure::Memory)
+    }
+
+    // Sends what is not sent, and takes replies until no more than so many are waited for.
+    fn settle<R: Eprint>(&mut self, rt: &R, most: usize) -> Result<(), Failure> {
+        self.connection.send(self.frames.as_slice())?;
+        self.frames.clear();
+        for _ in most..self.waiting.len() {
+            match self.waiting.pop_front() {
+                Some(first) => self.take(rt, first)?,
+                None => break,
+            }
+        }
+        Ok(())
+    }
+
+    // Takes the reply to a put.
+    fn take<R: Eprint>(&mut self, rt: &R, put: Waiting) -> Result<(), Failure> {
+        match self.connection.take(put.number)? {
+            Some(status) => self.tell(rt, put.line, status_name(status), put.name.as_str()),
+            None => {
+                self.counts.documents = self.counts.documents.saturating_add(1);
+                self.counts.bytes = self.counts.bytes.saturating_add(put.bytes);
+            }
+        }
+        Ok(())
+    }
+}

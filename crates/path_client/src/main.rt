@@ -1,0 +1,81 @@
+//! The program `path_client`: asks a server what its command line says, and ends with a status.
+#![tactic(auto)]
+
+mod asking;
+mod connection;
+mod documents;
+mod failure;
+mod keys;
+mod loading;
+mod options;
+
+use crate::failure::{Context, Failure};
+use crate::options::{Asked, Verb, read_options};
+use std::env;
+use std::io::IsTerminal;
+use std::net::Net;
+use std::process::ExitCode;
+use std::rt::{Clock, Env, Files};
+
+/// The variable of the environment that has the server's address.
+const ADDRESS_VARIABLE: &str = "PATH_SERVER_AT";
+
+/// The variable of the environment that has the name of the file with the key.
+const KEY_FILE_VARIABLE: &str = "PATH_SERVER_KEY_FILE";
+
+fn words_of<R: Env + AllocGlobal>(rt: &R) -> Result<Vec<String>, Failure> {
+    match env::args(rt) {
+        Ok(words) => words.collect(rt.alloc()).map_err(|_| Failure::Memory),
+        Err(_) => Err(Failure::Words),
+    }
+}
+
+// What an option or a variable of the environment has, or nothing.
+fn given<R: Env + AllocGlobal>(
+    rt: &R,
+    option: Option<&str>,
+    variable: &str,
+) -> Result<String, Failure> {
+    match option {
+        Some(text) => String::from_str(rt.alloc(), text).map_err(|_| Failure::Memory),
+        None => Ok(env::var(rt, variable).unwrap_or(String::new(rt.alloc()))),
+    }
+}
+
+fn answer<R: Input + Print + Eprint + Net + Files + Clock + AllocGlobal>(
+    rt: &R,
+    asked: &Asked<'_>,
+    context: &Context<'_>,
+) -> Result<(), Failure> {
+    match asked.verb {
+        Verb::NewKey => keys::print_new(rt),
+        _ => asking::answer(rt, asked, context),
+    }
+}
+
+fn run<R: Input + Print + Eprint + Env + Net + Files + Clock + AllocGlobal>(
+    rt: &R,
+    is_terminal: bool,
+) -> Result<u8, Failure> {
+    let words = words_of(rt)?;
+    let options = read_options(rt.alloc(), words.as_slice())?;
+    let address = given(rt, options.address, ADDRESS_VARIABLE)?;
+    let key_file = given(rt, options.key_file, KEY_FILE_VARIABLE)?;
+    let context = Context {
+        address: address.as_str(),
+        key_file: key_file.as_str(),
+        is_terminal,
+    };
+    match answer(rt, &options.asked, &context) {
+        Ok(()) => Ok(0),
+        Err(failure) => Ok(failure.report(rt, &context)),
+    }
+}
+
+fn main(rt: HostRuntime) -> ExitCode {
+    let is_terminal = rt.stderr().is_terminal();
+    match run(&rt, is_terminal) {
+        Ok(status) => ExitCode::from(status),
+        Err(failure) => ExitCode::from(failure.report(&rt, &Context::NONE)),
+    }
+}
