@@ -130,8 +130,8 @@ class Shell:
             if it.name not in ("bin", ".git", "build"):
                 (folder / it.name).symlink_to(it)
         (folder / "bin").mkdir()
-        for it in (TOP / "bin").iterdir():
-            (folder / "bin" / it.name).symlink_to(PROGRAMS.get(it.name, it))
+        for name, at in {**{it.name: it for it in (TOP / "bin").iterdir()}, **{name: at for name, at in PROGRAMS.items() if os.access(at, os.X_OK)}}.items():
+            (folder / "bin" / name).symlink_to(at)
         self.process = subprocess.Popen(["bash", "--norc"], cwd=folder, stdin=subprocess.PIPE, stdout=subprocess.PIPE, stderr=subprocess.STDOUT, start_new_session=True,
                                         env={**os.environ, "PATH_SERVER": str(PROGRAM), "PYTHONDONTWRITEBYTECODE": "1"})
         os.set_blocking(self.process.stdout.fileno(), False)
