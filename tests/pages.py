@@ -5,15 +5,17 @@ The pages are README.md, CONTRIBUTING.md, those of docs/, and the README.md of e
 
 - A block whose first line begins with `$ ` is a session. Such a line is a command, one that ends with a backslash goes on behind `> `,
   and the lines behind it are what it prints, on standard output and standard error. `..` in such a line stands for any characters, and a line that is
-  `..` alone for any lines. The sessions of a page run in one shell, in a folder of their own that has this repository's files in it. Ports are
-  exchanged for free ones.
+  `..` alone for any lines.
+- An indented paragraph that begins with a command (SCRIPT) is run whole. What it prints is the next indented paragraph, where nothing stands
+  between the two but a paragraph that begins with `prints`. A server in front is put behind.
+- All commands of a page run in one shell, in a folder of their own that has this repository's files in it. Ports are exchanged for free ones.
 - Commands that prove, build, install or take long (LONG) are not run: that what they name is there is all that is tested.
 - A table below a line "On `TEXT`:" whose rows are a query and the values that it selects is asked of the program.
 - An example in Rust of a crate's page is a test. `rt try --test` compiles and runs them all, where there is rt.
 - A link to a file, and what stands between backquotes and begins with a folder of this repository, is there.
 - A line below "bin/definitions PATH" in a table, `N files, M lines`, is what that command counts.
 
-It runs the program that bin/build makes, or the one that the environment's PATH_SERVER names.
+It runs the programs that bin/build makes, or those that the environment's PATH_SERVER and PATH_CLIENT name.
 """
 import os
 import re
@@ -33,9 +35,13 @@ LONG = re.compile(r"(?:\w+=\S* )*(?:nice )?(bin/(?:check\b(?!-)|build\b|edits tr
                   r"git clone|pip|npm|systemctl|docker|\./\w+$|\(cd )")
 FOLDERS = "bin|bench|clients|crates|deploy|docs|tests"
 PATH = re.compile(rf"`((?:{FOLDERS})/[\w./-]*\w/?)(?:[ `].*)?")
-ADDRESS = re.compile(r"127\.0\.0\.1:([1-9]\d{3,4})")
+ADDRESS = re.compile(r"(127\.0\.0\.1[: ])([1-9]\d{3,4})")
+SCRIPT = re.compile(r"(?:bin/|printf |echo |cat |export |exec |key=)")
+SERVES = re.compile(r"^bin/path_server (?:listen|serve) [^&|]*\Z", re.M)
+TOOLS = re.compile(r"\| *(jq|nc|xxd|curl|node)\b")
 COUNTED = re.compile(r"`bin/definitions (\w+::[\w:]+)`[^|]*\|(?:[^|]*\|)*? *(\d+ files?, [\d,]+ lines)")
 SETTLES = 0.3
+PROGRAMS = {"path_server": PROGRAM, "path_client": os.environ.get("PATH_CLIENT") or str(TOP / "crates/path_client/out/path_client")}
 
 
 def pages():
@@ -43,44 +49,61 @@ def pages():
     return [*found, *sorted((TOP / "crates").glob("*/README.md")), *sorted((TOP / "clients").glob("*/README.md"))]
 
 
-def blocks(text):
-    """The blocks of a page, indented by four or between fences, each as its language and its lines."""
-    lines, language, block = text.splitlines(), None, []
-    for line in [*lines, ""]:
+def parts(text):
+    """A page as paragraphs of prose, whose language is None, and of code, indented by four or between fences, each with its lines."""
+    language, block = None, []
+    for line in [*text.splitlines(), ""]:
         fence = re.fullmatch(r"```(\w*)", line)
-        if language is not None:
+        if language:
             if fence:
                 yield language, block
                 language, block = None, []
             else:
                 block.append(line)
-        elif fence:
-            language, block = fence[1], []
-        elif line.startswith("    ") or block and not line:
-            block.append(line[4:])
-        elif block:
-            while block and not block[-1]:
-                block.pop()
-            yield "", block
+            continue
+        is_code = line.startswith("    ")
+        if block and (fence or not line or is_code != block[0].startswith("    ")):
+            yield ("", [it[4:] for it in block]) if block[0].startswith("    ") else (None, block)
             block = []
+        if fence:
+            language = fence[1] or "text"
+        elif line:
+            block.append(line)
+
+
+def of_console(lines):
+    """Each command of a session with the lines that it prints."""
+    command, printed = None, []
+    for line in lines:
+        if command is not None and command.endswith("\\") and line.startswith("> "):
+            command += "\n" + line[2:]
+        elif line.startswith("$ "):
+            if command is not None:
+                yield command, printed
+            command, printed = line[2:], []
+        else:
+            printed.append(line)
+    yield command, printed
 
 
 def sessions(text):
-    """Each command of a page's sessions with the lines that it prints."""
-    for _, block in blocks(text):
-        if not block or not block[0].startswith("$ "):
-            continue
-        command, printed = None, []
-        for line in block:
-            if command is not None and command.endswith("\\") and line.startswith("> "):
-                command += "\n" + line[2:]
-            elif line.startswith("$ "):
-                if command is not None:
-                    yield command, printed
-                command, printed = line[2:], []
-            else:
-                printed.append(line)
-        yield command, printed
+    """Each command of a page with the lines that it prints, or None where the page does not show them."""
+    script, told = None, ""
+    for language, lines in [*parts(text), (None, ["."])]:
+        if language is None:
+            told = " ".join(lines)
+            if script and not told.startswith("prints"):
+                yield script, None
+                script = None
+        elif lines and lines[0].startswith("$ "):
+            yield from of_console(lines)
+        elif language == "" and SCRIPT.match(lines[0]):
+            if script:
+                yield script, None
+            script = "\n".join(lines)
+        elif script:
+            yield script, lines
+            script = None
 
 
 def fits(wanted, got):
@@ -107,8 +130,8 @@ class Shell:
             if it.name not in ("bin", ".git", "build"):
                 (folder / it.name).symlink_to(it)
         (folder / "bin").mkdir()
-        for it in (TOP / "bin").iterdir():
-            (folder / "bin" / it.name).symlink_to(PROGRAM if it.name == "path_server" else it)
+        for name, at in {**{it.name: it for it in (TOP / "bin").iterdir()}, **{name: at for name, at in PROGRAMS.items() if os.access(at, os.X_OK)}}.items():
+            (folder / "bin" / name).symlink_to(at)
         self.process = subprocess.Popen(["bash", "--norc"], cwd=folder, stdin=subprocess.PIPE, stdout=subprocess.PIPE, stderr=subprocess.STDOUT, start_new_session=True,
                                         env={**os.environ, "PATH_SERVER": str(PROGRAM), "PYTHONDONTWRITEBYTECODE": "1"})
         os.set_blocking(self.process.stdout.fileno(), False)
@@ -136,7 +159,7 @@ class Shell:
         is_behind, until = command.rstrip().endswith("&"), time.monotonic() + PATIENCE
         while time.monotonic() < until:
             printed = [line for line in self.rest.splitlines() if line != self.END]
-            if self.END in self.rest and (not is_behind or fits(wanted, printed)):
+            if self.END in self.rest and (not is_behind or wanted is None or fits(wanted, printed)):
                 break
             if not self.more(SETTLES):
                 break
@@ -146,22 +169,25 @@ class Shell:
 
 def run_sessions(report, name, text):
     ports = {}
+
+    def exchanged(line):
+        return ADDRESS.sub(lambda it: it[1] + (ports.get(it[2]) or ports.setdefault(it[2], free_port())), line)
+
     with tempfile.TemporaryDirectory(prefix="path-server-pages-") as at, Shell(Path(at)) as shell:
         for command, wanted in sessions(text):
-            long = LONG.match(command)
-            if long:
-                there = re.match(r"(?:bin|tests|bench)/[\w./-]+", long[1])
-                report.case(f"{name}: what a command names", command, True, not there or (TOP / there[0]).exists())
+            if LONG.match(command):
+                for line in command.splitlines():
+                    there = re.search(r"(?<![\w/])(?:bin|tests|bench)/[\w./-]+", line.partition("#")[0])
+                    report.case(f"{name}: what a command names", line, True, not there or (TOP / there[0]).exists())
                 continue
-            for port in ADDRESS.findall(command + "\n".join(wanted)):
-                ports[port] = ports.get(port) or free_port()
-
-            def exchanged(line):
-                return ADDRESS.sub(lambda it: f"127.0.0.1:{ports[it[1]]}", line)
-
-            wanted = [exchanged(line) for line in wanted]
-            got = shell.run(exchanged(command), wanted)
-            report.case(f"{name}: $ {command}", "", wanted, wanted if fits(wanted, got) else got)
+            if not all(map(shutil.which, TOOLS.findall(command))):
+                print(f"{name}: not run, since a tool is not here: {command}", flush=True)
+                continue
+            command = SERVES.sub(lambda it: f"{it[0]} </dev/null &", command)
+            lines = None if wanted is None else [exchanged(line) for line in wanted]
+            got = shell.run(exchanged(command), lines)
+            if lines is not None:
+                report.case(f"{name}: $ {command}", "", lines, lines if fits(lines, got) else got)
 
 
 def ask_tables(report, name, text):
@@ -191,7 +217,7 @@ def count_definitions(report, name, text):
 
 def try_examples(report, chosen):
     """The examples in Rust, as the tests of a crate in a copy of the sources."""
-    found = {page.parent.name: "\n".join(block) for page in chosen for language, block in blocks(page.read_text(encoding="utf-8")) if language == "rust"}
+    found = {page.parent.name: "\n".join(block) for page in chosen for language, block in parts(page.read_text(encoding="utf-8")) if language == "rust"}
     if not found or not shutil.which("rt"):
         return
     with tempfile.TemporaryDirectory(prefix="path-server-examples-") as at:
