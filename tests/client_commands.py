@@ -26,7 +26,7 @@ from pathlib import Path
 
 from client_itself import Answering
 from path_client import Request, connect
-from running_server import TOP, Listening, Report, open_connection, talk
+from lib.running_server import TOP, Listening, Report, open_connection, talk
 
 PROGRAM = os.environ.get("PATH_CLIENT") or str(TOP / "crates/path_client/out/path_client")
 KEY, STRANGER = bytes.fromhex("00112233445566778899aabbccddeeff"), bytes(16)

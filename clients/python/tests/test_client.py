@@ -1,7 +1,7 @@
 #!/usr/bin/env python3
 """Tests of the client against a running server: clients/python/tests/test_client.py.
 
-The program is the one that bin/path_server builds, or the one that the environment's PATH_SERVER names.
+The program is the one that bin/build makes, or the one that the environment's PATH_SERVER names.
 """
 import asyncio
 import os
@@ -17,7 +17,7 @@ sys.path[:0] = [str(TOP / "clients/python"), str(TOP / "tests")]
 
 import path_client
 from path_client import BrokenConnection, Hit, Refused, Request, Usage
-from running_server import Listening
+from lib.running_server import Listening
 
 KEY, OTHER, STRANGER = (bytes([place] * 16) for place in (1, 2, 3))
 TEXT = b'{"items": [{"name": "tea", "price": 4}, {"name": "pot", "price": 24.5}]}'
