@@ -13,7 +13,7 @@ The pages are README.md, CONTRIBUTING.md, those of docs/, and the README.md of e
 - A table below a line "On `TEXT`:" whose rows are a query and the values that it selects is asked of the program.
 - An example in Rust of a crate's page is a test. `rt try --test` compiles and runs them all, where there is rt.
 - A link to a file, and what stands between backquotes and begins with a folder of this repository, is there.
-- A line below "bin/definitions PATH" in a table, `N files, M lines`, is what that command counts.
+- The pictures are what their script draws. A line beside "bin/definitions PATH" in a table, `N files, M lines`, is what that command counts.
 
 It runs the programs that bin/build makes, or those that the environment's PATH_SERVER and PATH_CLIENT name.
 """
@@ -248,6 +248,8 @@ def main():
         ask_tables(report, name, text)
         look_for_files(report, name, text)
         count_definitions(report, name, text)
+    drawn = subprocess.run([TOP / "docs/pictures/draw.py", "--check"], stdout=subprocess.PIPE, encoding="utf-8")
+    report.case("the pictures are those of docs/pictures/draw.py", "", "", drawn.stdout)
     try_examples(report, chosen)
     report.close(f"{len(chosen)} pages")
 
