@@ -219,6 +219,8 @@ def try_examples(report, chosen):
     """The examples in Rust, as the tests of a crate in a copy of the sources."""
     found = {page.parent.name: "\n".join(block) for page in chosen for language, block in parts(page.read_text(encoding="utf-8")) if language == "rust"}
     if not found or not shutil.which("rt"):
+        if found:
+            print("not run, since there is no rt here: the examples in Rust", flush=True)
         return
     with tempfile.TemporaryDirectory(prefix="path-server-examples-") as at:
         room = Path(at)
