@@ -13,7 +13,7 @@ The pages are README.md, CONTRIBUTING.md, those of docs/, and the README.md of e
 - A table below a line "On `TEXT`:" whose rows are a query and the values that it selects is asked of the program.
 - An example in Rust of a crate's page is a test. `rt try --test` compiles and runs them all, where there is rt.
 - A link to a file, and what stands between backquotes and begins with a folder of this repository, is there.
-- A line below "bin/definitions PATH" in a table, `N files, M lines`, is what that command counts.
+- The pictures are what their script draws. A line beside "bin/definitions PATH" in a table, `N files, M lines`, is what that command counts.
 
 It runs the programs that bin/build makes, or those that the environment's PATH_SERVER and PATH_CLIENT name.
 """
@@ -204,7 +204,7 @@ def look_for_files(report, name, text):
     for link in re.findall(r"\]\(([^)#:]+)(?:#[^)]*)?\)", text):
         report.case(f"{name}: a link", link, True, (folder / link).exists())
     for path in [it for it in PATH.findall(text) if "NAME" not in it]:
-        is_there = any(TOP.glob(path)) or "/out/" in path or (TOP / f"{path}.rt").exists()
+        is_there = any(TOP.glob(path)) or "/out/" in path or (TOP / f"{path}.rt").exists() or (folder / path).exists()
         report.case(f"{name}: a file or folder", path, True, is_there)
 
 
@@ -219,6 +219,8 @@ def try_examples(report, chosen):
     """The examples in Rust, as the tests of a crate in a copy of the sources."""
     found = {page.parent.name: "\n".join(block) for page in chosen for language, block in parts(page.read_text(encoding="utf-8")) if language == "rust"}
     if not found or not shutil.which("rt"):
+        if found:
+            print("not run, since there is no rt here: the examples in Rust", flush=True)
         return
     with tempfile.TemporaryDirectory(prefix="path-server-examples-") as at:
         room = Path(at)
@@ -248,6 +250,8 @@ def main():
         ask_tables(report, name, text)
         look_for_files(report, name, text)
         count_definitions(report, name, text)
+    drawn = subprocess.run([TOP / "docs/pictures/draw.py", "--check"], stdout=subprocess.PIPE, encoding="utf-8")
+    report.case("the pictures are those of docs/pictures/draw.py", "", "", drawn.stdout)
     try_examples(report, chosen)
     report.close(f"{len(chosen)} pages")
 

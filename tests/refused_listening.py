@@ -6,7 +6,7 @@ memory, read, write, accept or wait fail, alone or with all behind it, for each 
 so many of 100. Two tenants send their requests at the same time over a connection each, two more connections are idle, and a further
 one comes at the end. Each reply is the plain model's (lib/plain_model.py), or NoMemory where docs/PROTOCOL.md lets it be, and then the
 model's map stays as it was. One call that fails ends one connection at most, and all others are answered; or the program ends with
-status 4 and a name that README.md gives it. Otherwise it ends with status 0 once its standard input is closed, or, where that could
+status 4 and a name that docs/COMMANDS.md gives it. Otherwise it ends with status 0 once its standard input is closed, or, where that could
 not be waited for, goes on serving. No wait takes more than 20 seconds.
 """
 import random
