@@ -1,0 +1,6 @@
+pub mod Alike
+pub mod Cells
+pub mod Counts
+pub mod Decided
+pub mod Orders
+pub mod Sorting

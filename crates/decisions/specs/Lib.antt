@@ -1,0 +1,5 @@
+pub mod Order
+pub mod Truth
+pub mod Views
+pub mod Places
+pub mod Laws
