@@ -10,7 +10,8 @@ use Rattle.std.specs.declared.vec.Vec.{Vec}
 use Rattle.std.proofs.lemmas.Cmp.{tied_itself}
 use Rattle.std.proofs.lemmas.List.{get_or-map, get_or_default, length-map}
 use Rattle.std.proofs.lemmas.List.Elements.{All-contains}
-use Rattle.path_grammar.specs.Tree.{Literal, Expr}
+use Rattle.path_grammar.specs.Tree.{Literal}
+use Rattle.decisions.specs.Tree.{Tested}
 use Rattle.tape_values.specs.Comparison.{Value, a_null, a_boolean, a_number, a_text, a_container, literal_value}
 use Rattle.decisions.specs.Laws.{TellsByPlaces}
 use Rattle.decisions.specs.Order.{kind, value_cmp}
@@ -36,7 +37,7 @@ module _ (law : TellsByPlaces) where
   stands : (vs : List (Option Value)) (v : Option Value) (l : Literal) → Contains vs (Some (literal_value l)) → from_place vs (kind v) (place value_cmp vs v) l ≡ versus v l
   stands vs v l c = ap (λ o. if nat_eq (kind v) (kind (Some (literal_value l))) then Some o else None) (law.values vs v (Some (literal_value l)) (tie vs (Some (literal_value l)) c))
 
-  pub looked_up : (xs : List Constant) (ts : List (Vec Bool Global)) (e : Expr) (v : Option Value) (cells : Vec Bool Global) (k p : ℕ) (r : Bool)
+  pub looked_up : (xs : List Constant) (ts : List (Vec Bool Global)) (e : Tested) (v : Option Value) (cells : Vec Bool Global) (k p : ℕ) (r : Bool)
       → Decides (map constant_value xs) (map (λ (t : Vec Bool Global). t.items) ts) e → k ≡ kind v → p ≡ place value_cmp (map constant_value xs) v → p ≤ 2 * length xs
       → cells ≡ get_or ts k cells → r ≡ get_or cells.items p r → r ≡ truth v e
   looked_up xs ts e v cells k p r d same at within is found =
@@ -63,7 +64,7 @@ module _ (P : ℕ → List Bool → Type 0) where
       let inside : k < length (t ∷ ts) = omega arith in
       subst (P k) (sym (get_or-map (λ (u : Vec Bool Global). u.items) (t ∷ ts) k t [] inside)) (h k t inside)
 
-pub decides : (xs ys : List Constant) (ts : List (Vec Bool Global)) (e : Expr) → ys ≡ xs → All (λ l. Contains (map constant_value xs) (Some (literal_value l))) (literals e) → length ts ≡ 7
+pub decides : (xs ys : List Constant) (ts : List (Vec Bool Global)) (e : Tested) → ys ≡ xs → All (λ l. Contains (map constant_value xs) (Some (literal_value l))) (literals e) → length ts ≡ 7
     → ((k : ℕ) (d : Vec Bool Global) → k < length ts → AreCells (length ys) (get_or ts k d).items (λ p. truth_by (from_place (map constant_value ys) k p) e))
     → Decides (map constant_value xs) (map (λ (t : Vec Bool Global). t.items) ts) e
 decides xs ys ts e same known kinds right = record {

@@ -3,4 +3,5 @@ pub mod Cells
 pub mod Counts
 pub mod Decided
 pub mod Orders
+pub mod Exprs
 pub mod Sorting

@@ -1,3 +1,4 @@
+pub mod Tree
 pub mod Order
 pub mod Truth
 pub mod Views

@@ -4,10 +4,11 @@ use Rattle.std.specs.List.{All, Contains, count_by}
 use Rattle.std.specs.Ordering.{nat_cmp, is_lt, is_le}
 use Rattle.std.specs.declared.cmp.Ordering.{Ordering}
 use Rattle.std.specs.declared.cmp.Ordering.TheVariants.{Equal}
-use Rattle.path_grammar.specs.Tree.{Literal, Expr, Exprs}
+use Rattle.path_grammar.specs.Tree.{Literal}
 use Rattle.tape_values.specs.Comparison.{Value, literal_value}
 use Rattle.decisions.specs.Order.{kind, value_cmp}
-use Rattle.decisions.specs.Truth.{truth_by, some_true, all_true, literals}
+use Rattle.decisions.specs.Tree.{Tested}
+use Rattle.decisions.specs.Truth.{truth_by, literals}
 
 -- how many of xs are below v, and how many are at most v, together: odd at one of several different ones, even between two
 abbrev pub place : {K : Type 0} → (K → K → Ordering) → List K → K → ℕ
@@ -27,7 +28,7 @@ pub record AreCells (count : ℕ) (cells : List Bool) (f : ℕ → Bool) : Type 
   pub right : (p : ℕ) → p < length cells → slice_index_or cells p false ≡ f p
 
 -- the literals of a condition are among the values, and the tables have its truth for each kind and place
-pub record Decides (vs : List (Option Value)) (tables : List (List Bool)) (e : Expr) : Type 0 where
-  pub known : All (λ l. Contains vs (Some (literal_value l))) (literals e)
+pub record Decides (vs : List (Option Value)) (tables : List (List Bool)) (t : Tested) : Type 0 where
+  pub known : All (λ l. Contains vs (Some (literal_value l))) (literals t)
   pub kinds : length tables ≡ 7
-  pub right : (k : ℕ) → k < length tables → AreCells (length vs) (slice_index_or tables k []) (λ p. truth_by (from_place vs k p) e)
+  pub right : (k : ℕ) → k < length tables → AreCells (length vs) (slice_index_or tables k []) (λ p. truth_by (from_place vs k p) t)

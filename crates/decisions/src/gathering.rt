@@ -3,10 +3,10 @@
 ghost use Rattle.std.specs.Prelude.{◌≡◌, ◌++◌, map, Some, IfOk, OnOk};
 ghost use Rattle.std.specs.List.{All, Contains};
 ghost use Rattle.std.specs.List.Sorted.{IsSortedByKey};
-ghost use Rattle.path_grammar.specs.Tree.{exprs_of};
 ghost use Rattle.path_grammar.specs.View.{literal_view};
 ghost use Rattle.tape_values.specs.Comparison.{literal_value};
 ghost use Rattle.decisions.specs.Order.{value_cmp};
+ghost use Rattle.decisions.specs.Tree.{tests_of};
 ghost use Rattle.decisions.specs.Truth.{literals, all_literals};
 ghost use Rattle.decisions.specs.Views.{constant_view, constant_value, test_view};
 
@@ -28,7 +28,7 @@ fn copy(alloc: Global, constant: &Constant) -> Result<Constant, AllocError>
     Ok(Constant { literal })
 }
 
-// Adds the literals that stand against the value.
+// Adds the literals that stand against the side.
 #[cycle(gathering)]
 fn gather(alloc: Global, test: &Test, found: &mut Vec<Constant>) -> Result<(), AllocError>
     ensures { OnOk result (map constant_view found.new.items ≡ map constant_view found.old.items ++ literals (test_view test.now)) }
@@ -42,13 +42,13 @@ fn gather(alloc: Global, test: &Test, found: &mut Vec<Constant>) -> Result<(), A
             found.push(copied)?;
             Ok(())
         }
-        Test::Literals(..) | Test::Present => Ok(()),
+        Test::Literals(..) | Test::Present(_) => Ok(()),
     }
 }
 
 #[cycle(gathering)]
 fn gather_all(alloc: Global, operands: &[Test], found: &mut Vec<Constant>) -> Result<(), AllocError>
-    ensures { OnOk result (map constant_view found.new.items ≡ map constant_view found.old.items ++ all_literals (exprs_of (map test_view operands.now))) }
+    ensures { OnOk result (map constant_view found.new.items ≡ map constant_view found.old.items ++ all_literals (tests_of (map test_view operands.now))) }
 {
     for operand in operands {
         gather(alloc, operand, found)?;
@@ -56,7 +56,7 @@ fn gather_all(alloc: Global, operands: &[Test], found: &mut Vec<Constant>) -> Re
     Ok(())
 }
 
-/// The literals that stand against the value in a condition, in order.
+/// The literals that stand against the side in a condition, in order.
 pub fn literals_of(alloc: Global, test: &Test) -> Result<Vec<Constant>, AllocError>
     ensures known { IfOk result (λ found. All (λ l. Contains (map constant_value found.items) (Some (literal_value l))) (literals (test_view test.now))) }
     ensures sorted { IfOk result (λ found. IsSortedByKey constant_value value_cmp found.items) }

@@ -4,11 +4,11 @@ ghost use Rattle.std.specs.Prelude.{◌≡◌, ℕ, ◌+◌, ◌*◌, ◌<◌, l
 ghost use Rattle.std.specs.Ordering.{nat_cmp};
 ghost use Rattle.std.specs.declared.cmp.Ordering.{Ordering};
 ghost use Rattle.std.specs.List.Sorted.{IsSortedByKey};
-ghost use Rattle.path_grammar.specs.Tree.{exprs_of};
 ghost use Rattle.tape_values.specs.Comparison.{compared};
 ghost use Rattle.decisions.specs.Order.{value_cmp};
 ghost use Rattle.decisions.specs.Places.{AreCells, from_place};
-ghost use Rattle.decisions.specs.Truth.{told, told_apart, told_by, turned, truth_by, some_true, all_true, is_lone, are_lone};
+ghost use Rattle.decisions.specs.Tree.{tests_of};
+ghost use Rattle.decisions.specs.Truth.{told, told_apart, told_by, turned, truth_by, some_true, all_true};
 ghost use Rattle.decisions.specs.Views.{constant_view, constant_value, test_view};
 
 use crate::laws::tells_as_compared;
@@ -150,8 +150,7 @@ fn table(
     test: &Test,
 ) -> Result<Vec<bool>, AllocError>
     requires { IsSortedByKey constant_value value_cmp literals.now }
-    ensures cells { IfOk result (λ cells. AreCells (length literals.now) cells.items (λ p. truth_by (from_place (map constant_value literals.now) kind p) (test_view test.now))) }
-    ensures lone { IfOk result (λ cells. IsTrue (is_lone (test_view test.now))) }
+    ensures { IfOk result (λ cells. AreCells (length literals.now) cells.items (λ p. truth_by (from_place (map constant_value literals.now) kind p) (test_view test.now))) }
 {
     match test {
         Test::Any(operands) => some_table(alloc, literals, kind, operands),
@@ -167,7 +166,7 @@ fn table(
             let truth = compare_two(left, *op, right);
             all_cells(alloc, literals, truth)
         }
-        Test::Present => all_cells(alloc, literals, true),
+        Test::Present(_) => all_cells(alloc, literals, true),
     }
 }
 
@@ -180,8 +179,7 @@ fn some_table(
     operands: &[Test],
 ) -> Result<Vec<bool>, AllocError>
     requires { IsSortedByKey constant_value value_cmp literals.now }
-    ensures cells { IfOk result (λ cells. AreCells (length literals.now) cells.items (λ p. some_true (from_place (map constant_value literals.now) kind p) (exprs_of (map test_view operands.now)))) }
-    ensures lone { IfOk result (λ cells. IsTrue (are_lone (exprs_of (map test_view operands.now)))) }
+    ensures { IfOk result (λ cells. AreCells (length literals.now) cells.items (λ p. some_true (from_place (map constant_value literals.now) kind p) (tests_of (map test_view operands.now)))) }
 {
     let mut cells = all_cells(alloc, literals, false)?;
     for operand in operands {
@@ -200,8 +198,7 @@ fn all_table(
     operands: &[Test],
 ) -> Result<Vec<bool>, AllocError>
     requires { IsSortedByKey constant_value value_cmp literals.now }
-    ensures cells { IfOk result (λ cells. AreCells (length literals.now) cells.items (λ p. all_true (from_place (map constant_value literals.now) kind p) (exprs_of (map test_view operands.now)))) }
-    ensures lone { IfOk result (λ cells. IsTrue (are_lone (exprs_of (map test_view operands.now)))) }
+    ensures { IfOk result (λ cells. AreCells (length literals.now) cells.items (λ p. all_true (from_place (map constant_value literals.now) kind p) (tests_of (map test_view operands.now)))) }
 {
     let mut cells = all_cells(alloc, literals, true)?;
     for operand in operands {
@@ -220,7 +217,6 @@ pub fn tables(
     requires { IsSortedByKey constant_value value_cmp literals.now }
     ensures kinds { IfOk result (λ tables. length tables.items ≡ 7) }
     ensures right { IfOk result (λ tables. (k : ℕ) (d : _) → k < length tables.items → AreCells (length literals.now) (slice_index_or tables.items k d).items (λ p. truth_by (from_place (map constant_value literals.now) k p) (test_view test.now))) }
-    ensures lone { IfOk result (λ tables. IsTrue (is_lone (test_view test.now))) }
 {
     let mut made = Vec::new(alloc);
     for kind in 0..KINDS {

@@ -1,4 +1,4 @@
-//! Conditions on one value.
+//! Conditions that compare one side with literals.
 
 ghost use Rattle.std.specs.Prelude.{IsTrue};
 ghost use Rattle.path_grammar.specs.View.{literal_view};
@@ -13,18 +13,18 @@ pub struct Constant {
     ghost valid: { IsTrue (is_literal (literal_view literal)) },
 }
 
-/// A condition on one value, `@`.
+/// A condition that compares one side with literals.
 #[derive(Drop)]
 pub enum Test {
     Any(Vec<Test>),
     Each(Vec<Test>),
     Not(Box<Test>),
-    /// The value on the left side.
+    /// The side on the left.
     Value(Op, Constant),
-    /// The value on the right side.
+    /// The side on the right.
     Against(Constant, Op),
     /// Two literals.
     Literals(Constant, Op, Constant),
-    /// `@` by itself, which there always is.
-    Present,
+    /// `@`, or `$`, by itself, which there always is.
+    Present(bool),
 }
