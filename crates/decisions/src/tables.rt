@@ -1,6 +1,6 @@
 //! The truth of a condition for each kind of value, at each place.
 
-ghost use Rattle.std.specs.Prelude.{◌≡◌, ℕ, ◌+◌, ◌*◌, ◌<◌, length, map, slice_index_or, EachIndex, false, not, ◌||◌, ◌&&◌, Option, Some, IfOk, IsTrue};
+ghost use Rattle.std.specs.Prelude.{◌≡◌, ℕ, ◌+◌, ◌*◌, ◌<◌, ◌≤◌, length, map, slice_index_or, EachIndex, false, not, ◌||◌, ◌&&◌, Option, Some, IfOk, IsTrue};
 ghost use Rattle.std.specs.Ordering.{nat_cmp};
 ghost use Rattle.std.specs.declared.cmp.Ordering.{Ordering};
 ghost use Rattle.std.specs.List.Sorted.{IsSortedByKey};
@@ -72,7 +72,7 @@ fn join(cells: &mut [bool], others: &[bool])
     ensures { EachIndex cells.old (λ k. slice_index_or cells.new k false ≡ (slice_index_or cells.old k false || slice_index_or others.now k false)) }
 {
     for i in 0..cells.len() {
-        cells[i] = cells[i] || others[i];
+        cells[i] |= others[i];
     }
 }
 
@@ -82,7 +82,7 @@ fn meet(cells: &mut [bool], others: &[bool])
     ensures { EachIndex cells.old (λ k. slice_index_or cells.new k false ≡ (slice_index_or cells.old k false && slice_index_or others.now k false)) }
 {
     for i in 0..cells.len() {
-        cells[i] = cells[i] && others[i];
+        cells[i] &= others[i];
     }
 }
 
@@ -110,13 +110,16 @@ fn told_cells(
     op: Op,
     there: usize,
 ) -> Result<Vec<bool>, AllocError>
+    requires { there ≤ 2 * length literals.now }
     ensures { IfOk result (λ cells. AreCells (length literals.now) cells.items (λ p. told op (nat_cmp p there))) }
 {
-    let mut cells = Vec::new(alloc);
-    for at in 0..2 * literals.len() + 1 {
-        let order = at.cmp(&there);
-        cells.push(tells(op, order))?;
+    let below = tells(op, Ordering::Less);
+    let above = tells(op, Ordering::Greater);
+    let mut cells = all_cells(alloc, literals, above)?;
+    for at in 0..there {
+        cells[at] = below;
     }
+    cells[there] = tells(op, Ordering::Equal);
     Ok(cells)
 }
 

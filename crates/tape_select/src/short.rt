@@ -1,14 +1,15 @@
 //! Conditions that are decided when a plan is made.
 
-ghost use Rattle.std.specs.Prelude.{◌≡◌, Some, IsTrue, IfOk, IfSome, MatchOption};
-ghost use Rattle.path_grammar.specs.View.{expr_view, nested_view as query_tree, comparable_view};
+ghost use Rattle.std.specs.Prelude.{◌≡◌, codes, Some, IsTrue, IfOk, IfSome, MatchOption};
+ghost use Rattle.path_grammar.specs.Tree as tree;
+ghost use Rattle.path_grammar.specs.View.{call_view, expr_view, nested_view as query_tree, comparable_view};
 ghost use Rattle.path_types.specs.Validity.{is_valid_expr};
-ghost use Rattle.tape_select.specs.Planned.{numbered, condition_view, operand_view, nested_view};
+ghost use Rattle.tape_select.specs.Planned.{calling, numbered, condition_view, operand_view, nested_view};
 
 use crate::making::{links, slot};
 use crate::plan::{Condition, Nested, Operand};
 use decisions::{decide, side_in};
-use path_grammar::{Comparable, Expr, SubQuery};
+use path_grammar::{Argument, Call, Comparable, Expr, SubQuery};
 use std::alloc::{AllocError, Global};
 
 // A query of names and indexes alone.
@@ -33,7 +34,74 @@ fn short_nested(
     }))
 }
 
-// Such a query as a side.
+// The functions of such a query.
+fn short_length(
+    alloc: Global,
+    query: &SubQuery,
+    next: &mut u32,
+) -> Result<Option<Operand>, AllocError>
+    ensures same { IfOk result (λ made. IfSome made (λ operand. (operand_view operand).tree ≡ calling (codes "length") (tree.nodes_argument (query_tree query.now)))) }
+    ensures numbered { IfOk result (λ made. MatchOption made (next.new ≡ next.old) (λ operand. numbered (operand_view operand).claims next.old ≡ Some next.new)) }
+{
+    match short_nested(alloc, query, next)? {
+        None => Ok(None),
+        Some(nested) => {
+            let single = Operand::Single(nested);
+            Ok(Some(Operand::Length(Box::new(alloc, single)?)))
+        }
+    }
+}
+
+fn short_count(
+    alloc: Global,
+    query: &SubQuery,
+    next: &mut u32,
+) -> Result<Option<Operand>, AllocError>
+    ensures same { IfOk result (λ made. IfSome made (λ operand. (operand_view operand).tree ≡ calling (codes "count") (tree.nodes_argument (query_tree query.now)))) }
+    ensures numbered { IfOk result (λ made. MatchOption made (next.new ≡ next.old) (λ operand. numbered (operand_view operand).claims next.old ≡ Some next.new)) }
+{
+    match short_nested(alloc, query, next)? {
+        None => Ok(None),
+        Some(nested) => Ok(Some(Operand::Count(nested))),
+    }
+}
+
+fn short_value(
+    alloc: Global,
+    query: &SubQuery,
+    next: &mut u32,
+) -> Result<Option<Operand>, AllocError>
+    ensures same { IfOk result (λ made. IfSome made (λ operand. (operand_view operand).tree ≡ calling (codes "value") (tree.nodes_argument (query_tree query.now)))) }
+    ensures numbered { IfOk result (λ made. MatchOption made (next.new ≡ next.old) (λ operand. numbered (operand_view operand).claims next.old ≡ Some next.new)) }
+{
+    match short_nested(alloc, query, next)? {
+        None => Ok(None),
+        Some(nested) => Ok(Some(Operand::Value(nested))),
+    }
+}
+
+fn short_call(alloc: Global, call: &Call, next: &mut u32) -> Result<Option<Operand>, AllocError>
+    ensures same { IfOk result (λ made. IfSome made (λ operand. (operand_view operand).tree ≡ tree.func (call_view call.now))) }
+    ensures numbered { IfOk result (λ made. MatchOption made (next.new ≡ next.old) (λ operand. numbered (operand_view operand).claims next.old ≡ Some next.new)) }
+{
+    match call.arguments.as_slice() {
+        [Argument::Nodes(query)] => {
+            let name = call.name.as_slice();
+            if name == b"length".as_slice() {
+                short_length(alloc, query, next)
+            } else if name == b"count".as_slice() {
+                short_count(alloc, query, next)
+            } else if name == b"value".as_slice() {
+                short_value(alloc, query, next)
+            } else {
+                Ok(None)
+            }
+        }
+        _ => Ok(None),
+    }
+}
+
+// Such a query, or a function of it, as a side.
 fn short_operand(
     alloc: Global,
     side: &Comparable,
@@ -43,7 +111,8 @@ fn short_operand(
     ensures numbered { IfOk result (λ made. MatchOption made (next.new ≡ next.old) (λ operand. numbered (operand_view operand).claims next.old ≡ Some next.new)) }
 {
     match side {
-        Comparable::Lit(_) | Comparable::Func(_) => Ok(None),
+        Comparable::Lit(_) => Ok(None),
+        Comparable::Func(call) => short_call(alloc, call, next),
         Comparable::Single(query) => match short_nested(alloc, query, next)? {
             None => Ok(None),
             Some(nested) => Ok(Some(Operand::Single(nested))),
