@@ -272,7 +272,39 @@ def units():
         yield f"10,000,000 units of {name}", text, query
 
 
-ROWS = {rooted: AIM, levels: AIM, equality: AIM, depths: AIM, selectors: AIM, filters: AIM, readings: AIM, units: AIM_OF_UNITS}
+def distinct(parts, between="||", start="$[?", end="]"):
+    """A query with these parts, as many as 4,096 bytes have room for."""
+    query = start + next(parts)
+    for part in parts:
+        if len(query) + len(between) + len(part) + len(end) > QUERY:
+            break
+        query += between + part
+    return query + end
+
+
+def free():
+    """Operands that are charged nothing."""
+    texts = {"zeros": many("0"), "strings": many('"a"'), "numbers with exponents": many("1e5"), "numbers below 0": many("-1.5")}
+    parts = {"two numbers": "1==2", "two strings": '"a"=="b"', "less than 0": "@<0", "equal to 2": "@==2", "0 less than it": "0<@",
+             "itself": "@!=@", "the text": "@==$", "one": "count(@)==2", "its length": "length(@)==2", "the value": "value(@)==2",
+             "not and not": "!(@!=2)"}
+    for (name, text), (word, part) in itertools.product(texts.items(), parts.items()):
+        yield f"{name}, {word} for nothing", text, filled(part)
+    orders = {"ascending": range(1, 2_000), "descending": range(2_000, 1, -1), "mixed": (at * 577 % 2_000 for at in range(1, 2_000))}
+    for name, order in orders.items():
+        keys = list(order)
+        yield f"zeros, {name} keys for nothing", texts["zeros"], distinct(f"@=={key}" for key in keys)
+        yield f"zeros, {name} ranges for nothing", texts["zeros"], distinct(f"@>{key}&&@<{key + 1}" for key in keys)
+        yield f"strings, {name} keys for nothing", texts["strings"], distinct(f'@=="{key:04}"' for key in keys)
+        yield f"numbers with exponents, {name} keys for nothing", texts["numbers with exponents"], distinct(f"@=={key}e3" for key in keys)
+    prefix = "x" * 199
+    yield "strings of one long prefix for nothing", many(f'"{prefix}y"'), distinct(f'@=="{prefix}{chr(at)}"' for at in range(97, 120))
+    yield "zeros, parentheses 31 deep for nothing", texts["zeros"], within(31, "(", "||".join(["@==2"] * 660), ")").join(["$[?", "]"])
+    yield "zeros, a name and keys for nothing", texts["zeros"], distinct(itertools.chain(["@.a"], (f"@=={key}" for key in range(1, 2_000))))
+    yield "strings, lengths and keys for nothing", texts["strings"], distinct(f'@>="{key}"&&length(@)=={key}' for key in range(2, 2_000))
+
+
+ROWS = {free: AIM, rooted: AIM, levels: AIM, equality: AIM, depths: AIM, selectors: AIM, filters: AIM, readings: AIM, units: AIM_OF_UNITS}
 
 
 def limit_stack():

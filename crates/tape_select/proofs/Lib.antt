@@ -13,3 +13,4 @@ pub mod Learnt
 pub mod Slots
 pub mod Filtering
 pub mod Naming
+pub mod Deciding

@@ -3,6 +3,8 @@ use Rattle.std.specs.Prelude.{ℕ, ◌+◌, List, [], ◌∷◌, ◌++◌, map, 
 use Rattle.path_grammar.specs.Tree as tree
 use Rattle.path_grammar.specs.Tree.{OneSegment, Segments, segments_of, selectors_of, exprs_of}
 use Rattle.path_grammar.specs.View.{literal_view}
+use Rattle.decisions.specs.Tree.{expr_of}
+use Rattle.decisions.specs.Views.{test_view}
 use Rattle.tape_select.specs.declared.plan.Condition.TheOpen.{Condition-F, Operand-F, Selection-F, Nested-F, Stage-F}
 use Rattle.tape_select.specs.declared.plan.Condition.{Condition, fold-Condition}
 use Rattle.tape_select.specs.declared.plan.Operand.{Operand, fold-Operand}
@@ -79,6 +81,7 @@ module _ where
   condition_step (Condition-F.Not b) = record { tree = tree.not b.value.tree; claims = b.value.claims }
   condition_step (Condition-F.Compare a op b) = record { tree = tree.compare a.tree op b.tree; claims = both a.claims b.claims }
   condition_step (Condition-F.Exists q) = record { tree = tree.test q.tree; claims = q.claims }
+  condition_step (Condition-F.Decided a b) = record { tree = expr_of a.tree (test_view b.value); claims = a.claims }
 
   abbrev pub operand_step : Layer Operand-F → With tree.Comparable
   operand_step (Operand-F.Constant l) = record { tree = tree.lit (constant_view l); claims = no_claims }

@@ -4,6 +4,8 @@ ghost use Rattle.std.specs.Prelude.{◌≡◌, ◌<◌, ◌+◌, ◌*◌, ◌∷
 ghost use Rattle.json_tape.specs.Document.{count, node_at};
 ghost use Rattle.json_tape.specs.Nodes.{children, visit};
 ghost use Rattle.path_grammar.specs.Tree.{exprs_of, selectors_of};
+ghost use Rattle.decisions.specs.Tree.{expr_of};
+ghost use Rattle.decisions.specs.Views.{test_view};
 ghost use Rattle.tape_select.specs.Evaluation.{evaluated, selected, selected_by, holds, some_hold, all_hold, result as side_result};
 ghost use Rattle.tape_select.specs.Nodelists.{nodes_of};
 ghost use Rattle.tape_select.specs.Charge.{total_of, charge_from, charge_expr, charge_exprs, charge_side};
@@ -23,6 +25,7 @@ use crate::slices::sliced;
 use crate::state::{Found, State, found_by_links, found_in, keep, recall};
 use crate::steps::{is_wild, lone_link, only_link, stepped};
 use crate::units::units_of;
+use decisions::{Decision, tells_as_compared};
 use json_tape::{Document, NodeId};
 use tape_values::{Side, compare_found};
 
@@ -115,7 +118,40 @@ fn holds_by_kind(
             let found = found(doc, plan, query, child, state)?;
             Ok(found.total != 0)
         }
+        Condition::Decided(operand, decision) => {
+            decided(doc, plan, operand, decision, child, state)
+        }
     }
+}
+
+// Whether a decided condition holds. Its side is evaluated once, and charged as often as it is written.
+#[cycle(evaluation)]
+#[inline(never)]
+fn decided(
+    doc: &Document,
+    plan: &Parts,
+    operand: &Operand,
+    decision: &Decision,
+    child: NodeId,
+    state: &mut State,
+) -> Result<bool, SelectFault>
+    requires inside { child.0 < count doc.now }
+    requires claimed { AreClaimed (claims_of plan.now.stages.items) (operand_view operand.now).claims }
+    requires kept { Keeps doc.now (claims_of plan.now.stages.items) state.old }
+    ensures found { Finds result (holds (node_at doc.now 0) (expr_of (operand_view operand.now).tree (test_view decision.now)) (node_at doc.now child.0)) (charge_expr (node_at doc.now 0) (expr_of (operand_view operand.now).tree (test_view decision.now)) (node_at doc.now child.0)) state.old.meter.left state.new.meter.left }
+    ensures kept { Keeps doc.now (claims_of plan.now.stages.items) state.new }
+{
+    tells_as_compared();
+    let times = decision.uses();
+    if times == 0 {
+        let nothing = Side::Nothing;
+        return Ok(decision.holds(doc, &nothing));
+    }
+    let before = state.meter.left;
+    let side = side_of(doc, plan, operand, child, state)?;
+    let once = before - state.meter.left;
+    state.meter.spend_each(u64::from(times - 1), once)?;
+    Ok(decision.holds(doc, &side))
 }
 
 // Pays what a condition is charged that cannot change the answer: without a look at the child where that is the same for all.

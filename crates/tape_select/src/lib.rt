@@ -17,6 +17,7 @@ mod nodes;
 mod plan;
 mod planning;
 mod selecting;
+mod short;
 mod sides;
 mod slices;
 mod state;

@@ -9,6 +9,7 @@ ghost use Rattle.tape_select.specs.Planned.{trees, all_claims, query_of, claims_
 ghost use Rattle.tape_select.specs.Making.{is_valid_nodes};
 
 use crate::plan::{Condition, Constant, Link, Name, Nested, Operand, Parts, Selection, Stage};
+use crate::short::decided;
 use path_grammar::{Argument, Call, Comparable, Expr, Literal, Segment, Selector, SubQuery};
 use path_types::ValidQuery;
 use std::alloc::{AllocError, Global};
@@ -44,7 +45,7 @@ fn constant(alloc: Global, written: &Literal) -> Result<Constant, AllocError>
 }
 
 // The slot of a query from the root: the next number.
-fn slot(from_root: bool, next: &mut u32) -> Result<Option<u32>, AllocError>
+pub fn slot(from_root: bool, next: &mut u32) -> Result<Option<u32>, AllocError>
     ensures rooted { IfOk result (λ slot. is_rooted slot ≡ from_root) }
     ensures numbered { IfOk result (λ slot. (q : Segments) → numbered (own_claim slot q) next.old ≡ Some next.new) }
 {
@@ -76,7 +77,7 @@ fn link(alloc: Global, segment: &Segment) -> Result<Option<Link>, AllocError>
 }
 
 // The names and indexes that segments begin with.
-fn links(alloc: Global, segments: &[Segment]) -> Result<Vec<Link>, AllocError>
+pub fn links(alloc: Global, segments: &[Segment]) -> Result<Vec<Link>, AllocError>
     ensures few { IfOk result (λ made. length made.items ≤ length segments.now) }
     ensures same { IfOk result (λ made. map link_view made.items ++ map segment_view (drop (length made.items) segments.now) ≡ map segment_view segments.now) }
 {
@@ -184,6 +185,19 @@ fn nested(alloc: Global, query: &SubQuery, next: &mut u32) -> Result<Nested, All
 
 #[cycle(making)]
 fn condition(alloc: Global, expr: &Expr, next: &mut u32) -> Result<Condition, AllocError>
+    requires valid { IsTrue (is_valid_expr (expr_view expr.now)) }
+    ensures same { IfOk result (λ made. (condition_view made).tree ≡ expr_view expr.now) }
+    ensures numbered { IfOk result (λ made. numbered (condition_view made).claims next.old ≡ Some next.new) }
+{
+    match decided(alloc, expr, next)? {
+        Some(made) => Ok(made),
+        None => condition_by_kind(alloc, expr, next),
+    }
+}
+
+// The same where it is not decided beforehand.
+#[cycle(making)]
+fn condition_by_kind(alloc: Global, expr: &Expr, next: &mut u32) -> Result<Condition, AllocError>
     requires valid { IsTrue (is_valid_expr (expr_view expr.now)) }
     ensures same { IfOk result (λ made. (condition_view made).tree ≡ expr_view expr.now) }
     ensures numbered { IfOk result (λ made. numbered (condition_view made).claims next.old ≡ Some next.new) }

@@ -4,6 +4,7 @@ ghost use Rattle.std.specs.Prelude.{IsTrue};
 ghost use Rattle.path_grammar.specs.View.{literal_view};
 ghost use Rattle.path_types.specs.Validity.{is_literal};
 
+use decisions::Decision;
 use path_grammar::{IntLit, Literal, Op};
 use std::cell::Cell;
 
@@ -62,6 +63,8 @@ pub enum Condition {
     Compare(Operand, Op, Operand),
     /// A query selects some node.
     Exists(Nested),
+    /// A condition that compares one side with literals, decided for each place of its value among them.
+    Decided(Operand, Box<Decision>),
 }
 
 /// A side of a comparison, or the argument of `length` (RFC 9535, sections 2.3.5.1 and 2.4).

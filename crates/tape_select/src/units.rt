@@ -4,10 +4,13 @@ ghost use Rattle.std.specs.Prelude.{◌≡◌, ◌∷◌, [], map, IfSome};
 ghost use Rattle.json_tape.specs.Document.{node_at};
 ghost use Rattle.json_tape.specs.Nodes.{Node};
 ghost use Rattle.path_grammar.specs.Tree.{exprs_of};
+ghost use Rattle.decisions.specs.Tree.{expr_of};
+ghost use Rattle.decisions.specs.Views.{test_view};
 ghost use Rattle.tape_select.specs.Charge.{charge_from, charge_nested, charge_side, charge_expr, charge_exprs};
 ghost use Rattle.tape_select.specs.Planned.{trees, links_view, condition_view, nested_view, operand_view};
 
 use crate::plan::{Condition, Link, Nested, Operand};
+use decisions::Decision;
 use json_tape::{Document, NodeId};
 use std::slice::from_ref;
 
@@ -61,6 +64,22 @@ fn units_of_call(doc: &Document, operand: &Operand, child: NodeId) -> Option<u32
     }
 }
 
+// A decided condition, whose side counts as often as it is written.
+#[inline(always)]
+#[tactic(auto, using(crate::proofs::Deciding::charge_decided))]
+fn units_of_decided(
+    doc: &Document,
+    operand: &Operand,
+    decision: &Decision,
+    child: NodeId,
+) -> Option<u32>
+    ensures { IfSome result (λ units. charge_expr (node_at doc.now 0) (expr_of (operand_view operand.now).tree (test_view decision.now)) (node_at doc.now child.0) ≡ units) }
+{
+    let units = units_of_side(doc, operand, child)?;
+    let all = decision.uses().checked_mul(units)?;
+    Some(all)
+}
+
 /// What a condition is charged for a child, if that is known without a look at it. It calls itself by the one behind it alone, and is put in line.
 #[cycle(units)]
 #[inline(always)]
@@ -77,6 +96,7 @@ pub fn units_of(doc: &Document, condition: &Condition, child: NodeId) -> Option<
             left.checked_add(right)
         }
         Condition::Exists(query) => units_of_query(doc, query, child),
+        Condition::Decided(operand, decision) => units_of_decided(doc, operand, decision, child),
     }
 }
 

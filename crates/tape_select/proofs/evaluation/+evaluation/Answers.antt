@@ -1,4 +1,4 @@
-use Rattle.std.proofs.Common.{sym, ◌∙◌, ◌++◌, ◌*◌, ◌≡◌, [], ◌∷◌, arith, ap, refl, length, map}
+use Rattle.std.proofs.Common.{sym, ◌∙◌, ◌++◌, ◌+◌, ◌-◌, ◌*◌, ◌<◌, ◌≡◌, [], ◌∷◌, arith, ap, refl, length, map}
 use Rattle.std.specs.Prelude.{flat_map}
 use Rattle.std.specs.Prelude.{filter as keep}
 use Rattle.std.proofs.lemmas.Result.{err_from_is_err_and}
@@ -6,17 +6,20 @@ use Rattle.json_tape.specs.Document.{node_at}
 use Rattle.json_tape.specs.Nodes.{children, visit}
 use Rattle.path_grammar.specs.Tree as tree
 use Rattle.path_grammar.specs.Tree.{OneSegment, selectors_of, filter}
+use Rattle.decisions.specs.Truth.{truth}
+use Rattle.decisions.specs.Views.{test_view}
 use Rattle.tape_select.specs.Evaluation.{selected, holds}
 use Rattle.tape_select.specs.Nodelists.{nodes_of}
 use Rattle.tape_select.specs.Charge.{total_of, charge_from, charge_expr}
 use Rattle.tape_select.specs.Extra.{extra_in, nodes_from, charge_at}
-use Rattle.tape_select.specs.Planned.{claims_of, query_of, path_of, links_view, trees, condition_view, selection_view, stage_view, With, condition_step, operand_step, selection_step, nested_step, stage_step}
+use Rattle.tape_select.specs.Planned.{claims_of, query_of, path_of, links_view, trees, condition_view, operand_view, selection_view, stage_view, With, condition_step, operand_step, selection_step, nested_step, stage_step}
 use Rattle.tape_select.specs.declared.plan.Condition.TheFolds.{fold_out-Selection}
 use Rattle.tape_select.proofs.Filtering.{stage_claimed, evaluated_step, charge_step, adds_paid, more_of, staying, staying_charge, descending, descending_charge, filter_charge, keep_more, keep_not, leaf_holds, leaf_costs, finds_linked}
 use Rattle.tape_select.proofs.Following.{refuses_from, nothing_from_nothing, nothing_for_nothing}
 use Rattle.tape_select.proofs.Links.{links_charged, links_charged_first, found_through}
 use Rattle.tape_select.proofs.Adding.{drawn, drawn_inside}
 use Rattle.tape_select.proofs.Naming.{adds_named, adds_wild}
+use Rattle.tape_select.proofs.Deciding.{free, paid, refused_first, refused_then}
 use Rattle.tape_select.proofs.evaluation.+evaluation.Goals as goal
 
 pub all_selected-loop-stage-preserved : goal.all_selected-loop-stage-preserved
@@ -235,3 +238,42 @@ found_behind-returns-clause-found t c =
           c.found_in-2.ensures.value c.found_in-2.ensures.inside c.found_in-2.ensures.total (omega (arith, all, paid, spent, left)),
       omega (arith, all, paid, spent),
     )
+
+pub decided-returns-then-times-eq0-clause-found : goal.decided-returns-then-times-eq0-clause-found
+decided-returns-then-times-eq0-clause-found t c =
+    let d = c.args.doc.now in
+    free c.tells_as_compared.ensures (node_at d 0) (node_at d c.args.child.0) (operand_view c.args.operand.now).tree (test_view c.args.decision.now) c.args.state.now.meter.left c.holds.result
+    (sym c.uses-times.ensures ∙ c.if-times-eq0.true) c.holds.ensures
+
+pub decided-returns-in_err-side-clause-found : goal.decided-returns-in_err-side-clause-found
+decided-returns-in_err-side-clause-found t c =
+    let d = c.args.doc.now in
+    let some : 0 < c.uses-times.result = (let n = c.if-times-eq0.false in omega arith) in
+    let p = err_from_is_err_and c.from_residual.result c.from_residual.ensures.1 in
+    rw (p.1, p.2)
+    (refused_first c.tells_as_compared.ensures (node_at d 0) (node_at d c.args.child.0) (operand_view c.args.operand.now).tree (test_view c.args.decision.now) c.args.state.now.meter.left c.uses-times.result c.in_err-side.field-0.0
+    c.uses-times.ensures some (c.in_err-side.ensures).found)
+
+pub decided-returns-in_err-spend_each-clause-found : goal.decided-returns-in_err-spend_each-clause-found
+decided-returns-in_err-spend_each-clause-found t c =
+    let d = c.args.doc.now in
+    let old = c.args.state.now.meter.left in
+    let left = c.side_of.new.state.meter.left in
+    let some : 0 < c.uses-times.result = (let n = c.if-times-eq0.false in omega arith) in
+    let parted = ((c.in_ok-side.ensures).found).2 in
+    let p = err_from_is_err_and c.from_residual-in_err-spend_each.result c.from_residual-in_err-spend_each.ensures.1 in
+    rw (p.1, p.2)
+    (refused_then c.tells_as_compared.ensures (node_at d 0) (node_at d c.args.child.0) (operand_view c.args.operand.now).tree (test_view c.args.decision.now) old left c.uses-times.result (old - left) c.in_err-spend_each.field-0.0
+    c.uses-times.ensures some parted (omega arith) (rw c.from.ensures at c.in_err-spend_each.ensures))
+
+pub decided-returns-clause-found : goal.decided-returns-clause-found
+decided-returns-clause-found t c =
+    let d = c.args.doc.now in
+    let old = c.args.state.now.meter.left in
+    let left = c.side_of.new.state.meter.left in
+    let e = test_view c.args.decision.now in
+    let some : 0 < c.uses-times.result = (let n = c.if-times-eq0.false in omega arith) in
+    let found = (c.in_ok-side.ensures).found in
+    let parted = found.2 in
+    paid c.tells_as_compared.ensures (node_at d 0) (node_at d c.args.child.0) (operand_view c.args.operand.now).tree e old left c.spend_each.new.self.left c.uses-times.result (old - left) c.holds-2.result
+    c.uses-times.ensures some parted (omega arith) (rw c.from.ensures at c.in_ok-spend_each.ensures) (c.holds-2.ensures ∙ ap (λ v. truth v e) found.0)

@@ -1,0 +1,7 @@
+pub mod Alike
+pub mod Cells
+pub mod Counts
+pub mod Decided
+pub mod Orders
+pub mod Exprs
+pub mod Sorting

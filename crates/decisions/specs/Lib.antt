@@ -1,0 +1,6 @@
+pub mod Tree
+pub mod Order
+pub mod Truth
+pub mod Views
+pub mod Places
+pub mod Laws

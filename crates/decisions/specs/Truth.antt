@@ -1,0 +1,82 @@
+-- What a condition says of its side's value, by how that compares with each literal.
+use Rattle.std.specs.Prelude.{Bool, true, false, ◌&&◌, ◌||◌, List, [], ◌∷◌, ◌++◌, Option, Some, None, nat_eq, if◌then◌else◌}
+use Rattle.std.specs.Prelude.{not as opposite}
+use Rattle.std.specs.Ordering.{is_eq, is_ne, is_lt, is_le, is_gt, is_ge, ordering_reverse}
+use Rattle.std.specs.declared.cmp.Ordering.{Ordering}
+use Rattle.path_grammar.specs.Tree.{Literal}
+use Rattle.path_grammar.specs.declared.ast.Op.{Op}
+use Rattle.path_grammar.specs.declared.ast.Op.TheVariants.{Eq, Ne, Le, Ge, Lt, Gt}
+use Rattle.tape_values.specs.Comparison.{Value, literal_value, compared}
+use Rattle.decisions.specs.Order.{kind, value_cmp}
+use Rattle.decisions.specs.Tree.{Tested, Tests, any, each, negated, value, against, two, present, no_tests, tested}
+
+-- whether a comparison holds, by how its left side compares with its right one
+abbrev pub told : Op → Ordering → Bool
+told Eq o = is_eq o
+told Ne o = is_ne o
+told Lt o = is_lt o
+told Le o = is_le o
+told Gt o = is_gt o
+told Ge o = is_ge o
+
+-- whether it holds where they are of two kinds
+abbrev pub told_apart : Op → Bool
+told_apart Eq = false
+told_apart Ne = true
+told_apart Lt = false
+told_apart Le = false
+told_apart Gt = false
+told_apart Ge = false
+
+abbrev pub told_by : Op → Option Ordering → Bool
+told_by op None = told_apart op
+told_by op (Some o) = told op o
+
+-- the other way round
+abbrev pub turned : Option Ordering → Option Ordering
+turned None = None
+turned (Some o) = Some (ordering_reverse o)
+
+-- `f` says how the value compares with a literal, and None where it is of another kind
+module _ (f : Literal → Option Ordering) where
+  abbrev mutual
+    -- whether a condition holds; `@` and `$` are always there
+    pub truth_by : Tested → Bool
+    truth_by (any ts) = some_true ts
+    truth_by (each ts) = all_true ts
+    truth_by (negated t) = opposite (truth_by t)
+    truth_by (value op l) = told_by op (f l)
+    truth_by (against l op) = told_by op (turned (f l))
+    truth_by (two l op m) = compared op (Some (literal_value l)) (Some (literal_value m))
+    truth_by (present from_root) = true
+
+    pub some_true : Tests → Bool
+    some_true no_tests = false
+    some_true (tested t others) = truth_by t || some_true others
+
+    pub all_true : Tests → Bool
+    all_true no_tests = true
+    all_true (tested t others) = truth_by t && all_true others
+
+-- how a value, or Nothing, compares with a literal
+abbrev pub versus : Option Value → Literal → Option Ordering
+versus v l = if nat_eq (kind v) (kind (Some (literal_value l))) then Some (value_cmp v (Some (literal_value l))) else None
+
+-- whether a condition holds where its side has this value
+abbrev pub truth : Option Value → Tested → Bool
+truth v t = truth_by (versus v) t
+
+abbrev mutual
+  -- the literals that stand against the side
+  pub literals : Tested → List Literal
+  literals (any ts) = all_literals ts
+  literals (each ts) = all_literals ts
+  literals (negated t) = literals t
+  literals (value op l) = l ∷ []
+  literals (against l op) = l ∷ []
+  literals (two l op m) = []
+  literals (present from_root) = []
+
+  pub all_literals : Tests → List Literal
+  all_literals no_tests = []
+  all_literals (tested t others) = literals t ++ all_literals others

@@ -1,0 +1,84 @@
+//! A condition with its truth decided for each kind of value at each place.
+
+ghost use Rattle.std.specs.Prelude.{◌≡◌, IfOk};
+ghost use Rattle.tape_values.specs.Sides.{side_value, IsSide};
+ghost use Rattle.decisions.specs.Tree.{uses};
+ghost use Rattle.decisions.specs.Truth.{truth};
+ghost use Rattle.decisions.specs.Views.{test_view};
+
+use crate::counting::uses_of;
+use crate::gathering::literals_of;
+use crate::laws::tells_by_places;
+use crate::order::side_kind;
+use crate::places::side_place;
+use crate::tables::tables;
+use crate::test::{Constant, Test};
+use json_tape::Document;
+use std::alloc::{AllocError, Global};
+use std::marker::Model;
+use tape_values::Side;
+
+/// A condition with its truth decided for each kind of value at each place. It stands for the condition.
+#[derive(Drop)]
+pub struct Decision {
+    test: Test,
+    literals: Vec<Constant>,
+    tables: Vec<Vec<bool>>,
+    count: u32,
+}
+
+impl Model for Decision {
+    ghost use Rattle.std.specs.Prelude.{◌≡◌, map};
+    ghost use Rattle.std.specs.Coded.{codes};
+    ghost use Rattle.std.specs.List.Sorted.{IsSortedByKey};
+    ghost use Rattle.decisions.specs.contracts.test.Test as condition;
+    ghost use Rattle.decisions.specs.declared.test.Test.{Test};
+    ghost use Rattle.decisions.specs.Order.{value_cmp};
+    ghost use Rattle.decisions.specs.Places.{Decides};
+    ghost use Rattle.decisions.specs.Tree.{uses};
+    ghost use Rattle.decisions.specs.Views.{constant_value, test_view};
+
+    ghost Value = { Test };
+
+    ghost coded = { Prim.hlevel (codes, condition.the_row.coded) };
+
+    ghost view = { λ d. d.test };
+
+    ghost invariant = { λ d. IsSortedByKey constant_value value_cmp d.literals.items × Decides (map constant_value d.literals.items) (map (λ t. t.items) d.tables.items) (test_view d.test) × (d.count ≡ uses (test_view d.test)) };
+}
+
+impl Decision {
+    /// The decision of a condition. `AllocError` where a growth was refused.
+    pub fn new(alloc: Global, test: Test) -> Result<Decision, AllocError>
+        ensures { IfOk result (λ decision. decision ≡ test) }
+    {
+        let Some(count) = uses_of(&test) else {
+            return Err(AllocError);
+        };
+        let literals = literals_of(alloc, &test)?;
+        let tables = tables(alloc, &literals, &test)?;
+        Ok(Decision {
+            test,
+            literals,
+            tables,
+            count,
+        })
+    }
+
+    /// How often the side is written.
+    pub fn uses(&self) -> u32
+        ensures { result ≡ uses (test_view self.now) }
+    {
+        self.count
+    }
+
+    /// Whether the condition holds where its side has a value.
+    pub fn holds<'a>(&'a self, doc: &'a Document, side: &Side<'a>) -> bool
+        requires { IsSide doc.now side.now }
+        ensures { result ≡ truth (side_value doc.now side.now) (test_view self.now) }
+    {
+        tells_by_places();
+        let cells = &self.tables[side_kind(doc, side)];
+        cells[side_place(doc, &self.literals, side)]
+    }
+}

@@ -1,0 +1,23 @@
+//! Functions that do nothing, and whose contracts are laws of the definitions.
+
+ghost use Rattle.decisions.specs.Laws.{TellsAsCompared, TellsByPlaces};
+
+use decimal_order::orders_values;
+
+/// Comparisons with literals are told as RFC 9535, section 2.3.5.2.2 has them.
+///
+/// It does nothing: a caller that tells comparisons by the order of values has the law from its contract.
+pub fn tells_as_compared()
+    ensures { TellsAsCompared }
+{
+    orders_values();
+}
+
+/// The order of values is total, and places compare as the values there do with the literals.
+///
+/// It does nothing: a caller that tells comparisons by places has the law from its contract.
+pub fn tells_by_places()
+    ensures { TellsByPlaces }
+{
+    orders_values();
+}

@@ -1,0 +1,21 @@
+//! Conditions that compare one side with literals, decided beforehand for each place of its value among the literals.
+//!
+//! A [`Test`] is such a condition: `||`, `&&` and `!` over comparisons (RFC 9535, section 2.3.5). A [`Decision`] of it has its literals in
+//! order, and its truth for each kind of value at each place: below the first literal, at it, between it and the next.
+//! [`Decision::holds`] finds the place by halving, and looks the truth up, whatever the number of comparisons.
+#![tactic(auto)]
+
+mod counting;
+mod decision;
+mod gathering;
+mod laws;
+mod order;
+mod places;
+mod reading;
+mod tables;
+mod test;
+
+pub use decision::Decision;
+pub use laws::{tells_as_compared, tells_by_places};
+pub use reading::{decide, side_in};
+pub use test::{Constant, Test};

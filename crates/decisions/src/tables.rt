@@ -1,0 +1,230 @@
+//! The truth of a condition for each kind of value, at each place.
+
+ghost use Rattle.std.specs.Prelude.{◌≡◌, ℕ, ◌+◌, ◌*◌, ◌<◌, ◌≤◌, length, map, slice_index_or, EachIndex, false, not, ◌||◌, ◌&&◌, Option, Some, IfOk, IsTrue};
+ghost use Rattle.std.specs.Ordering.{nat_cmp};
+ghost use Rattle.std.specs.declared.cmp.Ordering.{Ordering};
+ghost use Rattle.std.specs.List.Sorted.{IsSortedByKey};
+ghost use Rattle.tape_values.specs.Comparison.{compared};
+ghost use Rattle.decisions.specs.Order.{value_cmp};
+ghost use Rattle.decisions.specs.Places.{AreCells, from_place};
+ghost use Rattle.decisions.specs.Tree.{tests_of};
+ghost use Rattle.decisions.specs.Truth.{told, told_apart, told_by, turned, truth_by, some_true, all_true};
+ghost use Rattle.decisions.specs.Views.{constant_view, constant_value, test_view};
+
+use crate::laws::tells_as_compared;
+use crate::order::{KINDS, compare_literals, literal_kind};
+use crate::places::literal_place;
+use crate::test::{Constant, Test};
+use path_grammar::Op;
+use std::alloc::{AllocError, Global};
+use std::cmp::Ordering;
+
+// Whether a comparison holds, by how its sides compare.
+fn tells(op: Op, order: Ordering) -> bool
+    ensures { result ≡ told op order }
+{
+    match op {
+        Op::Eq => order.is_eq(),
+        Op::Ne => order.is_ne(),
+        Op::Lt => order.is_lt(),
+        Op::Le => order.is_le(),
+        Op::Gt => order.is_gt(),
+        Op::Ge => order.is_ge(),
+    }
+}
+
+// Whether it holds where they are of two kinds.
+fn tells_apart(op: Op) -> bool
+    ensures { result ≡ told_apart op }
+{
+    matches!(op, Op::Ne)
+}
+
+// The operator with its sides exchanged.
+fn turn_about(op: Op) -> Op
+    ensures { (o : Option Ordering) → told_by op (turned o) ≡ told_by result o }
+{
+    match op {
+        Op::Eq => Op::Eq,
+        Op::Ne => Op::Ne,
+        Op::Lt => Op::Gt,
+        Op::Le => Op::Ge,
+        Op::Gt => Op::Lt,
+        Op::Ge => Op::Le,
+    }
+}
+
+// Whether a comparison of two literals holds.
+fn compare_two(left: &Constant, op: Op, right: &Constant) -> bool
+    ensures { result ≡ compared op (constant_value left.now) (constant_value right.now) }
+{
+    tells_as_compared();
+    if literal_kind(&left.literal) == literal_kind(&right.literal) {
+        tells(op, compare_literals(left, right))
+    } else {
+        tells_apart(op)
+    }
+}
+
+// The truth of either.
+fn join(cells: &mut [bool], others: &[bool])
+    requires { length others.now ≡ length cells.old }
+    ensures { EachIndex cells.old (λ k. slice_index_or cells.new k false ≡ (slice_index_or cells.old k false || slice_index_or others.now k false)) }
+{
+    for i in 0..cells.len() {
+        cells[i] |= others[i];
+    }
+}
+
+// The truth of both.
+fn meet(cells: &mut [bool], others: &[bool])
+    requires { length others.now ≡ length cells.old }
+    ensures { EachIndex cells.old (λ k. slice_index_or cells.new k false ≡ (slice_index_or cells.old k false && slice_index_or others.now k false)) }
+{
+    for i in 0..cells.len() {
+        cells[i] &= others[i];
+    }
+}
+
+// The truth turned.
+fn turn(cells: &mut [bool])
+    ensures { EachIndex cells.old (λ k. slice_index_or cells.new k false ≡ (not (slice_index_or cells.old k false))) }
+{
+    for i in 0..cells.len() {
+        cells[i] = !cells[i];
+    }
+}
+
+// One truth at each place.
+fn all_cells(alloc: Global, literals: &[Constant], truth: bool) -> Result<Vec<bool>, AllocError>
+    ensures { IfOk result (λ cells. AreCells (length literals.now) cells.items (λ p. truth)) }
+{
+    let cells = vec![in alloc; truth; 2 * literals.len() + 1]?;
+    Ok(cells)
+}
+
+// Whether a comparison with what stands at a place holds, at each place.
+fn told_cells(
+    alloc: Global,
+    literals: &[Constant],
+    op: Op,
+    there: usize,
+) -> Result<Vec<bool>, AllocError>
+    requires { there ≤ 2 * length literals.now }
+    ensures { IfOk result (λ cells. AreCells (length literals.now) cells.items (λ p. told op (nat_cmp p there))) }
+{
+    let below = tells(op, Ordering::Less);
+    let above = tells(op, Ordering::Greater);
+    let mut cells = all_cells(alloc, literals, above)?;
+    for at in 0..there {
+        cells[at] = below;
+    }
+    cells[there] = tells(op, Ordering::Equal);
+    Ok(cells)
+}
+
+// Whether a comparison of the value with this literal holds, at each place.
+fn one_table(
+    alloc: Global,
+    literals: &[Constant],
+    kind: usize,
+    op: Op,
+    literal: &Constant,
+) -> Result<Vec<bool>, AllocError>
+    requires { IsSortedByKey constant_value value_cmp literals.now }
+    ensures { IfOk result (λ cells. AreCells (length literals.now) cells.items (λ p. told_by op (from_place (map constant_value literals.now) kind p (constant_view literal.now)))) }
+{
+    let own = literal_kind(&literal.literal);
+    if own == kind {
+        let there = literal_place(literals, literal);
+        told_cells(alloc, literals, op, there)
+    } else {
+        let apart = tells_apart(op);
+        all_cells(alloc, literals, apart)
+    }
+}
+
+// The truth of a condition at each place.
+#[cycle(tabling)]
+fn table(
+    alloc: Global,
+    literals: &[Constant],
+    kind: usize,
+    test: &Test,
+) -> Result<Vec<bool>, AllocError>
+    requires { IsSortedByKey constant_value value_cmp literals.now }
+    ensures { IfOk result (λ cells. AreCells (length literals.now) cells.items (λ p. truth_by (from_place (map constant_value literals.now) kind p) (test_view test.now))) }
+{
+    match test {
+        Test::Any(operands) => some_table(alloc, literals, kind, operands),
+        Test::Each(operands) => all_table(alloc, literals, kind, operands),
+        Test::Not(operand) => {
+            let mut cells = table(alloc, literals, kind, operand)?;
+            turn(&mut cells);
+            Ok(cells)
+        }
+        Test::Value(op, literal) => one_table(alloc, literals, kind, *op, literal),
+        Test::Against(literal, op) => one_table(alloc, literals, kind, turn_about(*op), literal),
+        Test::Literals(left, op, right) => {
+            let truth = compare_two(left, *op, right);
+            all_cells(alloc, literals, truth)
+        }
+        Test::Present(_) => all_cells(alloc, literals, true),
+    }
+}
+
+// Whether one of the conditions holds, at each place.
+#[cycle(tabling)]
+fn some_table(
+    alloc: Global,
+    literals: &[Constant],
+    kind: usize,
+    operands: &[Test],
+) -> Result<Vec<bool>, AllocError>
+    requires { IsSortedByKey constant_value value_cmp literals.now }
+    ensures { IfOk result (λ cells. AreCells (length literals.now) cells.items (λ p. some_true (from_place (map constant_value literals.now) kind p) (tests_of (map test_view operands.now)))) }
+{
+    let mut cells = all_cells(alloc, literals, false)?;
+    for operand in operands {
+        let part = table(alloc, literals, kind, operand)?;
+        join(&mut cells, &part);
+    }
+    Ok(cells)
+}
+
+// Whether each of the conditions holds, at each place.
+#[cycle(tabling)]
+fn all_table(
+    alloc: Global,
+    literals: &[Constant],
+    kind: usize,
+    operands: &[Test],
+) -> Result<Vec<bool>, AllocError>
+    requires { IsSortedByKey constant_value value_cmp literals.now }
+    ensures { IfOk result (λ cells. AreCells (length literals.now) cells.items (λ p. all_true (from_place (map constant_value literals.now) kind p) (tests_of (map test_view operands.now)))) }
+{
+    let mut cells = all_cells(alloc, literals, true)?;
+    for operand in operands {
+        let part = table(alloc, literals, kind, operand)?;
+        meet(&mut cells, &part);
+    }
+    Ok(cells)
+}
+
+/// The truth of a condition for each kind of value, at each place.
+pub fn tables(
+    alloc: Global,
+    literals: &[Constant],
+    test: &Test,
+) -> Result<Vec<Vec<bool>>, AllocError>
+    requires { IsSortedByKey constant_value value_cmp literals.now }
+    ensures kinds { IfOk result (λ tables. length tables.items ≡ 7) }
+    ensures right { IfOk result (λ tables. (k : ℕ) (d : _) → k < length tables.items → AreCells (length literals.now) (slice_index_or tables.items k d).items (λ p. truth_by (from_place (map constant_value literals.now) k p) (test_view test.now))) }
+{
+    let mut made = Vec::new(alloc);
+    for kind in 0..KINDS {
+        let cells = table(alloc, literals, kind, test)?;
+        made.push(cells)?;
+    }
+    Ok(made)
+}

@@ -1,0 +1,126 @@
+-- Conditions that are decided beforehand.
+use Rattle.std.proofs.Common.{◌≡◌, ℕ, zero, suc, ◌+◌, ◌-◌, ◌*◌, ◌<◌, ◌≤◌, Bool, true, ◌&&◌, ◌||◌, Option, Some, None, refl, sym, ap, ◌∙◌, arith}
+use Rattle.std.specs.Prelude.{Result}
+use Rattle.std.specs.Prelude.{not as opposite}
+use Rattle.std.proofs.Math.Nat.{suc-mul}
+use Rattle.std.specs.declared.result.Result.TheVariants.{Ok, Err}
+use Rattle.path_grammar.specs.Tree as tree
+use Rattle.path_grammar.specs.Tree.{Comparable}
+use Rattle.json_tape.specs.Nodes.{Node}
+use Rattle.tape_values.specs.Comparison.{Value, literal_value}
+use Rattle.decisions.specs.Laws.{TellsAsCompared}
+use Rattle.decisions.specs.Tree.{Tested, Tests, any, each, negated, value, against, two, present, no_tests, tested, expr_of, exprs_of_tests, uses, all_uses}
+use Rattle.decisions.specs.Truth.{truth, truth_by, some_true, all_true, versus}
+use Rattle.tape_select.specs.Charge.{charge_expr, charge_exprs, charge_side}
+use Rattle.tape_select.specs.Evaluation.{holds, some_hold, all_hold, result}
+use Rattle.tape_select.specs.Paying.{Refuses, Finds}
+use Rattle.tape_select.specs.declared.fault.SelectFault.{SelectFault}
+use Rattle.tape_select.proofs.Following.{refuses_from}
+
+-- ---- The charge
+
+shared : (a b c : ℕ) → a * c + b * c ≡ (a + b) * c
+shared zero b c = omega arith
+shared (suc a) b c =
+    let h = shared a b c in
+    let d : suc a * c ≡ a * c + c = suc-mul a c in
+    let f : suc a + b ≡ suc (a + b) = omega arith in
+    let e : (suc a + b) * c ≡ (a + b) * c + c = ap (λ k. k * c) f ∙ suc-mul (a + b) c in
+    omega arith
+
+module _ (root n : Node) (side : Comparable) where
+  mutual
+    pub charge_decided : (t : Tested) → charge_expr root (expr_of side t) n ≡ uses t * charge_side root side n
+    charge_decided (any ts) = charge_all ts
+    charge_decided (each ts) = charge_all ts
+    charge_decided (negated t) = charge_decided t
+    charge_decided (value op l) = omega arith
+    charge_decided (against l op) = omega arith
+    charge_decided (two l op m) = omega arith
+    charge_decided (present from_root) = omega arith
+
+    charge_all : (ts : Tests) → charge_exprs root (exprs_of_tests side ts) n ≡ all_uses ts * charge_side root side n
+    charge_all no_tests = omega arith
+    charge_all (tested t others) =
+        let a = charge_decided t in
+        let b = charge_all others in
+        let s = shared (uses t) (all_uses others) (charge_side root side n) in
+        omega (arith, a, b, s)
+
+  -- ---- The truth
+
+  module _ (law : TellsAsCompared) where
+    mutual
+      holds_decided : (t : Tested) → holds root (expr_of side t) n ≡ truth (result root side n) t
+      holds_decided (any ts) = some_decided ts
+      holds_decided (each ts) = all_decided ts
+      holds_decided (negated t) = ap opposite (holds_decided t)
+      holds_decided (value op l) = law.left op (result root side n) l
+      holds_decided (against l op) = law.right op (result root side n) l
+      holds_decided (two l op m) = refl
+      holds_decided (present from_root) = refl
+
+      some_decided : (ts : Tests) → some_hold root (exprs_of_tests side ts) n ≡ some_true (versus (result root side n)) ts
+      some_decided no_tests = refl
+      some_decided (tested t others) = let a = holds_decided t in let b = some_decided others in λ i. a i || b i
+
+      all_decided : (ts : Tests) → all_hold root (exprs_of_tests side ts) n ≡ all_true (versus (result root side n)) ts
+      all_decided no_tests = refl
+      all_decided (tested t others) = let a = holds_decided t in let b = all_decided others in λ i. a i && b i
+
+-- a side that is not written
+module _ (v w : Option Value) where
+  mutual
+    unused : (t : Tested) → uses t ≡ 0 → truth v t ≡ truth w t
+    unused (any ts) e = some_unused ts e
+    unused (each ts) e = all_unused ts e
+    unused (negated t) e = ap opposite (unused t e)
+    unused (value op l) e = absurd (omega arith)
+    unused (against l op) e = absurd (omega arith)
+    unused (two l op m) e = refl
+    unused (present from_root) e = refl
+
+    some_unused : (ts : Tests) → all_uses ts ≡ 0 → some_true (versus v) ts ≡ some_true (versus w) ts
+    some_unused no_tests e = refl
+    some_unused (tested t others) e = let a = unused t (omega arith) in let b = some_unused others (omega arith) in λ i. a i || b i
+
+    all_unused : (ts : Tests) → all_uses ts ≡ 0 → all_true (versus v) ts ≡ all_true (versus w) ts
+    all_unused no_tests e = refl
+    all_unused (tested t others) e = let a = unused t (omega arith) in let b = all_unused others (omega arith) in λ i. a i && b i
+
+-- ---- Paid
+
+module _ (law : TellsAsCompared) (root n : Node) (side : Comparable) (t : Tested) where
+  pub free : (old : ℕ) (found : Bool) → uses t ≡ 0 → found ≡ truth None t → Finds {A = Bool} (Ok found) (holds root (expr_of side t) n) (charge_expr root (expr_of side t) n) old old
+  free old found none e =
+      let c = charge_decided root n side t in
+      let z : uses t * charge_side root side n ≡ 0 = rw none (omega arith) in
+      (e ∙ unused None (result root side n) t none ∙ sym (holds_decided root n side law t), omega arith)
+
+  once_more : (k c : ℕ) → 0 < k → (k - 1) * c + c ≡ k * c
+  once_more zero c h = absurd (omega arith)
+  once_more (suc k) c h = let e : suc k - 1 ≡ k = omega arith in rw e (sym (suc-mul k c))
+
+  pub paid : (old left new times once : ℕ) (found : Bool) → times ≡ uses t → 0 < times → left + charge_side root side n ≡ old → once + left ≡ old → new + (times - 1) * once ≡ left → found ≡ truth (result root side n) t
+      → Finds {A = Bool} (Ok found) (holds root (expr_of side t) n) (charge_expr root (expr_of side t) n) old new
+  paid old left new times once found same some a b c e =
+      let charge = charge_decided root n side t in
+      let one : once ≡ charge_side root side n = omega arith in
+      let all = once_more times once some in
+      let whole : times * once ≡ charge_expr root (expr_of side t) n = rw (one, same) (sym charge) in
+      (e ∙ sym (holds_decided root n side law t), omega arith)
+
+  pub refused_first : (old times : ℕ) (f : SelectFault) → times ≡ uses t → 0 < times → Refuses (charge_side root side n) old f → Refuses (charge_expr root (expr_of side t) n) old f
+  refused_first old times f same some h =
+      let charge = charge_decided root n side t in
+      let all = once_more times (charge_side root side n) some in
+      let whole : times * charge_side root side n ≡ charge_expr root (expr_of side t) n = rw same (sym charge) in
+      refuses_from (charge_side root side n) old (charge_expr root (expr_of side t) n) old f (λ l. omega arith) h
+
+  pub refused_then : (old left times once : ℕ) (f : SelectFault) → times ≡ uses t → 0 < times → left + charge_side root side n ≡ old → once + left ≡ old → Refuses ((times - 1) * once) left f → Refuses (charge_expr root (expr_of side t) n) old f
+  refused_then old left times once f same some a b h =
+      let charge = charge_decided root n side t in
+      let one : once ≡ charge_side root side n = omega arith in
+      let all = once_more times once some in
+      let whole : times * once ≡ charge_expr root (expr_of side t) n = rw (one, same) (sym charge) in
+      refuses_from ((times - 1) * once) left (charge_expr root (expr_of side t) n) old f (λ l. omega arith) h

@@ -1,0 +1,76 @@
+#!/usr/bin/env python3
+"""Compares what random conditions on one side select with a plain evaluator: tests/against_conditions.py [CONDITIONS [SEED]].
+
+A condition joins comparisons of one side with literals by `||`, `&&`, `!` and parentheses; its values are the literals, others between
+and beyond them, and arrays and objects. The evaluator is plain_queries.py. The program is the one that bin/path_server builds or the
+one that the environment's PATH_SERVER names.
+"""
+import random
+import subprocess
+import sys
+
+from plain_queries import hits, query_of
+from running_server import PROGRAM, Report
+
+NUMBERS = ["0", "-0", "0e5", "1", "1.0", "10e-1", "2", "-1", "-1.5", "0.1", "100", "1e2", "1E+2", "99.99", "9007199254740992",
+           "9007199254740993", "123456789012345678901234567890", "0.00001", "1e-5", "-1e9", "1e999999999", "3", "5", "7"]
+STRINGS = ['""', '"a"', '"b"', '"ab"', '"aa"', '"\u00e9"', '"\\u00e9"', '"\U0001f600"', '"\uffff"', '"z"', '"A"', '"1"']
+WORDS = ["null", "true", "false"]
+OTHERS = ["4", "6", "-2", "0.5", "1.5", "1e300", '"c"', '"abc"', '"\\ud83d\\ude00"', "[]", "[1]", "[[1],2]", "{}", '{"a":1}']
+SIDES = ["@", "@", "@", "length(@)", "value(@)", "count(@)", "$", "length($)", "@.a", "@[0]", "$[0]", "length(@[0])"]
+OPERATORS = ["==", "!=", "<", "<=", ">", ">="]
+PER_TEXT = 10
+
+
+def literal(chance):
+    return chance.choice(chance.choice([NUMBERS, NUMBERS, STRINGS, WORDS]))
+
+
+def comparison(chance, side):
+    kind = chance.random()
+    if kind < 0.05:
+        return chance.choice(["@", "$", "@.a"])
+    left, right = (literal(chance) if kind < 0.15 else side), literal(chance)
+    left, right = (left, right) if chance.randrange(2) else (right, left)
+    return left + chance.choice(OPERATORS) + right
+
+
+def condition(chance, side, depth):
+    kind = chance.random()
+    if depth == 0 or kind < 0.3:
+        return comparison(chance, side)
+    if kind < 0.45:
+        return f"!({condition(chance, side, depth - 1)})"
+    parts = [condition(chance, side, depth - 1) for _ in range(chance.randint(2, 4))]
+    return "(" + chance.choice(["||", "&&"]).join(parts) + ")"
+
+
+def query(chance):
+    """A filter by conditions on one side, or on one of two now and then."""
+    sides = [chance.choice(SIDES) for _ in range(chance.choice([1, 1, 1, 2]))]
+    parts = [condition(chance, chance.choice(sides), 3) for _ in range(chance.randint(1, 6))]
+    return "$[?" + chance.choice(["||", "&&"]).join(parts) + "]"
+
+
+def text(chance):
+    values = NUMBERS + STRINGS + WORDS + OTHERS
+    return "[" + ",".join(chance.choice(values) for _ in range(chance.choice([1, 10, 40]))) + "]"
+
+
+def main():
+    count = int(sys.argv[1]) if len(sys.argv) > 1 else 2_000
+    chance, report = random.Random(int(sys.argv[2]) if len(sys.argv) > 2 else 1), Report()
+    for place in range(count):
+        source = text(chance).encode() if place % PER_TEXT == 0 else source
+        asked = query(chance)
+        if len(asked.encode()) > 4_096:
+            continue
+        query_of(asked)
+        wanted = b"".join(b"%s\t%s\n" % (path.encode(), value) for path, value in hits(source, asked))
+        ran = subprocess.run([PROGRAM, "query", asked], input=source, capture_output=True, timeout=60)
+        report.case("the nodes", f"{asked} on {source.decode()}", (0, wanted, b""), (ran.returncode, ran.stdout, ran.stderr))
+    report.close(f"against_conditions: {count} conditions")
+
+
+if __name__ == "__main__":
+    main()
