@@ -2,15 +2,15 @@
 """Compares what random conditions on one side select with a plain evaluator: tests/against_conditions.py [CONDITIONS [SEED]].
 
 A condition joins comparisons of one side with literals by `||`, `&&`, `!` and parentheses; its values are the literals, others between
-and beyond them, and arrays and objects. The evaluator is plain_queries.py. The program is the one that bin/path_server builds or the
+and beyond them, and arrays and objects. The evaluator is plain_queries.py. The program is the one that bin/build makes or the
 one that the environment's PATH_SERVER names.
 """
 import random
 import subprocess
 import sys
 
-from plain_queries import hits, query_of
-from running_server import PROGRAM, Report
+from lib.plain_queries import hits, query_of
+from lib.running_server import PROGRAM, Report
 
 NUMBERS = ["0", "-0", "0e5", "1", "1.0", "10e-1", "2", "-1", "-1.5", "0.1", "100", "1e2", "1E+2", "99.99", "9007199254740992",
            "9007199254740993", "123456789012345678901234567890", "0.00001", "1e-5", "-1e9", "1e999999999", "3", "5", "7"]
