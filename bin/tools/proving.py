@@ -92,7 +92,7 @@ def run_all(tasks, many, tell, silence):
     A large task gets the processors that no other one can use. tell gets each task that is done, with whether it went well, and
     nothing but the names of those that run where none was done for so many seconds."""
     done, failed, running, runs = set(), set(), {}, {}
-    with ThreadPoolExecutor(len(tasks)) as pool:
+    with ThreadPoolExecutor(max(len(tasks), 1)) as pool:
         while True:
             left = [it for it in tasks if it.name not in {*done, *failed, *running}]
             ready = [it for it in left if done.issuperset(it.waits)]
