@@ -165,20 +165,22 @@ def impl_name(head):
 
 
 def functions_of(file, text):
-    """The functions of a formatted text, but those within another's body. A body opens in the first line that stands as far left as the
-    function and ends in a brace, and what opens so closes at the next brace alone in a line that stands as far left."""
+    """The functions of a formatted text, but those within another's body, and those whose body is one line with their head. A body opens in
+    the first line that stands as far left as the function and leaves a brace open, also one that an edit has put more into; it closes at the next
+    brace alone in a line that stands as far left."""
     lines = text.split("\n")
+    opens = lambda line: line.count("{") > line.count("}")
     found, blocks, past = [], [], 0
     for number, line in enumerate(lines):
         blocks = [it for it in blocks if it.last > number]
         far = len(line) - len(line.lstrip())
         is_left = lambda at: lines[at].startswith(" " * far) and lines[at][far : far + 1] not in ("", " ")
-        if number < past or not (FUNCTION.match(line) or BLOCK.match(line)) or line.endswith(("}", ";")):
+        if number < past or not (FUNCTION.match(line) or BLOCK.match(line)) or line.endswith("}") and not opens(line):
             continue
-        opening = next((at for at in range(number, len(lines)) if lines[at].endswith(";") or is_left(at) and lines[at].endswith(("{", "{}"))), None)
-        if opening is None or lines[opening].endswith(";"):
+        opening = next((at for at in range(number, len(lines)) if is_left(at) and (opens(lines[at]) or lines[at].endswith("{}")) or lines[at].endswith(";")), None)
+        if opening is None or not is_left(opening) or not opens(lines[opening]) and not lines[opening].endswith("{}"):
             continue
-        last = opening if lines[opening].endswith("{}") else next((at for at in range(opening + 1, len(lines)) if lines[at] == " " * far + "}"), len(lines) - 1)
+        last = opening if not opens(lines[opening]) else next((at for at in range(opening + 1, len(lines)) if lines[at] == " " * far + "}"), len(lines) - 1)
         if FUNCTION.match(line):
             first = number
             while first and re.match(r" *(#\[|//)", lines[first - 1]):

@@ -164,7 +164,7 @@ class Trial:
         for edit in group:
             edit.lines = lines
             # a definition's edit is tried alone, and may break a lemma before it breaks the law that it is about
-            is_told = lambda line: any(now[it].is_at(line) for it in edit.judges) or not edit.functions and is_open(line)
+            is_told = lambda line: any(now[it].is_at(line) for it in edit.judges if it in now) or not edit.functions and is_open(line)
             told = next(filter(is_told, lines), None) if was_judged(lines) else None
             if told:
                 self.tell(edit.name, told, "refused")
