@@ -10,18 +10,19 @@ ghost use Rattle.client_lines.specs.Naming.{IsFirstString, TellsName, string_at}
 use crate::documents::LineFault;
 use json_tape::{Document, Kind, NodeId};
 use path_grammar::is_singular;
-use path_types::{ValidQuery, compile};
-use std::alloc::Global;
+use path_types::{QueryFault, ValidQuery, compile};
+use std::alloc::{AllocError, Global};
 use tape_select::{BUDGET, SelectFault, select};
 
-/// The singular query (RFC 9535, section 2.3.5.1) that a text spells, or `None` where it spells none, or memory was refused.
-pub fn read_name_query(alloc: Global, text: &[u8]) -> Option<ValidQuery>
-    ensures valid { IfSome result (λ q. IsValidQuery text.now (query_view q)) }
-    ensures singular { IfSome result (λ q. IsTrue (singular.is_singular (query_view q))) }
+/// The singular query (RFC 9535, section 2.3.5.1) that a text spells, or `None` where it spells none. An error where memory was refused.
+pub fn read_name_query(alloc: Global, text: &[u8]) -> Result<Option<ValidQuery>, AllocError>
+    ensures valid { IfOk result (λ o. IfSome o (λ q. IsValidQuery text.now (query_view q))) }
+    ensures singular { IfOk result (λ o. IfSome o (λ q. IsTrue (singular.is_singular (query_view q)))) }
 {
     match compile(alloc, text) {
-        Ok(query) if is_singular(query.segments()) => Some(query),
-        _ => None,
+        Ok(query) if is_singular(query.segments()) => Ok(Some(query)),
+        Err(QueryFault::Memory) => Err(AllocError),
+        _ => Ok(None),
     }
 }
 

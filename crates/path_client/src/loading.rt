@@ -65,6 +65,18 @@ struct Progress {
     told: u64,
 }
 
+// The query that tells names, where there is one.
+fn naming_of(alloc: Global, query: Option<&str>) -> Result<Option<ValidQuery>, Failure> {
+    let Some(query) = query else {
+        return Ok(None);
+    };
+    match read_name_query(alloc, query.as_bytes()) {
+        Ok(Some(naming)) => Ok(Some(naming)),
+        Ok(None) => Err(Failure::NameQuery),
+        Err(_) => Err(Failure::Memory),
+    }
+}
+
 /// Puts the documents of the file, or of standard input.
 pub fn load<R: Input + Print + Eprint + Files + Clock + AllocGlobal, S: Read + Write + Drop>(
     rt: &R,
@@ -74,13 +86,7 @@ pub fn load<R: Input + Print + Eprint + Files + Clock + AllocGlobal, S: Read + W
     is_terminal: bool,
 ) -> Result<(), Failure> {
     let alloc = rt.alloc();
-    let naming = match asked.name {
-        Some(query) => match read_name_query(alloc, query.as_bytes()) {
-            Some(naming) => Some(naming),
-            None => return Err(Failure::NameQuery),
-        },
-        None => None,
-    };
+    let naming = naming_of(alloc, asked.name)?;
     let mut loading = Loading {
         connection,
         frames: Vec::new(alloc),
@@ -152,7 +158,7 @@ fn next_line<I: BufRead + Drop>(reader: &mut I, line: &mut Vec<u8>) -> Result<bo
             }
             Ok(true)
         }
-        Err(_) => Err(Failure::Read),
+        Err(error) => Err(Failure::of_input(&error)),
     }
 }
 
