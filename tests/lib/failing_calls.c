@@ -1,5 +1,5 @@
 /* Makes calls of the C library fail in the program that it is loaded into by LD_PRELOAD, and counts them, for
-   tests/refused_growths.py, tests/refused_listening.py and tests/refused_calls.py.
+   tests/refused_growths.py, tests/refused_client.py, tests/refused_listening.py and tests/refused_calls.py.
 
    FAILING_KIND    memory (malloc, calloc, realloc), read (read, recv), write (write, writev, send), accept (accept4) or
                    poll (epoll_create1, epoll_ctl, epoll_wait)

@@ -1,4 +1,4 @@
-// Tests against a running server, and against peers whose replies are fixed: node --test clients/node/test/
+// Tests against a running server, and against peers whose replies are fixed: node --test clients/node/test/client.test.js
 //
 // The program is the one that bin/path_server builds, or the one that the environment's PATH_SERVER names.
 

@@ -1,5 +1,5 @@
 -- The payloads of replies, as the server writes them.
-use Rattle.std.specs.Prelude.{◌≡◌, ℕ, ◌<◌, ◌^◌, List, ◌++◌, length, flat_map, IsTrue}
+use Rattle.std.specs.Prelude.{ℕ, ◌<◌, ◌^◌, List, ◌++◌, length, flat_map, IsTrue}
 use Rattle.std.specs.List.{All}
 use Rattle.store_names.specs.Names.{is_document_name}
 use Rattle.tenant_map.specs.Listings.{number, name_field}

@@ -3,7 +3,7 @@ use Rattle.std.specs.Prelude.{ℕ, ◌<◌, ◌≤◌, List, [], ◌∷◌, ◌+
 use Rattle.json_tape.specs.Verdict.{text_limit}
 use Rattle.path_types.specs.Verdict.{query_limit}
 use Rattle.wire_frames.specs.Frames.{frame}
-use Rattle.wire_frames.specs.Requests.{Asked, Put, Get, Remove, ListNames, Query, DropCollection, Usage, PutNew}
+use Rattle.wire_frames.specs.Requests.{Asked, Put, Query, PutNew}
 use Rattle.wire_frames.specs.Encoding.{written, name_field}
 use Rattle.client_frames.specs.declared.requests.SendFault.{SendFault}
 use Rattle.client_frames.specs.declared.requests.SendFault.TheVariants.{TextTooLong, QueryTooLong, Memory}

@@ -1,3 +1,4 @@
 pub mod Lines
 pub mod Documents
 pub mod Keys
+pub mod Naming

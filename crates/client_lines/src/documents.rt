@@ -1,15 +1,15 @@
 //! The lines of a dump.
 
-ghost use Rattle.std.specs.Prelude.{◌≡◌, ◌++◌, Some, codes, option_and_then, string_bytes, IfOk, OnOk};
+ghost use Rattle.std.specs.Prelude.{◌≡◌, ◌++◌, Some, codes, option_and_then, string_bytes, IfErr, IfOk, OnOk};
 ghost use Rattle.std.specs.Option.{option_map};
 ghost use Rattle.serde_json.specs.Find.{as_str, get};
 ghost use Rattle.serde_json.specs.Read.{read};
 ghost use Rattle.serde_json.specs.View.{view};
 ghost use Rattle.client_lines.specs.Documents as spec;
-ghost use Rattle.client_lines.specs.Documents.{HasString, document, document_line};
+ghost use Rattle.client_lines.specs.Documents.{HasString, Refuses, document, document_line, document_text};
 
 use json_tape::TextFault;
-use serde_json::{Category, Value, json};
+use serde_json::{Value, json};
 use std::alloc::{AllocError, AllocFailed, Global};
 use thiserror::Error;
 
@@ -72,12 +72,20 @@ fn text_fault_name(fault: TextFault) -> &'static str {
 }
 
 impl From<AllocError> for LineFault {
+    ghost use Rattle.client_lines.specs.declared.documents.LineFault.TheVariants.{Memory};
+
+    ghost from_gives = { λ _ made. made ≡ Memory };
+
     fn from(_: AllocError) -> LineFault {
         LineFault::Memory
     }
 }
 
 impl<T: Drop> From<AllocFailed<T>> for LineFault {
+    ghost use Rattle.client_lines.specs.declared.documents.LineFault.TheVariants.{Memory};
+
+    ghost from_gives = { λ _ made. made ≡ Memory };
+
     fn from(_: AllocFailed<T>) -> LineFault {
         LineFault::Memory
     }
@@ -90,14 +98,15 @@ pub struct NamedText {
     pub text: String,
 }
 
-/// Appends the line of a document, a JSON object with the strings `name` and `text`.
+/// Appends the line of a document: the text of a JSON object with the strings `name` and `text`, as which it is read back, and a line feed.
 pub fn append_document(
     alloc: Global,
     name: &str,
     text: &str,
     out: &mut Vec<u8>,
 ) -> Result<(), AllocError>
-    ensures { OnOk result (out.new.items ≡ out.old.items ++ document_line name.now text.now) }
+    ensures appended { OnOk result (out.new.items ≡ out.old.items ++ document_line name.now text.now) }
+    ensures reads { OnOk result (read (document_text name.now text.now) ≡ Some (document name.now text.now)) }
 {
     let line = document_text(alloc, name, text)?;
     out.extend_from_slice(line.as_bytes())?;
@@ -121,13 +130,14 @@ fn document_text(alloc: Global, name: &str, text: &str) -> Result<String, AllocE
 
 fn parse(alloc: Global, line: &[u8]) -> Result<Value, LineFault>
     ensures value { IfOk result (λ v. read line.now ≡ Some (view v)) }
+    ensures refused { IfErr result (λ fault. Refuses fault line.now) }
 {
     let Ok(text) = simdutf8::basic::from_utf8(line) else {
         return Err(LineFault::NotUtf8);
     };
     match Value::from_str(alloc, text) {
         Ok(value) => Ok(value),
-        Err(error) if error.classify() == Category::Memory => Err(LineFault::Memory),
+        Err(error) if error.is_memory() => Err(LineFault::Memory),
         Err(_) => Err(LineFault::NotJson),
     }
 }
@@ -150,6 +160,7 @@ fn string_at(alloc: Global, value: &Value, key: &str) -> Result<Option<String>, 
 pub fn read_document(alloc: Global, line: &[u8]) -> Result<NamedText, LineFault>
     ensures name { IfOk result (λ d. HasString line.now (codes "name") (string_bytes d.name)) }
     ensures text { IfOk result (λ d. HasString line.now (codes "text") (string_bytes d.text)) }
+    ensures refused { IfErr result (λ fault. Refuses fault line.now) }
 {
     let value = parse(alloc, line)?;
     let Some(name) = string_at(alloc, &value, "name")? else {

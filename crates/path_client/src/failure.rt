@@ -139,6 +139,14 @@ pub enum Failure {
 }
 
 impl Failure {
+    /// What a failed parse of the command line means.
+    pub fn of_command_line(error: clap::Error) -> Failure {
+        match error.kind() {
+            ParseKind::OutOfMemory => Failure::Memory,
+            _ => Failure::CommandLine(error),
+        }
+    }
+
     /// What a payload means that was not read.
     pub fn of_payload(fault: PayloadFault) -> Failure {
         match fault {
@@ -152,6 +160,22 @@ impl Failure {
         match fault {
             LineFault::Memory => Failure::Memory,
             _ => Failure::NoReply,
+        }
+    }
+
+    /// What a failed read of the command line's words means.
+    pub fn of_words(error: &io::Error) -> Failure {
+        match error.kind() {
+            ErrorKind::OutOfMemory => Failure::Memory,
+            _ => Failure::Words,
+        }
+    }
+
+    /// What a failed read of the input means.
+    pub fn of_input(error: &io::Error) -> Failure {
+        match error.kind() {
+            ErrorKind::OutOfMemory => Failure::Memory,
+            _ => Failure::Read,
         }
     }
 
@@ -212,7 +236,6 @@ pub fn status_name(status: u8) -> &'static str {
 fn status_of_kind(kind: ParseKind) -> u8 {
     match kind {
         ParseKind::DisplayHelp | ParseKind::DisplayVersion => 0,
-        ParseKind::OutOfMemory => 4,
         _ => 3,
     }
 }
@@ -243,7 +266,11 @@ impl<'a> Told<'a> {
     fn parts(&self) -> (&'static str, &'static str, &'a str) {
         let (address, file) = (self.context.address, self.context.key_file);
         match self.failure {
-            Failure::Words => ("BadCommandLine", "a word of it is not UTF-8", ""),
+            Failure::Words => (
+                "BadCommandLine",
+                "a word of it, or a variable of the environment, is not UTF-8",
+                "",
+            ),
             Failure::AddressMissing => (
                 "NoAddress",
                 "say where the server is by --at ADDR or PATH_SERVER_AT",

@@ -5,7 +5,8 @@ use crate::connection::Connection;
 use crate::failure::{Failure, status_name};
 use crate::options::Asked;
 use client_frames::SendFault;
-use client_lines::{LineFault, NameQuery, NamedText, read_document};
+use client_lines::{LineFault, NamedText, name_in, read_document, read_name_query};
+use path_types::ValidQuery;
 use std::alloc::Global;
 use std::collections::VecDeque;
 use std::fs;
@@ -54,7 +55,7 @@ struct Loading<S: Drop> {
     frames: Vec<u8>,
     waiting: VecDeque<Waiting>,
     counts: Counts,
-    naming: Option<NameQuery>,
+    naming: Option<ValidQuery>,
 }
 
 /// When a load began, and when its progress was told last.
@@ -62,6 +63,18 @@ struct Loading<S: Drop> {
 struct Progress {
     began: Option<Instant>,
     told: u64,
+}
+
+// The query that tells names, where there is one.
+fn naming_of(alloc: Global, query: Option<&str>) -> Result<Option<ValidQuery>, Failure> {
+    let Some(query) = query else {
+        return Ok(None);
+    };
+    match read_name_query(alloc, query.as_bytes()) {
+        Ok(Some(naming)) => Ok(Some(naming)),
+        Ok(None) => Err(Failure::NameQuery),
+        Err(_) => Err(Failure::Memory),
+    }
 }
 
 /// Puts the documents of the file, or of standard input.
@@ -73,13 +86,7 @@ pub fn load<R: Input + Print + Eprint + Files + Clock + AllocGlobal, S: Read + W
     is_terminal: bool,
 ) -> Result<(), Failure> {
     let alloc = rt.alloc();
-    let naming = match asked.name {
-        Some(query) => match NameQuery::read(alloc, query.as_bytes()) {
-            Some(naming) => Some(naming),
-            None => return Err(Failure::NameQuery),
-        },
-        None => None,
-    };
+    let naming = naming_of(alloc, asked.name)?;
     let mut loading = Loading {
         connection,
         frames: Vec::new(alloc),
@@ -151,7 +158,7 @@ fn next_line<I: BufRead + Drop>(reader: &mut I, line: &mut Vec<u8>) -> Result<bo
             }
             Ok(true)
         }
-        Err(_) => Err(Failure::Read),
+        Err(error) => Err(Failure::of_input(&error)),
     }
 }
 
@@ -218,7 +225,7 @@ impl<S: Read + Write + Drop> Loading<S> {
             return Ok(());
         }
         match &self.naming {
-            Some(naming) => match naming.name_in(rt.alloc(), text) {
+            Some(query) => match name_in(rt.alloc(), query, text) {
                 Ok(name) => self.add(rt, collection, line, name, text),
                 Err(fault) => self.refuse(rt, line, fault),
             },

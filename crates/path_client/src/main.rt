@@ -11,7 +11,7 @@ mod options;
 
 use crate::failure::{Context, Failure};
 use crate::options::{Asked, Verb, read_options};
-use std::env;
+use std::env::{self, VarError};
 use std::io::IsTerminal;
 use std::net::Net;
 use std::process::ExitCode;
@@ -26,7 +26,16 @@ const KEY_FILE_VARIABLE: &str = "PATH_SERVER_KEY_FILE";
 fn words_of<R: Env + AllocGlobal>(rt: &R) -> Result<Vec<String>, Failure> {
     match env::args(rt) {
         Ok(words) => words.collect(rt.alloc()).map_err(|_| Failure::Memory),
-        Err(_) => Err(Failure::Words),
+        Err(error) => Err(Failure::of_words(&error)),
+    }
+}
+
+fn variable_of<R: Env + AllocGlobal>(rt: &R, variable: &str) -> Result<String, Failure> {
+    match env::var(rt, variable) {
+        Ok(text) => Ok(text),
+        Err(VarError::NotPresent) => Ok(String::new(rt.alloc())),
+        Err(VarError::NotUnicode) => Err(Failure::Words),
+        Err(VarError::OutOfMemory) => Err(Failure::Memory),
     }
 }
 
@@ -38,7 +47,7 @@ fn given<R: Env + AllocGlobal>(
 ) -> Result<String, Failure> {
     match option {
         Some(text) => String::from_str(rt.alloc(), text).map_err(|_| Failure::Memory),
-        None => Ok(env::var(rt, variable).unwrap_or(String::new(rt.alloc()))),
+        None => variable_of(rt, variable),
     }
 }
 

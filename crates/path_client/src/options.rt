@@ -252,7 +252,7 @@ fn parsed<'a>(alloc: Global, words: &'a [String]) -> Result<ArgMatches<'a>, Erro
 
 /// What the words of a command line ask for, of which the first is the program's name.
 pub fn read_options<'a>(alloc: Global, words: &'a [String]) -> Result<Options<'a>, Failure> {
-    let matches = parsed(alloc, words).map_err(Failure::CommandLine)?;
+    let matches = parsed(alloc, words).map_err(Failure::of_command_line)?;
     match options_of(&matches) {
         Some(options) => Ok(options),
         None => Err(Failure::Words),

@@ -1,11 +1,11 @@
-use Rattle.std.proofs.Common.{rules, ◌≡◌, ℕ, List, [], ◌∷◌, ◌++◌, ◌-◌, ◌<◌, Some, None, Option, map, length, sym, ap, ◌∙◌, subst, refl, arith}
+use Rattle.std.proofs.Common.{◌≡◌, [], ◌∷◌, ◌++◌, ◌-◌, ◌<◌, Some, None, map, length, sym, ap, ◌∙◌, subst, arith}
 use Rattle.std.proofs.lemmas.List.{map_push}
 use Rattle.store_names.specs.Names.{is_document_name}
 use Rattle.tenant_map.specs.Listings.{name_field}
 use Rattle.wire_frames.specs.Requests.{name_at}
-use Rattle.client_frames.specs.Payloads.{Found, IsFound, IsName, found_bytes}
-use Rattle.client_frames.specs.Readings.{found_of, hit_at, name_of, number_at, items_at}
-use Rattle.client_frames.proofs.Back.{hit_back, name_back}
+use Rattle.client_frames.specs.Payloads.{IsName}
+use Rattle.client_frames.specs.Readings.{name_of, number_at}
+use Rattle.client_frames.proofs.Back.{name_back}
 use Rattle.client_frames.proofs.Items.{HasRead, read_more, read_stopped, read_ended, no_number, no_items, more_than_items, not_empty}
 use Rattle.client_frames.proofs.payloads.read_names.Goals as goal
 

@@ -2,8 +2,8 @@ use Rattle.std.proofs.Common.{map}
 use Rattle.store_names.specs.Names.{is_document_name}
 use Rattle.tenant_map.specs.Listings.{name_field}
 use Rattle.wire_frames.specs.Requests.{name_at}
-use Rattle.client_frames.specs.Payloads.{IsFound, IsName, found_bytes}
-use Rattle.client_frames.specs.Readings.{found_of, hit_at, name_of}
+use Rattle.client_frames.specs.Payloads.{IsName}
+use Rattle.client_frames.specs.Readings.{name_of}
 use Rattle.client_frames.proofs.Items.{HasRead}
 use Rattle.client_frames.proofs.payloads.read_names.Given as goal
 

@@ -1,4 +1,4 @@
-use Rattle.std.proofs.Common.{◌≡◌, Option, Some, None, sym, ◌∙◌, ap, refl}
+use Rattle.std.proofs.Common.{◌≡◌, Option, Some, None, sym}
 use Rattle.std.specs.Option.{option_map, IfNone}
 use Rattle.client_frames.specs.Payloads.{AreCounts, usage_payload}
 use Rattle.client_frames.specs.Readings.{counts_of, usage_at}
