@@ -1,6 +1,7 @@
 #!/usr/bin/env python3
-"""Counts words: tests/plain_sentences.py [PAGE..] reports each sentence of the pages with more than 30 words, each cell of a table with more than
-200 characters, and each table with more than five columns, as docs/STYLE.md asks.
+"""Counts words: tests/plain_sentences.py [--split] [PAGE..] reports each sentence of the pages with more than 30 words, each cell of a table with
+more than 200 characters, and each table with more than five columns, as docs/STYLE.md asks. With --split it first makes several rows of one with
+such a cell, if the cell is a list whose items end with a semicolon.
 
 A sentence ends at a full stop, a question mark or an exclamation mark before a blank or the paragraph's end. Code between backquotes, a number or a
 path is one word. Blocks of code are left out, and so is docs/TRIED.md, whose notes are as they were taken.
@@ -47,6 +48,26 @@ def cells(line):
     return [it.strip() for it in re.split(r"(?<!\\)\|", line.strip().strip("|"))]
 
 
+def split_rows(text):
+    """Tables whose lists, between semicolons, stand in as many rows as their cells want."""
+    made = []
+    for line in text.split("\n"):
+        row = cells(line) if line.startswith("|") else []
+        long = next((at for at, cell in enumerate(row) if len(plain(cell)) > CELL and "; " in cell), None)
+        if long is None:
+            made.append(line)
+            continue
+        pieces = [""]
+        for item in row[long].split("; "):
+            joined = f"{pieces[-1]}; {item}" if pieces[-1] else item
+            if pieces[-1] and len(plain(joined)) > CELL:
+                pieces.append(item)
+            else:
+                pieces[-1] = joined
+        made += ["| " + " | ".join(row[:long] + [piece] + row[long + 1:]) + " |" for piece in pieces]
+    return "\n".join(made)
+
+
 def judge(report, name, text):
     for language, lines in parts(text):
         if language is not None:
@@ -66,11 +87,14 @@ def judge(report, name, text):
 
 
 def main():
-    report = Report()
+    report, given = Report(), [it for it in sys.argv[1:] if it != "--split"]
     for page in pages():
         name = str(page.relative_to(TOP))
-        if name not in LEFT_OUT and (not sys.argv[1:] or name in sys.argv[1:]):
-            judge(report, name, page.read_text(encoding="utf-8"))
+        if name in LEFT_OUT or given and name not in given:
+            continue
+        if "--split" in sys.argv:
+            page.write_text(split_rows(page.read_text(encoding="utf-8")), encoding="utf-8")
+        judge(report, name, page.read_text(encoding="utf-8"))
     report.close("sentences")
 
 
