@@ -44,6 +44,11 @@ def words(sentence):
     return [it for it in sentence.split() if re.search(r"\w", it)]
 
 
+def shown(cell):
+    """A cell as a reader sees it."""
+    return re.sub(r"\[([^\]]*)\]\([^)]*\)", r"\1", cell).replace("`", "").replace("**", "")
+
+
 def cells(line):
     return [it.strip() for it in re.split(r"(?<!\\)\|", line.strip().strip("|"))]
 
@@ -53,14 +58,14 @@ def split_rows(text):
     made = []
     for line in text.split("\n"):
         row = cells(line) if line.startswith("|") else []
-        long = next((at for at, cell in enumerate(row) if len(plain(cell)) > CELL and "; " in cell), None)
+        long = next((at for at, cell in enumerate(row) if len(shown(cell)) > CELL and "; " in cell), None)
         if long is None:
             made.append(line)
             continue
         pieces = [""]
         for item in row[long].split("; "):
             joined = f"{pieces[-1]}; {item}" if pieces[-1] else item
-            if pieces[-1] and len(plain(joined)) > CELL:
+            if pieces[-1] and len(shown(joined)) > CELL:
                 pieces.append(item)
             else:
                 pieces[-1] = joined
@@ -78,8 +83,8 @@ def judge(report, name, text):
             if len(found) > COLUMNS:
                 report.case(f"{name}: columns", line[:100], f"at most {COLUMNS}", len(found))
             for cell in found:
-                if len(plain(cell)) > CELL:
-                    report.case(f"{name}: characters of a cell", cell[:100], f"at most {CELL}", len(plain(cell)))
+                if len(shown(cell)) > CELL:
+                    report.case(f"{name}: characters of a cell", cell[:100], f"at most {CELL}", len(shown(cell)))
         for paragraph in paragraphs([line for line in lines if line not in of_table]):
             for sentence in sentences(paragraph):
                 count = len(words(sentence))
