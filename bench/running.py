@@ -159,7 +159,8 @@ def postgres_folder():
 
 @contextlib.contextmanager
 def postgres():
-    """A new PostgreSQL with its defaults, over the loopback address: a function that runs psql or pgbench on it, or None."""
+    """A new PostgreSQL with its defaults, over the loopback address: a function that runs psql or pgbench on it. None where it is not installed, or
+    does not start."""
     folder = postgres_folder()
     if not folder or not shutil.which("pgbench") or not shutil.which("psql"):
         yield None
@@ -167,19 +168,24 @@ def postgres():
     user = ["runuser", "-u", "postgres", "--"] if os.getuid() == 0 else []
     port = free_port()
     with tempfile.TemporaryDirectory(prefix="path-server-postgres-") as room:
-        if user:
-            shutil.chown(room, "postgres")
         quiet = {"cwd": room, "stdout": subprocess.DEVNULL, "stderr": subprocess.DEVNULL}
-        subprocess.run([*user, f"{folder}/initdb", "-D", f"{room}/data", "-A", "trust", "-U", "bench"], check=True, **quiet)
-        words = [f"{folder}/postgres", "-D", f"{room}/data", "-p", str(port), "-k", room, "-c", "listen_addresses=127.0.0.1"]
-        process = subprocess.Popen([*user, *words], **quiet)
+        try:
+            if user:
+                shutil.chown(room, "postgres")
+            subprocess.run([*user, f"{folder}/initdb", "-D", f"{room}/data", "-A", "trust", "-U", "bench"], check=True, **quiet)
+            words = [f"{folder}/postgres", "-D", f"{room}/data", "-p", str(port), "-k", room, "-c", "listen_addresses=127.0.0.1"]
+            process = subprocess.Popen([*user, *words], **quiet)
+            wait_for(port)
+        except (OSError, LookupError, subprocess.CalledProcessError) as error:
+            print(f"bench: PostgreSQL did not start: {error}", file=sys.stderr)
+            yield None
+            return
 
         def ask(tool, *words, given=None):
             at = [tool, "-h", "127.0.0.1", "-p", str(port), "-U", "bench", *words, "postgres"]
             return subprocess.run(at, input=given, check=True, capture_output=True, encoding="utf-8", cwd=room).stdout
 
         try:
-            wait_for(port)
             yield ask
         finally:
             process.terminate()
