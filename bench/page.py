@@ -1,4 +1,5 @@
 """docs/BENCHMARKS.md and README's figures, as they follow from what bench/report.py measured."""
+import re
 
 MEBIBYTE = 1 << 20
 BEGIN = "<!-- The lines up to the next mark are written by bench/report.py. -->"
@@ -39,6 +40,11 @@ def filled(words):
 
 def plot(name, title):
     return f"![{title}](plots/{name}.svg)"
+
+
+def implementation(head):
+    """The name of simdjson's implementation at the head of a column."""
+    return re.sub(r"^simdjson |, GB/s$", "", head)
 
 
 def share(words, numbers, digits=2):
@@ -107,7 +113,7 @@ def by_documents(it):
 
 def reading(it):
     head, *rows = it["files"]
-    best = head[3].removeprefix("simdjson ").removesuffix(", GB/s")
+    best = implementation(head[3])
     yield plot("reading", "Reading speed, by file")
     yield filled("A text is read into a document that queries can use, and all of RFC 8259 is checked, repeated names included. simdjson's DOM parser converts numbers, "
                  "and looks for no repeated name. Python is `json.loads`. The files are the usual ones of JSON benchmarks, cut to 1 MiB; `orders_1m.json` is made. "
@@ -142,7 +148,7 @@ def of_rows(rows):
 def index(it):
     (head, *rows), = it["tables"]
     yield filled("The first step of reading, which finds the places of a text's tokens, beside the same step of simdjson. Gigabytes a second:")
-    yield table(["file", "path_server", "simdjson, SSE4.2", f"simdjson, {head[6].removeprefix('simdjson ').removesuffix(', GB/s')}", "ratio to SSE4.2"],
+    yield table(["file", "path_server", "simdjson, SSE4.2", f"simdjson, {implementation(head[6])}", "ratio to SSE4.2"],
                 [[row[0], row[3], row[4], row[6], row[5]] for row in rows])
 
 

@@ -107,7 +107,7 @@ def measure(name, settings):
     if not failed:
         return {**entry, "result": json.loads(printed)}
     print("\n".join(lines), file=sys.stderr)
-    reason = lines[-1].removeprefix("bench/parts.py: ").replace(f"{TOP}/", "") if lines else failed
+    reason = lines[-1].replace("bench/parts.py: ", "").replace(f"{TOP}/", "") if lines else failed
     return {**entry, "failed": " ".join(reason.split())[:160].rstrip(".")}
 
 
