@@ -54,18 +54,19 @@ int main() {
   const size_t count = 1000000;
   Bytes small;
   for (size_t i = 0; i < count; i++) add_frame(small, 26);
+  std::printf("| small frames, pieces of | million a second | ns a frame | with its request read |\n|---|---|---|---|\n");
   for (size_t piece : {65536, 1024, 30, 7, 1}) {
     double taken = seconds(small, piece, false, count);
     double read = seconds(small, piece, true, count);
-    std::printf("frames of 30 bytes, pieces of %5zu: %6.2f million a second, %6.1f ns each, with read_request %6.1f ns\n",
-                piece, count / taken / 1e6, taken * 1e9 / count, read * 1e9 / count);
+    std::printf("| %zu bytes | %.1f | %.1f | %.1f |\n", piece, count / taken / 1e6, taken * 1e9 / count, read * 1e9 / count);
   }
+  std::printf("\n| bodies of | pieces of | ns a byte |\n|---|---|---|\n");
   for (size_t body : {524288, 6291456}) {
     Bytes large;
     for (int i = 0; i < 4; i++) add_frame(large, body);
     for (size_t piece : {1, 7, 1024, 65536, 8388624}) {
       double taken = seconds(large, piece, false, 4);
-      std::printf("bodies of %7zu bytes, pieces of %7zu: %7.3f ns a byte\n", body, piece, taken * 1e9 / large.size());
+      std::printf("| %zu bytes | %zu bytes | %.3f |\n", body, piece, taken * 1e9 / large.size());
     }
   }
 }

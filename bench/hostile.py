@@ -3,9 +3,9 @@
 
 Each text has up to 1,048,576 bytes, or as many as the environment's MEBIBYTES (1 to 4) says, each query up to 4,096. A row of the table is
 the shape, how the program ended, its seconds of processor time, and the aim: 1 s for each mebibyte, and at least 1.5 s for what has a
-charge of nearly 10,000,000 units. The program has a stack of 256 KiB, and is stopped after so many SECONDS (5). With a WORD, only the rows that have it in their names are run. The
-last line is the number of rows above their aim, and the exit status is 1 where there is one. The program is the one that
-bin/build makes, or the one that the environment's PATH_SERVER names.
+charge of nearly 10,000,000 units. The program has a stack of 256 KiB, and is stopped after so many SECONDS (5). With a WORD, only the rows
+that have it in their names are run. The last line is the number of rows above their aim, and the exit status is 1 if there is one. The
+program is the one that bin/build makes, or the one that the environment's PATH_SERVER names.
 """
 import collections
 import functools
@@ -15,9 +15,9 @@ import resource
 import subprocess
 import sys
 import tempfile
-from pathlib import Path
 
-PROGRAM = os.environ.get("PATH_SERVER") or str(Path(__file__).resolve().parent.parent / "crates/path_program/out/path_program")
+from running import PROGRAM, need_program
+
 MEBIBYTES = int(os.environ.get("MEBIBYTES") or 1)
 TEXT, QUERY, STACK = MEBIBYTES << 20, 4_096, 256 << 10
 DEPTH = 254
@@ -334,21 +334,22 @@ def run(text, query, seconds):
     return f"signal {-process.returncode}" if process.returncode < 0 and said != "stopped" else said or "done", taken
 
 
-def main():
-    seconds = float(sys.argv[1]) if len(sys.argv) > 1 else 5.0
-    word = sys.argv[2] if len(sys.argv) > 2 else ""
-    if not os.access(PROGRAM, os.X_OK):
-        sys.exit(f"no program {PROGRAM}: bin/build makes it")
-    count = above = 0
-    print("| shape | end | seconds | aim |\n|---|---|---|---|")
+def measured(seconds, word=""):
+    """Of each row with that word: its shape, how the program ended, its seconds, the aim, and whether it is above it."""
     for made, aim in ROWS.items():
         for name, text, query in made():
-            if word not in name:
-                continue
-            end, taken = run(text, query, seconds)
-            is_above = taken > aim or end == "stopped" or end.startswith("signal")
-            count, above = count + 1, above + is_above
-            print(f"| {name} | {end} | {taken:.3f} | {aim}{' ABOVE' if is_above else ''} |", flush=True)
+            if word in name:
+                end, taken = run(text, query, seconds)
+                yield name, end, taken, aim, taken > aim or end == "stopped" or end.startswith("signal")
+
+
+def main():
+    need_program()
+    count = above = 0
+    print("| shape | end | seconds | aim |\n|---|---|---|---|")
+    for name, end, taken, aim, is_above in measured(float(sys.argv[1]) if len(sys.argv) > 1 else 5.0, sys.argv[2] if len(sys.argv) > 2 else ""):
+        count, above = count + 1, above + is_above
+        print(f"| {name} | {end} | {taken:.3f} | {aim}{' ABOVE' if is_above else ''} |", flush=True)
     print(f"hostile: {count} rows, {above} above their aim")
     sys.exit(1 if above else 0)
 

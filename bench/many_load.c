@@ -1,6 +1,6 @@
-/* Times requests over many connections at once: many_load PORT CONNECTIONS SECONDS. Each connection has one request on its way, a GET of
-   what is not there; its reply has 9 bytes. One thread, by epoll. Prints the requests a second, and of their times the median and the
-   least that 99 of 100 do not pass, in microseconds. */
+/* Times requests over many connections at once: many_load PORT CONNECTIONS SECONDS LENGTH, the request on standard input. Each connection has
+   one request on its way, whose reply has LENGTH bytes. One thread, by epoll. Prints the requests a second, and of their times the median
+   and the least that 99 of 100 do not pass, in microseconds. */
 #include <arpa/inet.h>
 #include <netinet/tcp.h>
 #include <stdio.h>
@@ -11,7 +11,7 @@
 #include <time.h>
 #include <unistd.h>
 
-enum { REPLY = 9, EVENTS = 1024, SAMPLES = 1 << 22 };
+enum { LONGEST = 4096, EVENTS = 1024, SAMPLES = 1 << 22 };
 
 struct peer {
     int stream;
@@ -19,8 +19,8 @@ struct peer {
     double asked;
 };
 
-static const unsigned char KEY[16] = {0x00, 0x11, 0x22, 0x33, 0x44, 0x55, 0x66, 0x77, 0x88, 0x99, 0xaa, 0xbb, 0xcc, 0xdd, 0xee, 0xff};
-static unsigned char request[29] = {0, 0, 0, 25, 2, 0, 0, 0, 1};
+static unsigned char request[LONGEST];
+static ssize_t size;
 static float samples[SAMPLES];
 
 static double now(void)
@@ -45,7 +45,7 @@ static void fail(const char *what)
 static void ask(struct peer *peer)
 {
     peer->asked = now();
-    if (write(peer->stream, request, sizeof request) != sizeof request)
+    if (write(peer->stream, request, size) != size)
         fail("write");
 }
 
@@ -63,12 +63,13 @@ static void join(struct peer *peer, int port, int poll)
 
 int main(int count_of_words, char **words)
 {
-    if (count_of_words != 4)
+    if (count_of_words != 5)
         return 2;
-    int port = atoi(words[1]), count = atoi(words[2]), poll = epoll_create1(0);
+    int port = atoi(words[1]), count = atoi(words[2]), length = atoi(words[4]), poll = epoll_create1(0);
+    if (length < 1 || length > LONGEST)
+        return 2;
     struct peer *peers = calloc(count, sizeof *peers);
-    memcpy(request + 9, KEY, 16);
-    memcpy(request + 25, "\1c\1n", 4);
+    size = fread(request, 1, LONGEST, stdin);
     for (int place = 0; place < count; place++)
         join(&peers[place], port, poll);
     double start = now(), stop = start + atof(words[3]) * 1e6;
@@ -83,12 +84,12 @@ int main(int count_of_words, char **words)
             fail("no reply within 5 seconds");
         for (int at = 0; at < found; at++) {
             struct peer *peer = events[at].data.ptr;
-            char reply[REPLY];
-            ssize_t some = read(peer->stream, reply, REPLY - peer->got);
+            char reply[LONGEST];
+            ssize_t some = read(peer->stream, reply, length - peer->got);
             if (some <= 0)
                 fail("read");
             peer->got += some;
-            if (peer->got < REPLY)
+            if (peer->got < length)
                 continue;
             double came = now();
             peer->got = 0;

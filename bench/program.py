@@ -1,58 +1,95 @@
 #!/usr/bin/env python3
-"""Times the program `path_server query` on a text: bench/program.py FILE [QUERY].
+"""Times `path_server query` on texts beside jq, gojq, sqlite3 and Python, start of the process included: bench/program.py [FILE QUERY].
 
-Prints the best wall time of many runs and the greatest resident memory of one, for the file and for a text of 13 bytes.
-Build the program first, with bin/build. The memory is read by the command time (/usr/bin/time).
+Without words it makes texts of small orders of five lengths, and asks each program for the names of those with a price below 10: a line
+has the median of its wall times and its greatest resident memory. With a FILE it asks the program alone. The program is the one that
+bin/build makes, or the one that the environment's PATH_SERVER names. The memory is read by the command time (/usr/bin/time).
 """
 import os
+import shutil
+import statistics
 import subprocess
 import sys
 import tempfile
 import time
 from pathlib import Path
 
-PROGRAM = Path(__file__).resolve().parent.parent / "crates/path_program/out/path_program"
-RUNS = 200
+from running import PROGRAM, items, need_program
+
+LENGTHS = (1_000, 10_000, 100_000, 1 << 20, 1 << 22)
+QUERY = "$.items[?@.price<10].name"
+RUNS = 40
+PYTHON = "import json, sys\nfor it in json.load(sys.stdin)['items']:\n    if it['price'] < 10:\n        print(it['name'])"
+SQL = "select json_extract(value, '$.name') from json_each(readfile('{}'), '$.items') where json_extract(value, '$.price') < 10"
 
 
-def run(query: str, text: str) -> float:
-    """Runs the program once; answers the seconds it took."""
-    source = os.open(text, os.O_RDONLY)
-    sink = os.open(os.devnull, os.O_WRONLY)
-    actions = [(os.POSIX_SPAWN_DUP2, source, 0), (os.POSIX_SPAWN_DUP2, sink, 1)]
+def tools(text):
+    """What answers the query on the file of a text, by the name of each program that is here."""
+    of_jq = ["-r", ".items[] | select(.price < 10) | .name"]
+    words = {"path_server": [PROGRAM, "query", QUERY], "jq": [shutil.which("jq"), *of_jq], "gojq": [shutil.which("gojq"), *of_jq],
+             "sqlite3": [shutil.which("sqlite3"), ":memory:", SQL.format(text)], "python": [sys.executable, "-I", "-c", PYTHON]}
+    return {name: them for name, them in words.items() if them[0]}
+
+
+def run(words, text, sink=os.devnull):
+    """Runs a program once on a text as its standard input. The seconds that it took."""
+    source, out = os.open(text, os.O_RDONLY), os.open(sink, os.O_WRONLY | os.O_CREAT | os.O_TRUNC)
+    actions = [(os.POSIX_SPAWN_DUP2, source, 0), (os.POSIX_SPAWN_DUP2, out, 1)]
     begin = time.perf_counter()
-    child = os.posix_spawn(str(PROGRAM), ["path_server", "query", query], {}, file_actions=actions)
+    child = os.posix_spawn(words[0], words, {}, file_actions=actions)
     _, status = os.waitpid(child, 0)
     seconds = time.perf_counter() - begin
     os.close(source)
-    os.close(sink)
-    if os.waitstatus_to_exitcode(status) != 0:
-        sys.exit(f"{text}: the program ended with {os.waitstatus_to_exitcode(status)}")
+    os.close(out)
+    if os.waitstatus_to_exitcode(status):
+        raise RuntimeError(f"{words[0]} ended with {os.waitstatus_to_exitcode(status)} on {text}")
     return seconds
 
 
-def memory(query: str, text: str) -> int:
-    """The greatest resident memory of a run, in KiB."""
+def memory(words, text):
+    """The greatest resident memory of a run, in bytes."""
     with open(text, "rb") as source:
-        words = ["/usr/bin/time", "-f", "%M", str(PROGRAM), "query", query]
-        done = subprocess.run(words, stdin=source, stdout=subprocess.DEVNULL, stderr=subprocess.PIPE, check=True)
-    return int(done.stderr)
+        done = subprocess.run(["/usr/bin/time", "-f", "%M", *words], stdin=source, stdout=subprocess.DEVNULL, stderr=subprocess.PIPE, check=True)
+    return int(done.stderr.split()[-1]) * 1024
 
 
-def report(name: str, query: str, text: str) -> None:
-    best = min(run(query, text) for _ in range(RUNS))
-    print(f"{name}: best {best * 1000:.2f} ms, memory {memory(query, text)} KiB, {os.path.getsize(text)} bytes")
+def lines(words, text, folder):
+    """How many hits a program prints."""
+    sink = Path(folder) / "printed"
+    run(words, text, sink)
+    return sink.read_bytes().count(b"\n")
 
 
-def main() -> None:
-    if len(sys.argv) < 2:
-        sys.exit(__doc__)
-    query = sys.argv[2] if len(sys.argv) > 2 else "$.nothing"
-    report(os.path.basename(sys.argv[1]), query, sys.argv[1])
-    with tempfile.NamedTemporaryFile() as small:
-        small.write(b'{"a":[10,20]}')
-        small.flush()
-        report("13 bytes", "$.a[1]", small.name)
+def by_length(lengths=LENGTHS, seconds=2.0):
+    """For each length, the hits and by each program its median time in seconds and its memory. All must find as many hits."""
+    with tempfile.TemporaryDirectory() as folder:
+        for length in lengths:
+            text = Path(folder) / "text"
+            text.write_bytes(items(length))
+            words = tools(text)
+            found = {name: lines(them, text, folder) for name, them in words.items()}
+            if len(set(found.values())) != 1:
+                raise RuntimeError(f"the programs disagree on the hits in {length} bytes: {found}")
+            times, until = {name: [] for name in words}, time.monotonic() + seconds * len(words)
+            for turn in range(RUNS):
+                for name, them in words.items():
+                    times[name].append(run(them, text))
+                if turn >= 4 and time.monotonic() > until:
+                    break
+            yield length, found["path_server"], {name: (statistics.median(times[name]), memory(them, text)) for name, them in words.items()}
 
 
-main()
+def main():
+    need_program()
+    if len(sys.argv) == 3:
+        words = [PROGRAM, "query", sys.argv[2]]
+        best = min(run(words, sys.argv[1]) for _ in range(200))
+        print(f"best {best * 1000:.2f} ms, memory {memory(words, sys.argv[1]) >> 10} KiB, {os.path.getsize(sys.argv[1])} bytes")
+        return
+    for length, hits, rows in by_length():
+        for name, (seconds, resident) in rows.items():
+            print(f"{length} bytes, {hits} hits, {name}: {seconds * 1000:.2f} ms, {resident / 2**20:.1f} MiB", flush=True)
+
+
+if __name__ == "__main__":
+    main()

@@ -111,7 +111,7 @@ static void rows(const std::string &text) {
   const auto list = [&](size_t n, size_t r) { return path_bench_store_list(bytes(text), text.size(), n, r); };
   for (size_t n : {1, 100, 250, 1000}) {
     row("put over a text", n, n, put);
-    row("put and, after all puts, one drop of the collection", n, n, drop);
+    row("put, and its part of a drop", n, n, drop);
     row("get", n, n, get);
     row("list", n, 1, list);
     for (const char *asked : {"$.a[1]", "$.b"}) {
@@ -130,7 +130,7 @@ static void memory(const char *name, const std::string &text, size_t documents) 
     counted([&] { return path_bench_store_put(bytes(text), text.size(), documents << i, 1); });
     peaks[i] = most;
   }
-  std::printf("| %s | %zu | %.1f |\n", name, text.size(), double(peaks[1] - peaks[0]) / double(documents));
+  std::printf("| %s | %zu | %.0f |\n", name, text.size(), double(peaks[1] - peaks[0]) / double(documents));
 }
 
 int main() {
@@ -142,17 +142,18 @@ int main() {
 
   std::printf("| command, on texts of 23 bytes | documents | time, us | growths |\n|---|---|---|---|\n");
   rows(small);
+  std::printf("\n| text | put into a new tenant, us | Document::read alone, us |\n|---|---|---|\n");
   for (const std::string *text : {&string, &objects}) {
-    const char *name = text == &string ? "a string of 1 MiB" : "small objects of 1 MiB";
+    const char *name = text == &string ? "one string, 1 MiB" : "small objects, 1 MiB";
     double read = 1e9, put = 1e9;
     for (int i = 0; i < 60; i++) {
       read = std::min(read, seconds([&] { return path_bench_read(bytes(*text), text->size()); }));
       put = std::min(put, seconds([&] { return path_bench_store_put(bytes(*text), text->size(), 1, 1); }));
     }
-    std::printf("%s: put into a new tenant %.0f us, Document::read alone %.0f us\n", name, put * 1e6, read * 1e6);
+    std::printf("| %s | %.0f | %.0f |\n", name, put * 1e6, read * 1e6);
   }
-  std::printf("| document | bytes of its text | bytes of memory that one more takes |\n|---|---|---|\n");
+  std::printf("\n| document | bytes of its text | bytes of memory that one more takes |\n|---|---|---|\n");
   memory("23 bytes", small, 500);
-  memory("a string of 1 MiB", string, 8);
-  memory("small objects of 1 MiB", objects, 8);
+  memory("one string, 1 MiB", string, 8);
+  memory("small objects, 1 MiB", objects, 8);
 }

@@ -13,7 +13,8 @@ The pages are README.md, CONTRIBUTING.md, those of docs/, and the README.md of e
 - A table below a line "On `TEXT`:" whose rows are a query and the values that it selects is asked of the program.
 - An example in Rust of a crate's page is a test. `rt try --test` compiles and runs them all, where there is rt.
 - A link to a file, and what stands between backquotes and begins with a folder of this repository, is there.
-- The pictures are what their script draws. A line beside "bin/definitions PATH" in a table, `N files, M lines`, is what that command counts.
+- The pictures are what their script draws, and the figures of README and docs/BENCHMARKS.md those that bench/report.py recorded. A line beside
+  "bin/definitions PATH" in a table, `N files, M lines`, is what that command counts.
 
 It runs the programs that bin/build makes, or those that the environment's PATH_SERVER and PATH_CLIENT name.
 """
@@ -252,6 +253,8 @@ def main():
         count_definitions(report, name, text)
     drawn = subprocess.run([TOP / "docs/pictures/draw.py", "--check"], stdout=subprocess.PIPE, encoding="utf-8")
     report.case("the pictures are those of docs/pictures/draw.py", "", "", drawn.stdout)
+    figures = subprocess.run([TOP / "bench/report.py", "--check"], stdout=subprocess.PIPE, encoding="utf-8")
+    report.case("the figures are those of bench/report.py", "", "", figures.stdout)
     try_examples(report, chosen)
     report.close(f"{len(chosen)} pages")
 

@@ -38,8 +38,8 @@ pub enum AnswerFault {
 ///
 /// # Errors
 ///
-/// FrameFault where the status is that of a framing fault, whatever the number; then OtherNumber where the number is another; then
-/// PayloadOfRefusal where a status other than Ok has a payload.
+/// FrameFault if the status is that of a framing fault, whatever the number; then OtherNumber if the number is another; then
+/// PayloadOfRefusal if a status other than Ok has a payload.
 pub fn answer_to(reply: Reply<'_>, number: u32) -> Result<Answer<'_>, AnswerFault>
     ensures { Answers reply.entry.status reply.entry.number number reply.entry.payload.now result }
 {

@@ -1,7 +1,7 @@
 //! What a client of the server sends and reads: the frames of requests and replies, over bytes alone.
 //!
 //! [`write_request`] writes the frame of a request. [`front_of`] finds the reply that bytes begin with, [`answer_to`] what it says of a request, and
-//! [`read_hits`], [`read_names`] and [`read_usage`] read the payloads of QUERY, LIST and USAGE. What is no reply is a fault of its own.
+//! [`read_hits`], [`read_names`] and [`read_usage`] read the payloads of QUERY, LIST and USAGE. Bytes that are not a reply are a fault of their own.
 #![tactic(auto)]
 
 mod answers;

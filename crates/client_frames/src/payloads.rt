@@ -32,10 +32,10 @@ pub struct Usage {
 /// Why a payload was not read.
 #[derive(Clone, Copy, Debug, Drop, PartialEq, Eq, Error)]
 pub enum PayloadFault {
-    /// It is not the payload of that command: bytes are missing or left over, or a name is none.
+    /// It is not the payload of that command: bytes are missing or left over, or a name is invalid.
     #[error("a payload is not the command's")]
     NoPayload,
-    /// A growth was refused.
+    /// An allocation failed.
     #[error("a growth was refused")]
     Memory,
 }
@@ -60,7 +60,7 @@ impl<T: Drop> From<AllocFailed<T>> for PayloadFault {
     }
 }
 
-/// The numbers in the payload of a USAGE, or `None` where it is none.
+/// The numbers in the payload of a USAGE, or `None` if it is not one.
 pub fn read_usage(payload: &[u8]) -> Option<Usage>
     ensures usage { IfSome result (λ u. payload.now ≡ usage_payload u.collections u.documents u.bytes) }
     ensures none { IfNone result ((collections documents bytes : ℕ) → AreCounts collections documents bytes → payload.now ≢ usage_payload collections documents bytes) }
@@ -118,7 +118,7 @@ fn take_hit(bytes: &[u8]) -> Option<(Hit<'_>, &[u8])>
 ///
 /// # Errors
 ///
-/// NoPayload where it is none, Memory where a growth was refused.
+/// NoPayload if it is not one, Memory if an allocation failed.
 pub fn read_hits(alloc: Global, payload: &[u8]) -> Result<Vec<Hit<'_>>, PayloadFault>
     ensures hits { IfOk result (λ hits. let found = map found_of hits.items in AreHits found × (payload.now ≡ hits_payload found)) }
     ensures none { IsErrOf result PayloadFault.NoPayload → (hits : List Found) → AreHits hits → payload.now ≢ hits_payload hits }
@@ -147,7 +147,7 @@ pub fn read_hits(alloc: Global, payload: &[u8]) -> Result<Vec<Hit<'_>>, PayloadF
 ///
 /// # Errors
 ///
-/// NoPayload where it is none, Memory where a growth was refused.
+/// NoPayload if it is not one, Memory if an allocation failed.
 pub fn read_names(alloc: Global, payload: &[u8]) -> Result<Vec<DocName<'_>>, PayloadFault>
     ensures names { IfOk result (λ names. let found = map name_of names.items in AreNames found × (payload.now ≡ names_payload found)) }
     ensures none { IsErrOf result PayloadFault.NoPayload → (names : List (List ℕ)) → AreNames names → payload.now ≢ names_payload names }

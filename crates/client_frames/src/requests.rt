@@ -25,7 +25,7 @@ pub enum SendFault {
     /// The query is above [`path_grammar::QUERY_LIMIT`].
     #[error("the query is longer than a query may be")]
     QueryTooLong,
-    /// A growth was refused.
+    /// An allocation failed.
     #[error("a growth was refused")]
     Memory,
 }
@@ -160,7 +160,7 @@ fn append(head: &[u8], key: &[u8], given: &Parts<'_>, out: &mut Vec<u8>) -> Resu
 ///
 /// # Errors
 ///
-/// TextTooLong and QueryTooLong where the text or the query is above its limit, whatever it holds; Memory where a growth was refused. The
+/// TextTooLong and QueryTooLong if the text or the query is above its limit, whatever it holds; Memory if an allocation failed. The
 /// vector's bytes are unchanged then.
 pub fn write_request(
     number: u32,

@@ -19,7 +19,7 @@ pub enum LineFault {
     /// It is not UTF-8.
     #[error("it is not UTF-8")]
     NotUtf8,
-    /// It is no JSON text (RFC 8259).
+    /// It is not a JSON text (RFC 8259).
     #[error("it is no JSON text")]
     NotJson,
     /// It has no string under `name`, or where a query says.
@@ -28,16 +28,16 @@ pub enum LineFault {
     /// It has no string under `text`.
     #[error("it has no text")]
     NoText,
-    /// It is no document.
+    /// It is not a document.
     #[error("it is no document: {0}")]
     NoDocument(TextFault),
-    /// A growth was refused.
+    /// An allocation failed.
     #[error("a growth was refused")]
     Memory,
 }
 
 impl LineFault {
-    /// The name of what the line is refused for, as the protocol has it where it has one.
+    /// The name of the refusal, as in the protocol if it has one.
     pub fn name(&self) -> &'static str {
         match self {
             LineFault::NotUtf8 => "NotUtf8",
@@ -156,7 +156,7 @@ fn string_at(alloc: Global, value: &Value, key: &str) -> Result<Option<String>, 
 ///
 /// # Errors
 ///
-/// NotUtf8, NotJson, NoName or NoText where the line has not both, Memory where a growth was refused.
+/// NotUtf8, NotJson, NoName or NoText if the line does not have both, Memory if an allocation failed.
 pub fn read_document(alloc: Global, line: &[u8]) -> Result<NamedText, LineFault>
     ensures name { IfOk result (λ d. HasString line.now (codes "name") (string_bytes d.name)) }
     ensures text { IfOk result (λ d. HasString line.now (codes "text") (string_bytes d.text)) }

@@ -65,7 +65,7 @@ fn append_json_hit(alloc: Global, hit: &Hit<'_>, out: &mut Vec<u8>) -> Result<()
 ///
 /// # Errors
 ///
-/// NotUtf8 where a path is not UTF-8, Memory where a growth was refused.
+/// NotUtf8 if a path is not UTF-8, Memory if an allocation failed.
 pub fn append_json_hits(alloc: Global, hits: &[Hit<'_>], out: &mut Vec<u8>) -> Result<(), LineFault>
     ensures { OnOk result (out.new.items ≡ out.old.items ++ json_lines (map found_of hits.now)) }
 {

@@ -8,10 +8,10 @@ ghost use Rattle.client_lines.specs.Keys as keys;
 use hex::FromHex;
 use thiserror::Error;
 
-/// Why a text holds no key.
+/// Why a text does not hold a key.
 #[derive(Clone, Copy, Debug, Drop, PartialEq, Eq, Error)]
 pub enum KeyFault {
-    /// There is none.
+    /// There is no key.
     #[error("it has no key")]
     NoKey,
     /// There are several words.
@@ -34,7 +34,7 @@ fn are_separators(bytes: &[u8]) -> bool
     bytes.iter().all(|byte| is_separator(*byte))
 }
 
-/// The bytes before the first that is a separator, or before the first that is none.
+/// The bytes before the first separator, or before the first byte that is not one.
 fn bytes_before(text: &[u8], separator: bool) -> usize
     ensures { result ≤ length text.now }
 {
@@ -51,7 +51,7 @@ fn bytes_before(text: &[u8], separator: bool) -> usize
 ///
 /// # Errors
 ///
-/// NoKey where the text has separators alone, SeveralKeys where it has several words, BadKey where its word is not a key.
+/// NoKey if the text has only separators, SeveralKeys if it has several words, BadKey if its word is not a key.
 pub fn read_key(text: &[u8]) -> Result<[u8; 16], KeyFault>
     ensures { IfOk result (λ key. HoldsKey text.now key) }
 {

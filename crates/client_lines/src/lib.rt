@@ -1,7 +1,7 @@
 //! The lines of the client: what it prints of a reply, and what it reads of a file.
 //!
 //! [`append_hits`], [`append_json_hits`] and [`append_names`] print replies; [`append_document`] writes a line of a dump, which
-//! [`read_document`] reads, and [`name_in`] tells the name of a document that is a line; [`read_key`] reads a file with a key.
+//! [`read_document`] reads, and [`name_in`] finds the name of a document that is a line; [`read_key`] reads a file with a key.
 #![tactic(auto)]
 
 mod documents;

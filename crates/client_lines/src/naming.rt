@@ -1,4 +1,4 @@
-//! The name that a query tells of a document.
+//! The name that a query finds in a document.
 
 ghost use Rattle.std.specs.Prelude.{◌≡◌, ◌<◌, IfOk, IfSome, IsTrue, string_bytes};
 ghost use Rattle.json_tape.specs.Document.{count, node_at, tree_of};
@@ -14,7 +14,7 @@ use path_types::{QueryFault, ValidQuery, compile};
 use std::alloc::{AllocError, Global};
 use tape_select::{BUDGET, SelectFault, select};
 
-/// The singular query (RFC 9535, section 2.3.5.1) that a text spells, or `None` where it spells none. An error where memory was refused.
+/// The singular query (RFC 9535, section 2.3.5.1) that a text is, or `None` if it is not one. An error if an allocation failed.
 pub fn read_name_query(alloc: Global, text: &[u8]) -> Result<Option<ValidQuery>, AllocError>
     ensures valid { IfOk result (λ o. IfSome o (λ q. IsValidQuery text.now (query_view q))) }
     ensures singular { IfOk result (λ o. IfSome o (λ q. IsTrue (singular.is_singular (query_view q)))) }
@@ -30,8 +30,8 @@ pub fn read_name_query(alloc: Global, text: &[u8]) -> Result<Option<ValidQuery>,
 ///
 /// # Errors
 ///
-/// NoDocument with what the server would refuse the text for; NoName where the query selects no string first; Memory where a growth was
-/// refused.
+/// NoDocument with the reason for which the server would refuse the text; NoName if the query selects no string first; Memory if an allocation
+/// failed.
 pub fn name_in(alloc: Global, query: &ValidQuery, text: &[u8]) -> Result<String, LineFault>
     ensures { IfOk result (λ name. TellsName (query_view query.now) text.now (string_bytes name)) }
 {

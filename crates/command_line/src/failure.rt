@@ -18,23 +18,23 @@ use tenant_map::TenantsFault;
 /// Why the program ends early.
 #[derive(Debug, Drop)]
 pub enum Failure {
-    /// The command line is none, or asks for help or the version.
+    /// The command line is invalid, or asks for help or the version.
     CommandLine(clap::Error),
     /// A word of the command line is not UTF-8.
     Words,
     /// The query on standard input is not answered.
     Query(QueryStreamFault),
-    /// The keys are not of their written form.
+    /// The keys are not in their written form.
     Keys(KeysFault),
     /// The script on standard input is not replayed.
     Replay(ReplayStreamFault),
     /// The keys are refused.
     Tenants(TenantsFault),
-    /// The address is none, or it could not be bound or connected to, or a connection could not be accepted.
+    /// The address is invalid, or could not be bound or connected to, or a connection could not be accepted.
     Net,
     /// The same, with the address and the system's reason.
     Address(AddressFault),
-    /// A line of a file of keys is not of their written form.
+    /// A line of a file of keys is not in their written form.
     KeyLine(KeyLine),
     /// The line with the bound address could not be printed.
     Write,
@@ -42,7 +42,7 @@ pub enum Failure {
     Read(ReadFault),
     /// The request frames are not answered.
     Call(CallStreamFault),
-    /// A growth was refused.
+    /// An allocation failed.
     Memory,
 }
 
@@ -263,7 +263,7 @@ mod tests {
     use std::process::Abort;
     use std::test::Fail;
 
-    // Each refusal's name and status, as the README's table has them.
+    // Each refusal's name and status, as in the table of docs/COMMANDS.md.
     const REFUSALS: [(QueryTextFault, &str, u8); 12] = [
         (QueryTextFault::TooLong, "TooLong", 1),
         (QueryTextFault::NotUtf8, "NotUtf8", 1),

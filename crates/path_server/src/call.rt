@@ -53,7 +53,7 @@ fn exchange_all<W: Wire>(
 ///
 /// Refused are, in this order and before anything is sent, more than [`SCRIPT_LIMIT`] bytes (TooLong) and a line that spells no
 /// request (BadLine). ReadFault comes where a read failed, where the input ended before a reply was whole, and after a length above
-/// [`tenant_store::LONGEST_REPLY`]; WriteFault where a write failed; Memory where a growth was refused. The lines of the replies that were read stay, at
+/// [`tenant_store::LONGEST_REPLY`]; WriteFault where a write failed; Memory if an allocation failed. The lines of the replies that were read stay, at
 /// Memory perhaps without the last. The wire's count of failures has room for one more.
 pub fn call_over<W: Wire>(
     alloc: Global,

@@ -24,7 +24,7 @@ pub enum CallFault {
     /// A write failed.
     #[error("WriteFault")]
     WriteFault,
-    /// A growth was refused.
+    /// An allocation failed.
     #[error("NoMemory")]
     Memory,
 }

@@ -28,7 +28,7 @@ pub enum CallStreamFault {
 
 /// The lines of a call that a reader has, to its end or one byte past [`SCRIPT_LIMIT`].
 ///
-/// Failed comes where a read fails, and Memory where a growth is refused.
+/// Failed comes if a read fails, and Memory if an allocation fails.
 pub fn read_call<R: Read + Drop>(alloc: Global, reader: R) -> Result<Vec<u8>, ReadFault>
     ensures { IfOk result (λ lines. IfSome (R.remaining reader) (λ left. IsReadFrom left lines.items)) }
 {
@@ -37,7 +37,7 @@ pub fn read_call<R: Read + Drop>(alloc: Global, reader: R) -> Result<Vec<u8>, Re
 
 /// Does what [`call_over`] does, and then writes what it appends, also where it ended with a fault.
 ///
-/// The lines are those that [`read_call`] gave. The call's own fault is told (Call or Unwritten) before that of the writer (Write).
+/// The lines are those that [`read_call`] gave. The call's own fault (Call or Unwritten) comes before that of the writer (Write).
 /// Where the lines of the replies are not written whole (Unwritten or Write), a front of them is written and no other byte.
 pub fn call_stream<V: Wire, W: Write>(
     alloc: Global,

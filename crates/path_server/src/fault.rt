@@ -19,7 +19,7 @@ pub enum QueryTextFault {
     /// The text is not UTF-8.
     #[error("NotUtf8")]
     NotUtf8,
-    /// The text is none of RFC 8259.
+    /// The text is not JSON (RFC 8259).
     #[error("NotJson")]
     NotJson,
     /// Containers lie more than [`json_tape::DEPTH_LIMIT`] deep.
@@ -28,7 +28,7 @@ pub enum QueryTextFault {
     /// A number has more than 256 bytes, or an exponent of absolute value above 999,999,999.
     #[error("NumberLimit")]
     NumberLimit,
-    /// A string or a name has a surrogate escape that is no part of a pair.
+    /// A string or a name has a surrogate escape that is not part of a pair.
     #[error("LoneSurrogate")]
     LoneSurrogate,
     /// Two names of one object mean the same.
@@ -37,7 +37,7 @@ pub enum QueryTextFault {
     /// The query has more bytes than [`path_grammar::QUERY_LIMIT`].
     #[error("QueryTooLong")]
     QueryTooLong,
-    /// The query is none of the grammar (RFC 9535, section 2.1.1).
+    /// The query does not match the grammar (RFC 9535, section 2.1.1).
     #[error("NotWellFormed")]
     NotWellFormed,
     /// The query is not valid (RFC 9535, section 2.1).
@@ -46,7 +46,7 @@ pub enum QueryTextFault {
     /// The charge of the query is above [`tape_select::BUDGET`].
     #[error("Costly")]
     Costly,
-    /// A growth was refused.
+    /// An allocation failed.
     #[error("NoMemory")]
     Memory,
 }

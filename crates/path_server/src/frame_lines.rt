@@ -16,7 +16,7 @@ pub fn write_frame(alloc: Global, frame: &[u8], out: &mut Vec<u8>) -> Result<(),
     Ok(())
 }
 
-/// Appends the line of a frame. A refused growth leaves the vector unchanged.
+/// Appends the line of a frame. A failed allocation leaves the vector unchanged.
 pub fn append_frame(alloc: Global, frame: &[u8], out: &mut Vec<u8>) -> Result<(), AllocError>
     ensures written { OnOk result (out.new.items ≡ out.old.items ++ frame_line frame.now) }
     ensures unchanged { OnErr result (out.new.items ≡ out.old.items) }

@@ -11,13 +11,13 @@ use thiserror::Error;
 /// The hexadecimal digits of a key.
 const DIGITS: usize = 32;
 
-/// Why a text is no list of keys.
+/// Why a text is not a list of keys.
 #[derive(Clone, Copy, Debug, Drop, PartialEq, Eq, Error)]
 pub enum KeysFault {
     /// The text is not of the written form.
     #[error("BadKeys")]
     BadKeys,
-    /// A growth was refused.
+    /// An allocation failed.
     #[error("NoMemory")]
     Memory,
 }
@@ -47,7 +47,7 @@ fn read_key(digits: &[u8]) -> Option<[u8; 16]>
 
 /// The keys that a text spells: one or more, each as 32 hexadecimal digits of either case, joined by commas.
 ///
-/// BadKeys where it spells none. Memory where a growth was refused.
+/// BadKeys if it is not such a list. Memory if an allocation failed.
 pub fn read_keys(alloc: Global, text: &[u8]) -> Result<Vec<[u8; 16]>, KeysFault>
     ensures spelled { IfOk result (λ keys. SpellsKeys text.now keys.items) }
     ensures bad { IsErrOf result KeysFault.BadKeys → (keys : List (List ℕ)) → ¬ SpellsKeys text.now keys }

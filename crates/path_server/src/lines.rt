@@ -61,7 +61,7 @@ fn write_all(
     Ok(())
 }
 
-/// Appends the lines of nodes, in order. A refused growth leaves the vector unchanged.
+/// Appends the lines of nodes, in order. A failed allocation leaves the vector unchanged.
 pub fn write_lines(
     alloc: Global,
     document: &Document,

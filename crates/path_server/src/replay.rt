@@ -24,10 +24,10 @@ pub enum ScriptFault {
     /// The first bad line has this number, counted from 1.
     #[error("BadLine {0}")]
     BadLine(u64),
-    /// The keys are refused, never for want of memory.
+    /// The keys are refused, but not because an allocation failed.
     #[error("{0}")]
     Keys(TenantsFault),
-    /// A growth was refused.
+    /// An allocation failed.
     #[error("NoMemory")]
     Memory,
 }
@@ -102,7 +102,7 @@ fn write_replies(alloc: Global, replies: &[Reply], out: &mut Vec<u8>) -> Result<
 ///
 /// A line of the script is a connection's number in decimal, a space, and `open`, `close` or the hexadecimal digits of a piece.
 /// Each ends in a line feed, which the last may lack. Refused are, in this order: more than [`SCRIPT_LIMIT`] bytes (TooLong); a
-/// line that spells no event (BadLine); the keys (Keys). Memory comes where a growth was refused. A refusal leaves the vector
+/// line that spells no event (BadLine); the keys (Keys). Memory comes if an allocation failed. A refusal leaves the vector
 /// unchanged.
 pub fn replay_script(
     alloc: Global,

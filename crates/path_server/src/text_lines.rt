@@ -13,7 +13,7 @@ use std::alloc::{AllocError, AllocFailed, Global};
 pub enum LinesFault {
     /// The line with this number, counted from 1, spells nothing.
     BadLine(u64),
-    /// A growth was refused.
+    /// An allocation failed.
     Memory,
 }
 

@@ -16,7 +16,7 @@ use std::alloc::Global;
 ///
 /// Refused is, in this order, what the text's verdict refuses (TooLong to DuplicateName), then what the query's does
 /// (QueryTooLong, NotWellFormed, NotValid), then Costly, where the charge is above
-/// [`tape_select::BUDGET`]. Memory comes where a growth was refused, and never for a text that is too long or not UTF-8. A refusal leaves the vector unchanged. The path of each hit,
+/// [`tape_select::BUDGET`]. Memory comes if an allocation failed, and never for a text that is too long or not UTF-8. A refusal leaves the vector unchanged. The path of each hit,
 /// asked as a query on this text, has this hit alone.
 pub fn query_text(
     alloc: Global,

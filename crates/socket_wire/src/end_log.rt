@@ -1,4 +1,4 @@
-//! What is told of the ends of connections.
+//! A log of how connections end.
 ghost use Rattle.std.specs.Prelude.{List, None, Option};
 ghost use Rattle.socket_wire.specs.Served.{Tells, TellsFault};
 
@@ -13,11 +13,11 @@ pub struct Ending {
     pub how: ConnEnd,
 }
 
-/// Something that is told of each connection that did not end with [`ConnEnd::Done`].
+/// A log that gets each connection that did not end with [`ConnEnd::Done`].
 pub trait EndLog {
     ghost use Rattle.socket_wire.specs.declared.end_log.Ending.{Ending};
 
-    /// What it was told, in order, where it keeps that.
+    /// What it got, in order, if it keeps that.
     ghost told: { Self → Option (List Ending) } = { λ _. None };
 
     /// Takes one more.

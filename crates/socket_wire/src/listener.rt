@@ -18,7 +18,7 @@ pub trait Listener {
     /// A connection.
     type Link: Wire;
 
-    /// What it is yet to give and what it took back, where it keeps that.
+    /// What it has yet to give and what it took back, if it keeps that.
     ghost told: { Self → Option Listening } = { λ _. None };
 
     /// Gives the next connection.

@@ -84,7 +84,7 @@ mod tests {
     const GET: &[u8] =
         b"\0\0\0\x19\x02\0\0\0\x02\x00\x11\x22\x33\x44\x55\x66\x77\x88\x99\xaa\xbb\xcc\xdd\xee\xff\x01c\x01d";
 
-    /// How many ends it was told of.
+    /// How many ends it got.
     #[derive(Drop)]
     struct Count(u32);
 

@@ -8,7 +8,7 @@ use path_hub::{Hub, serve_connection};
 use std::alloc::Global;
 
 /// Accepts so many connections and serves each to its end before the next is accepted, by [`serve_connection`] over the one hub, as
-/// connections 0, 1 and so on. Each is closed once it is served, and the log is told of each that did not end with
+/// connections 0, 1 and so on. Each is closed once it is served, and the log gets each that did not end with
 /// [`path_hub::ConnEnd::Done`].
 ///
 /// # Errors

@@ -12,7 +12,7 @@ use std::io::{ErrorKind, Read, Result as IoResult, Write};
 const MOST_TRIES: u64 = u64::MAX;
 
 /// A wire over a stream that reads and writes, which does not tell its bytes. A call that a signal interrupted is made again. Every
-/// other error is a fault, and so is a write that takes none of some bytes.
+/// other error is a fault, and so is a write that takes none of the bytes.
 #[derive(Drop)]
 pub struct StreamWire<S> {
     stream: S,

@@ -47,7 +47,7 @@ pub enum StoreFault {
     /// The reply's body would be longer than its limit.
     #[error("the body of the reply would be longer than its limit")]
     ReplyTooLarge = 20,
-    /// A growth was refused.
+    /// An allocation failed.
     #[error("a growth was refused")]
     NoMemory = 21,
     /// The charge of the query on the documents up to some one is above the budget.
@@ -59,7 +59,7 @@ pub enum StoreFault {
 }
 
 impl StoreFault {
-    /// The status byte of the reply that tells this fault.
+    /// The status byte of the reply for this fault.
     pub fn status(self) -> u8
         ensures { result ≡ status_of self }
     {

@@ -79,7 +79,7 @@ impl Tenant {
         }
     }
 
-    /// The bytes of a document, as they were put. `NotFound` where there is none.
+    /// The bytes of a document, as they were put. `NotFound` if there is none.
     pub fn get(&self, collection: CollName<'_>, document: DocName<'_>) -> Result<&[u8], StoreFault>
         ensures found { IfOk result (λ text. text_at collection.entry.bytes.now document.entry.bytes.now self.now ≡ Some text.now) }
         ensures short { IfOk result (λ text. length text.now ≤ text_limit) }
@@ -95,7 +95,7 @@ impl Tenant {
     /// Puts a text, in place of the one that is there.
     ///
     /// Refused is, in this order, what the text's verdict refuses (`TooLong` to `DuplicateName`), then what would pass a
-    /// quota as counted after the put. `NoMemory` where a growth was refused. A refusal changes nothing.
+    /// quota as counted after the put. `NoMemory` if an allocation failed. A refusal changes nothing.
     pub fn put(
         &mut self,
         alloc: Global,
@@ -113,10 +113,10 @@ impl Tenant {
         }
     }
 
-    /// Puts a text where no document is there.
+    /// Puts a text if there is no such document.
     ///
-    /// Refused is, in this order, what the text's verdict refuses (`TooLong` to `DuplicateName`), `Exists` where the document
-    /// is there, and what would pass a quota as counted after the put. `NoMemory` where a growth was refused. A refusal
+    /// Refused is, in this order, what the text's verdict refuses (`TooLong` to `DuplicateName`), `Exists` if the document
+    /// is there, and what would pass a quota as counted after the put. `NoMemory` if an allocation failed. A refusal
     /// changes nothing.
     pub fn put_new(
         &mut self,
@@ -193,7 +193,7 @@ impl Tenant {
         }
     }
 
-    /// Takes a document out. `NotFound` where there is none, and then nothing changes.
+    /// Removes a document. `NotFound` if there is none, and then nothing changes.
     pub fn remove(
         &mut self,
         collection: CollName<'_>,
@@ -215,7 +215,7 @@ impl Tenant {
         }
     }
 
-    /// Takes a collection out, with its documents. `NotFound` where there is none, and then nothing changes.
+    /// Removes a collection with its documents. `NotFound` if there is none, and then nothing changes.
     pub fn drop_collection(&mut self, collection: CollName<'_>) -> Result<(), StoreFault>
         ensures dropped { OnOk result (self.new ≡ drop_texts collection.entry.bytes.now self.old) }
         ensures there { OnOk result (missing (lookup (at collection.entry.bytes.now) self.old) ≡ None) }
@@ -243,7 +243,7 @@ impl Tenant {
 
     /// Appends the number of documents in a collection and their names, in key order: 0 for a collection that is not there.
     ///
-    /// `NoMemory` where a growth was refused, which leaves the vector's bytes unchanged. Its capacity never shrinks.
+    /// `NoMemory` if an allocation failed, which leaves the vector's bytes unchanged. Its capacity never shrinks.
     pub fn list(&self, collection: CollName<'_>, out: &mut Vec<u8>) -> Result<(), StoreFault>
         ensures written { OnOk result (out.new.items ≡ out.old.items ++ listing (documents_of collection.entry.bytes.now self.now)) }
         ensures short { OnOk result (length out.new.items ≤ length out.old.items + payload_limit) }

@@ -28,7 +28,7 @@ pub enum TenantsFault {
     /// A key comes twice.
     #[error("RepeatedKey")]
     RepeatedKey,
-    /// A growth was refused.
+    /// An allocation failed.
     #[error("NoMemory")]
     Memory,
 }
@@ -70,8 +70,8 @@ impl Model for Tenants {
 impl Tenants {
     /// A tenant without documents for each key.
     ///
-    /// Refused are, in this order, no keys, more than [`TENANT_LIMIT`], and a key that comes twice. `Memory` where a growth
-    /// was refused.
+    /// Refused are, in this order, no keys, more than [`TENANT_LIMIT`], and a key that comes twice. `Memory` if an allocation
+    /// failed.
     pub fn new(alloc: Global, keys: &[[u8; 16]]) -> Result<Tenants, TenantsFault>
         ensures accepted { IfOk result (λ tenants. AcceptsKeys keys.now tenants) }
         ensures refused { IfErr result (RefusesKeys keys.now) }

@@ -21,7 +21,7 @@ pub trait Queries {
     /// Appends the payload of a query on a collection: the number of hits and the hits, by document in key order.
     ///
     /// The documents are charged one after the other, at most [`tape_select::BUDGET`] units in all. The first document that
-    /// shows `Costly` or `ReplyTooLarge` decides, and `Costly` where it shows both. `NoMemory` where a growth was refused. A
+    /// shows `Costly` or `ReplyTooLarge` decides, and `Costly` where it shows both. `NoMemory` if an allocation failed. A
     /// refusal leaves the vector's bytes unchanged. Its capacity never shrinks.
     fn query(
         &self,

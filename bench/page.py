@@ -1,0 +1,270 @@
+"""docs/BENCHMARKS.md and README's figures, as they follow from what bench/report.py measured."""
+import re
+
+MEBIBYTE = 1 << 20
+BEGIN = "<!-- The lines up to the next mark are written by bench/report.py. -->"
+END = "<!-- The end of what bench/report.py writes. -->"
+NONE = "not measured"
+WIDTH = 150
+
+
+def rounded(number):
+    """Three digits, or all that stand before the point."""
+    for digits, most in ((2, 10), (1, 100)):
+        if abs(number) < most:
+            return f"{number:.{digits}f}"
+    return f"{number:,.0f}"
+
+
+def bytes_of(length):
+    return f"{length // MEBIBYTE} MiB" if length % MEBIBYTE == 0 else f"{length:,} bytes"
+
+
+def table(head, rows):
+    lines = ["| " + " | ".join(map(str, line)) + " |" for line in (head, *rows)]
+    lines.insert(1, "|" + "---|" * len(head))
+    return "\n".join(line.replace("|  |", "| |").replace("|  |", "| |") for line in lines)
+
+
+def filled(words):
+    """A paragraph in lines of one width."""
+    lines, line = [], ""
+    for word in words.split():
+        if line and len(line) + 1 + len(word) > WIDTH:
+            lines.append(line)
+            line = word
+        else:
+            line = f"{line} {word}".strip()
+    return "\n".join([*lines, line])
+
+
+def plot(name, title):
+    return f"![{title}](plots/{name}.svg)"
+
+
+def implementation(head):
+    """The name of simdjson's implementation at the head of a column."""
+    return re.sub(r"^simdjson |, GB/s$", "", head)
+
+
+def share(words, numbers, digits=2):
+    least, most = f"{min(numbers):.{digits}f}", f"{max(numbers):.{digits}f}"
+    return words.format(least if least == most else f"{least} to {most}")
+
+
+# ---- what users ask: each function takes the result of a part
+
+def connections(it):
+    rows = it["rows"]
+    rates = [[f"{count:,}", *(rounded(by[name][0]) if name in by else NONE for name in ("path_server", "Redis", "loop in C")),
+              f"{by['path_server'][0] / by['loop in C'][0]:.2f}"] for count, by in rows]
+    times = [[f"{count:,}", *(rounded(by[name][at]) if name in by else NONE for name in ("path_server", "Redis") for at in (1, 2))] for count, by in rows]
+    yield plot("connections", "Requests a second and times of a request, by connections")
+    yield filled("Each connection has one request on its way: a GET of a document that is not there. Server and load have a thread each. The loop in C is an "
+                 "epoll loop that reads the same frames and answers each with the same 9 bytes.")
+    yield table(["connections", "path_server, a second", "Redis, a second", "loop in C, a second", "path_server over the loop"], rates)
+    yield "The times of these requests in microseconds: the median, and the time that 99 of 100 do not pass."
+    yield table(["connections", "path_server, median", "path_server, 99 of 100", "Redis, median", "Redis, 99 of 100"], times)
+    idle, announced = it["idle"].values()
+    yield filled(f"An idle connection takes {idle:.0f} bytes in the process, beside what the system keeps of it. One that announces the longest request and sends "
+                 f"nothing takes {announced:.0f}.")
+
+
+def rounds(it):
+    redis, postgres = dict(it["redis"]), dict(it["postgres"])
+    of_redis = {"PUT of 1 MiB, one string": redis.get("SET of 1 MiB"), **redis}
+    rows = []
+    for title, _, server, echo in it["echo"]:
+        theirs, mean = of_redis.get(title), postgres.get(title)
+        rows.append([title, rounded(server[0]), rounded(theirs[0]) if theirs else "", rounded(mean) if mean else "", rounded(echo[0])])
+    yield filled("One connection sends a request and reads its reply before it sends the next. Medians in microseconds; of PostgreSQL the mean, as pgbench prints it. "
+                 "The echo in C reads 65,536 bytes at most and writes them back; it gets as many bytes as the longer of request and reply.")
+    yield table(["request", "path_server", "Redis", "PostgreSQL", "echo in C"], rows)
+    yield filled("A put reads and checks the whole text; Redis' SET keeps the bytes as they are. RedisJSON is not in Debian and was not measured.")
+
+
+def queries(it):
+    rows, tools = it["rows"], ("path_server", "jq", "gojq", "sqlite3", "python")
+    shown = [row for row in rows if row[0] != 10_000] if len(rows) == 5 else rows
+
+    def of(column, measure):
+        return [[tool, *(measure(by[tool][column]) if tool in by else NONE for _, _, by in shown)] for tool in tools]
+
+    lengths = [bytes_of(length) for length, _, _ in shown]
+    yield plot("queries", "Time of one query, by size of the text")
+    yield filled("The query `$.items[?@.price<10].name` on texts of small orders, of which a tenth is a hit. From the shell a process starts, reads the text and prints the "
+                 "names. The median in milliseconds:")
+    yield table(["program", *lengths], of(0, lambda seconds: rounded(seconds * 1000)))
+    yield "The greatest resident memory of such a process, in MiB:"
+    yield table(["program", *lengths], of(1, lambda resident: rounded(resident / MEBIBYTE)))
+    yield filled("On a server the text is stored already. One connection asks and reads all hits, in microseconds. PostgreSQL evaluates the same path on a column of `jsonb`.")
+    yield table(["text", "path_server, median", "PostgreSQL, mean"],
+                [[bytes_of(length), rounded(ours), rounded(theirs) if theirs else NONE] for length, ours, theirs in it["served"]])
+
+
+def by_documents(it):
+    yield plot("memory", "Resident memory, by documents")
+    yield filled("How much the resident memory of the process grows by so many documents, a thousand a tenant. Redis keeps the same texts as strings, so it can return "
+                 "them and cannot query them.")
+    yield table(["documents", "bytes of each", "path_server, MiB", "Redis, MiB", "path_server, bytes a document"],
+                [[f"{count:,}", f"{length:,}", rounded(ours / MEBIBYTE), rounded(theirs / MEBIBYTE) if theirs else NONE, f"{ours / count:,.0f}"]
+                 for length, count, ours, theirs in it["rows"]])
+
+
+def reading(it):
+    head, *rows = it["files"]
+    best = implementation(head[3])
+    yield plot("reading", "Reading speed, by file")
+    yield filled("A text is read into a document that queries can use, and all of RFC 8259 is checked, repeated names included. simdjson's DOM parser converts numbers, "
+                 "and looks for no repeated name. The files are the usual ones of JSON benchmarks, cut to 1 MiB; `orders_1m.json` is made. "
+                 "Gigabytes a second, the best of 200 rounds:")
+    yield table(["file", "path_server", "simdjson, SSE4.2", f"simdjson, {best}", "ratio to SSE4.2"],
+                [[f"{row[0]}, {it['bytes'][row[0]]:,} bytes", *row[1:]] for row in rows])
+    yield filled("path_server is built for SSE4.2. " + share("Python reads these files at {} gigabytes a second.", list(it["python"].values())))
+
+
+def beside(it):
+    by_name = {}
+    for name, count, (_, median, late) in it["rows"]:
+        by_name.setdefault(name, {})[count] = (median, late)
+    yield plot("beside", "Times of a small request beside other tenants' work")
+    yield filled("What 1 and 100 connections wait for a small GET, while other connections do what the first column says. The query is "
+                 "`$[?@.price<10&&@.stock>250].id` on 29,500 objects. In microseconds: the median, and the time that 99 of 100 do not pass.")
+    yield table(["beside", "1: median", "1: 99 of 100", "100: median", "100: 99 of 100"],
+                [[name, *(rounded(them[count][at]) for count in (1, 100) for at in (0, 1))] for name, them in by_name.items()])
+
+
+# ---- the inside
+
+def shapes(it):
+    yield filled("The time to read a text of one shape, and of one with four times as many parts: linear is 4. The longer texts have some 4 MiB.")
+    yield table(*of_rows(it["shapes"]))
+
+
+def of_rows(rows):
+    return rows[0], rows[1:]
+
+
+def index(it):
+    (head, *rows), = it["tables"]
+    yield filled("The first step of reading, which finds the places of a text's tokens, beside the same step of simdjson. Gigabytes a second:")
+    yield table(["file", "path_server", "simdjson, SSE4.2", f"simdjson, {implementation(head[6])}", "ratio to SSE4.2"],
+                [[row[0], row[3], row[4], row[6], row[5]] for row in rows])
+
+
+def compiled(it):
+    of_queries, of_numbers = it["tables"]
+    yield filled("Compiling a query, and evaluating it on a text of 1 MiB that is read already, apart from printing its hits:")
+    yield table(*of_rows(of_queries))
+    yield "One comparison of two number texts:"
+    yield table(*of_rows(of_numbers))
+
+
+def store(it):
+    of_commands, of_texts, of_documents = it["tables"]
+    yield filled("A tenant's commands on a collection of equal texts, apart from frames and sockets. A growth is one request for memory.")
+    yield table(*of_rows(of_commands))
+    yield "A put spends its time on reading the text:"
+    yield table(*of_rows(of_texts))
+    yield table(*of_rows(of_documents))
+
+
+def hub(it):
+    of_requests, small, large = it["tables"]
+    yield filled("What a request costs from its frame to its reply, apart from sockets, for a tenant with one document of 23 bytes:")
+    yield table(*of_rows(of_requests))
+    yield "Frames alone:"
+    yield table(*of_rows(small))
+    yield table(*of_rows(large))
+
+
+def hostile(it):
+    rows = it["rows"]
+    above = [row for row in rows if row[4]]
+    dearest = sorted(rows, key=lambda row: row[2] / row[3], reverse=True)[:12]
+    yield filled(f"Texts of 1 MiB and queries of 4,096 bytes that were made to take long, with a stack of 256 KiB: {len(rows)} rows of `bench/hostile.py`. "
+                 f"The aim is 1 s of processor time, and 1.5 s for a charge of nearly 10,000,000 units. {len(above)} rows are above their aim. The dearest:")
+    yield table(["shape", "how it ended", "seconds", "aim"], [[name.replace("|", "\\|"), end, f"{taken:.2f}", aim] for name, end, taken, aim, _ in dearest])
+
+
+SECTIONS = {"connections": ("Requests a second", connections), "rounds": ("One request at a time", rounds),
+            "queries": ("A query, by size of the text", queries), "memory": ("Memory, by documents", by_documents),
+            "beside": ("Beside other tenants' work", beside), "reading": ("Reading, by file", reading)}
+INSIDE = {"index": ("The index of tokens", index), "compiled": ("Queries and numbers", compiled), "store": ("The store", store),
+          "hub": ("Requests and frames", hub), "hostile": ("Made to take long", hostile), "reading": ("Growth", shapes)}
+
+
+def section(title, figures, name, made):
+    it = figures["parts"].get(name, {})
+    body = list(made(it["result"])) if "result" in it else [f"Not measured: {it.get('failed', 'bench/report.py has not run')}."]
+    if it.get("commit") and it["commit"] != figures["about"].get("commit"):
+        body.append(f"This part was measured later, on {it['date']}, with commit {it['commit']}.")
+    return [title, *body]
+
+
+def about(figures):
+    it = figures["about"]
+    if not it:
+        return ["No run of the report is recorded yet."]
+    rows = [["machine", it["machine"]], ["program", it["program"]], ["peers", ", ".join(it["peers"])],
+            ["load before the run", f"{it['load']:.2f} processes ready to run"], ["date", it["date"]]]
+    return [table(["what", "which"], rows)]
+
+
+def benchmarks(figures):
+    blocks = ["# Benchmarks",
+              filled("For whoever wants to know what path_server costs. `bench/report.py` measures all of this in one run and writes this page. What was tried, and what "
+                     "other days gave, is in [TRIED.md](TRIED.md)."),
+              *about(figures),
+              filled("Everything runs on this one machine, over the loopback address and with default settings; Redis keeps nothing on disk. Figures differ "
+                     "by half between machines and by a tenth between runs, so compare within a table.")]
+    for name, (title, made) in SECTIONS.items():
+        blocks += section(f"## {title}", figures, name, made)
+    blocks.append("## The inside")
+    blocks.append("For whoever changes the code. These programs call the crates directly (`crates/path_bench`).")
+    for name, (title, made) in INSIDE.items():
+        blocks += section(f"### {title}", figures, name, made)
+    blocks += ["## Repeat it", "    bench/peers.sh\n    bin/build\n    (cd crates/path_bench && rt lib)\n    bench/report.py",
+               filled("`bench/peers.sh` installs the peers from Debian. `bench/report.py --help` lists the parts: `--only connections,rounds` measures some of them, and "
+                      "`--quick` only shows that each part works. Run it while nothing else runs."),
+               "Next: [PROVED.md](PROVED.md) says what is proved, [TRIED.md](TRIED.md) what was tried for speed."]
+    return "\n\n".join(blocks) + "\n"
+
+
+# ---- README
+
+def of(figures, name):
+    return figures["parts"].get(name, {}).get("result")
+
+
+def readme(figures):
+    """The comparison in README, between its two marks."""
+    loads, latencies, texts = of(figures, "connections"), of(figures, "rounds"), of(figures, "queries")
+    echo = {title: server[0] for title, _, server, _ in latencies["echo"]} if latencies else {}
+    redis, postgres = (dict(latencies[name]) for name in ("redis", "postgres")) if latencies else ({}, {})
+    get, ask = "GET of 13 bytes", "QUERY `$.a[1]` on 13 bytes"
+    shell = next((by for length, _, by in texts["rows"] if length == MEBIBYTE), {}) if texts else {}
+    served = next((row[1:] for row in texts["served"] if row[0] == MEBIBYTE), (None, None)) if texts else (None, None)
+
+    def us(number):
+        return rounded(number) if number else NONE
+
+    def stored(number):
+        return f"{rounded(number / 1000)} stored" if number else NONE
+
+    def from_file(*tools):
+        return ", ".join(f"{rounded(shell[tool][0] * 1000)}" for tool in tools if tool in shell) + " from a file" if shell else NONE
+
+    ours = f"{stored(served[0])}, {from_file('path_server')}" if shell and served[0] else NONE
+    rows = [["path_server", us(echo.get(get)), us(echo.get(ask)), ours, "tenants share a process and must not notice one another"],
+            ["Redis, RedisJSON", us(redis.get(get, [None])[0]), NONE, NONE, "you need durability, replicas, expiry or more than 16 MiB a tenant"],
+            ["PostgreSQL jsonb", us(postgres.get(get)), us(postgres.get(ask)), stored(served[1]), "you need transactions, joins, indexes or regular expressions"],
+            ["SQLite", "no network", "no network", from_file("sqlite3"), "one program owns the data and wants it in a file"],
+            ["jq, gojq", "no server", "no server", from_file("jq", "gojq"), "you transform a file's values, not only select them"]]
+    said = "The figures are from [docs/BENCHMARKS.md](docs/BENCHMARKS.md): a request and its reply on one connection, and a filter on 1 MiB of small orders."
+    rate = next((by["path_server"][0] for count, by in loads["rows"] if count == 100), None) if loads else None
+    if rate:
+        said += f" One thread answers {rounded(rate)} requests a second over 100 connections."
+    if "jq" in shell:
+        said += f" A file of 1 MiB is queried {shell['jq'][0] / shell['path_server'][0]:.0f} times as fast as with jq."
+    return "\n".join([BEGIN, "", filled(said), "", table(["", "get, us", "query, us", "filter 1 MiB, ms", "use it when"], rows), "", END])

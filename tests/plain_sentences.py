@@ -1,0 +1,107 @@
+#!/usr/bin/env python3
+"""Counts words: tests/plain_sentences.py [--split] [PAGE..] reports each sentence of the pages with more than 30 words, each cell of a table with
+more than 200 characters, and each table with more than five columns, as docs/STYLE.md asks. With --split it first makes several rows of one with
+such a cell, if the cell is a list whose items end with a semicolon.
+
+A sentence ends at a full stop, a question mark or an exclamation mark before a blank or the paragraph's end. Code between backquotes, a number or a
+path is one word. Blocks of code are left out, and so is docs/TRIED.md, whose notes are as they were taken.
+"""
+import re
+import sys
+
+from lib.running_server import TOP, Report
+from pages import pages, parts
+
+WORDS, CELL, COLUMNS = 30, 200, 5
+LEFT_OUT = ("docs/TRIED.md",)
+STARTS_ITEM = re.compile(r"(?:[-*]|\d+\.|#+|>) ")
+
+
+def plain(text):
+    """Text without marks: code as one word, a link as its words."""
+    text = re.sub(r"<!--.*?-->", " ", text)
+    text = re.sub(r"`[^`]*`", "CODE", text)
+    text = re.sub(r"!?\[([^\]]*)\]\([^)]*\)", r"\1", text)
+    return text.replace("**", "").replace("*", "")
+
+
+def paragraphs(lines):
+    """Prose, one paragraph, item or heading each."""
+    found = []
+    for line in lines:
+        if STARTS_ITEM.match(line.lstrip()) or not found:
+            found.append(line.strip())
+        else:
+            found[-1] += " " + line.strip()
+    return found
+
+
+def sentences(text):
+    return [it for it in re.split(r"(?<=[.?!])[)\"]*\s+", plain(text)) if it]
+
+
+def words(sentence):
+    return [it for it in sentence.split() if re.search(r"\w", it)]
+
+
+def shown(cell):
+    """A cell as a reader sees it."""
+    return re.sub(r"\[([^\]]*)\]\([^)]*\)", r"\1", cell).replace("`", "").replace("**", "")
+
+
+def cells(line):
+    return [it.strip() for it in re.split(r"(?<!\\)\|", line.strip().strip("|"))]
+
+
+def split_rows(text):
+    """Tables whose lists, between semicolons, stand in as many rows as their cells want."""
+    made = []
+    for line in text.split("\n"):
+        row = cells(line) if line.startswith("|") else []
+        long = next((at for at, cell in enumerate(row) if len(shown(cell)) > CELL and "; " in cell), None)
+        if long is None:
+            made.append(line)
+            continue
+        pieces = [""]
+        for item in row[long].split("; "):
+            joined = f"{pieces[-1]}; {item}" if pieces[-1] else item
+            if pieces[-1] and len(shown(joined)) > CELL:
+                pieces.append(item)
+            else:
+                pieces[-1] = joined
+        made += ["| " + " | ".join(row[:long] + [piece] + row[long + 1:]) + " |" for piece in pieces]
+    return "\n".join(made)
+
+
+def judge(report, name, text):
+    for language, lines in parts(text):
+        if language is not None:
+            continue
+        of_table = [line for line in lines if line.lstrip().startswith("|")]
+        for line in of_table:
+            found = cells(line)
+            if len(found) > COLUMNS:
+                report.case(f"{name}: columns", line[:100], f"at most {COLUMNS}", len(found))
+            for cell in found:
+                if len(shown(cell)) > CELL:
+                    report.case(f"{name}: characters of a cell", cell[:100], f"at most {CELL}", len(shown(cell)))
+        for paragraph in paragraphs([line for line in lines if line not in of_table]):
+            for sentence in sentences(paragraph):
+                count = len(words(sentence))
+                report.case(f"{name}: words of a sentence", sentence, f"at most {WORDS}", f"at most {WORDS}" if count <= WORDS else count)
+
+
+def main():
+    report, given = Report(), [it for it in sys.argv[1:] if it != "--split"]
+    for page in pages():
+        name = str(page.relative_to(TOP))
+        if name in LEFT_OUT or given and name not in given:
+            continue
+        if "--split" in sys.argv:
+            page.write_text(split_rows(page.read_text(encoding="utf-8")), encoding="utf-8")
+        judge(report, name, page.read_text(encoding="utf-8"))
+    report.close("sentences")
+
+
+if __name__ == "__main__":
+    main()
