@@ -35,11 +35,11 @@ from lib.running_server import PATIENCE, PROGRAM, TOP, Report
 LONG = re.compile(r"(?:\w+=\S* )*(?:nice )?(bin/(?:check\b(?!-)|build\b|edits try|check-layout|unproved|path_server --proved)\S*|tests/\S+|bench/\S+|rt\b|g\+\+|c\+\+|apt-get|"
                   r"git clone|pip|npm|systemctl|docker|\./\w+$|\(cd )")
 FOLDERS = "bin|bench|clients|crates|deploy|docs|tests"
-PATH = re.compile(rf"`((?:{FOLDERS})/[\w./-]*\w/?)(?:[ `].*)?")
+PATH = re.compile(rf"`((?:{FOLDERS})/[\w./@-]*\w/?)(?:[ `].*)?")
 ADDRESS = re.compile(r"(127\.0\.0\.1[: ])([1-9]\d{3,4})")
-SCRIPT = re.compile(r"(?:bin/|printf |echo |cat |export |exec |key=)")
-SERVES = re.compile(r"^bin/path_server (?:listen|serve) [^&|]*\Z", re.M)
-TOOLS = re.compile(r"\| *(jq|nc|xxd|curl|node)\b")
+SCRIPT = re.compile(r"(?:bin/|deploy/|printf |echo |cat |export |exec |for |haproxy -db |key=)")
+SERVES = re.compile(r"^bin/path_server(?:_run)? (?:listen|serve) [^&|]*\Z", re.M)
+TOOLS = re.compile(r"(?:\| *|\n|etc/)(jq|nc|xxd|curl|node|socat|haproxy)\b")
 COUNTED = re.compile(r"`bin/definitions (\w+::[\w:]+)`[^|]*\|(?:[^|]*\|)*? *(\d+ files?, [\d,]+ lines)")
 SETTLES = 0.3
 PROGRAMS = {"path_server": PROGRAM, "path_client": os.environ.get("PATH_CLIENT") or str(TOP / "crates/path_client/out/path_client")}

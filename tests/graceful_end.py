@@ -1,0 +1,161 @@
+#!/usr/bin/env python3
+"""How bin/path_server_run ends `path_server listen`: the first SIGTERM or SIGINT lets the open connections go on to their ends, a second ends it at once.
+
+It does so below a shell and as process 1 of a container, whatever its own standard input is. Where the system doesn't let this user make a space of
+processes (unshare), the cases of process 1 are not run, and the script says so. The program is the one that bin/build makes, or the one that the
+environment's PATH_SERVER names.
+"""
+import os
+import re
+import shutil
+import signal
+import socket
+import subprocess
+import sys
+import tempfile
+import time
+from pathlib import Path
+
+from lib.running_server import PATIENCE, PROGRAM, TOP, Report, Running, open_connection
+from lib.traffic import KEYS
+from path_client import connect
+
+RUN = TOP / "bin/path_server_run"
+ALONE = ["unshare", "--user", "--map-root-user", "--pid", "--fork", "--mount-proc", "--kill-child"]
+KEY = KEYS[0].hex()
+EMPTY = bytes(4)
+
+
+class Below(Running):
+    """The server below bin/path_server_run, itself below `prefix`."""
+
+    def __init__(self, prefix, stdin):
+        signal.signal(signal.SIGTERM, lambda *_: sys.exit(143))
+        self.errors, self.folder = tempfile.TemporaryFile(), tempfile.TemporaryDirectory()
+        words = [*prefix, RUN, "listen", "127.0.0.1:0", KEY]
+        self.process = subprocess.Popen(words, stdin=stdin, stdout=subprocess.PIPE, stderr=self.errors, start_new_session=True,
+                                        env={**os.environ, "PATH_SERVER": str(PROGRAM), "TMPDIR": self.folder.name})
+        try:
+            self.address = self.read_address("listen")
+        except BaseException:
+            self.stop()
+            raise
+        self.shell = children(self.process.pid)[0] if prefix else self.process.pid
+
+    def stop(self):
+        if self.process.poll() is None:
+            os.killpg(self.process.pid, signal.SIGKILL)
+        super().stop()
+        self.folder.cleanup()
+
+    def ended(self):
+        """The status and the last lines on standard output, or None where it runs on."""
+        try:
+            return self.process.wait(PATIENCE), self.process.stdout.read()
+        except subprocess.TimeoutExpired:
+            return None
+
+
+def children(process):
+    return [int(it) for it in Path(f"/proc/{process}/task/{process}/children").read_text().split()]
+
+
+def is_refused(address):
+    """Whether new connections come to be refused."""
+    until = time.monotonic() + PATIENCE
+    while time.monotonic() < until:
+        try:
+            open_connection(address).close()
+        except ConnectionRefusedError:
+            return True
+        except ConnectionResetError:
+            pass
+        time.sleep(0.01)
+    return False
+
+
+def serves_to_the_end(report, name, number, prefix=(), stdin=subprocess.DEVNULL):
+    with Below(prefix, stdin) as server:
+        report.case(f"{name}: what it left in its folder", "", [], os.listdir(server.folder.name))
+        with connect(server.address, KEYS[0]) as client:
+            client.put("c", "d", b'{"a":1}')
+            os.kill(server.shell, number)
+            report.case(f"{name}: a new connection", "", True, is_refused(server.address))
+            report.case(f"{name}: a request on the open one", "", b'{"a":1}', client.get("c", "d"))
+            report.case(f"{name}: while a connection is open", "", None, server.process.poll())
+        status, output = server.ended() or (None, b"")
+        report.case(f"{name}: status", "", 0, status)
+        # connections that came before the listener was closed count too
+        report.case(f"{name}: last line", "", True, bool(re.fullmatch(rb"served \d+ connections, 2 requests\n", output)) or output)
+
+
+def ends_at_the_second(report, number):
+    with Below([], subprocess.DEVNULL) as server, open_connection(server.address) as connection:
+        connection.settimeout(PATIENCE)
+        # what was not yet accepted is no open connection
+        connection.sendall(EMPTY)
+        report.case(f"{number}, twice: a reply before", EMPTY, 9, len(connection.recv(9, socket.MSG_WAITALL)))
+        os.kill(server.shell, number)
+        report.case(f"{number}, twice: a new connection", "", True, is_refused(server.address))
+        os.kill(server.shell, number)
+        status, output = server.ended() or (None, b"")
+        report.case(f"{number}, twice: status", "", 128 + signal.SIGTERM, status)
+        try:
+            rest = connection.recv(1)
+        except ConnectionResetError:
+            rest = b""
+        report.case(f"{number}, twice: the open connection ends", "", b"", rest)
+
+
+def serves_on(report):
+    """Neither the end of its own standard input nor its bytes end it."""
+    with Below([], subprocess.PIPE) as server:
+        server.process.stdin.write(b"x\n")
+        server.process.stdin.close()
+        time.sleep(0.2)
+        with connect(server.address, KEYS[0]) as client:
+            report.case("after the end of its standard input", "", (0, 0, 0), tuple(client.usage()))
+        os.kill(server.shell, signal.SIGTERM)
+        report.case("then SIGTERM: status", "", 0, (server.ended() or (None,))[0])
+
+
+def at_every_moment(report, count=40):
+    """A signal at any moment of the start is not lost: it ends, by the signal or with 0."""
+    for place in range(count):
+        process = subprocess.Popen([RUN, "listen", "127.0.0.1:0", KEY], stdin=subprocess.DEVNULL, stdout=subprocess.DEVNULL,
+                                   env={**os.environ, "PATH_SERVER": str(PROGRAM)}, start_new_session=True)
+        time.sleep(place / count * 0.04)
+        process.send_signal(signal.SIGTERM)
+        try:
+            status = process.wait(PATIENCE)
+        except subprocess.TimeoutExpired:
+            os.killpg(process.pid, signal.SIGKILL)
+            status = process.wait()
+        report.case(f"SIGTERM after {place / count * 40:.0f} ms", "", True, status in (0, -signal.SIGTERM) or status)
+
+
+def passes_on(report):
+    """The statuses and lines of a program that serves nothing."""
+    for program, word, wanted in ((PROGRAM, "0", (3, "path_server: BadKeys\n")), ("/none", KEY, (127, None))):
+        ran = subprocess.run([RUN, "listen", "127.0.0.1:0", word], stdin=subprocess.DEVNULL, capture_output=True, encoding="utf-8",
+                             env={**os.environ, "PATH_SERVER": str(program)}, timeout=PATIENCE)
+        report.case(f"{program} that ends at once", word, wanted, (ran.returncode, ran.stderr if wanted[1] else None))
+
+
+def main():
+    report = Report()
+    for number in (signal.SIGTERM, signal.SIGINT):
+        serves_to_the_end(report, number.name, number)
+        ends_at_the_second(report, number)
+    serves_on(report)
+    at_every_moment(report)
+    passes_on(report)
+    if shutil.which("unshare") and subprocess.run([*ALONE, "true"], stderr=subprocess.DEVNULL).returncode == 0:
+        serves_to_the_end(report, "SIGTERM as process 1", signal.SIGTERM, ALONE)
+    else:
+        print("not run, since processes can't have a space of their own here (unshare): 5 cases as process 1", flush=True)
+    report.close("graceful end")
+
+
+if __name__ == "__main__":
+    main()
