@@ -35,7 +35,7 @@ template <typename Run> static double seconds(Run run) {
 static double compiling(const std::string &query) {
   const size_t rounds = 1000;
   double best = 1e9;
-  for (int i = 0; i < 50; i++) {
+  for (int i = 0; i < 20; i++) {
     best = std::min(best, seconds([&] { path_bench_compile(bytes(query), query.size(), rounds); }));
   }
   return best * 1e9 / rounds;
