@@ -3,9 +3,9 @@
 
 Each text has up to 1,048,576 bytes, or as many as the environment's MEBIBYTES (1 to 4) says, each query up to 4,096. A row of the table is
 the shape, how the program ended, its seconds of processor time, and the aim: 1 s for each mebibyte, and at least 1.5 s for what has a
-charge of nearly 10,000,000 units. The program has a stack of 256 KiB, and is stopped after so many SECONDS (5). With a WORD, only the rows
-that have it in their names are run. The last line is the number of rows above their aim, and the exit status is 1 if there is one. The
-program is the one that bin/build makes, or the one that the environment's PATH_SERVER names.
+charge of nearly 10,000,000 units. The program has a stack of 256 KiB, and is stopped after so many SECONDS (5). With a WORD, only the rows that have it in their names are run. The
+last line is the number of rows above their aim, and the exit status is 1 where there is one. The program is the one that
+bin/build makes, or the one that the environment's PATH_SERVER names.
 """
 import collections
 import functools

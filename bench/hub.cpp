@@ -76,7 +76,7 @@ static void row(const char *what, const std::string &before, const std::string &
   std::string piece;
   for (size_t i = 0; i < frames; i++) piece += one;
   double least = 1e9, most = 1e9;
-  for (int i = 0; i < 500; i++) {
+  for (int i = 0; i < 200; i++) {
     least = std::min(least, seconds(before, piece, few));
     most = std::min(most, seconds(before, piece, many));
   }

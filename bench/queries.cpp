@@ -35,7 +35,7 @@ template <typename Run> static double seconds(Run run) {
 static double compiling(const std::string &query) {
   const size_t rounds = 1000;
   double best = 1e9;
-  for (int i = 0; i < 50; i++) {
+  for (int i = 0; i < 20; i++) {
     best = std::min(best, seconds([&] { path_bench_compile(bytes(query), query.size(), rounds); }));
   }
   return best * 1e9 / rounds;
@@ -58,7 +58,7 @@ static void row(const std::string &name, const std::string &text, const std::str
   const Counted found = path_bench_select(bytes(text), text.size(), bytes(query), query.size(), 1);
   const std::string count = found.refused ? "too many" : std::to_string(found.count);
   std::printf("| %s | %s | %.2f | %.1f |\n", name.c_str(), count.c_str(), compiling(query) / 1000,
-              selecting(text, query, found.refused ? 0 : rounds));
+              std::max(0.0, selecting(text, query, found.refused ? 0 : rounds)));
 }
 
 static std::string repeated(const std::string &before, const std::string &middle, const std::string &after, size_t times) {

@@ -28,7 +28,7 @@ export class Refused extends Error {
   }
 }
 
-/** The connection ended, or what came over it is no reply. A request that was on its way may have been carried out. */
+/** The connection ended, or what came over it is not a reply. A request that was on its way may have been carried out. */
 export class BrokenConnection extends Error {
   name = 'BrokenConnection';
 }
@@ -47,13 +47,13 @@ export const request = {
   put: (collection, document, text) => command(1, [...place(collection, document), bounded('a text', text, TEXT_LIMIT)], readNothing),
   /** The text of a document. */
   get: (collection, document) => command(2, place(collection, document), (payload) => Buffer.from(payload)),
-  /** Takes a document away. */
+  /** Removes a document. */
   remove: (collection, document) => command(3, place(collection, document), readNothing),
   /** The names of a collection's documents. */
   list: (collection) => command(4, [collectionName(collection)], readNames),
   /** The hits of a query in each document of a collection. */
   query: (collection, query) => command(5, [collectionName(collection), bounded('a query', query, QUERY_LIMIT)], readHits),
-  /** Takes a collection away with all its documents. */
+  /** Removes a collection with all its documents. */
   drop: (collection) => command(6, [collectionName(collection)], readNothing),
   /** What the tenant keeps. */
   usage: () => command(7, [], readUsage),

@@ -10,7 +10,7 @@
 //     client.close();
 //
 // A call gives a promise of its value, which is rejected with Refused where the server answers with a status other than Ok, with
-// RangeError where the request is none (nothing was sent), with TimedOut or BrokenConnection where the connection is lost (the request may
+// RangeError if the request is invalid (nothing was sent), with TimedOut or BrokenConnection if the connection is lost (the request may
 // have been carried out). After the last two, and where the server closed the connection while no request was under way, the next call
 // opens a new connection. A request that was sent is never sent again.
 
@@ -27,7 +27,7 @@ const NUMBERS = 2 ** 32;
 
 /**
  * Opens a connection to `at` (`HOST:PORT`; `[::1]:7000` for IPv6) for the tenant of `key` (32 hexadecimal digits, or 16 bytes). `timeout` in
- * milliseconds bounds the opening and, after it, each call. Rejects where there is no server, or the address or the key is none.
+ * milliseconds bounds the opening and, after it, each call. Rejects if there is no server, or the address or the key is invalid.
  */
 export async function connect(options) {
   const client = new Client(options);
@@ -72,17 +72,17 @@ export class Client {
     return this.#call(request.putNew(collection, document, text));
   }
 
-  /** The text's bytes as they were put. Refused as NotFound where there is none. */
+  /** The text's bytes as they were put. Refused as NotFound if there is none. */
   async get(collection, document) {
     return this.#call(request.get(collection, document));
   }
 
-  /** Takes a document away. Refused as NotFound where there is none. */
+  /** Removes a document. Refused as NotFound if there is none. */
   async remove(collection, document) {
     return this.#call(request.remove(collection, document));
   }
 
-  /** The names of a collection's documents, in the order of their bytes; none where there is no such collection. */
+  /** The names of a collection's documents, in the order of their bytes; empty if there is no such collection. */
   async list(collection) {
     return this.#call(request.list(collection));
   }
@@ -92,7 +92,7 @@ export class Client {
     return this.#call(request.query(collection, query));
   }
 
-  /** Takes a collection away with all its documents. Refused as NotFound where there is none. */
+  /** Removes a collection with all its documents. Refused as NotFound if there is none. */
   async drop(collection) {
     return this.#call(request.drop(collection));
   }

@@ -13,8 +13,8 @@ command, and `pipeline` for many requests at a time.
 A call gives its value or raises:
 
 - Refused: the server answered with a status other than Ok. The connection goes on.
-- ValueError: the request is none (a name out of its alphabet, a text or a query above its limit). Nothing was sent.
-- BrokenConnection: the connection ended, or what came is no reply. The request may have been carried out.
+- ValueError: the request is invalid (a name with another character, a text or a query above its limit). Nothing was sent.
+- BrokenConnection: the connection ended, or what came is not a reply. The request may have been carried out.
 - TimeoutError: no reply came in time. The request may have been carried out.
 
 After the last two, and where the server closed the connection while no request was under way, the next call opens a new connection. A

@@ -14,7 +14,7 @@ from .frames import NUMBERS, BrokenConnection, Hit, Refused, Replies, Reply, Req
 async def connect_async(address: Address, key: bytes, timeout: float = 30.0) -> AsyncClient:
     """Opens a connection for the tenant of `key`. `timeout` in seconds bounds the opening and, after it, each call.
 
-    Raises OSError where there is no server, ValueError where the key has not 16 bytes or the address is none.
+    Raises OSError if there is no server, ValueError if the key does not have 16 bytes or the address is invalid.
     """
     client = AsyncClient(address, key, timeout)
     await client.open()
@@ -39,7 +39,7 @@ class AsyncClient:
         await self.close()
 
     async def open(self) -> None:
-        """Opens the connection, where it is not open. A call does so by itself. Raises OSError where there is no server."""
+        """Opens the connection if it is not open. A call does so by itself. Raises OSError if there is no server."""
         await self._open()
 
     async def close(self) -> None:
@@ -57,15 +57,15 @@ class AsyncClient:
         return await self._call(Request.put_new(collection, document, text))
 
     async def get(self, collection: Text, document: Text) -> bytes:
-        """The text as it was put, byte for byte. Refused as NotFound where there is none."""
+        """The text as it was put, byte for byte. Refused as NotFound if there is none."""
         return await self._call(Request.get(collection, document))
 
     async def remove(self, collection: Text, document: Text) -> None:
-        """Takes a document away. Refused as NotFound where there is none."""
+        """Removes a document. Refused as NotFound if there is none."""
         return await self._call(Request.remove(collection, document))
 
     async def list(self, collection: Text) -> List[str]:
-        """The names of a collection's documents, in the order of their bytes; none where there is no such collection."""
+        """The names of a collection's documents, in the order of their bytes; empty if there is no such collection."""
         return await self._call(Request.list(collection))
 
     async def query(self, collection: Text, query: Text) -> List[Hit]:
@@ -73,7 +73,7 @@ class AsyncClient:
         return await self._call(Request.query(collection, query))
 
     async def drop(self, collection: Text) -> None:
-        """Takes a collection away with all its documents. Refused as NotFound where there is none."""
+        """Removes a collection with all its documents. Refused as NotFound if there is none."""
         return await self._call(Request.drop(collection))
 
     async def usage(self) -> Usage:

@@ -15,7 +15,7 @@ Address = Union[str, Tuple[str, int]]
 
 
 def parse_address(address: Address) -> Tuple[str, int]:
-    """The host and the port of `HOST:PORT`, as the server prints it; `[::1]:7000` for IPv6. Raises ValueError where it is none."""
+    """The host and the port of `HOST:PORT`, as the server prints it; `[::1]:7000` for IPv6. Raises ValueError if it is not one."""
     if not isinstance(address, str):
         return address
     host, colon, port = address.rpartition(":")
@@ -41,7 +41,7 @@ def read_key(path: Union[str, Path]) -> bytes:
 def connect(address: Address, key: bytes, timeout: float = 30.0) -> Client:
     """Opens a connection for the tenant of `key`. `timeout` in seconds bounds the opening and, after it, each call.
 
-    Raises OSError where there is no server, ValueError where the key has not 16 bytes or the address is none.
+    Raises OSError if there is no server, ValueError if the key does not have 16 bytes or the address is invalid.
     """
     client = Client(address, key, timeout)
     client.open()
@@ -69,7 +69,7 @@ class Client:
         self.close()
 
     def open(self) -> None:
-        """Opens the connection, where it is not open. A call does so by itself. Raises OSError where there is no server."""
+        """Opens the connection if it is not open. A call does so by itself. Raises OSError if there is no server."""
         if self._is_closed:
             raise BrokenConnection("the client is closed")
         if self._connection is None:
@@ -92,15 +92,15 @@ class Client:
         return self._call(Request.put_new(collection, document, text))
 
     def get(self, collection: Text, document: Text) -> bytes:
-        """The text as it was put, byte for byte. Refused as NotFound where there is none."""
+        """The text as it was put, byte for byte. Refused as NotFound if there is none."""
         return self._call(Request.get(collection, document))
 
     def remove(self, collection: Text, document: Text) -> None:
-        """Takes a document away. Refused as NotFound where there is none."""
+        """Removes a document. Refused as NotFound if there is none."""
         return self._call(Request.remove(collection, document))
 
     def list(self, collection: Text) -> List[str]:
-        """The names of a collection's documents, in the order of their bytes; none where there is no such collection."""
+        """The names of a collection's documents, in the order of their bytes; empty if there is no such collection."""
         return self._call(Request.list(collection))
 
     def query(self, collection: Text, query: Text) -> List[Hit]:
@@ -108,7 +108,7 @@ class Client:
         return self._call(Request.query(collection, query))
 
     def drop(self, collection: Text) -> None:
-        """Takes a collection away with all its documents. Refused as NotFound where there is none."""
+        """Removes a collection with all its documents. Refused as NotFound if there is none."""
         return self._call(Request.drop(collection))
 
     def usage(self) -> Usage:

@@ -65,7 +65,7 @@ class Refused(Exception):
 
 
 class BrokenConnection(ConnectionError):
-    """The connection ended, or what came over it is no reply. A request that was on its way may have been carried out."""
+    """The connection ended, or what came over it is not a reply. A request that was on its way may have been carried out."""
 
 
 class Hit(NamedTuple):
@@ -111,7 +111,7 @@ class Request:
         self.command = command
         self.fields = fields
         self.read = read
-        """Reads the payload of an Ok; raises BrokenConnection where it is none."""
+        """Reads the payload of an Ok; raises BrokenConnection if it is not one."""
 
     @staticmethod
     def put(collection: Text, document: Text, text: Text) -> Request:
@@ -125,7 +125,7 @@ class Request:
 
     @staticmethod
     def remove(collection: Text, document: Text) -> Request:
-        """Takes a document away."""
+        """Removes a document."""
         return Request(3, _place(collection, document), read_nothing)
 
     @staticmethod
@@ -140,7 +140,7 @@ class Request:
 
     @staticmethod
     def drop(collection: Text) -> Request:
-        """Takes a collection away with all its documents."""
+        """Removes a collection with all its documents."""
         return Request(6, _name("collection", collection, COLLECTION_LIMIT), read_nothing)
 
     @staticmethod

@@ -13,7 +13,7 @@ pub enum ReadFault {
     /// A read failed.
     #[error("ReadFault")]
     Failed,
-    /// A growth was refused.
+    /// An allocation failed.
     #[error("NoMemory")]
     Memory,
 }
@@ -32,7 +32,7 @@ impl ReadFault {
 
 /// The bytes that a reader has left, all of them or one more than `limit`, so that a stream above the limit shows as one.
 ///
-/// Failed comes where a read fails, and Memory where a growth is refused: the bytes read before that are given up.
+/// Failed comes if a read fails, and Memory if an allocation fails: the bytes read before that are given up.
 pub fn read_past<R: Read + Drop>(alloc: Global, reader: R, limit: u64) -> Result<Vec<u8>, ReadFault>
     requires { limit < 2 ^ 64 - 1 }
     ensures read { IfOk result (λ bytes. IfSome (R.remaining reader) (λ left. bytes.items ≡ take (limit + 1) left)) }

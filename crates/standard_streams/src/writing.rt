@@ -14,7 +14,7 @@ pub struct WriteFault;
 
 /// Writes all bytes to a writer.
 ///
-/// WriteFault comes where a write fails or takes nothing: a front of the bytes may be written then, and not all of them. A write that a signal interrupted
+/// WriteFault comes if a write fails or takes nothing: a prefix of the bytes may be written then, but not all of them. A write that a signal interrupted
 /// is tried again.
 pub fn write_whole<W: Write>(writer: &mut W, bytes: &[u8]) -> Result<(), WriteFault>
     ensures written { OnOk result (Appends (W.contents writer.old) (W.contents writer.new) bytes.now) }
