@@ -1,5 +1,4 @@
 pub mod Counting
-pub mod Loads
 pub mod Turning
 pub mod Looping
 pub mod Servers

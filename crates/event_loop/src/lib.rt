@@ -4,6 +4,7 @@
 //! millisecond, so that no connection keeps the others waiting for long. What is reported of a connection is kept until a call says that it would wait.
 #![tactic(auto)]
 
+mod claim;
 mod connection;
 mod counted;
 mod counts;
@@ -11,14 +12,19 @@ mod gate;
 mod journal;
 mod laws;
 mod limits;
-mod load;
+mod open;
 mod seconds;
 mod server;
 mod socket;
+mod sockets;
+mod system;
 
+pub use claim::LEAST_MEMORY;
 pub use counts::Counts;
 pub use gate::Gate;
-pub use journal::{End, Ending, Journal, Totals};
+pub use journal::{End, Ending, Held, Journal, Totals};
 pub use laws::loop_is_served;
 pub use limits::Limits;
 pub use server::{LoopFault, Server};
+pub use sockets::{Since, Sockets};
+pub use system::{Accepted, Peer, Report, System, Time, Woken};

@@ -2,36 +2,25 @@
 ghost use Rattle.std.specs.Prelude.{◌≡◌, OnOk, IfOk, IsTrue};
 ghost use Rattle.event_loop.specs.Servers.{IsOver};
 
-use crate::connection::{Connection, Outcome, Phase};
-use crate::counted::Counted;
-use crate::journal::{End, Ending, Journal, Totals};
+use crate::connection::{Outcome, Phase};
+use crate::journal::{End, Held, Journal, Totals};
 use crate::limits::Limits;
-use crate::load::Load;
+use crate::open::Open;
 use crate::seconds::Seconds;
-use mio::event::Event;
-use mio::net::{TcpListener, TcpStream};
-use mio::unix::SourceFd;
-use mio::{Events, Interest, Poll, Token};
+use crate::sockets::{BindFault, Since, Sockets};
+use crate::system::{Accepted, System, Time};
 use path_listen::HubCore;
-use slab::Slab;
 use std::alloc::{AllocError, AllocFailed, Global};
 use std::io::{self, ErrorKind};
 use std::marker::Model;
-use std::mem;
 use std::net::{Net, SocketAddr};
 use std::time::{Clock, Duration};
 use thiserror::Error;
 
-/// The most bytes that one turn reads.
-const PIECE: usize = 65_536;
-
-/// The most events that one wait reports.
-const EVENTS: usize = 1_024;
-
 /// The most connections that are taken in between two waits.
 const ACCEPTS: u32 = 256;
 
-/// The seconds between two counts that a journal is told.
+/// The seconds between two counts that a journal is told, and between two lines on one limit.
 const MINUTE: u64 = 60;
 
 /// The milliseconds after which a failed accept is tried again.
@@ -39,10 +28,6 @@ const RETRY: u64 = 50;
 
 /// The milliseconds between two looks at the time.
 const TICK: u64 = 1_000;
-
-const LISTENER: Token = Token(usize::MAX);
-
-const INPUT: Token = Token(usize::MAX - 1);
 
 /// Why a server ends early.
 #[derive(Clone, Copy, Debug, PartialEq, Eq, Error)]
@@ -61,6 +46,21 @@ impl From<io::Error> for LoopFault {
     }
 }
 
+impl From<ErrorKind> for LoopFault {
+    fn from(reason: ErrorKind) -> LoopFault {
+        LoopFault::Net(reason)
+    }
+}
+
+impl From<BindFault> for LoopFault {
+    fn from(fault: BindFault) -> LoopFault {
+        match fault {
+            BindFault::Net(reason) => LoopFault::Net(reason),
+            BindFault::Memory => LoopFault::Memory,
+        }
+    }
+}
+
 impl From<AllocError> for LoopFault {
     fn from(_: AllocError) -> LoopFault {
         LoopFault::Memory
@@ -73,50 +73,61 @@ impl<T: Drop> From<AllocFailed<T>> for LoopFault {
     }
 }
 
-/// A server of many connections. Its value is whether it listens, how many connections are open and were taken in, the bytes that were read
-/// and written, and its limits.
-#[derive(Drop)]
-pub struct Server<'r, R: Clock> {
-    alloc: Global,
-    poll: Poll,
-    events: Events,
-    // None once standard input was closed.
-    listener: Option<TcpListener>,
+/// What accepts connections.
+#[derive(Clone, Copy)]
+struct Acceptor {
+    // It takes in connections.
+    listens: bool,
     // A connection may wait to be taken in.
     is_asked: bool,
     // The last accept failed.
     is_refused: bool,
-    connections: Slab<Connection>,
-    // No key was above it.
-    bound: usize,
-    // The connections that get a turn, and room for the next ones.
-    due: Vec<usize>,
-    spare: Vec<usize>,
-    core: Counted<'r, HubCore, R>,
-    buffer: Box<[u8; PIECE]>,
-    limits: Limits,
-    // Those that could go on, but are held back.
-    paused: Vec<usize>,
-    load: Load,
-    seconds: Seconds<'r, R>,
-    // When the journal was last told of counts.
-    told: u64,
+    // How many were taken in.
     taken: u64,
-    read: u64,
-    written: u64,
 }
 
-impl<'r, R: Clock> Model for Server<'r, R> {
+/// Where there is room for one more connection.
+#[derive(Clone, Copy)]
+enum Place {
+    /// Beside those that are open.
+    Free,
+    /// In the place of the one with this key, which has been idle for long.
+    Idle(usize),
+    /// Nowhere.
+    Full,
+}
+
+/// When each limit was last told of.
+#[derive(Clone, Copy)]
+struct Told {
+    counts: u64,
+    connections: Option<u64>,
+    descriptors: Option<u64>,
+    memory: Option<u64>,
+}
+
+/// A server of many connections. Its value is whether it listens, how many connections are open and were taken in, the bytes that were read
+/// and written, and its limits.
+#[derive(Drop)]
+pub struct Server<S: System + Drop, T: Time + Drop> {
+    system: S,
+    acceptor: Acceptor,
+    opened: Open<S::Stream, T>,
+    seconds: Seconds<T>,
+    limits: Limits,
+    told: Told,
+}
+
+impl<S: System + Drop, T: Time + Drop> Model for Server<S, T> {
     ghost use Rattle.event_loop.specs.Servers.{Serving};
     ghost use Rattle.slab.specs.Slab.{slab_len};
-    ghost use Rattle.std.specs.Prelude.{is_some};
 
     ghost Value = { Serving };
 
-    ghost view = { λ s. record { listens = is_some s.listener; connected = slab_len s.connections; taken = s.taken; read = s.read; written = s.written; limits = s.limits } };
+    ghost view = { λ s. record { listens = s.acceptor.listens; connected = slab_len s.opened.connections; taken = s.acceptor.taken; read = s.opened.read; written = s.opened.written; limits = s.limits } };
 }
 
-impl<'r, R: Net + Clock + AllocGlobal> Server<'r, R> {
+impl<'r, R: Net + Clock + AllocGlobal> Server<Sockets, Since<'r, R>> {
     /// Binds the address.
     ///
     /// # Errors
@@ -127,46 +138,60 @@ impl<'r, R: Net + Clock + AllocGlobal> Server<'r, R> {
         addr: SocketAddr,
         core: HubCore,
         limits: Limits,
-    ) -> Result<Server<'r, R>, LoopFault>
+    ) -> Result<Server<Sockets, Since<'r, R>>, LoopFault>
         ensures listening { IfOk result (λ server. IsTrue server.listens) }
         ensures unconnected { IfOk result (λ server. server.connected ≡ 0) }
         ensures none_taken { IfOk result (λ server. server.taken ≡ 0) }
         ensures limits { IfOk result (λ server. server.limits ≡ limits) }
     {
-        let alloc = rt.alloc();
-        let seconds = Seconds::new(rt)?;
-        let events = Events::with_capacity(alloc, EVENTS)?;
-        let buffer = Box::new(alloc, [0; PIECE])?;
-        let (poll, listener) = listen(rt, addr)?;
+        let time = Since::new(rt)?;
+        let system = Sockets::bind(rt, rt.alloc(), addr)?;
+        Server::over(rt.alloc(), system, time.again(), time, core, limits)
+    }
+}
+
+impl<S: System + Drop, T: Time + Drop> Server<S, T> {
+    /// Over this system and a clock, once for the seconds and once for what a turn takes.
+    ///
+    /// # Errors
+    ///
+    /// `Memory` where a growth was refused.
+    pub fn over(
+        alloc: Global,
+        system: S,
+        seconds: T,
+        turns: T,
+        core: HubCore,
+        limits: Limits,
+    ) -> Result<Server<S, T>, LoopFault>
+        ensures listening { IfOk result (λ server. IsTrue server.listens) }
+        ensures unconnected { IfOk result (λ server. server.connected ≡ 0) }
+        ensures none_taken { IfOk result (λ server. server.taken ≡ 0) }
+        ensures limits { IfOk result (λ server. server.limits ≡ limits) }
+    {
+        let opened = Open::new(alloc, turns, core, limits.memory)?;
         Ok(Server {
-            alloc,
-            poll,
-            events,
-            listener: Some(listener),
-            is_asked: true,
-            is_refused: false,
-            connections: Slab::new(alloc),
-            bound: 0,
-            due: Vec::new(alloc),
-            spare: Vec::new(alloc),
-            core: Counted::new(rt, core),
-            buffer,
-            limits,
-            paused: Vec::new(alloc),
-            load: Load {
-                limit: limits.memory,
-                held: 0,
+            system,
+            acceptor: Acceptor {
+                listens: true,
+                is_asked: true,
+                is_refused: false,
+                taken: 0,
             },
-            seconds,
-            told: 0,
-            taken: 0,
-            read: 0,
-            written: 0,
+            opened,
+            seconds: Seconds::new(seconds),
+            limits,
+            told: Told {
+                counts: 0,
+                connections: None,
+                descriptors: None,
+                memory: None,
+            },
         })
     }
 }
 
-impl<'r, R: Clock> Server<'r, R> {
+impl<S: System + Drop, T: Time + Drop> Server<S, T> {
     /// The address that is bound.
     ///
     /// # Errors
@@ -175,10 +200,15 @@ impl<'r, R: Clock> Server<'r, R> {
     pub fn local_addr(&self) -> Result<SocketAddr, LoopFault>
         ensures listening { OnOk result (IsTrue self.now.listens) }
     {
-        match &self.listener {
-            Some(listener) => Ok(listener.local_addr()?),
-            None => Err(LoopFault::Net(ErrorKind::NotConnected)),
+        if !self.acceptor.listens {
+            return Err(LoopFault::Net(ErrorKind::NotConnected));
         }
+        Ok(self.system.local_addr()?)
+    }
+
+    /// The system that it runs over.
+    pub fn system(&mut self) -> &mut S {
+        &mut self.system
     }
 
     /// What it did so far.
@@ -188,12 +218,13 @@ impl<'r, R: Clock> Server<'r, R> {
         ensures bytes_read { result.read ≡ self.now.read }
         ensures bytes_written { result.written ≡ self.now.written }
     {
+        let (read, written) = self.opened.bytes();
         Totals {
-            connections: self.taken,
-            connected: self.connections.len(),
-            counts: *self.core.counts(),
-            read: self.read,
-            written: self.written,
+            connections: self.acceptor.taken,
+            connected: self.opened.count(),
+            counts: *self.opened.counted().counts(),
+            read,
+            written,
         }
     }
 
@@ -210,57 +241,32 @@ impl<'r, R: Clock> Server<'r, R> {
             if self.is_over() {
                 return Ok(());
             }
-            let is_later = self.is_later();
-            self.wait(is_later)?;
-            if is_later {
-                self.tick(journal)?;
-            } else if self.load.is_light() && !self.paused.is_empty() {
-                self.resume()?;
-            }
-            self.accept();
-            self.take_turns(journal)?;
+            self.step(journal)?;
         }
         Err(LoopFault::Net(ErrorKind::Other))
     }
 
-    // Whether it takes in no connection any more, and none is open.
-    fn is_over(&self) -> bool
+    /// Whether it takes in no connection any more, and none is open.
+    pub fn is_over(&self) -> bool
         ensures { IsTrue result → IsOver self.now }
     {
-        self.listener.is_none() && self.connections.is_empty()
+        !self.acceptor.listens && self.opened.count() == 0
     }
 
-    // Waits for what is ready and notes it; where a second passed, only looks.
-    fn wait(&mut self, is_later: bool) -> Result<(), LoopFault> {
-        let timeout = if is_later {
-            Some(Duration::from_millis(0))
-        } else {
-            self.timeout()
-        };
-        self.poll.poll(&mut self.events, timeout)?;
-        let mut is_closed = false;
-        'events: for event in &self.events {
-            match event.token() {
-                LISTENER => self.is_asked = true,
-                INPUT => is_closed = is_closed || event.is_read_closed() || event.is_error(),
-                Token(key) => note(&mut self.connections, &mut self.due, key, event)?,
-            }
+    /// One round: waits for what is ready, takes in those that wait, and gives each that can go on a turn.
+    ///
+    /// # Errors
+    ///
+    /// Those of [`Server::serve`].
+    pub fn step<J: Journal>(&mut self, journal: &mut J) -> Result<(), LoopFault> {
+        // the clock is read before the wait: what it says of idle connections is so only if nothing was reported since
+        let is_later = self.is_later();
+        self.wait(is_later)?;
+        if is_later {
+            self.tick(journal)?;
         }
-        if is_closed {
-            self.listener = None;
-        }
-        Ok(())
-    }
-
-    // How long a wait may last: not at all where a connection can go on or may be taken in, a little where that failed, a second else.
-    fn timeout(&self) -> Option<Duration> {
-        if !self.due.is_empty() {
-            Some(Duration::from_millis(0))
-        } else if self.is_asked && !self.is_full() {
-            Some(Duration::from_millis(if self.is_refused { RETRY } else { 0 }))
-        } else {
-            Some(Duration::from_millis(TICK))
-        }
+        self.accept(journal)?;
+        self.take_turns(journal)
     }
 
     // Reads the clock, and tells whether a second passed.
@@ -269,177 +275,158 @@ impl<'r, R: Clock> Server<'r, R> {
         self.seconds.read() > before
     }
 
-    // Whether no further connection is taken in for now.
+    // Waits for what is ready and notes it; where a second passed, only looks.
+    fn wait(&mut self, is_later: bool) -> Result<(), LoopFault> {
+        let most = if is_later {
+            Duration::from_millis(0)
+        } else {
+            self.most()
+        };
+        let woken = self.system.wait(most)?;
+        self.acceptor.is_asked = self.acceptor.is_asked || woken.is_asked;
+        if woken.is_closed {
+            self.acceptor.listens = false;
+            self.system.close();
+        }
+        self.note()
+    }
+
+    // Notes what was reported.
+    fn note(&mut self) -> Result<(), LoopFault> {
+        'reports: for number in 0..usize::MAX {
+            let Some(report) = self.system.report(number) else {
+                return Ok(());
+            };
+            self.opened.note(report)?;
+        }
+        Ok(())
+    }
+
+    // How long a wait may last: not at all where a connection can go on or may be taken in, a little where that failed, a second else.
+    fn most(&self) -> Duration {
+        if self.opened.has_due() {
+            Duration::from_millis(0)
+        } else if self.acceptor.is_asked && self.acceptor.listens && !self.is_full() {
+            Duration::from_millis(if self.acceptor.is_refused { RETRY } else { 0 })
+        } else {
+            Duration::from_millis(TICK)
+        }
+    }
+
+    // Whether as many are open as may be.
     fn is_full(&self) -> bool {
-        self.listener.is_none() || self.connections.len() >= self.limits.connections
+        self.opened.count() >= self.limits.connections
     }
 
     // Takes in connections that wait, as long as the limits allow.
-    fn accept(&mut self) {
-        self.is_refused = false;
+    fn accept<J: Journal>(&mut self, journal: &mut J) -> Result<(), LoopFault> {
+        self.acceptor.is_refused = false;
         'accepts: for _ in 0..ACCEPTS {
-            if !self.is_asked || self.is_full() {
-                return;
+            if !self.may_accept() {
+                return Ok(());
             }
-            let accepted = match &self.listener {
-                Some(listener) => listener.accept(),
-                None => return,
-            };
-            match accepted {
-                Ok((stream, peer)) => self.take_in(stream, peer),
-                Err(error) => match error.kind() {
-                    ErrorKind::WouldBlock => self.is_asked = false,
-                    ErrorKind::ConnectionAborted => {}
-                    // no descriptor or no memory is left: it is tried again after a wait
-                    _ => {
-                        self.is_refused = true;
-                        return;
-                    }
-                },
+            match self.place() {
+                Place::Free => self.accept_one(None, journal)?,
+                Place::Idle(key) => self.accept_one(Some(key), journal)?,
+                Place::Full => return Ok(()),
             }
+        }
+        Ok(())
+    }
+
+    fn may_accept(&self) -> bool {
+        self.acceptor.listens && self.acceptor.is_asked && !self.acceptor.is_refused
+    }
+
+    // Where there is room for one more.
+    fn place(&mut self) -> Place {
+        if !self.is_full() {
+            return Place::Free;
+        }
+        match self.opened.spare(self.seconds.last(), self.limits.spare) {
+            Some(key) => Place::Idle(key),
+            None => Place::Full,
+        }
+    }
+
+    // Accepts one, in the place of this one where there is one.
+    fn accept_one<J: Journal>(
+        &mut self,
+        idle: Option<usize>,
+        journal: &mut J,
+    ) -> Result<(), LoopFault> {
+        match self.system.accept() {
+            Accepted::Stream(stream, peer) => {
+                self.displace(idle, journal)?;
+                self.take_in(stream, peer);
+            }
+            Accepted::Blocked => self.acceptor.is_asked = false,
+            Accepted::Aborted => {}
+            // no descriptor or no memory is left: it is tried again after a wait
+            Accepted::Refused => self.acceptor.is_refused = true,
+        }
+        Ok(())
+    }
+
+    // Closes one that makes room.
+    fn displace<J: Journal>(
+        &mut self,
+        idle: Option<usize>,
+        journal: &mut J,
+    ) -> Result<(), LoopFault> {
+        match idle {
+            Some(key) => self.finish(key, End::Displaced, journal),
+            None => Ok(()),
         }
     }
 
     // Takes a connection in. Where memory is refused, or it can't be waited for, it is closed.
-    fn take_in(&mut self, stream: TcpStream, peer: SocketAddr) {
-        // without it no reply is wrong, and some come later
-        let _ = stream.set_nodelay(true);
-        let key = self.connections.vacant_key();
-        let Ok(conn) = u32::try_from(key) else {
+    fn take_in(&mut self, mut stream: S::Stream, peer: SocketAddr) {
+        let Some(key) = self.opened.vacant() else {
             return;
         };
-        if !self.makes_room() || self.core.core().connect(conn).is_err() {
+        if !self.system.watch(&mut stream, key) {
             return;
         }
-        if self.insert(key, conn, stream, peer) {
-            self.taken = self.taken.saturating_add(1);
-            self.bound = self.bound.max(key.saturating_add(1));
-        } else {
-            self.core.core().disconnect(conn);
-        }
-    }
-
-    // Makes room for one more connection in each list of keys, and tells whether that was not refused.
-    fn makes_room(&mut self) -> bool {
-        let room = self.connections.len().saturating_add(1);
-        self.due.reserve(room).is_ok()
-            && self.spare.reserve(room).is_ok()
-            && self.paused.reserve(room).is_ok()
-    }
-
-    // Has what is ready of a stream reported, and keeps its connection under the key that is next.
-    fn insert(&mut self, key: usize, conn: u32, mut stream: TcpStream, peer: SocketAddr) -> bool {
-        let interests = Interest::READABLE | Interest::WRITABLE;
-        let registry = self.poll.registry();
-        if registry
-            .register(&mut stream, Token(key), interests)
-            .is_err()
+        let number = self.acceptor.taken;
+        if self
+            .opened
+            .take_in(key, number, peer, stream, self.seconds.last())
         {
-            return false;
+            self.acceptor.taken = number.saturating_add(1);
         }
-        let connection = Connection::new(
-            self.alloc,
-            self.taken,
-            peer,
-            conn,
-            stream,
-            self.seconds.last(),
-        );
-        self.connections.insert(connection).is_ok()
     }
 
     // One turn for each connection that is due.
     fn take_turns<J: Journal>(&mut self, journal: &mut J) -> Result<(), LoopFault> {
-        let next = mem::replace(&mut self.spare, Vec::new(self.alloc));
-        let mut keys = mem::replace(&mut self.due, next);
+        let keys = self.opened.take_due();
         'turns: for key in &keys {
             self.take_turn(*key, journal)?;
         }
-        keys.clear();
-        self.spare = keys;
+        self.opened.give_back(keys);
         Ok(())
     }
 
     // One turn for a connection.
     fn take_turn<J: Journal>(&mut self, key: usize, journal: &mut J) -> Result<(), LoopFault> {
-        match self.turn(key) {
+        let (outcome, has_moved) = self.opened.turn(key, self.seconds.last());
+        if has_moved {
+            let now = self.seconds.read();
+            self.opened.mark(key, now);
+        }
+        match outcome {
             Outcome::Over(how) => self.finish(key, how, journal),
-            Outcome::Closed => {
-                self.close(key);
-                Ok(())
-            }
-            Outcome::Open => self.schedule(key),
+            Outcome::Closed => Ok(self.opened.close(key, self.seconds.last())?),
+            Outcome::Open => self.go_on(key, journal),
         }
     }
 
-    // One turn for a connection, and what comes of it.
-    fn turn(&mut self, key: usize) -> Outcome {
-        let count = self.connections.len();
-        let Some(connection) = self.connections.get_mut(key) else {
-            return Outcome::Closed;
-        };
-        connection.is_due = false;
-        if let Phase::Lingering(_) = connection.phase {
-            return if connection.drain(&mut *self.buffer) {
-                Outcome::Open
-            } else {
-                Outcome::Closed
-            };
+    // After a turn at a connection that is open.
+    fn go_on<J: Journal>(&mut self, key: usize, journal: &mut J) -> Result<(), LoopFault> {
+        match self.opened.settle(key, self.seconds.last()) {
+            Ok(()) => Ok(self.opened.schedule(key)?),
+            Err(_) => self.finish(key, End::Memory, journal),
         }
-        let conn = connection.conn;
-        let is_held_back = self.load.holds_back(connection.held, count);
-        let (read, written) = connection.turn(
-            &mut self.core,
-            conn,
-            &mut *self.buffer,
-            is_held_back,
-        );
-        if read > 0 || written > 0 {
-            connection.moved = self.seconds.read();
-        }
-        self.read = self.read.saturating_add(read);
-        self.written = self.written.saturating_add(written);
-        let holds = connection.holds(self.core.core().waiting(conn));
-        connection.hold(holds, &mut self.load);
-        connection.outcome()
-    }
-
-    // A connection that can go on gets a further turn, at once or once it is not held back.
-    fn schedule(&mut self, key: usize) -> Result<(), LoopFault> {
-        let count = self.connections.len();
-        let Some(connection) = self.connections.get_mut(key) else {
-            return Ok(());
-        };
-        if !connection.can_go_on() || connection.is_due {
-            return Ok(());
-        }
-        if self.load.holds_back(connection.held, count) && !connection.can_write() {
-            if !connection.is_paused {
-                connection.is_paused = true;
-                self.paused.push(key)?;
-            }
-            return Ok(());
-        }
-        connection.is_due = true;
-        self.due.push(key)?;
-        Ok(())
-    }
-
-    // Those that were held back get a turn, after which they are again where that is still so.
-    fn resume(&mut self) -> Result<(), LoopFault> {
-        let mut keys = mem::replace(&mut self.paused, Vec::new(self.alloc));
-        'paused: for key in &keys {
-            if let Some(connection) = self.connections.get_mut(*key) {
-                connection.is_paused = false;
-                if !connection.is_due {
-                    connection.is_due = true;
-                    self.due.push(*key)?;
-                }
-            }
-        }
-        keys.clear();
-        self.paused = keys;
-        Ok(())
     }
 
     // A connection that is over is closed. Where bytes may be unread, what still comes is read for a little while before, since a close
@@ -450,96 +437,65 @@ impl<'r, R: Clock> Server<'r, R> {
         how: End,
         journal: &mut J,
     ) -> Result<(), LoopFault> {
-        if let Some(connection) = self.connections.get(key) {
-            journal.ended(&Ending {
-                number: connection.number,
-                peer: connection.peer,
-                how,
-            });
+        if let Some(ending) = self.opened.ending(key, how) {
+            journal.ended(&ending);
         }
+        let now = self.seconds.last();
         match how {
-            End::FrameFault | End::Memory => self.linger(key),
-            End::Done | End::ReadFault | End::WriteFault | End::Idle => {
-                self.close(key);
-                Ok(())
-            }
+            End::FrameFault | End::Memory => Ok(self.opened.linger(key, now)?),
+            _ => Ok(self.opened.close(key, now)?),
         }
     }
 
-    // Ends a connection's session, and reads what still comes for a little while.
-    fn linger(&mut self, key: usize) -> Result<(), LoopFault> {
-        if let Some(connection) = self.connections.get_mut(key) {
-            connection.linger(self.seconds.last());
-            connection.hold(0, &mut self.load);
-            self.core.core().disconnect(connection.conn);
-        }
-        self.schedule(key)
-    }
-
-    // Closes a connection.
-    fn close(&mut self, key: usize) {
-        if let Some(connection) = self.connections.try_remove(key) {
-            self.core.core().disconnect(connection.conn);
-            self.load.change(connection.held, 0);
-        }
-    }
-
-    // What is done once a second: connections whose time is up are closed, and those that were held back looked at.
+    // What is done once a second: connections whose time is up are closed, and the journal is told what there is to tell.
     fn tick<J: Journal>(&mut self, journal: &mut J) -> Result<(), LoopFault> {
-        journal.ticked();
-        'keys: for key in 0..self.bound {
+        'keys: for key in 0..self.opened.bound() {
             self.expire(key, journal)?;
         }
-        if self.seconds.last().saturating_sub(self.told) >= MINUTE {
-            self.told = self.seconds.last();
-            journal.counted(&self.totals());
-        }
-        self.resume()
+        self.tell(journal);
+        Ok(())
     }
 
     // Closes a connection whose time is up.
     fn expire<J: Journal>(&mut self, key: usize, journal: &mut J) -> Result<(), LoopFault> {
-        let Some(connection) = self.connections.get(key) else {
-            return Ok(());
-        };
-        if connection.is_due || !connection.expires(self.seconds.last(), self.limits.idle) {
-            return Ok(());
+        let now = self.seconds.last();
+        match self.opened.expiry(key, now, &self.limits) {
+            Outcome::Over(how) => self.finish(key, how, journal),
+            Outcome::Closed => Ok(self.opened.close(key, now)?),
+            Outcome::Open => Ok(()),
         }
-        match connection.phase {
-            Phase::Served => self.finish(key, End::Idle, journal),
-            Phase::Lingering(_) => {
-                self.close(key);
-                Ok(())
+    }
+
+    // Tells the journal of the minute, and of the limits that hold somebody back.
+    fn tell<J: Journal>(&mut self, journal: &mut J) {
+        let now = self.seconds.last();
+        journal.ticked();
+        if now.saturating_sub(self.told.counts) >= MINUTE {
+            self.told.counts = now;
+            journal.counted(&self.totals());
+        }
+        if self.acceptor.listens && self.acceptor.is_asked && self.is_full() {
+            if is_new(&mut self.told.connections, now) {
+                journal.held(Held::Connections, &self.totals());
             }
         }
+        if self.acceptor.is_refused && is_new(&mut self.told.descriptors, now) {
+            journal.held(Held::Descriptors, &self.totals());
+        }
+        if self.opened.is_short() && is_new(&mut self.told.memory, now) {
+            journal.held(Held::Memory, &self.totals());
+        }
     }
 }
 
-// A listener at the address, and what waits for it and for the end of standard input.
-fn listen<R: Net>(rt: &R, addr: SocketAddr) -> Result<(Poll, TcpListener), LoopFault> {
-    let poll = Poll::new(rt)?;
-    let mut listener = TcpListener::bind(rt, addr)?;
-    let registry = poll.registry();
-    registry.register(&mut listener, LISTENER, Interest::READABLE)?;
-    // a file can't be waited for: it does not end the server
-    let _ = registry.register(&mut SourceFd(&0), INPUT, Interest::READABLE);
-    Ok((poll, listener))
-}
-
-// Notes an event, and that the connection gets a turn.
-fn note(
-    connections: &mut Slab<Connection>,
-    due: &mut Vec<usize>,
-    key: usize,
-    event: &Event,
-) -> Result<(), AllocError> {
-    let Some(connection) = connections.get_mut(key) else {
-        return Ok(());
+// Whether a limit was not told of within the last minute, and that it is told of now.
+fn is_new(told: &mut Option<u64>, now: u64) -> bool {
+    let is_new = match told {
+        Some(last) => now.saturating_sub(*last) >= MINUTE,
+        None => true,
     };
-    connection.note(event);
-    if !connection.is_due && connection.can_go_on() {
-        connection.is_due = true;
-        due.push(key)?;
+    if is_new {
+        *told = Some(now);
     }
-    Ok(())
+    is_new
 }

@@ -4,6 +4,7 @@ ghost use Rattle.std.specs.Option.{option_map_or};
 ghost use Rattle.path_hub.specs.Sessions.{session};
 ghost use Rattle.path_listen.specs.Answering.{Opens, Closes};
 
+use crate::needs::{Part, most_of, part_of};
 use outbox::{Core, Step};
 use path_hub::{ConnectFault, Hub};
 use std::alloc::Global;
@@ -58,6 +59,17 @@ impl HubCore {
         ensures { result ≡ option_map_or (λ f. length f.waiting) (session conn self.now.sessions) 0 }
     {
         self.hub.waiting(conn)
+    }
+
+    /// The frame that waits on a connection in part, where its key is there: what is still to come, and whether a tenant has the key.
+    pub fn part(&self, conn: u32) -> Option<Part> {
+        part_of(self.hub.tenants(), self.hub.waiting_bytes(conn))
+    }
+
+    /// The most bytes of the reply to the first request that waits on a connection: of a text its own length, of a list and of hits the
+    /// most that there may be.
+    pub fn most_reply(&self, conn: u32) -> usize {
+        most_of(self.hub.tenants(), self.hub.waiting_bytes(conn))
     }
 }
 

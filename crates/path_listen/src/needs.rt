@@ -1,0 +1,110 @@
+//! What the first request that waits on a connection needs before it is read on or answered.
+
+use tenant_store::{DOCUMENT_QUOTA, LONGEST_DOCUMENT_NAME, LONGEST_REPLY, Tenant, Tenants};
+use wire_frames::{Command, LONGEST_BODY, Request, read_request};
+
+/// The bytes of a frame's length.
+const LENGTH_BYTES: usize = 4;
+
+/// Where a request's key begins in its frame, behind the length, the command and the number.
+const KEY_AT: usize = 9;
+
+/// Where it ends.
+const KEY_END: usize = 25;
+
+/// The most bytes of a frame.
+pub const LONGEST_FRAME: usize = LENGTH_BYTES + LONGEST_BODY;
+
+/// The most bytes of a reply, with its length.
+pub const MOST_REPLY: usize = LENGTH_BYTES + LONGEST_REPLY;
+
+/// The most bytes of a reply without a text, a list or hits.
+const SHORT_REPLY: usize = 21;
+
+/// The bytes of a reply in front of its payload.
+const BEFORE_PAYLOAD: usize = 9;
+
+/// The most bytes of a list's reply: behind the number of names, each with its length.
+const MOST_LIST: usize = BEFORE_PAYLOAD + 4 + DOCUMENT_QUOTA as usize * (1 + LONGEST_DOCUMENT_NAME);
+
+/// A frame of which not all came yet.
+#[derive(Clone, Copy, Debug, PartialEq, Eq)]
+pub struct Part {
+    /// The bytes of the whole frame, with its length.
+    pub length: usize,
+    /// Those of them that are still to come.
+    pub left: usize,
+    /// Whether its key names a tenant.
+    pub is_known: bool,
+}
+
+/// The frame that these bytes begin with, where not all of it came but its key did.
+pub(crate) fn part_of(tenants: &Tenants, bytes: &[u8]) -> Option<Part> {
+    let length = whole_length(bytes)?;
+    let head = bytes.get(KEY_AT..KEY_END)?;
+    let left = length.saturating_sub(bytes.len());
+    if left == 0 {
+        return None;
+    }
+    let mut key = [0u8; 16];
+    key.copy_from_slice(head);
+    Some(Part {
+        length,
+        left,
+        is_known: tenants.place_of(&key).is_some(),
+    })
+}
+
+/// The most bytes of the reply to the frame that these bytes begin with.
+pub(crate) fn most_of(tenants: &Tenants, bytes: &[u8]) -> usize {
+    match body_of(bytes) {
+        Some(body) => match read_request(body) {
+            Ok(request) => most_for(tenants, &request),
+            Err(_) => SHORT_REPLY,
+        },
+        None => SHORT_REPLY,
+    }
+}
+
+// The bytes of the frame that these bytes begin with, with its length, where that is there and within the limit.
+fn whole_length(bytes: &[u8]) -> Option<usize> {
+    let head = bytes.get(..LENGTH_BYTES)?;
+    let mut length = [0u8; LENGTH_BYTES];
+    length.copy_from_slice(head);
+    let length = u32::from_be_bytes(length) as usize;
+    if length > LONGEST_BODY {
+        None
+    } else {
+        Some(LENGTH_BYTES + length)
+    }
+}
+
+// The body of the frame that these bytes begin with, where it is whole.
+fn body_of(bytes: &[u8]) -> Option<&[u8]> {
+    let length = whole_length(bytes)?;
+    bytes.get(LENGTH_BYTES..length)
+}
+
+// The most bytes of the reply to a request.
+fn most_for(tenants: &Tenants, request: &Request<'_>) -> usize {
+    match tenants.place_of(&request.key) {
+        Some(place) => most_by(tenants.tenant(place), request.command),
+        None => SHORT_REPLY,
+    }
+}
+
+// The most bytes of the reply to a tenant's command.
+fn most_by(tenant: &Tenant, command: Command<'_>) -> usize {
+    match command {
+        Command::Get {
+            collection,
+            document,
+        } => match tenant.get(collection, document) {
+            Ok(text) => BEFORE_PAYLOAD + text.len(),
+            Err(_) => SHORT_REPLY,
+        },
+        Command::List { .. } => MOST_LIST,
+        Command::Query { .. } => MOST_REPLY,
+        _ => SHORT_REPLY,
+    }
+}
