@@ -1,6 +1,7 @@
 //! What the first request that waits on a connection needs before it is read on or answered.
 
-use tenant_store::{DOCUMENT_QUOTA, LONGEST_DOCUMENT_NAME, LONGEST_REPLY, Tenant, Tenants};
+use store_names::{LONGEST_DOCUMENT_NAME, LONGEST_REPLY};
+use tenant_map::{DOCUMENT_QUOTA, Tenant, Tenants};
 use wire_frames::{Command, LONGEST_BODY, Request, read_request};
 
 /// The bytes of a frame's length.
