@@ -1,12 +1,9 @@
 -- What a release and a grant leave of a ticket.
-use Rattle.std.proofs.Common.{◌≡◌, ℕ, Bool, true, false, List, [], ◌∷◌, ◌++◌, Option, Some, None, filter, not, sym, ap, ◌∙◌, refl, subst, append_assoc, inl, inr}
-use Rattle.std.specs.Prelude.{nat_le, if◌then◌else◌}
+use Rattle.std.proofs.Common.{◌≡◌, ℕ, List, [], ◌∷◌, ◌++◌, Option, Some, sym, refl, subst, inl, inr}
 use Rattle.std.proofs.lemmas.Bool.{cases_Bool}
 use Rattle.memory_budget.specs.declared.share.Share.{Share}
-use Rattle.memory_budget.specs.States.{State, Releases, Next, after, is_of, own, without, first, behind, left}
+use Rattle.memory_budget.specs.States.{State, Releases, after, is_of, own, without}
 use Rattle.event_loop.specs.declared.claim.Claim.{Claim}
-use Rattle.event_loop.specs.declared.claim.Pool.{Pool}
-use Rattle.event_loop.specs.declared.claim.Pool.TheVariants.{Tenants, Strangers}
 use Rattle.event_loop.specs.declared.claim.Budgets.{Budgets}
 use Rattle.event_loop.specs.Shares.{in_pool, IsFree, StayFree, IsGivenBack}
 

@@ -6,7 +6,6 @@ use Rattle.std.proofs.lemmas.Bool.{cases_Bool, eqb-true, eqb-false}
 use Rattle.slab.specs.Slab.{Slab, get, with_value, Updates}
 use Rattle.slab.proofs.SlabLemmas.{Updates-with_value}
 use Rattle.std.proofs.Math.ListN.{get_or-map}
-use Rattle.outbox.specs.Lines.{Line}
 use Rattle.path_hub.specs.HubState.{HubState}
 use Rattle.path_listen.specs.Answering.{takes, Answers, Closes}
 use Rattle.event_loop.specs.declared.connection.Phase.{Phase}

@@ -1,4 +1,3 @@
-use Rattle.std.proofs.Common.{refl}
 use Rattle.event_loop.proofs.Looping.{stays, stays_then}
 use Rattle.event_loop.proofs.Shares.{free_then}
 use Rattle.event_loop.proofs.open.Open.grant.Goals as goal
