@@ -104,12 +104,12 @@ impl<S: Peer> Connection<S> {
         self.ready.writable = self.ready.writable || report.is_writable;
     }
 
-    /// What its next turn does: all where there is room for any reply, and else one thing after the other.
+    /// What its next turn does: all where there is room for any reply and its peer takes what it is owed, and else one thing after the other.
     pub fn plan(&self, has_room: bool) -> Plan {
         match &self.claim {
             Some(claim) => self.plan_with(claim),
             None => {
-                if has_room {
+                if has_room && self.outbox.owed().len() < ALLOWANCE {
                     Plan::All
                 } else {
                     self.plan_without()
@@ -303,14 +303,26 @@ impl<S: Peer> Connection<S> {
         }
     }
 
-    /// Whether it was idle for so many seconds, owes nothing and has nothing in part.
-    pub fn is_spare(&self, now: u64, seconds: u64) -> bool {
+    /// Whether it has been idle for so long that it makes room for another one: `spare` seconds where it owes nothing and has nothing in part,
+    /// and else `frame_time` seconds. One that waits for memory, or is to have a turn, is not idle.
+    pub fn is_spare(&self, now: u64, limits: &Limits) -> bool {
+        let seconds = if self.has_part || self.claim.is_some() || self.outbox.owes() {
+            limits.frame_time
+        } else {
+            limits.spare
+        };
         !self.is_due
-            && !self.has_part
-            && self.claim.is_none()
-            && !self.outbox.owes()
+            && !self.waits_for_memory()
             && matches!(self.phase, Phase::Served)
             && now.saturating_sub(self.moved) >= seconds
+    }
+
+    // Whether its share is not granted yet.
+    fn waits_for_memory(&self) -> bool {
+        match &self.claim {
+            Some(claim) => !claim.is_granted,
+            None => false,
+        }
     }
 
     /// How its time is up in this second, where it is; others may wait for what it holds. One that is to have a turn is not quiet.

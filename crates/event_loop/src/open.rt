@@ -421,26 +421,26 @@ impl<S: Peer, T: Time + Drop> Open<S, T> {
     }
 
     /// The connection that has been idle longest, for so many seconds at least. They are looked for once a second.
-    pub fn spare(&mut self, now: u64, seconds: u64) -> Option<usize> {
-        match self.next_spare(now, seconds) {
+    pub fn spare(&mut self, now: u64, limits: &Limits) -> Option<usize> {
+        match self.next_spare(now, limits) {
             Some(key) => Some(key),
             None => {
                 if self.looked == Some(now) {
                     return None;
                 }
                 self.looked = Some(now);
-                self.look_for_spare(now, seconds);
-                self.next_spare(now, seconds)
+                self.look_for_spare(now, limits);
+                self.next_spare(now, limits)
             }
         }
     }
 
     // The next of those that were found and are still idle.
-    fn next_spare(&mut self, now: u64, seconds: u64) -> Option<usize> {
+    fn next_spare(&mut self, now: u64, limits: &Limits) -> Option<usize> {
         'found: for _ in 0..self.idle.len() {
             let (moved, key) = self.idle.pop()?;
             if let Some(connection) = self.connections.get(key) {
-                if connection.moved == moved && connection.is_spare(now, seconds) {
+                if connection.moved == moved && connection.is_spare(now, limits) {
                     return Some(key);
                 }
             }
@@ -449,14 +449,14 @@ impl<S: Peer, T: Time + Drop> Open<S, T> {
     }
 
     // Finds those that are idle. Where there is no memory for the list, there is none.
-    fn look_for_spare(&mut self, now: u64, seconds: u64) {
+    fn look_for_spare(&mut self, now: u64, limits: &Limits) {
         self.idle.clear();
         if self.idle.reserve(self.connections.len()).is_err() {
             return;
         }
         'keys: for key in 0..self.bound {
             if let Some(connection) = self.connections.get(key) {
-                if connection.is_spare(now, seconds) {
+                if connection.is_spare(now, limits) {
                     let _ = self.idle.push((connection.moved, key));
                 }
             }

@@ -7,12 +7,18 @@ use crate::system::Time;
 pub(crate) struct Seconds<T: Time + Drop> {
     time: T,
     last: u64,
+    // The second that was last told as a later one.
+    told: u64,
 }
 
 impl<T: Time + Drop> Seconds<T> {
     /// Of this clock.
     pub fn new(time: T) -> Seconds<T> {
-        Seconds { time, last: 0 }
+        Seconds {
+            time,
+            last: 0,
+            told: 0,
+        }
     }
 
     /// When it was last read.
@@ -26,5 +32,13 @@ impl<T: Time + Drop> Seconds<T> {
             self.last = elapsed.as_secs();
         }
         self.last
+    }
+
+    /// Reads it, and tells whether a second passed since that was last told.
+    pub fn is_later(&mut self) -> bool {
+        let now = self.read();
+        let is_later = now > self.told;
+        self.told = now;
+        is_later
     }
 }

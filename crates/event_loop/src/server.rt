@@ -20,6 +20,9 @@ use thiserror::Error;
 /// The most connections that are taken in between two waits.
 const ACCEPTS: u32 = 256;
 
+/// The least number of reports that a wait gives where so many connections are ready.
+const REPORTS: usize = 1_024;
+
 /// The seconds between two counts that a journal is told, and between two lines on one limit.
 const MINUTE: u64 = 60;
 
@@ -260,28 +263,27 @@ impl<S: System + Drop, T: Time + Drop> Server<S, T> {
     /// Those of [`Server::serve`].
     pub fn step<J: Journal>(&mut self, journal: &mut J) -> Result<(), LoopFault> {
         // the clock is read before the wait: what it says of idle connections is so only if nothing was reported since
-        let is_later = self.is_later();
-        self.wait(is_later)?;
-        if is_later {
+        if self.seconds.is_later() {
+            self.look()?;
             self.tick(journal)?;
+        } else {
+            let most = self.most();
+            self.wait(most)?;
         }
         self.accept(journal)?;
         self.take_turns(journal)
     }
 
-    // Reads the clock, and tells whether a second passed.
-    fn is_later(&mut self) -> bool {
-        let before = self.seconds.last();
-        self.seconds.read() > before
+    // Notes what is ready by now, a wait's reports at a time.
+    fn look(&mut self) -> Result<(), LoopFault> {
+        'waits: for _ in 0..=self.opened.count() / REPORTS {
+            self.wait(Duration::from_millis(0))?;
+        }
+        Ok(())
     }
 
-    // Waits for what is ready and notes it; where a second passed, only looks.
-    fn wait(&mut self, is_later: bool) -> Result<(), LoopFault> {
-        let most = if is_later {
-            Duration::from_millis(0)
-        } else {
-            self.most()
-        };
+    // Waits for what is ready, so long at most, and notes it.
+    fn wait(&mut self, most: Duration) -> Result<(), LoopFault> {
         let woken = self.system.wait(most)?;
         self.acceptor.is_asked = self.acceptor.is_asked || woken.is_asked;
         if woken.is_closed {
@@ -343,7 +345,7 @@ impl<S: System + Drop, T: Time + Drop> Server<S, T> {
         if !self.is_full() {
             return Place::Free;
         }
-        match self.opened.spare(self.seconds.last(), self.limits.spare) {
+        match self.opened.spare(self.seconds.last(), &self.limits) {
             Some(key) => Place::Idle(key),
             None => Place::Full,
         }
@@ -362,10 +364,23 @@ impl<S: System + Drop, T: Time + Drop> Server<S, T> {
             }
             Accepted::Blocked => self.acceptor.is_asked = false,
             Accepted::Aborted => {}
-            // no descriptor or no memory is left: it is tried again after a wait
-            Accepted::Refused => self.acceptor.is_refused = true,
+            Accepted::Refused => self.make_room(idle, journal)?,
         }
         Ok(())
+    }
+
+    // No descriptor or no memory is left: one that is idle makes room, and where none is, it is tried again after a wait.
+    fn make_room<J: Journal>(
+        &mut self,
+        idle: Option<usize>,
+        journal: &mut J,
+    ) -> Result<(), LoopFault> {
+        let spare = match idle {
+            Some(key) => Some(key),
+            None => self.opened.spare(self.seconds.last(), &self.limits),
+        };
+        self.acceptor.is_refused = spare.is_none();
+        self.displace(spare, journal)
     }
 
     // Closes one that makes room.
