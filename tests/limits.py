@@ -1,11 +1,12 @@
 #!/usr/bin/env python3
-"""What is true at each limit of `path_server listen`: tests/limits.py [short], on Linux alone.
+"""What is true at each limit of `path_server listen`: tests/limits.py [NAME..], on Linux alone.
 
 Memory: many clients that put large texts at once, with ample memory and with the least; peers that read nothing of what they asked for, with
 a key and without one; half frames, with a key and without one; peers that stall, and peers that send a byte at a time, while others wait for what
 they hold. Connections: idle ones and half frames at the limit on connections and at that of descriptors. Standard error and standard input of
 each kind. Time: a long reply that is read slowly beside an idle limit, and requests that came while the server was busy for longer than it.
-In each case those that can go on do, within a bound. `short` takes smaller numbers, for the gate.
+In each case those that can go on do, within a bound. NAMEs are those of the cases to run, all where there is none. long/long_limits.py has
+the same with larger numbers.
 """
 import os
 import resource
@@ -491,8 +492,7 @@ def cases(is_short):
     yield busy, 1_500 if is_short else 5_000
 
 
-def main():
-    is_short, names = sys.argv[1:2] == ["short"], sys.argv[2:]
+def main(is_short, names):
     _, most = resource.getrlimit(resource.RLIMIT_NOFILE)
     resource.setrlimit(resource.RLIMIT_NOFILE, (most, most))
     report = Report()
@@ -509,4 +509,4 @@ def main():
 
 
 if __name__ == "__main__":
-    main()
+    main(True, sys.argv[1:])
