@@ -80,8 +80,10 @@ pub struct Peer {
     // What is to be sent of the last request, and those that have no reply.
     script: VecDeque<u8>,
     wanted: VecDeque<Asked>,
-    // How much of a reply came, and whether it was as wanted.
+    // How much of a reply came, what it has in all, its head, and whether it was as wanted.
     came: usize,
+    length: usize,
+    head: [u8; 9],
     is_alike: bool,
     // It ended or reset the connection itself.
     has_left: bool,
@@ -101,6 +103,8 @@ impl Peer {
             script: VecDeque::new(alloc),
             wanted: VecDeque::new(alloc),
             came: 0,
+            length: 0,
+            head: [0; 9],
             is_alike: true,
             has_left: true,
             pause: 0,
@@ -273,10 +277,17 @@ impl Peer {
             tally.differ = tally.differ.saturating_add(1);
             return;
         };
-        let wanted = asked.wanted;
-        self.is_alike = self.is_alike && byte == wanted.byte(self.came);
+        if self.came == 0 {
+            self.head = asked.wanted.head();
+            self.length = asked.wanted.payload().saturating_add(9);
+        }
+        let wanted = match self.head.get(self.came) {
+            Some(wanted) => *wanted,
+            None => asked.wanted.byte(self.came.saturating_sub(9)),
+        };
+        self.is_alike = self.is_alike && byte == wanted;
         self.came = self.came.saturating_add(1);
-        if self.came < wanted.length() {
+        if self.came < self.length {
             return;
         }
         let _ = self.wanted.pop_front();
@@ -309,7 +320,10 @@ impl Peer {
             Manner::Flood | Manner::DeafFlood => self.flood(pipe),
             Manner::Faulty => self.fault(),
             Manner::Stranger | Manner::SilentStranger => self.ask_as_stranger(chance),
-            Manner::Silent | Manner::Dripping => self.put(chance),
+            Manner::Silent | Manner::Dripping => {
+                let text = any_long_text(chance);
+                self.put(chance, text);
+            },
             Manner::Deaf => self.look_up(chance),
             Manner::Lively => self.ask(chance),
         }
@@ -327,7 +341,10 @@ impl Peer {
         match chance.below(8) {
             0 => self.remove(chance),
             1 | 2 | 3 => self.look_up(chance),
-            _ => self.put(chance),
+            _ => {
+                let text = any_text(chance);
+                self.put(chance, text);
+            }
         }
     }
 
@@ -352,7 +369,7 @@ impl Peer {
     }
 
     fn ask_as_stranger(&mut self, chance: &mut Chance) {
-        let text = any_text(chance);
+        let text = any_long_text(chance);
         self.begin(
             1,
             STRANGER,
@@ -390,9 +407,8 @@ impl Peer {
         }
     }
 
-    fn put(&mut self, chance: &mut Chance) {
+    fn put(&mut self, chance: &mut Chance, text: Text) {
         let place = any_place(chance);
-        let text = any_text(chance);
         self.begin(
             1,
             self.key(),
@@ -481,10 +497,19 @@ fn any_place(chance: &mut Chance) -> usize {
     chance.below(TEXTS as u64) as usize % TEXTS
 }
 
+// A text, half of which are long.
+fn any_long_text(chance: &mut Chance) -> Text {
+    let mut text = any_text(chance);
+    if chance.once_in(2) {
+        text.count = text.count.saturating_add(100_000);
+    }
+    text
+}
+
 fn any_text(chance: &mut Chance) -> Text {
-    let count = match chance.below(16) {
+    let count = match chance.below(64) {
         0 => chance.below(300_000),
-        1 | 2 => chance.below(40_000),
+        1 | 2 | 3 => chance.below(40_000),
         _ => chance.below(200),
     };
     Text {

@@ -40,12 +40,8 @@ pub enum Wanted {
 }
 
 impl Wanted {
-    /// The bytes of the reply, with its length.
-    pub fn length(&self) -> usize {
-        self.payload().saturating_add(9)
-    }
-
-    fn payload(&self) -> usize {
+    /// How many bytes the reply has behind its first nine.
+    pub fn payload(&self) -> usize {
         match self {
             Wanted::Status(_) | Wanted::Unnumbered(_) => 0,
             Wanted::Found(text) => text.length(),
@@ -62,22 +58,19 @@ impl Wanted {
         }
     }
 
-    /// The byte of the reply at a place.
-    pub fn byte(&self, place: usize) -> u8 {
+    /// The first nine bytes of the reply.
+    pub fn head(&self) -> [u8; 9] {
         let [a, b, c, d] = (self.payload().saturating_add(5) as u32).to_be_bytes();
         let (status, number) = match self {
             Wanted::Status(status) => (*status, 1),
             Wanted::Unnumbered(status) => (*status, 0),
             _ => (0, 1),
         };
-        let head = [a, b, c, d, status, 0, 0, 0, number];
-        match head.get(place) {
-            Some(byte) => *byte,
-            None => self.payload_byte(place.saturating_sub(9)),
-        }
+        [a, b, c, d, status, 0, 0, 0, number]
     }
 
-    fn payload_byte(&self, place: usize) -> u8 {
+    /// A byte of the payload.
+    pub fn byte(&self, place: usize) -> u8 {
         match self {
             Wanted::Status(_) | Wanted::Unnumbered(_) => 0,
             Wanted::Found(text) => text.byte(place),
