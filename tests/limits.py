@@ -389,11 +389,13 @@ def standard_streams(report):
     """Whatever standard input and standard error are, closed ones too, the server serves, and a stop and a continuation change nothing."""
     left, right = socket.socketpair()
     read, write = os.pipe()
+    gone, broken = os.pipe()
+    os.close(gone)
     with tempfile.TemporaryFile() as file, open("/dev/full", "wb") as full, open("/dev/null") as null:
         inputs = {"a pipe": {"stdin": subprocess.PIPE}, "/dev/null": {"stdin": null}, "a file": {"stdin": file}, "a socket": {"stdin": left},
                   "closed": {"preexec_fn": lambda: os.close(0)}}
         errors = {"a file": {"errors": file}, "a full device": {"errors": full}, "a pipe nobody reads": {"errors": write},
-                  "a socket": {"errors": left}, "closed": {"preexec_fn": lambda: os.close(2)}}
+                  "a pipe whose reader is gone": {"errors": broken}, "a socket": {"errors": left}, "closed": {"preexec_fn": lambda: os.close(2)}}
         both = {"stdin": subprocess.DEVNULL, "preexec_fn": lambda: (os.close(0), os.close(2))}
         kinds = [(f"standard input {name}", {"stdin": subprocess.PIPE, **more}) for name, more in inputs.items()]
         kinds += [(f"standard error {name}", {"stdin": subprocess.PIPE, **more}) for name, more in errors.items()]
@@ -411,8 +413,8 @@ def standard_streams(report):
                 report.case(f"the server, {name}", "", None, server.process.poll())
     for it in (left, right):
         it.close()
-    os.close(read)
-    os.close(write)
+    for it in (read, write, broken):
+        os.close(it)
 
 
 # ---- time

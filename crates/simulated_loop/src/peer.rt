@@ -335,7 +335,7 @@ impl Peer {
 
     // Asks for one thing, and seldom pauses behind it.
     fn ask(&mut self, chance: &mut Chance) {
-        if chance.once_in(100) {
+        if chance.once_in(400) {
             self.pause = chance.below(2_000);
         }
         match chance.below(8) {
@@ -507,7 +507,7 @@ fn any_long_text(chance: &mut Chance) -> Text {
 }
 
 fn any_text(chance: &mut Chance) -> Text {
-    let count = match chance.below(64) {
+    let count = match chance.below(256) {
         0 => chance.below(300_000),
         1 | 2 | 3 => chance.below(40_000),
         _ => chance.below(200),
