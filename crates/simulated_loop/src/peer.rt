@@ -353,7 +353,7 @@ impl Peer {
         if pipe.unread() > 0 || self.wanted.len() > FLOOD {
             return;
         }
-        'requests: for _ in 0..500 {
+        'requests: for _ in 0..50 {
             self.say_all(&[0, 0, 0, 0]);
             self.want(Wanted::Unnumbered(1));
         }
