@@ -165,15 +165,15 @@ def readers(report, peers):
 
 def refused_replies(report, peers):
     """Peers that read nothing and ask for more than the longest reply: of a reply that was begun and refused nothing stays."""
-    memory = 32 * MEBIBYTE
+    memory = 16 * MEBIBYTE
     with Listening([KEY], "--memory", str(memory), **QUIET) as server:
         fill(server)
         with open_connection(server.address) as connection:
-            exchange(connection, put(b"s", b'"' + b"s" * 10_000 + b'"'), 9)
+            exchange(connection, put(b"s", b'"' + b"s" * 15_000 + b'"'), 9)
             report.case("a reply above the limit", TOO_LONG_QUERY, TOO_LONG_REPLY, exchange(connection, TOO_LONG_QUERY, 9))
         before = server.resident()
         silent = [deaf(server) for _ in range(peers)]
-        pairs = (frame(2, b"\x01c\x01s") + TOO_LONG_QUERY) * 300
+        pairs = (frame(2, b"\x01c\x01s") + TOO_LONG_QUERY) * 200
         for connection in silent:
             connection.sendall(pairs)
         used = -1.0
@@ -182,7 +182,7 @@ def refused_replies(report, peers):
             time.sleep(0.5)
         grown = (server.resident() - before) * 1024
         at_most(report, f"bytes held for {peers} peers with refused replies", memory * 11 // 10 + peers * BESIDE, grown)
-        print(f"{peers} peers that read nothing, with refused replies: {grown // MEBIBYTE} MiB more resident at a limit of 32 MiB", flush=True)
+        print(f"{peers} peers that read nothing, with refused replies: {grown // MEBIBYTE} MiB more resident at a limit of 16 MiB", flush=True)
         for connection in silent:
             reset(connection)
         server.finish(report)
@@ -479,7 +479,7 @@ def cases(is_short):
     yield putting, 3, "--memory", str(LEAST)
     yield putting, 40 if is_short else 300
     yield readers, 30 if is_short else 200
-    yield refused_replies, 5 if is_short else 20
+    yield refused_replies, 4 if is_short else 20
     yield strangers, 50 if is_short else 300
     yield deaf_strangers, 20 if is_short else 100
     yield (stalled,)

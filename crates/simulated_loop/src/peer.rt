@@ -140,6 +140,32 @@ impl Peer {
         self.wait(tally);
     }
 
+    /// It leaves, whatever is under way.
+    pub fn quit(&mut self, pipe: &mut Pipe) {
+        self.has_left = true;
+        pipe.reset();
+    }
+
+    /// One round of a peer whose last request is for all its texts. Whether the reply came.
+    pub fn end(
+        &mut self,
+        chance: &mut Chance,
+        pipe: &mut Pipe,
+        times: &Times,
+        tally: &mut Tally,
+    ) -> bool {
+        if pipe.is_closed {
+            self.look(pipe, times, tally);
+            self.open(chance, pipe, tally);
+            self.manner = Manner::Lively;
+            self.ask_for_all();
+            return false;
+        }
+        self.send(chance, pipe);
+        self.take(usize::MAX, pipe, tally);
+        self.wanted.is_empty()
+    }
+
     fn takes(&self) -> bool {
         self.manner != Manner::Deaf && self.manner != Manner::DeafFlood
     }
@@ -388,14 +414,16 @@ impl Peer {
         self.set(place, None);
     }
 
+    fn ask_for_all(&mut self) {
+        self.begin(5, self.key(), None, 1, Wanted::Hits(self.texts));
+        self.say(b'$');
+    }
+
     // A text, all names, or all texts.
     fn look_up(&mut self, chance: &mut Chance) {
         match chance.below(8) {
             0 => self.begin(4, self.key(), None, 0, Wanted::Names(self.texts)),
-            1 => {
-                self.begin(5, self.key(), None, 1, Wanted::Hits(self.texts));
-                self.say(b'$');
-            }
+            1 => self.ask_for_all(),
             _ => {
                 let place = any_place(chance);
                 let wanted = match self.text(place) {

@@ -41,6 +41,8 @@ pub struct Outcome {
     /// The reads and writes of the server.
     pub calls: u64,
     pub tally: Tally,
+    /// Behind the rounds all peers left, and then one was answered that asked for the longest reply.
+    pub is_settled: bool,
     /// A growth was refused, or the server ended.
     pub is_short: bool,
 }
@@ -49,7 +51,11 @@ impl Outcome {
     /// Whether all went as it must.
     pub fn is_good(&self) -> bool {
         let tally = &self.tally;
-        !self.is_short && tally.differ == 0 && tally.closed == 0 && tally.waited < PATIENCE
+        self.is_settled
+            && !self.is_short
+            && tally.differ == 0
+            && tally.closed == 0
+            && tally.waited < PATIENCE
     }
 }
 
@@ -62,6 +68,9 @@ impl fmt::Display for Outcome {
         write!(f, ", {} that went on", tally.closed)?;
         write!(f, ", {} replies, {} differ", tally.replies, tally.differ)?;
         write!(f, ", waited at most {} rounds", tally.waited)?;
+        if !self.is_settled {
+            write!(f, ", memory is held that nobody holds")?;
+        }
         if self.is_short {
             write!(f, ", no memory")?;
         }
@@ -273,12 +282,9 @@ fn simulate(
     let (millis, looks) = (Cell::new(0), Cell::new(0));
     let taken = RefCell::new(Vec::new(alloc));
     let limits = any_limits(&mut chance, count);
-    let times = Times {
-        idle: limits.idle.map(|seconds| seconds.saturating_mul(1_000)),
-        spare: limits.spare.saturating_mul(1_000),
-    };
+    let pipes = pipes.as_slice();
     let system = Pipes {
-        pipes: pipes.as_slice(),
+        pipes,
         chance: Chance(seed.wrapping_add(1)),
         millis: &millis,
         taken: &taken,
@@ -290,27 +296,113 @@ fn simulate(
         millis: &millis,
         looks: &looks,
     };
-    let mut ends = Ends {
-        pipes: pipes.as_slice(),
-        taken: &taken,
-    };
-    let Some(mut server) = server(alloc, system, watch, limits) else {
+    let Some(server) = server(alloc, system, watch, limits) else {
         return Err(AllocError);
     };
-    'rounds: for round in 0..rounds {
-        outcome.rounds = round.saturating_add(1);
-        millis.set(millis.get().saturating_add(ROUND));
-        'each: for (peer, cell) in peers.iter_mut().zip(pipes.iter()) {
+    let times = Times {
+        idle: limits.idle.map(|seconds| seconds.saturating_mul(1_000)),
+        spare: limits.spare.saturating_mul(1_000),
+    };
+    let mut stage = Stage {
+        server,
+        ends: Ends {
+            pipes,
+            taken: &taken,
+        },
+        pipes,
+        millis: &millis,
+        chance,
+        times,
+        last: Peer::new(alloc, count),
+    };
+    stage.go_on(peers.as_mut_slice(), rounds, outcome)?;
+    outcome.calls = calls_of(pipes);
+    stage.settle(peers.as_mut_slice(), outcome)
+}
+
+/// A server, its pipes and its clock.
+#[derive(Drop)]
+struct Stage<'w> {
+    server: Server<Pipes<'w>, Watch<'w>>,
+    ends: Ends<'w>,
+    pipes: &'w [RefCell<Pipe>],
+    millis: &'w Cell<u64>,
+    chance: Chance,
+    times: Times,
+    // One that comes when all others have left.
+    last: Peer,
+}
+
+impl<'w> Stage<'w> {
+    // So many rounds.
+    fn go_on(
+        &mut self,
+        peers: &mut [Peer],
+        rounds: u64,
+        outcome: &mut Outcome,
+    ) -> Result<(), AllocError> {
+        'rounds: for round in 0..rounds {
+            outcome.rounds = round.saturating_add(1);
+            'each: for (peer, cell) in peers.iter_mut().zip(self.pipes.iter()) {
+                if let Ok(mut pipe) = cell.try_borrow_mut() {
+                    peer.round(&mut self.chance, &mut pipe, &self.times, &mut outcome.tally);
+                }
+            }
+            self.step()?;
+        }
+        Ok(())
+    }
+
+    // All leave, and then one comes that asks for all its texts: for the longest reply there is room only where nobody holds memory any more.
+    fn settle(&mut self, peers: &mut [Peer], outcome: &mut Outcome) -> Result<(), AllocError> {
+        'each: for (peer, cell) in peers.iter_mut().zip(self.pipes.iter()) {
             if let Ok(mut pipe) = cell.try_borrow_mut() {
-                peer.round(&mut chance, &mut pipe, &times, &mut outcome.tally);
+                peer.quit(&mut pipe);
             }
         }
-        if server.step(&mut ends).is_err() {
-            return Err(AllocError);
+        'rounds: for _ in 0..PATIENCE {
+            self.step()?;
+            if others_closed(self.pipes) {
+                outcome.is_settled = self.ask(outcome);
+            }
+            if outcome.is_settled {
+                return Ok(());
+            }
+        }
+        Ok(())
+    }
+
+    // One round of the last one, and whether its reply came.
+    fn ask(&mut self, outcome: &mut Outcome) -> bool {
+        let place = self.pipes.len().saturating_sub(1);
+        match borrow(self.pipes, place) {
+            Some(mut pipe) => {
+                self.last.end(&mut self.chance, &mut pipe, &self.times, &mut outcome.tally)
+            }
+            None => false,
         }
     }
-    outcome.calls = calls_of(pipes.as_slice());
-    Ok(())
+
+    // One round of the server.
+    fn step(&mut self) -> Result<(), AllocError> {
+        self.millis.set(self.millis.get().saturating_add(ROUND));
+        match self.server.step(&mut self.ends) {
+            Ok(()) => Ok(()),
+            Err(_) => Err(AllocError),
+        }
+    }
+}
+
+// Whether each pipe but the last one is closed.
+fn others_closed(pipes: &[RefCell<Pipe>]) -> bool {
+    'pipes: for place in 0..pipes.len().saturating_sub(1) {
+        if let Some(pipe) = borrow(pipes, place) {
+            if !pipe.is_closed {
+                return false;
+            }
+        }
+    }
+    true
 }
 
 fn calls_of(pipes: &[RefCell<Pipe>]) -> u64 {
@@ -328,7 +420,11 @@ fn any_limits(chance: &mut Chance, peers: usize) -> Limits {
     let fewer = peers.saturating_sub(peers / 4).max(1);
     Limits {
         connections: if chance.once_in(2) { fewer } else { peers },
-        memory: LEAST_MEMORY.saturating_add((chance.below(3) as usize).saturating_mul(6_000_000)),
+        memory: if chance.once_in(3) {
+            LEAST_MEMORY.saturating_add(8_000_000)
+        } else {
+            LEAST_MEMORY
+        },
         idle: if chance.once_in(2) {
             Some(chance.below(20).saturating_add(20))
         } else {
