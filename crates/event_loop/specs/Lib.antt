@@ -3,3 +3,5 @@ pub mod Turning
 pub mod Looping
 pub mod Servers
 pub mod Sockets
+pub mod Opened
+pub mod Shares

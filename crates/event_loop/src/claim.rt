@@ -1,5 +1,7 @@
 //! What a connection holds of the budgets of memory, or waits for.
 
+ghost use Rattle.event_loop.specs.Shares.{in_pool, IsFree, StayFree};
+
 use memory_budget::{Answer, Budget, Share};
 use path_listen::{LONGEST_FRAME, MOST_REPLY};
 use std::alloc::{AllocError, Global};
@@ -94,7 +96,9 @@ impl Budgets {
     }
 
     /// Gives a share back.
-    pub fn release(&mut self, claim: &Claim) {
+    pub fn release(&mut self, claim: &Claim)
+        ensures { IsFree claim.now.ticket (in_pool claim.now.pool self.new) }
+    {
         match claim.pool {
             Pool::Tenants => self.tenants.release(claim.ticket),
             Pool::Strangers => self.strangers.release(claim.ticket),
@@ -110,7 +114,9 @@ impl Budgets {
     }
 
     /// Grants the next share, where there is room.
-    pub fn next(&mut self) -> Option<Share> {
+    pub fn next(&mut self) -> Option<Share>
+        ensures { StayFree self.old self.new }
+    {
         match self.tenants.next() {
             Some(share) => Some(share),
             None => self.strangers.next(),

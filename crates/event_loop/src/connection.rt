@@ -1,5 +1,7 @@
 //! One connection and what is known of it.
-ghost use Rattle.std.specs.Prelude.{◌<◌, ◌≤◌, length};
+ghost use Rattle.std.specs.Prelude.{◌≡◌, ◌<◌, ◌≤◌, length, Some, None};
+ghost use Rattle.outbox.specs.Lines.{fresh};
+ghost use Rattle.event_loop.specs.Opened.{line_of};
 ghost use Rattle.event_loop.specs.Turning.{TakesTurn};
 
 use crate::claim::{Claim, Purpose};
@@ -77,7 +79,9 @@ pub(crate) struct Connection<S: Peer> {
 
 impl<S: Peer> Connection<S> {
     /// One that was just taken in.
-    pub fn new(alloc: Global, number: u64, peer: SocketAddr, stream: S, now: u64) -> Connection<S> {
+    pub fn new(alloc: Global, number: u64, peer: SocketAddr, stream: S, now: u64) -> Connection<S>
+        ensures { line_of result ≡ Some fresh }
+    {
         Connection {
             number,
             peer,
@@ -98,10 +102,20 @@ impl<S: Peer> Connection<S> {
     }
 
     /// Notes what was reported. It stays known until a call says that it would wait.
-    pub fn note(&mut self, report: Report) {
+    pub fn note(&mut self, report: Report)
+        ensures { line_of self.new ≡ line_of self.old }
+    {
         self.socket.report(report.is_ending);
         self.ready.readable = self.ready.readable || report.is_readable;
         self.ready.writable = self.ready.writable || report.is_writable;
+    }
+
+    /// The share with this ticket is granted.
+    pub fn hold(&mut self, ticket: u64, now: u64)
+        ensures { line_of self.new ≡ line_of self.old }
+    {
+        self.moved = now;
+        self.claim = granted(self.claim, ticket, now);
     }
 
     /// What its next turn does: all where there is room for any reply and its peer takes what it is owed, and else one thing after the other.
@@ -156,7 +170,8 @@ impl<S: Peer> Connection<S> {
     ) -> (u64, u64)
         requires some { 0 < most }
         requires within { most ≤ length buffer.old }
-        ensures { TakesTurn (C.takes conn) (C.answers conn) self.old.outbox core.old self.new.outbox core.new }
+        ensures turn { TakesTurn (C.takes conn) (C.answers conn) self.old.outbox core.old self.new.outbox core.new }
+        ensures phase { self.new.phase ≡ self.old.phase }
     {
         let before = (self.socket.read, self.socket.written);
         let ready = self.ready;
@@ -181,7 +196,8 @@ impl<S: Peer> Connection<S> {
         buffer: &mut [u8],
     )
         requires { 0 < length buffer.old }
-        ensures { TakesTurn (C.takes conn) (C.answers conn) self.old.outbox core.old self.new.outbox core.new }
+        ensures turn { TakesTurn (C.takes conn) (C.answers conn) self.old.outbox core.old self.new.outbox core.new }
+        ensures phase { self.new.phase ≡ self.old.phase }
     {
         turn(
             &mut self.outbox,
@@ -204,7 +220,8 @@ impl<S: Peer> Connection<S> {
         buffer: &mut [u8],
     )
         requires { 0 < length buffer.old }
-        ensures { TakesTurn (C.takes conn) (C.answers conn) self.old.outbox core.old self.new.outbox core.new }
+        ensures turn { TakesTurn (C.takes conn) (C.answers conn) self.old.outbox core.old self.new.outbox core.new }
+        ensures phase { self.new.phase ≡ self.old.phase }
     {
         feed(
             &mut self.outbox,
@@ -227,7 +244,8 @@ impl<S: Peer> Connection<S> {
         buffer: &mut [u8],
     )
         requires { 0 < length buffer.old }
-        ensures { TakesTurn (C.takes conn) (C.answers conn) self.old.outbox core.old self.new.outbox core.new }
+        ensures turn { TakesTurn (C.takes conn) (C.answers conn) self.old.outbox core.old self.new.outbox core.new }
+        ensures phase { self.new.phase ≡ self.old.phase }
     {
         let (readable, waiting) = (self.ready.readable, self.ready.waiting);
         self.ready.readable = false;
@@ -285,13 +303,18 @@ impl<S: Peer> Connection<S> {
     }
 
     /// Ends the writing side, so that what was written arrives although bytes are unread.
-    pub fn linger(&mut self, now: u64) {
+    pub fn linger(&mut self, now: u64)
+        ensures { line_of self.new ≡ None }
+    {
         self.socket.stream.end_writing();
+        self.claim = None;
         self.phase = Phase::Lingering(now.saturating_add(LINGER));
     }
 
     /// Reads once and throws away what comes. Whether more may come.
-    pub fn drain(&mut self, buffer: &mut [u8]) -> bool {
+    pub fn drain(&mut self, buffer: &mut [u8]) -> bool
+        ensures { line_of self.new ≡ line_of self.old }
+    {
         match self.socket.stream.read(buffer) {
             Ok(0) => false,
             Ok(_) => true,
@@ -342,5 +365,17 @@ impl<S: Peer> Connection<S> {
             Some(seconds) if !self.is_due && quiet > seconds => Some(End::Idle),
             _ => None,
         }
+    }
+}
+
+// A share that is granted, where it has this ticket.
+fn granted(claim: Option<Claim>, ticket: u64, now: u64) -> Option<Claim> {
+    match claim {
+        Some(claim) if claim.ticket == ticket => Some(Claim {
+            is_granted: true,
+            since: now,
+            ..claim
+        }),
+        _ => claim,
     }
 }

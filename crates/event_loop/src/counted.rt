@@ -1,9 +1,12 @@
 //! A core whose answers are counted, and the time that they take.
 ghost use Rattle.std.specs.Prelude.{◌≡◌};
+ghost use Rattle.std.specs.Bool.{MatchBool};
+ghost use Rattle.path_listen.specs.Answering.{Opens, Closes};
 
 use crate::counts::Counts;
 use crate::system::Time;
 use outbox::{Core, Step};
+use path_listen::HubCore;
 use std::marker::Model;
 use std::time::Duration;
 
@@ -55,11 +58,6 @@ impl<C: Core, T: Time + Drop> Counted<C, T> {
         &self.core
     }
 
-    /// The core itself.
-    pub fn core(&mut self) -> &mut C {
-        &mut self.core
-    }
-
     /// What was counted.
     pub fn counts(&self) -> &Counts {
         &self.counts
@@ -83,6 +81,22 @@ impl<C: Core, T: Time + Drop> Counted<C, T> {
     /// Whether the last answer was given in this turn.
     pub fn has_faulted(&self) -> bool {
         self.has_faulted
+    }
+}
+
+impl<T: Time + Drop> Counted<HubCore, T> {
+    /// Opens a connection's session, and tells whether that was not refused.
+    pub fn connect(&mut self, conn: u32) -> bool
+        ensures { MatchBool result (Opens conn self.old self.new) (self.new ≡ self.old) }
+    {
+        self.core.connect(conn).is_ok()
+    }
+
+    /// Ends a connection's session.
+    pub fn disconnect(&mut self, conn: u32)
+        ensures { Closes conn self.old self.new }
+    {
+        self.core.disconnect(conn);
     }
 }
 

@@ -1,6 +1,10 @@
 //! The connections that are open, the hub that answers them, and the memory that they share.
-ghost use Rattle.std.specs.Prelude.{◌≡◌, ◌<◌, ◌≤◌, IfOk};
+ghost use Rattle.std.specs.Prelude.{◌≡◌, ◌<◌, ◌≤◌, ◌^◌, ℕ, None, IfOk, MatchOption};
 ghost use Rattle.slab.specs.Slab.{slab_len};
+ghost use Rattle.event_loop.specs.Looping.{Stays, Does, DoesAtMost, TakenIn, HasTurn, LetGo};
+ghost use Rattle.std.specs.Bool.{MatchBool};
+ghost use Rattle.event_loop.specs.Opened.{lanes_of, line_of};
+ghost use Rattle.event_loop.specs.Shares.{StayFree, IsGivenBack, claim_at};
 
 use crate::claim::{Budgets, Claim, Pool, Purpose};
 use crate::connection::{ALLOWANCE, Connection, Outcome, Phase, Plan};
@@ -57,6 +61,8 @@ impl<S: Peer, T: Time + Drop> Open<S, T> {
         ensures empty { IfOk result (λ opened. slab_len opened.connections ≡ 0) }
         ensures unread { IfOk result (λ opened. opened.read ≡ 0) }
         ensures unwritten { IfOk result (λ opened. opened.written ≡ 0) }
+        ensures hub { IfOk result (λ opened. (lanes_of opened).hub ≡ core) }
+        ensures none { IfOk result (λ opened. (q : ℕ) → (lanes_of opened).lines q ≡ None) }
     {
         let buffer = match Box::new(alloc, [0; PIECE]) {
             Ok(buffer) => buffer,
@@ -114,7 +120,9 @@ impl<S: Peer, T: Time + Drop> Open<S, T> {
     }
 
     /// The key that the next connection gets, and whether there is room for it.
-    pub fn vacant(&mut self) -> Option<usize> {
+    pub fn vacant(&mut self) -> Option<usize>
+        ensures { Stays (lanes_of self.old) (lanes_of self.new) }
+    {
         let room = self.connections.len().saturating_add(1);
         let has_room = self.due.reserve(room).is_ok()
             && self.next_due.reserve(room).is_ok()
@@ -126,7 +134,7 @@ impl<S: Peer, T: Time + Drop> Open<S, T> {
         }
     }
 
-    /// Takes a connection in under the key that is next. `false` where a growth is refused.
+    /// Takes a connection in under a key, which is the next one. `false` where it is not, or a growth is refused.
     pub fn take_in(
         &mut self,
         key: usize,
@@ -134,24 +142,28 @@ impl<S: Peer, T: Time + Drop> Open<S, T> {
         peer: SocketAddr,
         stream: S,
         now: u64,
-    ) -> bool {
-        let Ok(conn) = u32::try_from(key) else {
+    ) -> bool
+        ensures { MatchBool result (Does (TakenIn key) (lanes_of self.old) (lanes_of self.new)) (Stays (lanes_of self.old) (lanes_of self.new)) }
+    {
+        let Some(conn) = conn_of(key) else {
             return false;
         };
-        if self.core.core().connect(conn).is_err() {
+        if self.connections.vacant_key() != key || self.connections.reserve(1).is_err() {
+            return false;
+        }
+        if !self.core.connect(conn) {
             return false;
         }
         let connection = Connection::new(self.alloc, number, peer, stream, now);
-        if self.connections.insert(connection).is_err() {
-            self.core.core().disconnect(conn);
-            return false;
-        }
+        self.connections.insert_reserved(connection);
         self.bound = self.bound.max(key.saturating_add(1));
         true
     }
 
     /// Notes a report, and that the connection gets a turn.
-    pub fn note(&mut self, report: Report) -> Result<(), AllocError> {
+    pub fn note(&mut self, report: Report) -> Result<(), AllocError>
+        ensures { Stays (lanes_of self.old) (lanes_of self.new) }
+    {
         if let Some(connection) = self.connections.get_mut(report.key) {
             connection.note(report);
         }
@@ -159,20 +171,29 @@ impl<S: Peer, T: Time + Drop> Open<S, T> {
     }
 
     /// The keys of those that get a turn now. They come back by [`Open::give_back`].
-    pub fn take_due(&mut self) -> Vec<usize> {
+    pub fn take_due(&mut self) -> Vec<usize>
+        ensures { Stays (lanes_of self.old) (lanes_of self.new) }
+    {
         let next = mem::replace(&mut self.next_due, Vec::new(self.alloc));
         mem::replace(&mut self.due, next)
     }
 
     /// The list that the keys were in.
-    pub fn give_back(&mut self, mut keys: Vec<usize>) {
+    pub fn give_back(&mut self, mut keys: Vec<usize>)
+        ensures { Stays (lanes_of self.old) (lanes_of self.new) }
+    {
         keys.clear();
         self.next_due = keys;
     }
 
     // Whether there is room for the reply to the first request that waits; where it takes a share, that is asked for. The reply's length is
     // looked at right before it is given, since other requests may change it.
-    fn may_answer(&mut self, key: usize, conn: u32, now: u64) -> Result<bool, AllocError> {
+    fn may_answer(&mut self, key: usize, now: u64) -> Result<bool, AllocError>
+        ensures { Stays (lanes_of self.old) (lanes_of self.new) }
+    {
+        let Some(conn) = conn_of(key) else {
+            return Ok(false);
+        };
         let most = self.core.inner().most_reply(conn);
         let Some(connection) = self.connections.get_mut(key) else {
             return Ok(false);
@@ -187,51 +208,84 @@ impl<S: Peer, T: Time + Drop> Open<S, T> {
     }
 
     /// One turn for a connection, and whether bytes moved.
-    pub fn turn(&mut self, key: usize, now: u64) -> (Outcome, bool) {
+    pub fn turn(&mut self, key: usize, now: u64) -> (Outcome, bool)
+        ensures { DoesAtMost (HasTurn key) (lanes_of self.old) (lanes_of self.new) }
+    {
+        match self.prepare(key, now) {
+            Ok(plan) => self.work(key, plan),
+            Err(outcome) => (outcome, false),
+        }
+    }
+
+    // What the turn of a connection does, which is due no more; an error is what comes of one that does nothing.
+    fn prepare(&mut self, key: usize, now: u64) -> Result<Plan, Outcome>
+        ensures { Stays (lanes_of self.old) (lanes_of self.new) }
+    {
+        let Some(plan) = self.plan(key) else {
+            return Err(Outcome::Closed);
+        };
+        if plan != Plan::Answer {
+            return Ok(plan);
+        }
+        match self.may_answer(key, now) {
+            Ok(true) => Ok(plan),
+            Ok(false) => Err(Outcome::Open),
+            Err(_) => Err(Outcome::Over(End::Memory)),
+        }
+    }
+
+    // What a connection's turn would do. It is due no more.
+    fn plan(&mut self, key: usize) -> Option<Plan>
+        ensures { Stays (lanes_of self.old) (lanes_of self.new) }
+    {
         let has_room = self.budgets.has_room(ROOM);
-        let Ok(conn) = u32::try_from(key) else {
-            return (Outcome::Closed, false);
-        };
-        let Some(connection) = self.connections.get_mut(key) else {
-            return (Outcome::Closed, false);
-        };
+        let connection = self.connections.get_mut(key)?;
         connection.is_due = false;
-        if let Phase::Lingering(_) = connection.phase {
-            return (drained(connection, &mut *self.buffer), false);
-        }
-        let plan = connection.plan(has_room);
-        if plan == Plan::Answer {
-            match self.may_answer(key, conn, now) {
-                Ok(true) => {}
-                Ok(false) => return (Outcome::Open, false),
-                Err(_) => return (Outcome::Over(End::Memory), false),
-            }
-        }
-        self.work(key, conn, plan)
+        Some(connection.plan(has_room))
     }
 
     // One turn by a plan.
-    fn work(&mut self, key: usize, conn: u32, plan: Plan) -> (Outcome, bool) {
+    fn work(&mut self, key: usize, plan: Plan) -> (Outcome, bool)
+        ensures { DoesAtMost (HasTurn key) (lanes_of self.old) (lanes_of self.new) }
+    {
+        let Some(conn) = conn_of(key) else {
+            return (Outcome::Closed, false);
+        };
         let Some(connection) = self.connections.get_mut(key) else {
             return (Outcome::Closed, false);
         };
-        let most = piece_of(connection, plan, self.core.inner(), conn);
-        let (read, written) = connection.turn(&mut self.core, conn, &mut *self.buffer, most, plan);
-        self.read = self.read.saturating_add(read);
-        self.written = self.written.saturating_add(written);
-        (connection.outcome(), read > 0 || written > 0)
+        match connection.phase {
+            Phase::Lingering(_) => (drained(connection, &mut *self.buffer), false),
+            Phase::Served => {
+                let most = piece_of(connection, plan, self.core.inner(), conn);
+                let (read, written) = connection.turn(
+                    &mut self.core,
+                    conn,
+                    &mut *self.buffer,
+                    most,
+                    plan,
+                );
+                self.read = self.read.saturating_add(read);
+                self.written = self.written.saturating_add(written);
+                (connection.outcome(), has_moved(read, written))
+            }
+        }
     }
 
     /// Notes the second in which bytes moved.
-    pub fn mark(&mut self, key: usize, now: u64) {
+    pub fn mark(&mut self, key: usize, now: u64)
+        ensures { Stays (lanes_of self.old) (lanes_of self.new) }
+    {
         if let Some(connection) = self.connections.get_mut(key) {
             connection.moved = now;
         }
     }
 
     /// After a turn: what is done with is given back, and what the next step needs is asked for.
-    pub fn settle(&mut self, key: usize, now: u64) -> Result<(), AllocError> {
-        let Ok(conn) = u32::try_from(key) else {
+    pub fn settle(&mut self, key: usize, now: u64) -> Result<(), AllocError>
+        ensures { Stays (lanes_of self.old) (lanes_of self.new) }
+    {
+        let Some(conn) = conn_of(key) else {
             return Ok(());
         };
         let waiting = self.core.inner().waiting(conn);
@@ -246,7 +300,9 @@ impl<S: Peer, T: Time + Drop> Open<S, T> {
     }
 
     // Gives back what is done with of a share.
-    fn settle_claim(&mut self, key: usize, claim: &Claim, now: u64) -> Result<(), AllocError> {
+    fn settle_claim(&mut self, key: usize, claim: &Claim, now: u64) -> Result<(), AllocError>
+        ensures { Stays (lanes_of self.old) (lanes_of self.new) }
+    {
         let Some(connection) = self.connections.get_mut(key) else {
             return Ok(());
         };
@@ -271,7 +327,9 @@ impl<S: Peer, T: Time + Drop> Open<S, T> {
     }
 
     // Asks for what the next step needs, where that is above what each may have.
-    fn ask(&mut self, key: usize, conn: u32, now: u64) -> Result<(), AllocError> {
+    fn ask(&mut self, key: usize, conn: u32, now: u64) -> Result<(), AllocError>
+        ensures { Stays (lanes_of self.old) (lanes_of self.new) }
+    {
         let Some(connection) = self.connections.get(key) else {
             return Ok(());
         };
@@ -292,7 +350,9 @@ impl<S: Peer, T: Time + Drop> Open<S, T> {
         purpose: Purpose,
         bytes: usize,
         now: u64,
-    ) -> Result<bool, AllocError> {
+    ) -> Result<bool, AllocError>
+        ensures { Stays (lanes_of self.old) (lanes_of self.new) }
+    {
         let (ticket, is_granted) = match self.budgets.ask(pool, key, bytes)? {
             Answer::Granted(ticket) => (ticket, true),
             Answer::Waits(ticket) => (ticket, false),
@@ -311,7 +371,10 @@ impl<S: Peer, T: Time + Drop> Open<S, T> {
     }
 
     // Grants what there is room for, in order.
-    fn grant(&mut self, now: u64) -> Result<(), AllocError> {
+    fn grant(&mut self, now: u64) -> Result<(), AllocError>
+        ensures lanes { Stays (lanes_of self.old) (lanes_of self.new) }
+        ensures free { StayFree self.old.budgets self.new.budgets }
+    {
         'shares: for _ in 0..u64::MAX {
             let Some(share) = self.budgets.next() else {
                 return Ok(());
@@ -322,21 +385,21 @@ impl<S: Peer, T: Time + Drop> Open<S, T> {
     }
 
     // A connection holds its share now.
-    fn wake(&mut self, key: usize, ticket: u64, now: u64) -> Result<(), AllocError> {
+    fn wake(&mut self, key: usize, ticket: u64, now: u64) -> Result<(), AllocError>
+        ensures lanes { Stays (lanes_of self.old) (lanes_of self.new) }
+        ensures budgets { self.new.budgets ≡ self.old.budgets }
+    {
         if let Some(connection) = self.connections.get_mut(key) {
-            connection.moved = now;
-            if let Some(claim) = &mut connection.claim {
-                if claim.ticket == ticket {
-                    claim.is_granted = true;
-                    claim.since = now;
-                }
-            }
+            connection.hold(ticket, now);
         }
         self.schedule(key)
     }
 
     /// A connection that can go on gets a further turn.
-    pub fn schedule(&mut self, key: usize) -> Result<(), AllocError> {
+    pub fn schedule(&mut self, key: usize) -> Result<(), AllocError>
+        ensures lanes { Stays (lanes_of self.old) (lanes_of self.new) }
+        ensures budgets { self.new.budgets ≡ self.old.budgets }
+    {
         let has_room = self.budgets.has_room(ROOM);
         let Some(connection) = self.connections.get_mut(key) else {
             return Ok(());
@@ -359,32 +422,53 @@ impl<S: Peer, T: Time + Drop> Open<S, T> {
     }
 
     /// Ends a connection's session, and reads what still comes for a little while.
-    pub fn linger(&mut self, key: usize, now: u64) -> Result<(), AllocError> {
-        let Some(connection) = self.connections.get_mut(key) else {
-            return Ok(());
-        };
-        connection.linger(now);
-        let claim = mem::replace(&mut connection.claim, None);
-        if let Ok(conn) = u32::try_from(key) {
-            self.core.core().disconnect(conn);
-        }
+    pub fn linger(&mut self, key: usize, now: u64) -> Result<(), AllocError>
+        ensures lanes { DoesAtMost (LetGo key) (lanes_of self.old) (lanes_of self.new) }
+        ensures share { key < 2 ^ 32 → IsGivenBack (claim_at self.old.connections key) self.new.budgets }
+    {
+        let claim = self.end(key, now);
         self.give_up(claim, now)?;
         self.schedule(key)
     }
 
+    // Ends a connection's session, and hands out its share.
+    fn end(&mut self, key: usize, now: u64) -> Option<Claim>
+        ensures lanes { DoesAtMost (LetGo key) (lanes_of self.old) (lanes_of self.new) }
+        ensures claim { key < 2 ^ 32 → result ≡ claim_at self.old.connections key }
+    {
+        let conn = conn_of(key)?;
+        let connection = self.connections.get_mut(key)?;
+        let claim = connection.claim;
+        connection.linger(now);
+        self.core.disconnect(conn);
+        claim
+    }
+
     /// Closes a connection.
-    pub fn close(&mut self, key: usize, now: u64) -> Result<(), AllocError> {
-        let Some(connection) = self.connections.try_remove(key) else {
-            return Ok(());
-        };
-        if let Ok(conn) = u32::try_from(key) {
-            self.core.core().disconnect(conn);
-        }
-        self.give_up(connection.claim, now)
+    pub fn close(&mut self, key: usize, now: u64) -> Result<(), AllocError>
+        ensures lanes { DoesAtMost (LetGo key) (lanes_of self.old) (lanes_of self.new) }
+        ensures share { key < 2 ^ 32 → IsGivenBack (claim_at self.old.connections key) self.new.budgets }
+    {
+        let claim = self.let_go(key);
+        self.give_up(claim, now)
+    }
+
+    // Takes a connection off, and hands out its share.
+    fn let_go(&mut self, key: usize) -> Option<Claim>
+        ensures lanes { DoesAtMost (LetGo key) (lanes_of self.old) (lanes_of self.new) }
+        ensures claim { key < 2 ^ 32 → result ≡ claim_at self.old.connections key }
+    {
+        let conn = conn_of(key)?;
+        let connection = self.connections.try_remove(key)?;
+        self.core.disconnect(conn);
+        connection.claim
     }
 
     // Gives a share back that a connection had.
-    fn give_up(&mut self, claim: Option<Claim>, now: u64) -> Result<(), AllocError> {
+    fn give_up(&mut self, claim: Option<Claim>, now: u64) -> Result<(), AllocError>
+        ensures lanes { Stays (lanes_of self.old) (lanes_of self.new) }
+        ensures given { IsGivenBack claim self.new.budgets }
+    {
         match claim {
             Some(claim) => {
                 self.budgets.release(&claim);
@@ -421,7 +505,9 @@ impl<S: Peer, T: Time + Drop> Open<S, T> {
     }
 
     /// The connection that has been idle longest, for so many seconds at least. They are looked for once a second.
-    pub fn spare(&mut self, now: u64, limits: &Limits) -> Option<usize> {
+    pub fn spare(&mut self, now: u64, limits: &Limits) -> Option<usize>
+        ensures { Stays (lanes_of self.old) (lanes_of self.new) }
+    {
         match self.next_spare(now, limits) {
             Some(key) => Some(key),
             None => {
@@ -436,7 +522,9 @@ impl<S: Peer, T: Time + Drop> Open<S, T> {
     }
 
     // The next of those that were found and are still idle.
-    fn next_spare(&mut self, now: u64, limits: &Limits) -> Option<usize> {
+    fn next_spare(&mut self, now: u64, limits: &Limits) -> Option<usize>
+        ensures { Stays (lanes_of self.old) (lanes_of self.new) }
+    {
         'found: for _ in 0..self.idle.len() {
             let (moved, key) = self.idle.pop()?;
             if let Some(connection) = self.connections.get(key) {
@@ -449,7 +537,9 @@ impl<S: Peer, T: Time + Drop> Open<S, T> {
     }
 
     // Finds those that are idle. Where there is no memory for the list, there is none.
-    fn look_for_spare(&mut self, now: u64, limits: &Limits) {
+    fn look_for_spare(&mut self, now: u64, limits: &Limits)
+        ensures { Stays (lanes_of self.old) (lanes_of self.new) }
+    {
         self.idle.clear();
         if self.idle.reserve(self.connections.len()).is_err() {
             return;
@@ -466,8 +556,21 @@ impl<S: Peer, T: Time + Drop> Open<S, T> {
     }
 }
 
+// The number that the hub knows a connection by.
+fn conn_of(key: usize) -> Option<u32>
+    ensures { MatchOption result (2 ^ 32 ≤ key) (λ conn. conn ≡ key) }
+{
+    u32::try_from(key).ok()
+}
+
+fn has_moved(read: u64, written: u64) -> bool {
+    read > 0 || written > 0
+}
+
 // Reads once what still comes on a connection that is served no further.
-fn drained<S: Peer>(connection: &mut Connection<S>, buffer: &mut [u8]) -> Outcome {
+fn drained<S: Peer>(connection: &mut Connection<S>, buffer: &mut [u8]) -> Outcome
+    ensures { line_of connection.new ≡ line_of connection.old }
+{
     if connection.drain(buffer) {
         Outcome::Open
     } else {

@@ -1,5 +1,9 @@
 //! What the first request that waits on a connection needs before it is read on or answered.
 
+ghost use Rattle.std.specs.Prelude.{◌≡◌, length, is_some, MatchOption};
+ghost use Rattle.tenant_map.specs.Tenancy.{place_in};
+ghost use Rattle.path_listen.specs.Needs.{IsPart, IsNoPart};
+
 use store_names::{LONGEST_DOCUMENT_NAME, LONGEST_REPLY};
 use tenant_map::{DOCUMENT_QUOTA, Tenant, Tenants};
 use wire_frames::{Command, LONGEST_BODY, Request, read_request};
@@ -40,20 +44,32 @@ pub struct Part {
 }
 
 /// The frame that these bytes begin with, where not all of it came but its key did.
-pub(crate) fn part_of(tenants: &Tenants, bytes: &[u8]) -> Option<Part> {
-    let length = whole_length(bytes)?;
-    let head = bytes.get(KEY_AT..KEY_END)?;
-    let left = length.saturating_sub(bytes.len());
-    if left == 0 {
+pub(crate) fn part_of(tenants: &Tenants, bytes: &[u8]) -> Option<Part>
+    ensures { MatchOption result (IsNoPart bytes.now) (IsPart tenants.now bytes.now) }
+{
+    if bytes.len() < KEY_END {
         return None;
     }
-    let mut key = [0u8; 16];
-    key.copy_from_slice(head);
+    let body = u32::from_be_bytes([bytes[0], bytes[1], bytes[2], bytes[3]]) as usize;
+    let came = bytes.len() - LENGTH_BYTES;
+    if body > LONGEST_BODY || body <= came {
+        return None;
+    }
     Some(Part {
-        length,
-        left,
-        is_known: tenants.place_of(&key).is_some(),
+        length: LENGTH_BYTES + body,
+        left: body - came,
+        is_known: is_known(tenants, &bytes[KEY_AT..KEY_END]),
     })
+}
+
+// Whether these 16 bytes are a tenant's key.
+fn is_known(tenants: &Tenants, key: &[u8]) -> bool
+    requires { length key.now ≡ 16 }
+    ensures { result ≡ is_some (place_in tenants.now.keys key.now) }
+{
+    let mut whole = [0u8; 16];
+    whole.copy_from_slice(key);
+    tenants.place_of(&whole).is_some()
 }
 
 /// The most bytes of the reply to the frame that these bytes begin with.
