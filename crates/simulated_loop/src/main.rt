@@ -1,14 +1,16 @@
 //! The program `simulated_loop SEED PEERS ROUNDS`: the loop of many connections over a system that it holds itself, against a plain model.
 //!
-//! Peers put, get and remove texts of a few bytes up to some hundred thousand, with a limit on memory that lets few long ones in at a time.
-//! What they send is cut anywhere, they take what they get a few bytes at a time, and some stall for ever or reset. Each reply is compared
-//! with the peer's own record of its texts. A peer that goes on must be answered within so many rounds. All of it follows from the seed.
-//! What came of it is told on standard error, and the exit status is 0 where all went well.
+//! Peers put, get, remove, list and query texts of a few bytes up to some hundred thousand, at the least limit on memory or a little above it. What they
+//! send is cut anywhere, and they take what they get a few bytes at a time. Some stop in a request, send a byte at a time, take nothing, flood, send
+//! a length above the limit, or have no tenant's key; all end or reset their connections at times and open new ones. The system refuses to accept at times, and
+//! the clock leaps. Each reply is compared with the peer's own record of its texts. A peer that goes on is answered within so many rounds, and its
+//! connection is not closed. All of it follows from the seed. What came of it is told on standard error, and the exit status is 0 where all went well.
 #![tactic(auto)]
 
 mod chance;
 mod peer;
 mod pipe;
+mod wanted;
 mod world;
 
 use crate::world::{Outcome, run};
