@@ -11,7 +11,7 @@ import sys
 from pathlib import Path
 
 PROGRAM = os.environ.get("SIMULATED_LOOP") or str(Path(__file__).resolve().parent.parent / "crates/simulated_loop/out/simulated_loop")
-SIZES = ((1, 20_000), (5, 20_000), (20, 20_000), (100, 10_000), (1_000, 1_000), (4_000, 200))
+SIZES = ((1, 50_000), (5, 60_000), (20, 60_000), (100, 40_000), (1_000, 5_000), (4_000, 1_000))
 """Peers and rounds."""
 
 

@@ -19,6 +19,17 @@ const FLOOD: usize = 8_000;
 /// The key of no tenant: those of tenants have sixteen equal bytes.
 const STRANGER: [u8; 16] = [7, 6, 5, 4, 3, 2, 1, 0, 7, 6, 5, 4, 3, 2, 1, 0];
 
+/// The most bytes that one sends of a request that it does not send to its end, and those of them that it sends one at a time.
+const PART: usize = 20_000;
+
+const DRIPS: usize = 2_000;
+
+/// The bytes of a text that is long.
+const LONG: usize = 100_000;
+
+/// The letters of the longest text.
+const LONGEST: usize = 4_194_302;
+
 const NOT_FOUND: u8 = 15;
 
 /// How a peer behaves on one connection.
@@ -28,9 +39,9 @@ enum Manner {
     Lively,
     /// It stops in the middle of a request.
     Silent,
-    /// It sends a byte at a time.
+    /// It sends the last bytes of a request one at a time.
     Dripping,
-    /// It asks for texts and takes nothing.
+    /// It puts a long text, then asks for texts and takes nothing.
     Deaf,
     /// It sends a length above the limit.
     Faulty,
@@ -85,8 +96,9 @@ pub struct Peer {
     length: usize,
     head: [u8; 9],
     is_alike: bool,
-    // It ended or reset the connection itself.
+    // It ended or reset the connection itself; one that takes nothing has put its text.
     has_left: bool,
+    is_ready: bool,
     // The rounds until it asks again, those since it asked, and those since it last got a reply while it wants one.
     pause: u64,
     asked: u64,
@@ -107,6 +119,7 @@ impl Peer {
             head: [0; 9],
             is_alike: true,
             has_left: true,
+            is_ready: false,
             pause: 0,
             asked: 0,
             waits: 0,
@@ -167,7 +180,11 @@ impl Peer {
     }
 
     fn takes(&self) -> bool {
-        self.manner != Manner::Deaf && self.manner != Manner::DeafFlood
+        match self.manner {
+            Manner::Deaf => !self.is_ready,
+            Manner::DeafFlood => false,
+            _ => true,
+        }
     }
 
     fn is_lively(&self) -> bool {
@@ -199,6 +216,7 @@ impl Peer {
             _ => Manner::Lively,
         };
         self.has_left = false;
+        self.is_ready = false;
         self.came = 0;
         self.is_alike = true;
         self.pause = 0;
@@ -261,9 +279,18 @@ impl Peer {
     }
 
     fn changes(&self) -> bool {
+        match self.manner {
+            Manner::Lively | Manner::Silent | Manner::Dripping => true,
+            Manner::Deaf => !self.is_ready,
+            _ => false,
+        }
+    }
+
+    // It sends no request to its end.
+    fn stops(&self) -> bool {
         matches!(
             self.manner,
-            Manner::Lively | Manner::Silent | Manner::Dripping
+            Manner::Silent | Manner::Dripping | Manner::SilentStranger
         )
     }
 
@@ -271,10 +298,11 @@ impl Peer {
 
     // Some bytes of the request are sent.
     fn send(&mut self, chance: &mut Chance, pipe: &mut Pipe) {
-        let (most, left) = match self.manner {
-            Manner::Silent | Manner::SilentStranger => (amount(chance), 1),
-            Manner::Dripping => (if chance.once_in(40) { 1 } else { 0 }, 0),
-            _ => (amount(chance), 0),
+        let left = if self.stops() { 1 } else { 0 };
+        let most = if self.manner == Manner::Dripping && self.script.len() < DRIPS {
+            usize::from(chance.once_in(5))
+        } else {
+            amount(chance)
         };
         'bytes: for _ in 0..most {
             if self.script.len() <= left {
@@ -348,9 +376,9 @@ impl Peer {
             Manner::Stranger | Manner::SilentStranger => self.ask_as_stranger(chance),
             Manner::Silent | Manner::Dripping => {
                 let text = any_long_text(chance);
-                self.put(chance, text);
-            },
-            Manner::Deaf => self.look_up(chance),
+                self.put(any_place(chance), text);
+            }
+            Manner::Deaf => self.ask_and_take_nothing(chance),
             Manner::Lively => self.ask(chance),
         }
     }
@@ -366,11 +394,27 @@ impl Peer {
         }
         match chance.below(8) {
             0 => self.remove(chance),
-            1 | 2 | 3 => self.look_up(chance),
+            1 | 2 | 3 => {
+                let place = any_place(chance);
+                self.look_up(chance, place);
+            }
             _ => {
                 let text = any_text(chance);
-                self.put(chance, text);
+                self.put(any_place(chance), text);
             }
+        }
+    }
+
+    // First a long text, and once it is put, it is asked for.
+    fn ask_and_take_nothing(&mut self, chance: &mut Chance) {
+        let is_long = self.text(0).is_some_and(|text| text.count >= LONG);
+        self.is_ready = self.is_ready || self.wanted.is_empty() && is_long;
+        if self.is_ready {
+            self.look_up(chance, 0);
+        } else if self.wanted.is_empty() {
+            let mut text = any_text(chance);
+            text.count = text.count.saturating_add(LONG);
+            self.put(0, text);
         }
     }
 
@@ -395,7 +439,11 @@ impl Peer {
     }
 
     fn ask_as_stranger(&mut self, chance: &mut Chance) {
-        let text = any_long_text(chance);
+        let text = if self.stops() {
+            any_long_text(chance)
+        } else {
+            any_text(chance)
+        };
         self.begin(
             1,
             STRANGER,
@@ -420,12 +468,11 @@ impl Peer {
     }
 
     // A text, all names, or all texts.
-    fn look_up(&mut self, chance: &mut Chance) {
+    fn look_up(&mut self, chance: &mut Chance, place: usize) {
         match chance.below(8) {
             0 => self.begin(4, self.key(), None, 0, Wanted::Names(self.texts)),
             1 => self.ask_for_all(),
             _ => {
-                let place = any_place(chance);
                 let wanted = match self.text(place) {
                     Some(text) => Wanted::Found(text),
                     None => Wanted::Status(NOT_FOUND),
@@ -435,8 +482,7 @@ impl Peer {
         }
     }
 
-    fn put(&mut self, chance: &mut Chance, text: Text) {
-        let place = any_place(chance);
+    fn put(&mut self, place: usize, text: Text) {
         self.begin(
             1,
             self.key(),
@@ -493,8 +539,9 @@ impl Peer {
     }
 
     fn say_text(&mut self, text: Text) {
+        let most = if self.stops() { PART } else { usize::MAX };
         self.say(b'"');
-        'letters: for _ in 0..text.count {
+        'letters: for _ in 0..text.count.min(most) {
             self.say(text.letter);
         }
         self.say(b'"');
@@ -514,8 +561,8 @@ impl Peer {
 // How many bytes move in a round: few, some or many.
 fn amount(chance: &mut Chance) -> usize {
     let most = match chance.below(4) {
-        0 => chance.below(8),
-        1 => chance.below(100),
+        0 | 1 => chance.below(8),
+        2 => chance.below(100),
         _ => chance.below(200_000),
     };
     most as usize
@@ -525,12 +572,15 @@ fn any_place(chance: &mut Chance) -> usize {
     chance.below(TEXTS as u64) as usize % TEXTS
 }
 
-// A text, half of which are long.
+// A text, half of which are long, some as long as one may be.
 fn any_long_text(chance: &mut Chance) -> Text {
     let mut text = any_text(chance);
-    if chance.once_in(2) {
-        text.count = text.count.saturating_add(100_000);
-    }
+    let more = match chance.below(4) {
+        0 => LONG,
+        1 => LONGEST,
+        _ => 0,
+    };
+    text.count = text.count.saturating_add(more).min(LONGEST);
     text
 }
 

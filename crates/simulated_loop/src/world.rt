@@ -22,7 +22,10 @@ const ROOM: usize = 50_000;
 /// The milliseconds of a round.
 const ROUND: u64 = 20;
 
-/// The most rounds that one that goes on waits for a reply.
+/// The rounds of a second.
+const SECOND: u64 = 50;
+
+/// The most rounds in which all connections are closed whose peers have left.
 const PATIENCE: u64 = 6_000;
 
 /// The most reports of one wait.
@@ -38,6 +41,8 @@ const LEAP: u64 = 1_500;
 #[derive(Clone, Copy, Default)]
 pub struct Outcome {
     pub rounds: u64,
+    /// The most rounds that one that goes on may wait for a reply.
+    pub most: u64,
     /// The reads and writes of the server.
     pub calls: u64,
     pub tally: Tally,
@@ -55,7 +60,7 @@ impl Outcome {
             && !self.is_short
             && tally.differ == 0
             && tally.closed == 0
-            && tally.waited < PATIENCE
+            && tally.waited < self.most
     }
 }
 
@@ -67,7 +72,7 @@ impl fmt::Display for Outcome {
         write!(f, ", {} closed that stalled", tally.stalled)?;
         write!(f, ", {} that went on", tally.closed)?;
         write!(f, ", {} replies, {} differ", tally.replies, tally.differ)?;
-        write!(f, ", waited at most {} rounds", tally.waited)?;
+        write!(f, ", waited {} rounds of {}", tally.waited, self.most)?;
         if !self.is_settled {
             write!(f, ", memory is held that nobody holds")?;
         }
@@ -282,6 +287,7 @@ fn simulate(
     let (millis, looks) = (Cell::new(0), Cell::new(0));
     let taken = RefCell::new(Vec::new(alloc));
     let limits = any_limits(&mut chance, count);
+    outcome.most = patience(&limits, count);
     let pipes = pipes.as_slice();
     let system = Pipes {
         pipes,
@@ -415,6 +421,16 @@ fn calls_of(pipes: &[RefCell<Pipe>]) -> u64 {
     sum
 }
 
+// Those that hold memory and do not go on do so for --frame-time at most, and one in sixteen peers at most wants all of it for that.
+fn patience(limits: &Limits, peers: usize) -> u64 {
+    let holders = (peers / 16) as u64;
+    let seconds = limits.frame_time.saturating_add(2);
+    holders
+        .saturating_add(2)
+        .saturating_mul(seconds)
+        .saturating_mul(SECOND)
+}
+
 // The limits of a run of so many peers: often less connections than peers, and the least memory or a little more.
 fn any_limits(chance: &mut Chance, peers: usize) -> Limits {
     let fewer = peers.saturating_sub(peers / 4).max(1);
@@ -431,7 +447,7 @@ fn any_limits(chance: &mut Chance, peers: usize) -> Limits {
             None
         },
         stall: chance.below(6).saturating_add(5),
-        frame_time: chance.below(40).saturating_add(20),
+        frame_time: chance.below(20).saturating_add(10),
         spare: chance.below(6).saturating_add(5),
     }
 }
