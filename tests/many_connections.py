@@ -241,17 +241,16 @@ def never_read(report, peers):
 
 
 def bounded_memory(report, peers):
-    """Above the bound those that hold most are not read, and the others are; once it falls, all go on."""
-    with Listening([KEY], "--memory", str(8 * MEBIBYTE), env={**os.environ, **GIVE_BACK}) as server:
+    """Long replies and long requests wait their turn for memory, and short ones do not; who reads at last gets all."""
+    with Listening([KEY], "--memory", str(16 * MEBIBYTE), "--stall", "30", env={**os.environ, **GIVE_BACK}) as server:
         fill(server)
         before = server.resident()
         slow = [greedy(server) for _ in range(peers)]
-        rounds(report, "a reply above the bound on memory", server, 10, 20)
+        rounds(report, "a reply where memory is short", server, 10, 20)
         part = open_connection(server.address)
         part.sendall(PUT_LARGE[:MEBIBYTE // 2])
         grown = (server.resident() - before) // 1024
-        most = 3 * peers + 32
-        report.case("MiB held above the bound on memory", "", f"at most {most}", f"at most {most}" if grown <= most else grown)
+        report.case("MiB held where memory is short", "", "at most 20", "at most 20" if grown <= 20 else grown)
         wanted = 64 * (9 + MEBIBYTE)
         slow[0].settimeout(PATIENCE)
         got = 0
@@ -263,7 +262,7 @@ def bounded_memory(report, peers):
         report.case("bytes for a peer that reads at last", "", wanted, got)
         for connection in slow:
             reset(connection)
-        report.case("a request that was held back", "", PUT_REPLY, exchange(part, PUT_LARGE[MEBIBYTE // 2:], 9))
+        report.case("a request that waited", "", PUT_REPLY, exchange(part, PUT_LARGE[MEBIBYTE // 2:], 9))
         part.close()
         server.finish(report)
 

@@ -5,7 +5,7 @@ A library (lib/failing_calls.c, compiled by `cc` into a temporary folder; where 
 memory, read, write, accept or wait fail, alone or with all behind it, for each N up to the last one that there is; with a SHARE, for
 so many of 100. Two tenants send their requests at the same time over a connection each, two more connections are idle, and a further
 one comes at the end. Each reply is the plain model's (lib/plain_model.py), or NoMemory where docs/PROTOCOL.md lets it be, and then the
-model's map stays as it was. One call that fails ends one connection at most, and all others are answered; or the program ends with
+model's map stays as it was. The limit on memory is the least, so that a long text and a query wait for room. One call that fails ends one connection at most, and all others are answered; or the program ends with
 status 4 and a name that docs/COMMANDS.md gives it. Otherwise it ends with status 0 once its standard input is closed, or, where that could
 not be waited for, goes on serving. No wait takes more than 20 seconds.
 """
@@ -30,13 +30,14 @@ ALL_KINDS = ("memory", "read", "write", "accept", "poll")
 REASON = re.compile(r"127\.0\.0\.1:0: [a-z ]+")
 FAULTS = {"memory": ("NoMemory", "NetFault"), "read": ("NetFault",), "write": ("WriteFault",), "accept": (), "poll": ("NetFault",)}
 ENDS = {"memory": {"NoMemory"}, "read": {"ReadFault"}, "write": {"WriteFault"}, "accept": set(), "poll": set()}
+WAITS = re.compile(r"\S+Z connections wait for memory, open \d+")
 LAST_LINE = re.compile(rb"served \d+ connections, \d+ requests\n")
 
 
 def requests(key):
     """Requests of one tenant, whose texts, lists, queries and replies all need memory."""
     c, d, e = named(b"c"), named(b"d"), named(b"e")
-    wide = b"[" + b'{"k":[1,2]},' * 60 + b"0]"
+    wide = b"[" + b'{"k":[1,2]},' * 1_500 + b"0]"
     bodies = [body(1, key, c, d, b'{"a":[10,20]}'), body(5, key, c, b"$.a[1]"), body(1, key, c, e, wide), body(4, key, c),
               body(5, key, c, b"$[*].k"), body(1, key, c, d, b"{"), body(2, key, c, d), body(3, key, c, e), body(7, key)]
     return [number(len(it)) + it for it in bodies]
@@ -87,7 +88,7 @@ class Listened:
         self.refusals, self.report, self.name, self.kind = refusals, refusals.report, name, kind
         self.alone = environment["FAILING_ON"] == "0"
         self.lost, self.has_failed, self.opened = 0, False, []
-        words = [PROGRAM, "listen", "127.0.0.1:0", ",".join(key.hex() for key in KEYS)]
+        words = [PROGRAM, "listen", "127.0.0.1:0", ",".join(key.hex() for key in KEYS), "--memory", "14680072"]
         pipes = {"stdin": subprocess.PIPE, "stdout": subprocess.PIPE, "stderr": subprocess.PIPE}
         with subprocess.Popen(words, env=environment, **pipes) as self.process:
             try:
@@ -152,7 +153,7 @@ class Listened:
         except subprocess.TimeoutExpired:
             self.runs_on()
             return
-        told = said.decode().splitlines()
+        told = [line for line in said.decode().splitlines() if not WAITS.fullmatch(line)]
         ends = [found[2] for found in map(END_LINE.fullmatch, told) if found]
         reasons = [it for it in told if REASON.fullmatch(it)]
         rest = [it for it in told if not END_LINE.fullmatch(it) and it not in reasons]

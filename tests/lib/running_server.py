@@ -111,16 +111,20 @@ class Running:
 
 
 class Listening(Running):
-    """The server of many connections for some keys, with further words of its command line; it ends once its standard input is closed."""
+    """The server of many connections for some keys, with further words of its command line; it ends once its standard input is closed.
 
-    def __init__(self, keys, *words, **more):
+    Standard error goes into a file, or where `errors` says; standard input is a pipe, or what `stdin` says.
+    """
+
+    def __init__(self, keys, *words, errors=None, stdin=subprocess.PIPE, **more):
         signal.signal(signal.SIGTERM, lambda *_: sys.exit(143))
-        self.errors = tempfile.TemporaryFile()
+        self.errors = tempfile.TemporaryFile() if errors is None else errors
         joined = ",".join(key.hex() for key in keys)
-        self.start(["listen", "127.0.0.1:0", joined, *words], stdin=subprocess.PIPE, **more)
+        self.start(["listen", "127.0.0.1:0", joined, *words], stdin=stdin, **more)
 
     def stop(self):
-        self.process.stdin.close()
+        if self.process.stdin:
+            self.process.stdin.close()
         super().stop()
 
     def processor_seconds(self):

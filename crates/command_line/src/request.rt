@@ -14,10 +14,13 @@ const MOST_CONNECTIONS: u64 = 1_000_000;
 /// The most connections that may be open at once.
 const MOST_OPEN: u64 = 1_000_000;
 
+/// The least limit on memory, what one longest request and one longest reply take.
+const LEAST_BYTES: u64 = 14_680_072;
+
 /// The most bytes that connections may hold together, a pebibyte.
 const MOST_BYTES: u64 = 1 << 50;
 
-/// The longest idle time in seconds, a year.
+/// The longest time in seconds, a year.
 const MOST_SECONDS: u64 = 31_536_000;
 
 const KEYS_HELP: &str = "The tenants' keys: 32 hexadecimal digits each, joined by commas";
@@ -54,10 +57,16 @@ pub struct Listening<'a> {
     pub file: Option<&'a str>,
     /// The most connections that are open at once.
     pub connections: usize,
-    /// The bytes that connections may hold together.
+    /// The bytes of long requests that are read and of replies that are owed, together.
     pub memory: usize,
     /// The seconds after which a connection is closed on which no byte moved.
     pub idle: Option<u64>,
+    /// The seconds after which one that holds memory for which others wait, and on which no byte moved, is closed.
+    pub stall: u64,
+    /// The seconds after which one that holds memory for which others wait is closed, whatever moved.
+    pub frame_time: u64,
+    /// The seconds for which a connection must have been idle to make room for a new one.
+    pub spare: u64,
     /// Whether a line with counts is printed each minute.
     pub log: bool,
 }
@@ -124,10 +133,10 @@ fn listen<'a>(alloc: Global) -> Result<Command<'a>, AllocError> {
                 alloc,
                 "memory",
                 "BYTES",
-                "What connections may hold before those that hold most are not read",
+                "The memory for requests that are read and replies that are owed, at least 14680072",
             )
             .default_value("1073741824")
-            .value_parser(ValueParser::Unsigned(0, MOST_BYTES)),
+            .value_parser(ValueParser::Unsigned(LEAST_BYTES, MOST_BYTES)),
         )?
         .arg(option(
             alloc,
@@ -136,6 +145,24 @@ fn listen<'a>(alloc: Global) -> Result<Command<'a>, AllocError> {
             "Closes a connection on which no byte moved for so long, 1 to 31536000",
         )
         .value_parser(ValueParser::Unsigned(1, MOST_SECONDS)))?
+        .arg(seconds(
+            alloc,
+            "stall",
+            "Closes a connection that holds memory for which others wait, and on which no byte moved for so long",
+            "10",
+        ))?
+        .arg(seconds(
+            alloc,
+            "frame-time",
+            "Closes a connection that holds memory for which others wait for so long",
+            "60",
+        ))?
+        .arg(seconds(
+            alloc,
+            "spare",
+            "At the limit on connections, one that was idle for so long makes room for a new one",
+            "10",
+        ))?
         .arg(
             Arg::new(alloc, "log")
                 .long("log")
@@ -158,6 +185,13 @@ fn option<'a>(alloc: Global, name: &'a str, value: &'a str, help: &'a str) -> Ar
         .value_name(value)
         .help(help)
         .action(ArgAction::Set)
+}
+
+// An option with a number of seconds.
+fn seconds<'a>(alloc: Global, name: &'a str, help: &'a str, default: &'a str) -> Arg<'a> {
+    option(alloc, name, "SECONDS", help)
+        .default_value(default)
+        .value_parser(ValueParser::Unsigned(1, MOST_SECONDS))
 }
 
 fn call<'a>(alloc: Global) -> Result<Command<'a>, AllocError> {
@@ -218,6 +252,9 @@ fn listen_of<'a>(words: &ArgMatches<'a>) -> Option<Listening<'a>> {
         connections: words.get_one("connections")?,
         memory: words.get_one("memory")?,
         idle: words.get_one("idle"),
+        stall: words.get_one("stall")?,
+        frame_time: words.get_one("frame-time")?,
+        spare: words.get_one("spare")?,
         log: words.get_flag("log"),
     })
 }
@@ -296,7 +333,13 @@ mod tests {
             ("--connections", "1", None),
             ("--connections", "0", Some(3)),
             ("--connections", "1000001", Some(3)),
-            ("--memory", "0", None),
+            ("--memory", "14680072", None),
+            ("--memory", "14680071", Some(3)),
+            ("--memory", "0", Some(3)),
+            ("--stall", "1", None),
+            ("--stall", "0", Some(3)),
+            ("--frame-time", "31536001", Some(3)),
+            ("--spare", "0", Some(3)),
             ("--memory", "1.5", Some(3)),
             ("--idle", "31536000", None),
             ("--idle", "0", Some(3)),

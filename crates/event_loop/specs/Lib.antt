@@ -1,6 +1,7 @@
 pub mod Counting
-pub mod Loads
 pub mod Turning
 pub mod Looping
 pub mod Servers
 pub mod Sockets
+pub mod Opened
+pub mod Shares

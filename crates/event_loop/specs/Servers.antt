@@ -1,8 +1,11 @@
 -- A server of many connections, as its clauses see it: this project's own.
-use Rattle.std.specs.Prelude.{◌≡◌, ℕ, Bool, IsFalse}
+use Rattle.std.specs.Prelude.{◌≡◌, ℕ, Bool, IsFalse, List, Option, None, slice_index_or}
+use Rattle.outbox.specs.Lines.{Line}
+use Rattle.path_hub.specs.HubState.{HubState}
 use Rattle.event_loop.specs.declared.limits.Limits.{Limits}
+use Rattle.event_loop.specs.Looping.{Lanes}
 
--- whether it takes in connections, how many are open and were taken in, the bytes read and written, and its limits
+-- whether it takes in connections, how many are open and were taken in, the bytes read and written, its limits, the hub, and by key what each connection that is served is owed
 pub record Serving : Type 0 where
   pub listens : Bool
   pub connected : ℕ
@@ -10,6 +13,12 @@ pub record Serving : Type 0 where
   pub read : ℕ
   pub written : ℕ
   pub limits : Limits
+  pub hub : HubState
+  pub lines : List (Option Line)
+
+-- as the steps of the loop see it
+abbrev pub lanes_in : Serving → Lanes
+lanes_in server = record { hub = server.hub; lines = λ q. slice_index_or server.lines q None }
 
 -- it takes in no connection any more, and none is open
 pub record IsOver (server : Serving) : Type 0 where

@@ -1,19 +1,23 @@
 //! One connection and what is known of it.
-ghost use Rattle.std.specs.Prelude.{◌≡◌, ◌<◌, length};
-ghost use Rattle.event_loop.specs.Counting.{added};
+ghost use Rattle.std.specs.Prelude.{◌≡◌, ◌<◌, ◌≤◌, length, Some, None};
+ghost use Rattle.outbox.specs.Lines.{fresh};
+ghost use Rattle.event_loop.specs.Opened.{line_of};
 ghost use Rattle.event_loop.specs.Turning.{TakesTurn};
 
+use crate::claim::{Claim, Purpose};
 use crate::counted::Counted;
 use crate::journal::End;
-use crate::load::Load;
+use crate::limits::Limits;
 use crate::socket::{Fate, Socket};
-use mio::event::Event;
-use mio::net::TcpStream;
-use outbox::{Core, Outbox, Readiness, turn};
+use crate::system::{Peer, Report, Time};
+use outbox::{Core, Outbox, Readiness, feed, turn};
 use std::alloc::Global;
 use std::io::{ErrorKind, Read};
-use std::net::{Shutdown, SocketAddr};
-use std::time::Clock;
+use std::net::SocketAddr;
+
+/// The longest frame that is read, and the longest reply that is given, with no share of the budget; also the most bytes of a read, and those
+/// owed from which on nothing is answered, where there is none.
+pub(crate) const ALLOWANCE: usize = 16_384;
 
 /// The seconds for which what a peer still sends is read and thrown away, so that the last replies reach it.
 const LINGER: u64 = 2;
@@ -38,15 +42,26 @@ pub(crate) enum Outcome {
     Closed,
 }
 
+/// What a turn does.
+#[derive(Clone, Copy, PartialEq, Eq)]
+pub(crate) enum Plan {
+    /// It writes what is owed.
+    Write,
+    /// It reads a piece.
+    Read,
+    /// It answers one request, and writes.
+    Answer,
+    /// It reads a piece, answers as many requests as there is time for, and writes.
+    All,
+}
+
 /// One connection.
 #[derive(Drop)]
-pub(crate) struct Connection {
+pub(crate) struct Connection<S: Peer> {
     pub number: u64,
     /// The address of its peer.
     pub peer: SocketAddr,
-    /// The number that the hub knows it by.
-    pub conn: u32,
-    pub socket: Socket<TcpStream>,
+    pub socket: Socket<S>,
     pub outbox: Outbox,
     pub ready: Readiness,
     /// Its last answer was given.
@@ -54,28 +69,22 @@ pub(crate) struct Connection {
     pub phase: Phase,
     /// It is among those that get a turn.
     pub is_due: bool,
-    /// It could go on, but holds more than its share.
-    pub is_paused: bool,
-    /// What it held after its last turn.
-    pub held: usize,
+    /// A frame came in part, or is not answered.
+    pub has_part: bool,
+    /// Its share of the budgets.
+    pub claim: Option<Claim>,
     /// The second in which a byte last moved.
     pub moved: u64,
 }
 
-impl Connection {
+impl<S: Peer> Connection<S> {
     /// One that was just taken in.
-    pub fn new(
-        alloc: Global,
-        number: u64,
-        peer: SocketAddr,
-        conn: u32,
-        stream: TcpStream,
-        now: u64,
-    ) -> Connection {
+    pub fn new(alloc: Global, number: u64, peer: SocketAddr, stream: S, now: u64) -> Connection<S>
+        ensures { line_of result ≡ Some fresh }
+    {
         Connection {
             number,
             peer,
-            conn,
             socket: Socket::new(stream),
             outbox: Outbox::new(alloc),
             ready: Readiness {
@@ -86,38 +95,110 @@ impl Connection {
             has_faulted: false,
             phase: Phase::Served,
             is_due: false,
-            is_paused: false,
-            held: 0,
+            has_part: false,
+            claim: None,
             moved: now,
         }
     }
 
     /// Notes what was reported. It stays known until a call says that it would wait.
-    pub fn note(&mut self, event: &Event) {
-        let is_ending = event.is_read_closed() || event.is_error();
-        self.socket.report(is_ending);
-        self.ready.readable = self.ready.readable || event.is_readable() || is_ending;
-        self.ready.writable = self.ready.writable || event.is_writable() || event.is_error();
+    pub fn note(&mut self, report: Report)
+        ensures { line_of self.new ≡ line_of self.old }
+    {
+        self.socket.report(report.is_ending);
+        self.ready.readable = self.ready.readable || report.is_readable;
+        self.ready.writable = self.ready.writable || report.is_writable;
     }
 
-    /// One turn, which neither reads nor answers where it is held back. Tells how many bytes were read and written.
-    pub fn turn<C: Core, R: Clock>(
+    /// The share with this ticket is granted.
+    pub fn hold(&mut self, ticket: u64, now: u64)
+        ensures { line_of self.new ≡ line_of self.old }
+    {
+        self.moved = now;
+        self.claim = granted(self.claim, ticket, now);
+    }
+
+    /// What its next turn does: all where there is room for any reply and its peer takes what it is owed, and else one thing after the other.
+    pub fn plan(&self, has_room: bool) -> Plan {
+        match &self.claim {
+            Some(claim) => self.plan_with(claim),
+            None => {
+                if has_room && self.outbox.owed().len() < ALLOWANCE {
+                    Plan::All
+                } else {
+                    self.plan_without()
+                }
+            }
+        }
+    }
+
+    fn plan_with(&self, claim: &Claim) -> Plan {
+        if !claim.is_granted || self.can_write() {
+            return Plan::Write;
+        }
+        match claim.purpose {
+            Purpose::Frame => self.read_or_answer(),
+            Purpose::Reply => Plan::Answer,
+            Purpose::Written => Plan::Write,
+        }
+    }
+
+    fn plan_without(&self) -> Plan {
+        if self.can_write() || self.outbox.owed().len() >= ALLOWANCE {
+            Plan::Write
+        } else {
+            self.read_or_answer()
+        }
+    }
+
+    fn read_or_answer(&self) -> Plan {
+        if self.ready.waiting {
+            Plan::Answer
+        } else {
+            Plan::Read
+        }
+    }
+
+    /// One turn by this plan, which reads so many bytes at most, and how many bytes were read and written.
+    pub fn turn<C: Core, T: Time + Drop>(
         &mut self,
-        core: &mut Counted<'_, C, R>,
+        core: &mut Counted<C, T>,
         conn: u32,
         buffer: &mut [u8],
-        is_held_back: bool,
+        most: usize,
+        plan: Plan,
     ) -> (u64, u64)
-        requires { 0 < length buffer.old }
-        ensures { TakesTurn (C.takes conn) (C.answers conn) self.old.outbox core.old self.new.outbox core.new }
+        requires some { 0 < most }
+        requires within { most ≤ length buffer.old }
+        ensures turn { TakesTurn (C.takes conn) (C.answers conn) self.old.outbox core.old self.new.outbox core.new }
+        ensures phase { self.new.phase ≡ self.old.phase }
     {
         let before = (self.socket.read, self.socket.written);
         let ready = self.ready;
-        if is_held_back {
-            self.ready.readable = false;
-            self.ready.waiting = false;
+        core.begin(plan == Plan::Answer);
+        match plan {
+            Plan::Read => self.read(core, conn, &mut buffer[..most]),
+            Plan::Write => self.write(core, conn, &mut buffer[..most]),
+            Plan::Answer | Plan::All => self.serve(core, conn, &mut buffer[..most]),
         }
-        core.begin();
+        self.has_faulted = self.has_faulted || core.has_faulted();
+        (
+            self.socket.read.saturating_sub(before.0),
+            self.socket.written.saturating_sub(before.1),
+        )
+    }
+
+    // Reads a piece, answers and writes.
+    fn serve<C: Core, T: Time + Drop>(
+        &mut self,
+        core: &mut Counted<C, T>,
+        conn: u32,
+        buffer: &mut [u8],
+    )
+        requires { 0 < length buffer.old }
+        ensures turn { TakesTurn (C.takes conn) (C.answers conn) self.old.outbox core.old self.new.outbox core.new }
+        ensures phase { self.new.phase ≡ self.old.phase }
+    {
         turn(
             &mut self.outbox,
             &mut self.socket,
@@ -126,48 +207,77 @@ impl Connection {
             buffer,
             &mut self.ready,
         );
-        self.has_faulted = self.has_faulted || core.has_faulted();
-        if is_held_back {
-            self.ready.readable = ready.readable;
-            self.ready.waiting = ready.waiting;
-        } else if self.socket.is_drained() {
+        if self.socket.is_drained() {
             self.ready.readable = false;
         }
-        (
-            self.socket.read.saturating_sub(before.0),
-            self.socket.written.saturating_sub(before.1),
-        )
     }
 
-    /// Whether a turn does something where it is held back.
+    // Reads a piece.
+    fn read<C: Core, T: Time + Drop>(
+        &mut self,
+        core: &mut Counted<C, T>,
+        conn: u32,
+        buffer: &mut [u8],
+    )
+        requires { 0 < length buffer.old }
+        ensures turn { TakesTurn (C.takes conn) (C.answers conn) self.old.outbox core.old self.new.outbox core.new }
+        ensures phase { self.new.phase ≡ self.old.phase }
+    {
+        feed(
+            &mut self.outbox,
+            &mut self.socket,
+            core,
+            conn,
+            buffer,
+            &mut self.ready,
+        );
+        if self.socket.is_drained() {
+            self.ready.readable = false;
+        }
+    }
+
+    // Writes, as a turn in which nothing may be read or answered.
+    fn write<C: Core, T: Time + Drop>(
+        &mut self,
+        core: &mut Counted<C, T>,
+        conn: u32,
+        buffer: &mut [u8],
+    )
+        requires { 0 < length buffer.old }
+        ensures turn { TakesTurn (C.takes conn) (C.answers conn) self.old.outbox core.old self.new.outbox core.new }
+        ensures phase { self.new.phase ≡ self.old.phase }
+    {
+        let (readable, waiting) = (self.ready.readable, self.ready.waiting);
+        self.ready.readable = false;
+        self.ready.waiting = false;
+        turn(
+            &mut self.outbox,
+            &mut self.socket,
+            core,
+            conn,
+            buffer,
+            &mut self.ready,
+        );
+        self.ready.readable = readable;
+        self.ready.waiting = waiting;
+    }
+
+    /// Whether there is something to write, and room for it.
     pub fn can_write(&self) -> bool {
-        let ready = Readiness {
-            readable: false,
-            writable: self.ready.writable,
-            waiting: false,
-        };
-        ready.can_go_on(&self.outbox)
+        self.ready.writable && self.outbox.owes()
     }
 
     /// Whether a turn does something.
-    pub fn can_go_on(&self) -> bool {
-        match self.phase {
-            Phase::Served => self.ready.can_go_on(&self.outbox),
-            Phase::Lingering(_) => self.ready.readable,
+    pub fn can_go_on(&self, has_room: bool) -> bool {
+        if let Phase::Lingering(_) = self.phase {
+            return self.ready.readable;
         }
-    }
-
-    /// The bytes that it is owed, and those that wait on it, which are so many.
-    pub fn holds(&self, waiting: usize) -> usize
-        ensures { result ≡ added (length self.now.outbox.owed) waiting }
-    {
-        self.outbox.owed().len().saturating_add(waiting)
-    }
-
-    /// It holds so much now.
-    pub fn hold(&mut self, bytes: usize, load: &mut Load) {
-        load.change(self.held, bytes);
-        self.held = bytes;
+        match self.plan(has_room) {
+            Plan::Write => self.can_write(),
+            Plan::Read => self.ready.readable && self.outbox.reads(),
+            Plan::Answer => self.ready.waiting && self.outbox.reads(),
+            Plan::All => self.ready.can_go_on(&self.outbox),
+        }
     }
 
     /// How it ended, where it is over.
@@ -193,13 +303,18 @@ impl Connection {
     }
 
     /// Ends the writing side, so that what was written arrives although bytes are unread.
-    pub fn linger(&mut self, now: u64) {
-        let _ = self.socket.stream.shutdown(Shutdown::Write);
+    pub fn linger(&mut self, now: u64)
+        ensures { line_of self.new ≡ None }
+    {
+        self.socket.stream.end_writing();
+        self.claim = None;
         self.phase = Phase::Lingering(now.saturating_add(LINGER));
     }
 
     /// Reads once and throws away what comes. Whether more may come.
-    pub fn drain(&mut self, buffer: &mut [u8]) -> bool {
+    pub fn drain(&mut self, buffer: &mut [u8]) -> bool
+        ensures { line_of self.new ≡ line_of self.old }
+    {
         match self.socket.stream.read(buffer) {
             Ok(0) => false,
             Ok(_) => true,
@@ -211,14 +326,56 @@ impl Connection {
         }
     }
 
-    /// Whether it is closed in this second.
-    pub fn expires(&self, now: u64, idle: Option<u64>) -> bool {
-        match self.phase {
-            Phase::Lingering(last) => now >= last,
-            Phase::Served => match idle {
-                Some(seconds) => now.saturating_sub(self.moved) > seconds,
-                None => false,
-            },
+    /// Whether it has been idle for so long that it makes room for another one: `spare` seconds where it owes nothing and has nothing in part,
+    /// and else `frame_time` seconds. One that waits for memory, or is to have a turn, is not idle.
+    pub fn is_spare(&self, now: u64, limits: &Limits) -> bool {
+        let seconds = if self.has_part || self.claim.is_some() || self.outbox.owes() {
+            limits.frame_time
+        } else {
+            limits.spare
+        };
+        !self.is_due
+            && !self.waits_for_memory()
+            && matches!(self.phase, Phase::Served)
+            && now.saturating_sub(self.moved) >= seconds
+    }
+
+    // Whether its share is not granted yet.
+    fn waits_for_memory(&self) -> bool {
+        match &self.claim {
+            Some(claim) => !claim.is_granted,
+            None => false,
         }
+    }
+
+    /// How its time is up in this second, where it is; others may wait for what it holds. One that is to have a turn is not quiet.
+    pub fn expiry(&self, now: u64, limits: &Limits, is_waited_for: bool) -> Option<End> {
+        let quiet = now.saturating_sub(self.moved);
+        match &self.claim {
+            Some(claim) if !claim.is_granted => return None,
+            Some(_) if is_waited_for && !self.is_due && quiet > limits.stall => {
+                return Some(End::Stalled);
+            }
+            Some(claim) if is_waited_for && now.saturating_sub(claim.since) > limits.frame_time => {
+                return Some(End::Slow);
+            }
+            _ => {}
+        }
+        match limits.idle {
+            Some(seconds) if !self.is_due && quiet > seconds => Some(End::Idle),
+            _ => None,
+        }
+    }
+}
+
+// A share that is granted, where it has this ticket.
+fn granted(claim: Option<Claim>, ticket: u64, now: u64) -> Option<Claim> {
+    match claim {
+        Some(claim) if claim.ticket == ticket => Some(Claim {
+            is_granted: true,
+            since: now,
+            ..claim
+        }),
+        _ => claim,
     }
 }

@@ -1,49 +1,61 @@
 //! A core whose answers are counted, and the time that they take.
 ghost use Rattle.std.specs.Prelude.{◌≡◌};
+ghost use Rattle.std.specs.Bool.{MatchBool};
+ghost use Rattle.path_listen.specs.Answering.{Opens, Closes};
 
 use crate::counts::Counts;
+use crate::system::Time;
 use outbox::{Core, Step};
+use path_listen::HubCore;
 use std::marker::Model;
-use std::time::{Clock, Duration, Instant};
+use std::time::Duration;
 
 /// The milliseconds after which a turn ends, with the request that it is at.
 const SPAN: u64 = 1;
 
 /// A core that counts what another one answers, and rests once a turn took long. Its value is that core's.
 #[derive(Drop)]
-pub(crate) struct Counted<'r, C: Core, R: Clock> {
+pub(crate) struct Counted<C: Core, T: Time + Drop> {
     core: C,
-    rt: &'r R,
+    time: T,
     counts: Counts,
     // The last answer of this turn was given: a framing fault.
     has_faulted: bool,
     // When this turn began, where the clock tells it.
-    began: Option<Instant>,
+    began: Option<Duration>,
+    // This turn answers one request.
+    is_single: bool,
+    // How many it answered.
+    answered: u32,
 }
 
-impl<'r, C: Core, R: Clock> Model for Counted<'r, C, R> {
+impl<C: Core, T: Time + Drop> Model for Counted<C, T> {
     ghost Value = { C };
 
     ghost view = { λ counted. counted.core };
 }
 
-impl<'r, C: Core, R: Clock> Counted<'r, C, R> {
+impl<C: Core, T: Time + Drop> Counted<C, T> {
     /// Over this core. Nothing is counted yet.
-    pub fn new(rt: &'r R, core: C) -> Counted<'r, C, R>
+    pub fn new(time: T, core: C) -> Counted<C, T>
         ensures { result ≡ core }
     {
         Counted {
             core,
-            rt,
+            time,
             counts: Counts::new(),
             has_faulted: false,
             began: None,
+            is_single: false,
+            answered: 0,
         }
     }
 
-    /// The core itself.
-    pub fn core(&mut self) -> &mut C {
-        &mut self.core
+    /// The core itself, to look at.
+    pub fn inner(&self) -> &C
+        ensures { result.now ≡ self.now }
+    {
+        &self.core
     }
 
     /// What was counted.
@@ -51,12 +63,19 @@ impl<'r, C: Core, R: Clock> Counted<'r, C, R> {
         &self.counts
     }
 
-    /// A turn begins.
-    pub fn begin(&mut self)
+    /// A turn begins, which answers one request or as many as there is time for.
+    pub fn begin(&mut self, is_single: bool)
         ensures { self.new ≡ self.old }
     {
         self.has_faulted = false;
-        self.began = Instant::now(self.rt).ok();
+        self.began = self.time.now();
+        self.is_single = is_single;
+        self.answered = 0;
+    }
+
+    /// How many requests were answered in this turn.
+    pub fn answered(&self) -> u32 {
+        self.answered
     }
 
     /// Whether the last answer was given in this turn.
@@ -65,7 +84,23 @@ impl<'r, C: Core, R: Clock> Counted<'r, C, R> {
     }
 }
 
-impl<'r, C: Core, R: Clock> Core for Counted<'r, C, R> {
+impl<T: Time + Drop> Counted<HubCore, T> {
+    /// Opens a connection's session, and tells whether that was not refused.
+    pub fn connect(&mut self, conn: u32) -> bool
+        ensures { MatchBool result (Opens conn self.old self.new) (self.new ≡ self.old) }
+    {
+        self.core.connect(conn).is_ok()
+    }
+
+    /// Ends a connection's session.
+    pub fn disconnect(&mut self, conn: u32)
+        ensures { Closes conn self.old self.new }
+    {
+        self.core.disconnect(conn);
+    }
+}
+
+impl<C: Core, T: Time + Drop> Core for Counted<C, T> {
     ghost takes = { C.takes };
 
     ghost answers = { C.answers };
@@ -83,18 +118,19 @@ impl<'r, C: Core, R: Clock> Core for Counted<'r, C, R> {
         let step = self.core.answer_next(conn, out);
         if matches!(step, Step::Replied | Step::Last) {
             self.counts.count(out.get(before..).unwrap_or_default());
+            self.answered = self.answered.saturating_add(1);
         }
         self.has_faulted = self.has_faulted || matches!(step, Step::Last);
         step
     }
 
     fn rests(&self) -> bool {
-        let Some(began) = &self.began else {
-            return false;
-        };
-        match began.elapsed(self.rt) {
-            Ok(taken) => taken >= Duration::from_millis(SPAN),
-            Err(_) => false,
+        if self.is_single {
+            return true;
+        }
+        match (self.began, self.time.now()) {
+            (Some(began), Some(now)) => { now.saturating_sub(began) >= Duration::from_millis(SPAN) }
+            _ => false,
         }
     }
 }

@@ -18,6 +18,12 @@ pub enum End {
     Memory,
     /// No byte moved for as long as the limit says.
     Idle,
+    /// It held memory for which others waited, and no byte moved for as long as the limit says.
+    Stalled,
+    /// It held memory for which others waited for as long as the limit says.
+    Slow,
+    /// It was idle, and made room for a new one at the limit.
+    Displaced,
 }
 
 /// What a server did so far.
@@ -33,6 +39,17 @@ pub struct Totals {
     pub read: u64,
     /// Bytes written.
     pub written: u64,
+}
+
+/// A limit that holds somebody back.
+#[derive(Clone, Copy, Debug, PartialEq, Eq)]
+pub enum Held {
+    /// As many connections are open as may be, and more ask.
+    Connections,
+    /// The system has no descriptor or no memory for a connection that asks.
+    Descriptors,
+    /// Connections wait for memory.
+    Memory,
 }
 
 /// A connection that ended.
@@ -53,6 +70,9 @@ pub trait Journal {
 
     /// A minute passed.
     fn counted(&mut self, totals: &Totals);
+
+    /// A limit holds somebody back, first or still after a minute.
+    fn held(&mut self, limit: Held, totals: &Totals);
 
     /// A second passed: what could not be told before may be told now.
     fn ticked(&mut self);

@@ -4,21 +4,31 @@
 //! millisecond, so that no connection keeps the others waiting for long. What is reported of a connection is kept until a call says that it would wait.
 #![tactic(auto)]
 
+mod claim;
 mod connection;
 mod counted;
 mod counts;
+mod fault;
 mod gate;
 mod journal;
 mod laws;
 mod limits;
-mod load;
+mod open;
+mod rounds;
 mod seconds;
 mod server;
 mod socket;
+mod sockets;
+mod system;
+mod told;
 
+pub use claim::LEAST_MEMORY;
 pub use counts::Counts;
+pub use fault::LoopFault;
 pub use gate::Gate;
-pub use journal::{End, Ending, Journal, Totals};
+pub use journal::{End, Ending, Held, Journal, Totals};
 pub use laws::loop_is_served;
 pub use limits::Limits;
-pub use server::{LoopFault, Server};
+pub use server::Server;
+pub use sockets::{Since, Sockets};
+pub use system::{Accepted, Peer, Report, System, Time, Woken};

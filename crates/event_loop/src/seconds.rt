@@ -1,33 +1,44 @@
 //! The time since a server began, in seconds.
 
-use std::io;
-use std::time::{Clock, Instant};
+use crate::system::Time;
 
-/// The seconds since a server began. Where the clock fails, none has passed since it was last read.
+/// The seconds that a clock tells. Where it fails, none has passed since it was last read.
 #[derive(Drop)]
-pub(crate) struct Seconds<'r, R: Clock> {
-    rt: &'r R,
-    start: Instant,
+pub(crate) struct Seconds<T: Time + Drop> {
+    time: T,
     last: u64,
+    // The second that was last told as a later one.
+    told: u64,
 }
 
-impl<'r, R: Clock> Seconds<'r, R> {
-    /// From now on.
-    pub fn new(rt: &'r R) -> io::Result<Seconds<'r, R>> {
-        let start = Instant::now(rt)?;
-        Ok(Seconds { rt, start, last: 0 })
+impl<T: Time + Drop> Seconds<T> {
+    /// Of this clock.
+    pub fn new(time: T) -> Seconds<T> {
+        Seconds {
+            time,
+            last: 0,
+            told: 0,
+        }
     }
 
-    /// When the clock was last read.
+    /// When it was last read.
     pub fn last(&self) -> u64 {
         self.last
     }
 
-    /// Reads the clock.
+    /// Reads it.
     pub fn read(&mut self) -> u64 {
-        if let Ok(elapsed) = self.start.elapsed(self.rt) {
+        if let Some(elapsed) = self.time.now() {
             self.last = elapsed.as_secs();
         }
         self.last
+    }
+
+    /// Reads it, and tells whether a second passed since that was last told.
+    pub fn is_later(&mut self) -> bool {
+        let now = self.read();
+        let is_later = now > self.told;
+        self.told = now;
+        is_later
     }
 }

@@ -12,6 +12,9 @@ use std::marker::Model;
 /// The bytes owed beyond which a connection isn't read.
 pub const CAP: usize = 262_144;
 
+/// The room that replies may leave unused.
+const FIT: usize = 65_536;
+
 /// What a connection's peer is owed, and whether more is read of it.
 #[derive(Drop)]
 pub struct Outbox {
@@ -109,7 +112,18 @@ impl Outbox {
         ensures { appends.Owes (C.answers conn) (C.idle conn) (C.over conn) result core.old self.old self.new core.new }
     {
         self.shift();
-        core.answer_next(conn, &mut self.bytes)
+        let step = core.answer_next(conn, &mut self.bytes);
+        self.fit();
+        step
+    }
+
+    // Gives back room that a reply took and did not keep, as one that was refused for its length.
+    fn fit(&mut self)
+        ensures { self.new ≡ self.old }
+    {
+        if self.bytes.capacity() > FIT && self.bytes.len() < self.bytes.capacity() / 4 {
+            self.bytes.shrink_to_fit();
+        }
     }
 
     // Moves what is owed to the front, where at least half of the bytes were written. Each byte is moved at most once for

@@ -48,8 +48,11 @@ fn flush<W: Wire>(outbox: &mut Outbox, wire: &mut W, ready: &mut Readiness)
     }
 }
 
-// Reads one piece, where no request waits.
-fn feed<W: Wire, C: Core>(
+/// Reads one piece, where no request waits, and neither answers nor writes: so that what a request needs can be made ready before it is
+/// answered.
+///
+/// A fault of the wire and the end of its input come to what they do in a [`turn`], and so does a piece that the core declines.
+pub fn feed<W: Wire, C: Core>(
     outbox: &mut Outbox,
     wire: &mut W,
     core: &mut C,

@@ -90,6 +90,23 @@ impl Hub {
         }
     }
 
+    /// The bytes that came on the connection and are not answered. None where it has no session.
+    pub fn waiting_bytes(&self, conn: u32) -> &[u8]
+        ensures { result.now ≡ option_map_or (λ f. f.waiting) (session conn self.now.sessions) [] }
+    {
+        match self.sessions.get(&conn) {
+            Some(framer) => framer.waiting_bytes(),
+            None => &[],
+        }
+    }
+
+    /// All tenants.
+    pub fn tenants(&self) -> &Tenants
+        ensures { result.now ≡ self.now.tenants }
+    {
+        &self.tenants
+    }
+
     /// Opens a session. A refusal changes nothing.
     pub fn connect(&mut self, alloc: Global, conn: u32) -> Result<(), ConnectFault>
         ensures ok { OnOk result (Sets conn (Some fresh_framing) self.old.sessions self.new.sessions) }

@@ -1,3 +1,4 @@
 pub mod Answering
 pub mod Acts
 pub mod Served
+pub mod Needs

@@ -1,9 +1,11 @@
 //! The hub as what answers the requests of many connections.
-ghost use Rattle.std.specs.Prelude.{◌≡◌, ◌↔◌, OnOk, OnErr, IsErrOf, IsSome, is_some, length};
+ghost use Rattle.std.specs.Prelude.{◌≡◌, ◌↔◌, [], OnOk, OnErr, IsErrOf, IsSome, is_some, length, MatchOption};
 ghost use Rattle.std.specs.Option.{option_map_or};
 ghost use Rattle.path_hub.specs.Sessions.{session};
 ghost use Rattle.path_listen.specs.Answering.{Opens, Closes};
+ghost use Rattle.path_listen.specs.Needs.{IsPart, IsNoPart};
 
+use crate::needs::{Part, most_of, part_of};
 use outbox::{Core, Step};
 use path_hub::{ConnectFault, Hub};
 use std::alloc::Global;
@@ -58,6 +60,19 @@ impl HubCore {
         ensures { result ≡ option_map_or (λ f. length f.waiting) (session conn self.now.sessions) 0 }
     {
         self.hub.waiting(conn)
+    }
+
+    /// The frame that waits on a connection in part, where its key is there: what is still to come, and whether a tenant has the key.
+    pub fn part(&self, conn: u32) -> Option<Part>
+        ensures { let waiting = option_map_or (λ f. f.waiting) (session conn self.now.sessions) [] in MatchOption result (IsNoPart waiting) (IsPart self.now.tenants waiting) }
+    {
+        part_of(self.hub.tenants(), self.hub.waiting_bytes(conn))
+    }
+
+    /// The most bytes of the reply to the first request that waits on a connection: of a text its own length, of a list and of hits the
+    /// most that there may be.
+    pub fn most_reply(&self, conn: u32) -> usize {
+        most_of(self.hub.tenants(), self.hub.waiting_bytes(conn))
     }
 }
 

@@ -6,6 +6,8 @@
 
 mod hub_core;
 mod laws;
+mod needs;
 
 pub use hub_core::HubCore;
 pub use laws::turns_are_served;
+pub use needs::{LONGEST_FRAME, MOST_REPLY, Part};

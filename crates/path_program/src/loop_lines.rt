@@ -1,6 +1,6 @@
 //! The lines on standard error that a server of many connections prints.
 
-use event_loop::{End, Ending, Gate, Journal, Totals};
+use event_loop::{End, Ending, Gate, Held, Journal, Totals};
 use jiff::Timestamp;
 use std::fmt;
 use std::time::{Clock, SystemTime, UNIX_EPOCH};
@@ -112,6 +112,10 @@ impl<'a, R: Eprint + Clock> Journal for LoopLines<'a, R> {
         }
     }
 
+    fn held(&mut self, limit: Held, totals: &Totals) {
+        self.tell(Line::Held(limit, totals.connected));
+    }
+
     fn ticked(&mut self) {
         self.tell_dropped();
     }
@@ -147,6 +151,8 @@ impl fmt::Display for Time {
 enum Line<'a> {
     /// A connection ended.
     Ended(Ending),
+    /// A limit holds somebody back, with so many connections open.
+    Held(Held, usize),
     /// What was done so far.
     Counts(&'a Totals),
 }
@@ -162,8 +168,21 @@ impl<'a> fmt::Display for Line<'a> {
                     ending.number, ending.peer
                 )
             }
+            Line::Held(limit, count) => {
+                let what = text_of(*limit);
+                write!(f, "{what}, open {count}")
+            }
             Line::Counts(totals) => write!(f, "{}", CountLine(totals)),
         }
+    }
+}
+
+fn text_of(limit: Held) -> &'static str {
+    match limit {
+        Held::Connections => "connections wait to be accepted: as many are open as may be",
+        Held::Descriptors =>
+            "connections wait to be accepted: the system has no descriptor or memory left",
+        Held::Memory => "connections wait for memory",
     }
 }
 
@@ -175,6 +194,9 @@ fn name_of(end: End) -> &'static str {
         End::FrameFault => "FrameFault",
         End::Memory => "NoMemory",
         End::Idle => "IdleLimit",
+        End::Stalled => "StallLimit",
+        End::Slow => "FrameTimeLimit",
+        End::Displaced => "SpareLimit",
     }
 }
 
@@ -254,6 +276,9 @@ mod tests {
             (End::FrameFault, "FrameFault"),
             (End::Memory, "NoMemory"),
             (End::Idle, "IdleLimit"),
+            (End::Stalled, "StallLimit"),
+            (End::Slow, "FrameTimeLimit"),
+            (End::Displaced, "SpareLimit"),
         ] {
             assert_eq!(rt; name_of(how), name);
         }

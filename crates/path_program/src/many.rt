@@ -6,7 +6,7 @@ ghost use Rattle.command_line.specs.Statuses.{status_of};
 use crate::key_file::read_key_file;
 use crate::loop_lines::LoopLines;
 use command_line::{AddressFault, Failure, Listening};
-use event_loop::{Gate, Limits, LoopFault, Server, Totals};
+use event_loop::{Gate, Limits, LoopFault, Server, Since, Sockets, Totals};
 use path_hub::Hub;
 use path_listen::HubCore;
 use path_server::read_keys;
@@ -14,6 +14,9 @@ use std::alloc::Global;
 use std::io::ErrorKind;
 use std::net::{Net, SocketAddr, ToSocketAddrs};
 use std::rt::{Clock, Files};
+
+/// A server at an address.
+type Bound<'r, R> = Server<Sockets, Since<'r, R>>;
 
 /// The descriptor of standard error.
 const STANDARD_ERROR: i32 = 2;
@@ -44,7 +47,7 @@ fn serve<R: Print + Eprint + Net + Clock + AllocGlobal>(
 fn begin<R: Print + AllocGlobal>(
     rt: &R,
     wanted: &Listening<'_>,
-    server: &Server<'_, R>,
+    server: &Bound<'_, R>,
 ) -> Result<(), Failure>
 where
     R: Net + Clock,
@@ -77,7 +80,7 @@ fn lines<'r, R: Eprint + Net + Clock + AllocGlobal>(
 fn run<R: Eprint + Net + Clock + AllocGlobal>(
     rt: &R,
     wanted: &Listening<'_>,
-    server: &mut Server<'_, R>,
+    server: &mut Bound<'_, R>,
     mut lines: LoopLines<'_, R>,
 ) -> Result<(), Failure> {
     match server.serve(&mut lines) {
@@ -120,7 +123,7 @@ fn bind<'r, R: Net + Clock + AllocGlobal>(
     rt: &'r R,
     wanted: &Listening<'_>,
     keys: &[[u8; 16]],
-) -> Result<Server<'r, R>, Failure> {
+) -> Result<Bound<'r, R>, Failure> {
     let addr = address_of(rt, wanted.address)?;
     let hub = Hub::new(rt.alloc(), keys).map_err(Failure::Tenants)?;
     match Server::bind(rt, addr, HubCore::new(rt.alloc(), hub), limits_of(wanted)) {
@@ -145,6 +148,9 @@ fn limits_of(wanted: &Listening<'_>) -> Limits {
         connections: wanted.connections,
         memory: wanted.memory,
         idle: wanted.idle,
+        stall: wanted.stall,
+        frame_time: wanted.frame_time,
+        spare: wanted.spare,
     }
 }
 

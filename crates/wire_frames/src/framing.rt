@@ -177,6 +177,13 @@ impl Framer {
         self.waiting.len()
     }
 
+    /// The bytes that wait.
+    pub fn waiting_bytes(&self) -> &[u8]
+        ensures { result.now ≡ self.now.waiting }
+    {
+        self.waiting.as_slice()
+    }
+
     /// Whether a fault was given.
     pub fn is_closed(&self) -> bool
         ensures { result ≡ self.now.closed }

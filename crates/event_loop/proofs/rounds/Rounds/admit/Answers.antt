@@ -1,0 +1,5 @@
+use Rattle.event_loop.proofs.Looping.{some_then}
+use Rattle.event_loop.proofs.rounds.Rounds.admit.Goals as goal
+
+pub returns : goal.returns
+returns g c = some_then _ _ _ c.displace.ensures c.take_in.ensures

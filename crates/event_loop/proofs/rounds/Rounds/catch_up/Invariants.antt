@@ -1,0 +1,7 @@
+use Rattle.event_loop.specs.Looping.{Stays}
+use Rattle.event_loop.specs.Opened.{lanes_of}
+use Rattle.event_loop.proofs.rounds.Rounds.catch_up.Given as goal
+
+-- what was done so far
+abbrev pub invariant-waits : goal.invariant-waits
+invariant-waits g l = Stays (lanes_of l.initial.self.opened) (lanes_of l.self.opened)

@@ -1,0 +1,5 @@
+use Rattle.event_loop.proofs.Looping.{no_step, some_then}
+use Rattle.event_loop.proofs.rounds.Rounds.look.Goals as goal
+
+pub returns : goal.returns
+returns g c = some_then _ _ _ c.tick.ensures (no_step _ _ c.tell.ensures)

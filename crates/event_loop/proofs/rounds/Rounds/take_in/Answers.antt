@@ -1,0 +1,5 @@
+use Rattle.event_loop.proofs.Looping.{no_step, some_then}
+use Rattle.event_loop.proofs.rounds.Rounds.take_in.Goals as goal
+
+pub returns : goal.returns
+returns g c = some_then _ _ _ (no_step _ _ c.vacant.ensures) c.open.ensures

@@ -1,0 +1,7 @@
+use Rattle.event_loop.specs.Looping.{DoesSome}
+use Rattle.event_loop.specs.Opened.{lanes_of}
+use Rattle.event_loop.proofs.rounds.Rounds.tick.Given as goal
+
+-- what was done so far
+abbrev pub invariant-keys : goal.invariant-keys
+invariant-keys g l = DoesSome (lanes_of l.initial.self.opened) (lanes_of l.self.opened)

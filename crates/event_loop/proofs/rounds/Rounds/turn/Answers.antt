@@ -1,0 +1,6 @@
+use Rattle.event_loop.specs.Looping.{HasTurn}
+use Rattle.event_loop.proofs.Looping.{at_most_then}
+use Rattle.event_loop.proofs.rounds.Rounds.turn.Goals as goal
+
+pub returns : goal.returns
+returns g c = at_most_then (HasTurn c.args.key) _ _ _ c.turn-outcome.ensures c.mark.ensures

@@ -1,0 +1,6 @@
+use Rattle.std.proofs.Common.{◌∙◌}
+use Rattle.event_loop.proofs.Steps.{listed_at}
+use Rattle.event_loop.proofs.server.Server.over.Goals as goal
+
+pub returns-clause-none : goal.returns-clause-none
+returns-clause-none g c = λ q. listed_at c.in_ok-rounds.rounds.opened.connections q ∙ c.in_ok-rounds.ensures.none q

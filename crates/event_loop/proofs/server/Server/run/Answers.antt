@@ -1,0 +1,11 @@
+use Rattle.event_loop.proofs.Looping.{no_step, some_then, stays}
+use Rattle.event_loop.proofs.server.Server.run.Goals as goal
+
+pub rounds-init : goal.rounds-init
+rounds-init g c = no_step _ _ (stays _)
+
+pub rounds-preserved : goal.rounds-preserved
+rounds-preserved g c = some_then _ _ _ c.rounds.invariant c.step.ensures
+
+pub returns-in_err-step-clause-steps : goal.returns-in_err-step-clause-steps
+returns-in_err-step-clause-steps g c = some_then _ _ _ c.rounds.invariant c.step.ensures

@@ -1,0 +1,7 @@
+use Rattle.event_loop.specs.Looping.{DoesSome}
+use Rattle.event_loop.specs.Servers.{lanes_in}
+use Rattle.event_loop.proofs.server.Server.run.Given as goal
+
+-- what was done so far
+abbrev pub invariant-rounds : goal.invariant-rounds
+invariant-rounds g l = DoesSome (lanes_in l.initial.self) (lanes_in l.self)

@@ -1,0 +1,5 @@
+use Rattle.event_loop.proofs.Looping.{are_served}
+use Rattle.event_loop.proofs.server.Server.serve.Goals as goal
+
+pub returns-clause-served : goal.returns-clause-served
+returns-clause-served g c = are_served c.loop_is_served.ensures _ _ c.run.ensures.steps

@@ -1,0 +1,50 @@
+//! Why a server ends early.
+
+use crate::sockets::BindFault;
+use std::alloc::{AllocError, AllocFailed};
+use std::io::{self, ErrorKind};
+use thiserror::Error;
+
+/// Why a server ends early.
+#[derive(Clone, Copy, Debug, PartialEq, Eq, Error)]
+pub enum LoopFault {
+    /// The address could not be bound, or the system did not say what is ready, for this reason of the system.
+    #[error("NetFault")]
+    Net(ErrorKind),
+    /// A growth was refused.
+    #[error("NoMemory")]
+    Memory,
+}
+
+impl From<io::Error> for LoopFault {
+    fn from(error: io::Error) -> LoopFault {
+        LoopFault::Net(error.kind())
+    }
+}
+
+impl From<ErrorKind> for LoopFault {
+    fn from(reason: ErrorKind) -> LoopFault {
+        LoopFault::Net(reason)
+    }
+}
+
+impl From<BindFault> for LoopFault {
+    fn from(fault: BindFault) -> LoopFault {
+        match fault {
+            BindFault::Net(reason) => LoopFault::Net(reason),
+            BindFault::Memory => LoopFault::Memory,
+        }
+    }
+}
+
+impl From<AllocError> for LoopFault {
+    fn from(_: AllocError) -> LoopFault {
+        LoopFault::Memory
+    }
+}
+
+impl<T: Drop> From<AllocFailed<T>> for LoopFault {
+    fn from(_: AllocFailed<T>) -> LoopFault {
+        LoopFault::Memory
+    }
+}

@@ -1,0 +1,477 @@
+//! The rounds of a loop: each waits for what is ready, takes connections in, and gives turns.
+ghost use Rattle.std.specs.Prelude.{◌≡◌, ℕ, None, IfOk, IsTrue};
+ghost use Rattle.slab.specs.Slab.{slab_len};
+ghost use Rattle.event_loop.specs.Looping.{Stays, DoesSome, DoesAtMost, HasTurn, LetGo};
+ghost use Rattle.event_loop.specs.Opened.{lanes_of};
+
+use crate::connection::Outcome;
+use crate::fault::LoopFault;
+use crate::journal::{End, Journal, Totals};
+use crate::limits::Limits;
+use crate::open::Open;
+use crate::seconds::Seconds;
+use crate::system::{Accepted, System, Time, Woken};
+use crate::told::{Holding, Told};
+use path_listen::HubCore;
+use std::alloc::Global;
+use std::net::SocketAddr;
+use std::time::Duration;
+
+/// The most connections that are taken in between two waits.
+const ACCEPTS: u32 = 256;
+
+/// The least number of reports that a wait gives where so many connections are ready.
+const REPORTS: usize = 1_024;
+
+/// The milliseconds after which a failed accept is tried again.
+const RETRY: u64 = 50;
+
+/// The milliseconds between two looks at the time.
+const TICK: u64 = 1_000;
+
+/// What accepts connections.
+#[derive(Clone, Copy)]
+pub(crate) struct Acceptor {
+    // It takes in connections.
+    pub listens: bool,
+    // A connection may wait to be taken in.
+    is_asked: bool,
+    // The last accept failed.
+    is_refused: bool,
+    // How many were taken in.
+    pub taken: u64,
+}
+
+/// Where there is room for one more connection.
+#[derive(Clone, Copy)]
+enum Place {
+    /// Beside those that are open.
+    Free,
+    /// In the place of the one with this key, which has been idle for long.
+    Idle(usize),
+    /// Nowhere.
+    Full,
+}
+
+/// What accepts, what is open, and the clock. Each method does steps of the loop: takes a connection in, gives it a turn, serves it no further.
+#[derive(Drop)]
+pub(crate) struct Rounds<S: System + Drop, T: Time + Drop> {
+    pub system: S,
+    pub acceptor: Acceptor,
+    pub opened: Open<S::Stream, T>,
+    seconds: Seconds<T>,
+    pub limits: Limits,
+    told: Told,
+}
+
+impl<S: System + Drop, T: Time + Drop> Rounds<S, T> {
+    /// None is open.
+    ///
+    /// # Errors
+    ///
+    /// `Memory` where a growth was refused.
+    pub fn new(
+        alloc: Global,
+        system: S,
+        seconds: T,
+        turns: T,
+        core: HubCore,
+        limits: Limits,
+    ) -> Result<Rounds<S, T>, LoopFault>
+        ensures listening { IfOk result (λ rounds. IsTrue rounds.acceptor.listens) }
+        ensures unconnected { IfOk result (λ rounds. slab_len rounds.opened.connections ≡ 0) }
+        ensures none_taken { IfOk result (λ rounds. rounds.acceptor.taken ≡ 0) }
+        ensures limits { IfOk result (λ rounds. rounds.limits ≡ limits) }
+        ensures hub { IfOk result (λ rounds. (lanes_of rounds.opened).hub ≡ core) }
+        ensures none { IfOk result (λ rounds. (q : ℕ) → (lanes_of rounds.opened).lines q ≡ None) }
+    {
+        let opened = Open::new(alloc, turns, core, limits.memory)?;
+        Ok(Rounds {
+            system,
+            acceptor: Acceptor {
+                listens: true,
+                is_asked: true,
+                is_refused: false,
+                taken: 0,
+            },
+            opened,
+            seconds: Seconds::new(seconds),
+            limits,
+            told: Told::new(),
+        })
+    }
+
+    /// What was done so far.
+    pub fn totals(&self) -> Totals
+        ensures connections { result.connections ≡ self.now.acceptor.taken }
+        ensures open_ones { result.connected ≡ slab_len self.now.opened.connections }
+        ensures bytes_read { result.read ≡ self.now.opened.read }
+        ensures bytes_written { result.written ≡ self.now.opened.written }
+    {
+        let (read, written) = self.opened.bytes();
+        Totals {
+            connections: self.acceptor.taken,
+            connected: self.opened.count(),
+            counts: *self.opened.counted().counts(),
+            read,
+            written,
+        }
+    }
+
+    /// One round: waits for what is ready, takes in those that wait, and gives each that can go on a turn.
+    ///
+    /// # Errors
+    ///
+    /// `Net` where the system does not say what is ready, `Memory` where a growth was refused that no connection asked for.
+    pub fn step<J: Journal>(&mut self, journal: &mut J) -> Result<(), LoopFault>
+        ensures { DoesSome (lanes_of self.old.opened) (lanes_of self.new.opened) }
+    {
+        // the clock is read before the wait: what it says of idle connections is so only if nothing was reported since
+        let is_later = self.is_later();
+        self.wait(is_later)?;
+        self.look(is_later, journal)?;
+        self.accept(journal)?;
+        self.take_turns(journal)
+    }
+
+    // Reads the clock, and tells whether a second passed since that was last told.
+    fn is_later(&mut self) -> bool
+        ensures { Stays (lanes_of self.old.opened) (lanes_of self.new.opened) }
+    {
+        self.seconds.is_later()
+    }
+
+    // Notes what is ready. Where a second passed, that is all that is ready by now; else it is waited for.
+    fn wait(&mut self, is_later: bool) -> Result<(), LoopFault>
+        ensures { Stays (lanes_of self.old.opened) (lanes_of self.new.opened) }
+    {
+        if is_later {
+            return self.catch_up();
+        }
+        self.wait_once(self.most())
+    }
+
+    // Notes what is ready by now, a wait's reports at a time.
+    fn catch_up(&mut self) -> Result<(), LoopFault>
+        ensures { Stays (lanes_of self.old.opened) (lanes_of self.new.opened) }
+    {
+        'waits: for _ in 0..=self.opened.count() / REPORTS {
+            self.wait_once(Duration::from_millis(0))?;
+        }
+        Ok(())
+    }
+
+    // Waits for what is ready, so long at most, and notes it.
+    fn wait_once(&mut self, most: Duration) -> Result<(), LoopFault>
+        ensures { Stays (lanes_of self.old.opened) (lanes_of self.new.opened) }
+    {
+        let woken = self.system.wait(most)?;
+        self.heed(woken);
+        self.note()
+    }
+
+    // How long a wait may last: not at all where a connection can go on or may be taken in, a little where that failed, a second else.
+    fn most(&self) -> Duration {
+        if self.opened.has_due() {
+            Duration::from_millis(0)
+        } else if self.acceptor.is_asked && self.acceptor.listens && !self.is_full() {
+            Duration::from_millis(if self.acceptor.is_refused { RETRY } else { 0 })
+        } else {
+            Duration::from_millis(TICK)
+        }
+    }
+
+    // Whether as many are open as may be.
+    fn is_full(&self) -> bool {
+        self.opened.count() >= self.limits.connections
+    }
+
+    // Notes what came of a wait beside the reports.
+    fn heed(&mut self, woken: Woken)
+        ensures { Stays (lanes_of self.old.opened) (lanes_of self.new.opened) }
+    {
+        self.acceptor.is_asked = self.acceptor.is_asked || woken.is_asked;
+        if !woken.is_closed {
+            return;
+        }
+        self.acceptor.listens = false;
+        self.system.close();
+    }
+
+    // Notes what was reported.
+    fn note(&mut self) -> Result<(), LoopFault>
+        ensures { Stays (lanes_of self.old.opened) (lanes_of self.new.opened) }
+    {
+        'reports: for number in 0..usize::MAX {
+            let Some(report) = self.system.report(number) else {
+                return Ok(());
+            };
+            self.opened.note(report)?;
+        }
+        Ok(())
+    }
+
+    // Takes in connections that wait, as long as the limits allow.
+    fn accept<J: Journal>(&mut self, journal: &mut J) -> Result<(), LoopFault>
+        ensures { DoesSome (lanes_of self.old.opened) (lanes_of self.new.opened) }
+    {
+        self.acceptor.is_refused = false;
+        'accepts: for _ in 0..ACCEPTS {
+            if !self.may_accept() {
+                return Ok(());
+            }
+            let place = self.place();
+            if matches!(place, Place::Full) {
+                return Ok(());
+            }
+            self.accept_one(place, journal)?;
+        }
+        Ok(())
+    }
+
+    fn may_accept(&self) -> bool {
+        self.acceptor.listens && self.acceptor.is_asked && !self.acceptor.is_refused
+    }
+
+    // Where there is room for one more.
+    fn place(&mut self) -> Place
+        ensures { Stays (lanes_of self.old.opened) (lanes_of self.new.opened) }
+    {
+        if self.is_full() {
+            self.spare()
+        } else {
+            Place::Free
+        }
+    }
+
+    // That of the one that has been idle longest.
+    fn spare(&mut self) -> Place
+        ensures { Stays (lanes_of self.old.opened) (lanes_of self.new.opened) }
+    {
+        match self.opened.spare(self.seconds.last(), &self.limits) {
+            Some(key) => Place::Idle(key),
+            None => Place::Full,
+        }
+    }
+
+    // Accepts one, in this place.
+    fn accept_one<J: Journal>(&mut self, place: Place, journal: &mut J) -> Result<(), LoopFault>
+        ensures { DoesSome (lanes_of self.old.opened) (lanes_of self.new.opened) }
+    {
+        match self.system.accept() {
+            Accepted::Stream(stream, peer) => self.admit(place, stream, peer, journal),
+            Accepted::Blocked => {
+                self.acceptor.is_asked = false;
+                Ok(())
+            }
+            Accepted::Aborted => Ok(()),
+            Accepted::Refused => self.make_room(place, journal),
+        }
+    }
+
+    // No descriptor or no memory is left: one that is idle makes room, and where none is, it is tried again after a wait.
+    fn make_room<J: Journal>(&mut self, place: Place, journal: &mut J) -> Result<(), LoopFault>
+        ensures { DoesSome (lanes_of self.old.opened) (lanes_of self.new.opened) }
+    {
+        let place = self.instead_of(place);
+        self.acceptor.is_refused = !matches!(place, Place::Idle(_));
+        self.displace(place, journal)
+    }
+
+    // A place that is not beside those that are open.
+    fn instead_of(&mut self, place: Place) -> Place
+        ensures { Stays (lanes_of self.old.opened) (lanes_of self.new.opened) }
+    {
+        match place {
+            Place::Free => self.spare(),
+            Place::Idle(_) | Place::Full => place,
+        }
+    }
+
+    // Takes a connection in, once the one in whose place it comes is closed.
+    fn admit<J: Journal>(
+        &mut self,
+        place: Place,
+        stream: S::Stream,
+        peer: SocketAddr,
+        journal: &mut J,
+    ) -> Result<(), LoopFault>
+        ensures { DoesSome (lanes_of self.old.opened) (lanes_of self.new.opened) }
+    {
+        self.displace(place, journal)?;
+        self.take_in(stream, peer);
+        Ok(())
+    }
+
+    // Closes one that makes room.
+    fn displace<J: Journal>(&mut self, place: Place, journal: &mut J) -> Result<(), LoopFault>
+        ensures { DoesSome (lanes_of self.old.opened) (lanes_of self.new.opened) }
+    {
+        match place {
+            Place::Idle(key) => self.finish(key, End::Displaced, journal),
+            Place::Free | Place::Full => Ok(()),
+        }
+    }
+
+    // Takes a connection in. Where memory is refused, or it can't be waited for, it is closed.
+    fn take_in(&mut self, mut stream: S::Stream, peer: SocketAddr)
+        ensures { DoesSome (lanes_of self.old.opened) (lanes_of self.new.opened) }
+    {
+        let Some(key) = self.opened.vacant() else {
+            return;
+        };
+        if !self.system.watch(&mut stream, key) {
+            return;
+        }
+        self.open(key, stream, peer);
+    }
+
+    // Opens a connection under a key, and counts it.
+    fn open(&mut self, key: usize, stream: S::Stream, peer: SocketAddr)
+        ensures { DoesSome (lanes_of self.old.opened) (lanes_of self.new.opened) }
+    {
+        let number = self.acceptor.taken;
+        let is_taken = self
+            .opened
+            .take_in(key, number, peer, stream, self.seconds.last());
+        self.acceptor.taken = number.saturating_add(u64::from(is_taken));
+    }
+
+    // One turn for each connection that is due.
+    fn take_turns<J: Journal>(&mut self, journal: &mut J) -> Result<(), LoopFault>
+        ensures { DoesSome (lanes_of self.old.opened) (lanes_of self.new.opened) }
+    {
+        let keys = self.opened.take_due();
+        'turns: for key in &keys {
+            self.take_turn(*key, journal)?;
+        }
+        self.opened.give_back(keys);
+        Ok(())
+    }
+
+    // One turn for a connection, and what follows from it.
+    fn take_turn<J: Journal>(&mut self, key: usize, journal: &mut J) -> Result<(), LoopFault>
+        ensures { DoesSome (lanes_of self.old.opened) (lanes_of self.new.opened) }
+    {
+        let outcome = self.turn(key);
+        self.follow(key, outcome, journal)
+    }
+
+    // One turn for a connection. That bytes moved is noted at the clock behind it.
+    fn turn(&mut self, key: usize) -> Outcome
+        ensures { DoesAtMost (HasTurn key) (lanes_of self.old.opened) (lanes_of self.new.opened) }
+    {
+        let (outcome, has_moved) = self.opened.turn(key, self.seconds.last());
+        self.mark(key, has_moved);
+        outcome
+    }
+
+    fn mark(&mut self, key: usize, has_moved: bool)
+        ensures { Stays (lanes_of self.old.opened) (lanes_of self.new.opened) }
+    {
+        if !has_moved {
+            return;
+        }
+        let now = self.seconds.read();
+        self.opened.mark(key, now);
+    }
+
+    // What follows from a turn.
+    fn follow<J: Journal>(
+        &mut self,
+        key: usize,
+        outcome: Outcome,
+        journal: &mut J,
+    ) -> Result<(), LoopFault>
+        ensures { DoesAtMost (LetGo key) (lanes_of self.old.opened) (lanes_of self.new.opened) }
+    {
+        match outcome {
+            Outcome::Over(how) => self.finish(key, how, journal),
+            Outcome::Closed => self.close(key),
+            Outcome::Open => self.go_on(key, journal),
+        }
+    }
+
+    // After a turn at a connection that is open.
+    fn go_on<J: Journal>(&mut self, key: usize, journal: &mut J) -> Result<(), LoopFault>
+        ensures { DoesAtMost (LetGo key) (lanes_of self.old.opened) (lanes_of self.new.opened) }
+    {
+        match self.opened.settle(key, self.seconds.last()) {
+            Ok(()) => Ok(self.opened.schedule(key)?),
+            Err(_) => self.finish(key, End::Memory, journal),
+        }
+    }
+
+    // A connection that is over is closed. Where bytes may be unread, what still comes is read for a little while before, since a close
+    // with bytes unread can take the last replies with it.
+    fn finish<J: Journal>(&mut self, key: usize, how: End, journal: &mut J) -> Result<(), LoopFault>
+        ensures { DoesAtMost (LetGo key) (lanes_of self.old.opened) (lanes_of self.new.opened) }
+    {
+        if let Some(ending) = self.opened.ending(key, how) {
+            journal.ended(&ending);
+        }
+        match how {
+            End::FrameFault | End::Memory => self.linger(key),
+            _ => self.close(key),
+        }
+    }
+
+    fn linger(&mut self, key: usize) -> Result<(), LoopFault>
+        ensures { DoesAtMost (LetGo key) (lanes_of self.old.opened) (lanes_of self.new.opened) }
+    {
+        Ok(self.opened.linger(key, self.seconds.last())?)
+    }
+
+    fn close(&mut self, key: usize) -> Result<(), LoopFault>
+        ensures { DoesAtMost (LetGo key) (lanes_of self.old.opened) (lanes_of self.new.opened) }
+    {
+        Ok(self.opened.close(key, self.seconds.last())?)
+    }
+
+    // Where a second passed, connections whose time is up are closed, and the journal is told what there is to tell.
+    fn look<J: Journal>(&mut self, is_later: bool, journal: &mut J) -> Result<(), LoopFault>
+        ensures { DoesSome (lanes_of self.old.opened) (lanes_of self.new.opened) }
+    {
+        if !is_later {
+            return Ok(());
+        }
+        self.tick(journal)?;
+        self.tell(journal);
+        Ok(())
+    }
+
+    // Closes the connections whose time is up.
+    fn tick<J: Journal>(&mut self, journal: &mut J) -> Result<(), LoopFault>
+        ensures { DoesSome (lanes_of self.old.opened) (lanes_of self.new.opened) }
+    {
+        'keys: for key in 0..self.opened.bound() {
+            self.expire(key, journal)?;
+        }
+        Ok(())
+    }
+
+    // Closes a connection whose time is up.
+    fn expire<J: Journal>(&mut self, key: usize, journal: &mut J) -> Result<(), LoopFault>
+        ensures { DoesAtMost (LetGo key) (lanes_of self.old.opened) (lanes_of self.new.opened) }
+    {
+        match self.opened.expiry(key, self.seconds.last(), &self.limits) {
+            Outcome::Over(how) => self.finish(key, how, journal),
+            Outcome::Closed => self.close(key),
+            Outcome::Open => Ok(()),
+        }
+    }
+
+    // Tells the journal what there is to tell.
+    fn tell<J: Journal>(&mut self, journal: &mut J)
+        ensures { Stays (lanes_of self.old.opened) (lanes_of self.new.opened) }
+    {
+        let holding = Holding {
+            connections: self.acceptor.listens && self.acceptor.is_asked && self.is_full(),
+            descriptors: self.acceptor.is_refused,
+            memory: self.opened.is_short(),
+        };
+        let totals = self.totals();
+        self.told
+            .tell(self.seconds.last(), &holding, &totals, journal);
+    }
+}

@@ -1,0 +1,196 @@
+//! The system of TCP sockets and `epoll`.
+
+use crate::system::{Accepted, Peer, Report, System, Time, Woken};
+use mio::event::Event;
+use mio::net::{TcpListener, TcpStream};
+use mio::unix::SourceFd;
+use mio::{Events, Interest, Poll, Token};
+use std::alloc::{AllocError, Global};
+use std::io::{self, ErrorKind};
+use std::net::{Net, Shutdown, SocketAddr};
+use std::time::{Clock, Duration, Instant};
+
+/// The most events that one wait reports.
+const EVENTS: usize = 1_024;
+
+const LISTENER: Token = Token(usize::MAX);
+
+const INPUT: Token = Token(usize::MAX - 1);
+
+impl Peer for TcpStream {
+    fn end_writing(&mut self) {
+        let _ = self.shutdown(Shutdown::Write);
+    }
+}
+
+/// TCP sockets, and the end of standard input.
+#[derive(Drop)]
+pub struct Sockets {
+    poll: Poll,
+    events: Events,
+    // None once none is accepted any more.
+    listener: Option<TcpListener>,
+    reports: Vec<Report>,
+}
+
+/// Why sockets can't be had.
+#[derive(Clone, Copy, Debug, PartialEq, Eq)]
+pub enum BindFault {
+    /// The system's reason.
+    Net(ErrorKind),
+    /// A growth was refused.
+    Memory,
+}
+
+impl From<io::Error> for BindFault {
+    fn from(error: io::Error) -> BindFault {
+        BindFault::Net(error.kind())
+    }
+}
+
+impl From<AllocError> for BindFault {
+    fn from(_: AllocError) -> BindFault {
+        BindFault::Memory
+    }
+}
+
+impl Sockets {
+    /// Binds the address.
+    ///
+    /// # Errors
+    ///
+    /// `Net` where it can't be bound, `Memory` where a growth was refused.
+    pub fn bind<R: Net>(rt: &R, alloc: Global, addr: SocketAddr) -> Result<Sockets, BindFault> {
+        let events = Events::with_capacity(alloc, EVENTS)?;
+        let reports = Vec::with_capacity(alloc, EVENTS)?;
+        let (poll, listener) = listen(rt, addr)?;
+        Ok(Sockets {
+            poll,
+            events,
+            listener: Some(listener),
+            reports,
+        })
+    }
+}
+
+// A listener at the address, and what waits for it and for the end of standard input.
+fn listen<R: Net>(rt: &R, addr: SocketAddr) -> io::Result<(Poll, TcpListener)> {
+    let poll = Poll::new(rt)?;
+    let mut listener = TcpListener::bind(rt, addr)?;
+    let registry = poll.registry();
+    registry.register(&mut listener, LISTENER, Interest::READABLE)?;
+    // a file can't be waited for: it does not end the server
+    let _ = registry.register(&mut SourceFd(&0), INPUT, Interest::READABLE);
+    Ok((poll, listener))
+}
+
+impl System for Sockets {
+    type Stream = TcpStream;
+
+    fn wait(&mut self, most: Duration) -> Result<Woken, ErrorKind> {
+        if let Err(error) = self.poll.poll(&mut self.events, Some(most)) {
+            return Err(error.kind());
+        }
+        let mut woken = Woken {
+            is_asked: false,
+            is_closed: false,
+        };
+        self.reports.clear();
+        'events: for event in &self.events {
+            match event.token() {
+                LISTENER => woken.is_asked = true,
+                INPUT => {
+                    woken.is_closed = woken.is_closed || event.is_read_closed() || event.is_error()
+                }
+                Token(key) => {
+                    // there is room for as many as a wait reports
+                    let _ = self.reports.push(report_of(key, event));
+                }
+            }
+        }
+        Ok(woken)
+    }
+
+    fn report(&self, number: usize) -> Option<Report> {
+        self.reports.get(number).copied()
+    }
+
+    fn accept(&mut self) -> Accepted<TcpStream> {
+        let Some(listener) = &self.listener else {
+            return Accepted::Blocked;
+        };
+        match listener.accept() {
+            Ok((stream, peer)) => {
+                // without it no reply is wrong, and some come later
+                let _ = stream.set_nodelay(true);
+                Accepted::Stream(stream, peer)
+            }
+            Err(error) => match error.kind() {
+                ErrorKind::WouldBlock => Accepted::Blocked,
+                ErrorKind::ConnectionAborted => Accepted::Aborted,
+                _ => Accepted::Refused,
+            },
+        }
+    }
+
+    fn watch(&mut self, stream: &mut TcpStream, key: usize) -> bool {
+        let interests = Interest::READABLE | Interest::WRITABLE;
+        self.poll
+            .registry()
+            .register(stream, Token(key), interests)
+            .is_ok()
+    }
+
+    fn close(&mut self) {
+        self.listener = None;
+    }
+
+    fn local_addr(&self) -> Result<SocketAddr, ErrorKind> {
+        match &self.listener {
+            Some(listener) => match listener.local_addr() {
+                Ok(addr) => Ok(addr),
+                Err(error) => Err(error.kind()),
+            },
+            None => Err(ErrorKind::NotConnected),
+        }
+    }
+}
+
+fn report_of(key: usize, event: &Event) -> Report {
+    let is_ending = event.is_read_closed() || event.is_error();
+    Report {
+        key,
+        is_readable: event.is_readable() || is_ending,
+        is_writable: event.is_writable() || event.is_error(),
+        is_ending,
+    }
+}
+
+/// The time since it was made.
+#[derive(Drop)]
+pub struct Since<'r, R: Clock> {
+    rt: &'r R,
+    start: Instant,
+}
+
+impl<'r, R: Clock> Since<'r, R> {
+    /// From now on.
+    pub fn new(rt: &'r R) -> io::Result<Since<'r, R>> {
+        let start = Instant::now(rt)?;
+        Ok(Since { rt, start })
+    }
+
+    /// The same clock once more.
+    pub fn again(&self) -> Since<'r, R> {
+        Since {
+            rt: self.rt,
+            start: self.start,
+        }
+    }
+}
+
+impl<'r, R: Clock> Time for Since<'r, R> {
+    fn now(&self) -> Option<Duration> {
+        self.start.elapsed(self.rt).ok()
+    }
+}

@@ -1,0 +1,17 @@
+-- The frame that the bytes of a connection begin with, where its key came and its end did not: this project's own.
+use Rattle.std.specs.Prelude.{◌≡◌, ℕ, ◌+◌, ◌<◌, ◌≤◌, List, length, slice_range, is_some}
+use Rattle.wire_frames.specs.Frames.{body_length, longest_body}
+use Rattle.tenant_map.specs.Tenancy.{Tenancy, place_in}
+use Rattle.path_listen.specs.declared.needs.Part.{Part}
+
+-- the bytes of the whole frame and those still to come, and whether its key is a tenant's
+pub record IsPart (tenancy : Tenancy) (bytes : List ℕ) (part : Part) : Type 0 where
+  pub within : body_length bytes ≤ longest_body
+  pub whole : part.length ≡ 4 + body_length bytes
+  pub more : length bytes + part.left ≡ part.length
+  pub some : 0 < part.left
+  pub known : part.is_known ≡ is_some (place_in tenancy.keys (slice_range bytes 9 25))
+
+-- the key did not come, or all of the frame did, or its length is above the limit
+abbrev pub IsNoPart : List ℕ → Type 0
+IsNoPart bytes = 25 ≤ length bytes → body_length bytes ≤ longest_body → 4 + body_length bytes ≤ length bytes
