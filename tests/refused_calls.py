@@ -84,7 +84,7 @@ def of_a_run(again, name, ends, is_kept):
 ROWS = {
     "index": Row(bytes([0, 1, 4, 6, 7, 8, 9]), refused=("AllocError", b"")),
     "index_of_arrays": Row(bytes([0, 1, 2, 3, 4, 5]), refused=("AllocError", b"")),
-    "stretches": Row(bytes([0, 1, 2, 3, 4, 5]) + b"[[],1]", refused=("AllocError", b"")),
+    "index_and_copy": Row(bytes([0, 1, 2, 3, 4, 5]) + b"[[],1]", refused=("AllocError", b"")),
     "read": Row(number(6)),
     "read_owned": Row(number(6)),
     "read_of_arrays": Row(number(3)),

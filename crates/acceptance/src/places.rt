@@ -4,9 +4,9 @@ ghost use Rattle.std.specs.Prelude.{◌≤◌, length};
 ghost use Rattle.json_tape.specs.Verdict.{text_limit};
 
 use json_tape::build;
-use std::alloc::{AllocError, Global};
+use std::alloc::Global;
 use std::test::Fail;
-use structural_index::{Index, Looks, Stretches, index};
+use structural_index::{Index, Looks, index, index_and_copy};
 
 // Whether the index of a text has these places, and no string is left open or has a control byte inside.
 fn has(alloc: Global, text: &[u8], places: &[u32]) -> bool
@@ -20,44 +20,14 @@ fn tells(found: &Index, places: &[u32], flags: (bool, bool)) -> bool {
     found.places.as_slice() == places && (found.unclosed, found.control_inside) == flags
 }
 
-// The index that is gathered of a text's stretches, and the copy. All places but the last three are forgotten before each stretch.
-fn gathered(alloc: Global, text: &[u8]) -> Result<(Index, Vec<u8>), AllocError>
-    requires { length text.now ≤ text_limit }
-{
-    let mut places = Vec::new(alloc);
-    let mut stretches = Stretches::copying(alloc, text)?;
-    while !stretches.is_whole() {
-        let count = stretches.places().len();
-        stretches.forget(stretches.first() + (count - count.min(3)));
-        stretches = stretches.further::<true>()?;
-        places.truncate(stretches.first());
-        places.extend_from_slice(stretches.places())?;
-    }
-    let unclosed = stretches.is_unclosed();
-    let control_inside = stretches.has_control();
-    let (slashes, copy) = stretches.into_parts();
-    Ok((
-        Index {
-            places,
-            slashes,
-            unclosed,
-            control_inside,
-        },
-        copy,
-    ))
-}
-
-// The same of the index of a text, and of the one that is gathered of its stretches, whose copy is the text.
+// The same of the index of a text, and of the one that is made with a copy of it.
 fn is_indexed(alloc: Global, text: &[u8], places: &[u32], flags: (bool, bool)) -> bool
     requires { length text.now ≤ text_limit }
 {
-    let (Ok(found), Ok((beside, copy))) = (index(alloc, text), gathered(alloc, text)) else {
+    let (Ok(found), Ok((beside, copy))) = (index(alloc, text), index_and_copy(alloc, text)) else {
         return false;
     };
-    tells(&found, places, flags)
-        && tells(&beside, places, flags)
-        && found.slashes.as_slice() == beside.slashes.as_slice()
-        && copy.as_slice() == text
+    tells(&found, places, flags) && tells(&beside, places, flags) && copy.as_slice() == text
 }
 
 #[test]
@@ -118,27 +88,6 @@ fn strings_of_whole_blocks(rt: HostRuntime) {
     text[0] = b'"';
     text[63] = b'"';
     assert!(rt; has(rt.alloc(), &text, &[0]));
-}
-
-// Commas, each of which is a place, and a string whose escape stands over the edge of the first stretch.
-#[test]
-fn strings_over_a_stretch_edge(rt: HostRuntime) -> Result<(), Fail> {
-    let mut text = [b','; 140_010];
-    text[65_532] = b'"';
-    text[65_535] = b'\\';
-    text[65_536] = b'"';
-    text[65_542] = b'"';
-    let mut places = Vec::new(rt.alloc());
-    for place in 0..140_010 {
-        if !matches!(place, 65_533..=65_542) {
-            places.push(place)?;
-        }
-    }
-    assert!(rt; has(rt.alloc(), &text, places.as_slice()));
-    text[65_542] = b'\t';
-    places.truncate(65_533);
-    assert!(rt; is_indexed(rt.alloc(), &text, places.as_slice(), (true, true)));
-    Ok(())
 }
 
 #[test]

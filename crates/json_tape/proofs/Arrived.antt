@@ -1,5 +1,5 @@
 -- What a whole walk shows of a text: its tape where it comes to the end, and that there is none where it halts.
-use Rattle.std.proofs.Common.{◌≡◌, ◌≢◌, ℕ, zero, suc, ◌+◌, ◌<◌, ◌≤◌, ◌^◌, inl, inr, Bool, false, List, [], ◌∷◌, ◌++◌, length, drop, get_or, Some, None, refl, sym, ap, subst, ◌∙◌, arith}
+use Rattle.std.proofs.Common.{◌≡◌, ◌≢◌, ℕ, zero, suc, ◌+◌, ◌<◌, ◌≤◌, ◌^◌, inl, inr, Bool, true, false, List, [], ◌∷◌, ◌++◌, length, drop, get_or, Some, None, refl, sym, ap, subst, ◌∙◌, arith}
 use Rattle.std.specs.Prelude.{Err}
 use Rattle.std.proofs.lemmas.Bool.{cases_lt}
 use Rattle.std.proofs.lemmas.List.{drop_more}
@@ -13,7 +13,6 @@ use Rattle.json_tape.specs.declared.tape.Want.TheVariants as wants
 use Rattle.json_tape.specs.declared.tape.BuildFault.{BuildFault}
 use Rattle.json_tape.specs.declared.tape.BuildFault.TheVariants.{NotJson, Memory}
 use Rattle.json_tape.specs.declared.second_stage.Spot.{Spot}
-use Rattle.json_tape.specs.declared.second_stage.Before.TheVariants as befores
 use Rattle.json_tape.specs.Machine.{Token, Opening, Closing, Comma, Between, Text, Word, State, step, closes, put_close, put_comma, after_comma, level_of}
 use Rattle.json_tape.specs.declared.tape.Entry.{Entry}
 use Rattle.json_tape.specs.declared.tape.Open.{Open}
@@ -122,10 +121,10 @@ module _ (bytes items : List ℕ) (listed : IsListed bytes items) (before : ℕ)
   halts_none (b, w, h) = blocked_none b (known_walked first_point b w known_first) h
 
   -- more tokens than those of a text
-  pub more_none : (spot : Spot) (b : Built) (looked : ℕ) (mark : Bool) → Walked bytes items first_point (at spot b looked mark) → level_of b.opens ≡ Root → spot.before ≡ befores.Value → spot.number < length items → IsNoJson bytes
+  pub more_none : (spot : Spot) (b : Built) (looked : ℕ) (mark : Bool) → Walked bytes items first_point (at spot b looked mark) → level_of b.opens ≡ Root → spot.behind ≡ true → spot.number < length items → IsNoJson bytes
   more_none spot b looked mark w level behind l =
       let known = known_walked first_point (at spot b looked mark) w known_first in
-      let same : standing b (want_at spot.before (level_of b.opens)) None ≡ standing b wants.Next None = ap (λ x. standing b (want_at x (level_of b.opens)) None) behind in
+      let same : standing b (want_at spot.behind (level_of b.opens)) None ≡ standing b wants.Next None = ap (λ x. standing b (want_at x (level_of b.opens)) None) behind in
       blocked_none (at spot b looked mark) known (refused l (λ vs rest tok e t. ap (step tok) same ∙ nothing_more tok b level))
 
   pub record Arrived (entries : List Entry) (deep looked : ℕ) (mark : Bool) : Type 0 where
@@ -136,14 +135,14 @@ module _ (bytes items : List ℕ) (listed : IsListed bytes items) (before : ℕ)
     pub depth : HasDepth bytes deep
     pub numbers : mark ≡ false → AreWithinLimits bytes entries
 
-  pub arrived : (spot : Spot) (b : Built) (looked : ℕ) (mark : Bool) → Walked bytes items first_point (at spot b looked mark) → level_of b.opens ≡ Root → spot.before ≡ befores.Value → length items ≤ spot.number → Arrived b.entries b.deep looked mark
+  pub arrived : (spot : Spot) (b : Built) (looked : ℕ) (mark : Bool) → Walked bytes items first_point (at spot b looked mark) → level_of b.opens ≡ Root → spot.behind ≡ true → length items ≤ spot.number → Arrived b.entries b.deep looked mark
   arrived spot b looked mark w level behind l =
       let known = known_walked first_point (at spot b looked mark) w known_first in
       let k = spot.number in
       let i = get_or (places bytes) k (length bytes) in
       let walks = known.walks in
       let over = past_places k (looked + 1) _ walks l in
-      let want : want_at spot.before (level_of b.opens) ≡ wants.Next = ap (λ x. want_at x (level_of b.opens)) behind in
+      let want : want_at spot.behind (level_of b.opens) ≡ wants.Next = ap (λ x. want_at x (level_of b.opens)) behind in
       let end = walks_end bytes k i before (looked + 1) _ walks over (level, want) in
       let short = listed.short in
       record {

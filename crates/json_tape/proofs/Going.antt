@@ -23,7 +23,7 @@ use Rattle.json_tape.specs.Machine.{Token, Opening, Closing, Comma, Between, Tex
 use Rattle.json_tape.specs.Built.{Built, standing}
 use Rattle.json_tape.specs.Lexing.{is_atom, sign_at, IsToken, sign, text, word, Marked}
 use Rattle.json_tape.specs.Walking.{weight}
-use Rattle.json_tape.specs.Walked.{TokenAt, begins_value, is_text, NoneAt, IsNameAt, token_of, end_of, price_of, IsListed, place, byte_at, Point, point, Walked, stays, moves, IsBlocked, refused, Halts, want_behind, AsksValue, AsksName, with_sign, no_more, Grown}
+use Rattle.json_tape.specs.Walked.{TokenAt, begins_value, is_text, NoneAt, IsNameAt, token_of, end_of, price_of, IsListed, place, byte_at, Point, point, Walked, stays, moves, IsBlocked, refused, Halts, want_at, AsksValue, AsksName, with_sign, no_more, Grown}
 use Rattle.json_tape.proofs.Tokens.{refused_all}
 use Rattle.json_tape.proofs.TokensAt.{sign_token, token_size, size, ends_at, no_word_marked}
 use Rattle.json_tape.proofs.Listed.{in_text}
@@ -104,7 +104,7 @@ value_only _ b _ name t n c = absurd (cc)
 
 module _ (bytes items : List ℕ) where
   -- more looks may be paid for
-  pub walked_paid : (k now more : ℕ) (mark : Bool) (s : State) (c : Point) → now ≤ more → Walked bytes items (point k s now mark) c → Walked bytes items (point k s more mark) c
+  walked_paid : (k now more : ℕ) (mark : Bool) (s : State) (c : Point) → now ≤ more → Walked bytes items (point k s now mark) c → Walked bytes items (point k s more mark) c
   walked_paid k now more mark s c l (stays n e x p) = stays n e x (omega (arith, l, p))
   walked_paid k now more mark s c l (moves m v) =
       moves (record { inside = m.inside; end = m.end; taken = m.taken; next = m.next; looks = omega (arith, l, m.looks); marked = m.marked }) v
@@ -275,39 +275,28 @@ module _ (bytes items : List ℕ) (listed : IsListed bytes items) where
 
   pub open_walks : (k now later : ℕ) (mark mark' : Bool) (shape : Shape) (old new : Built) (w : Want) (name : Option Extent) → k < length items → AsksValue bytes items k w → TokenAt bytes (place items k) (Opening shape (place items k))
       → step (Opening shape (place items k)) (standing old wants.Value name) ≡ Some (standing new (first_of shape) None) → later ≤ now + 1 → Marked bytes (place items k) mark (Ok (place items k + 1)) mark'
-      → Walked bytes items (point k (standing old w name) now mark) (point (k + 1) (standing new (want_behind false (level_of new.opens)) None) (later + 1) mark') × (level_of new.opens ≡ Root → ⊥)
+      → Walked bytes items (point k (standing old w name) now mark) (point (k + 1) (standing new (want_at false (level_of new.opens)) None) (later + 1) mark') × (level_of new.opens ≡ Root → ⊥)
   open_walks k now later mark mark' shape old new w name l asks t took p m =
       let tok = Opening shape (place items k) in
       let any = value_any tok old w name asks.0 refl in
       let level = open_level shape (place items k) old.entries old.opens name old.deep _ took in (
-        subst (λ v. Walked bytes items (point k (standing old w name) now mark) (point (k + 1) (standing new (want_behind false v) None) (later + 1) mark')) (sym level)
+        subst (λ v. Walked bytes items (point k (standing old w name) now mark) (point (k + 1) (standing new (want_at false v) None) (later + 1) mark')) (sym level)
             (one bytes items k now (later + 1) mark mark' tok _ _ l t (any ∙ took) (omega (arith, p)) m),
         not_root level,
       )
 
   -- the same by what was lexed
-  lexed_here : (k now between later byte : ℕ) (mark mark' : Bool) (shape : Shape) (old new : Built) (w : Want) (name : Option Extent) (l l' : Lexed) (made : Result (Unit {0}) BuildFault) (r : Result (Option ℕ) BuildFault) → k + 1 < length items → level_of old.opens ≡ Inside shape → AsksValue bytes items k w
+  pub lexed_grown : (k now between later byte : ℕ) (mark mark' : Bool) (shape : Shape) (old new : Built) (w : Want) (name : Option Extent) (l l' : Lexed) (made : Result (Unit {0}) BuildFault) (r : Result (Option ℕ) BuildFault) → k + 1 < length items → level_of old.opens ≡ Inside shape → AsksValue bytes items k w
       → l ≡ l' → TokenAt bytes (place items k) (token_of (place items k) l) → Marked bytes (place items k) mark (Ok (end_of (place items k) l)) mark' → between ≤ now + price_of l
       → is_leaf (token_of (place items k) l') ≡ true → price_of l' ≤ weight (token_of (place items k) l') + 2
       → Took (step (token_of (place items k) l') (standing old wants.Value name)) made (standing new wants.Next None) → later ≤ between + 1 → byte ≡ byte_at bytes items (k + 1) → r ≡ with_sign made byte
       → Grown bytes items (point k (standing old w name) now mark) shape (k + 1) r new later mark'
-  lexed_here k now between later byte mark mark' shape old new w name l l' made r inside level asks e t m looked leaf price took last q is =
+  lexed_grown k now between later byte mark mark' shape old new w name l l' made r inside level asks e t m looked leaf price took last q is =
       let i = place items k in
       let more = subst (λ x. between ≤ now + price_of x) e looked in
       subst (λ x. Grown bytes items (point k (standing old w name) now mark) shape (k + 1) x new later mark') (sym is)
       (leaf_grown k now later byte mark mark' shape old new w name (token_of i l') made inside level asks (subst (λ x. TokenAt bytes i (token_of i x)) e t) leaf took (omega (arith, more, price, last))
       (subst (λ n. Marked bytes i mark (Ok n) mark') (ends_at i l') (subst (λ x. Marked bytes i mark (Ok (end_of i x)) mark') e m)) q)
-
-  -- where this place is that of the value
-  pub lexed_grown : (i k now between later byte : ℕ) (mark mark' : Bool) (shape : Shape) (old new : Built) (w : Want) (name : Option Extent) (l l' : Lexed) (made : Result (Unit {0}) BuildFault) (r : Result (Option ℕ) BuildFault) → i ≡ place items k → k + 1 < length items → level_of old.opens ≡ Inside shape → AsksValue bytes items k w
-      → l ≡ l' → TokenAt bytes i (token_of i l) → Marked bytes i mark (Ok (end_of i l)) mark' → between ≤ now + price_of l
-      → is_leaf (token_of i l') ≡ true → price_of l' ≤ weight (token_of i l') + 2
-      → Took (step (token_of i l') (standing old wants.Value name)) made (standing new wants.Next None) → later ≤ between + 1 → byte ≡ byte_at bytes items (k + 1) → r ≡ with_sign made byte
-      → Grown bytes items (point k (standing old w name) now mark) shape (k + 1) r new later mark'
-  lexed_grown i k now between later byte mark mark' shape old new w name l l' made r at inside level asks e t m looked leaf price took last q is =
-      subst (λ p. TokenAt bytes p (token_of p l) → Marked bytes p mark (Ok (end_of p l)) mark' → is_leaf (token_of p l') ≡ true → price_of l' ≤ weight (token_of p l') + 2 → Took (step (token_of p l') (standing old wants.Value name)) made (standing new wants.Next None)
-      → Grown bytes items (point k (standing old w name) now mark) shape (k + 1) r new later mark') (sym at)
-      (λ t m leaf price took. lexed_here k now between later byte mark mark' shape old new w name l l' made r inside level asks e t m looked leaf price took last q is) t m leaf price took
 
   opened_walks : (k now later : ℕ) (mark mark' : Bool) (shape inner : Shape) (old new : Built) (w : Want) (name : Option Extent) (l : Lexed) (made : Result (Unit {0}) BuildFault) → k < length items → AsksValue bytes items k w
       → l ≡ lexed.Opens inner → TokenAt bytes (place items k) (token_of (place items k) l) → Marked bytes (place items k) mark (Ok (end_of (place items k) l)) mark' → later ≤ now + price_of l
@@ -322,12 +311,10 @@ module _ (bytes items : List ℕ) (listed : IsListed bytes items) where
       refused_halts k now mark (Opening inner i) (standing old w name) inside (subst (λ x. TokenAt bytes i (token_of i x)) e t) (value_any (Opening inner i) old w name asks.0 refl ∙ took)
   opened_walks k now later mark mark' shape inner old new w name l (Err Memory) inside asks e t m looked took = tt
 
-  pub opened_grown : (i k now later : ℕ) (mark mark' : Bool) (shape inner : Shape) (old new : Built) (w : Want) (name : Option Extent) (l : Lexed) (made : Result (Unit {0}) BuildFault) (r : Result (Option ℕ) BuildFault) → i ≡ place items k → k < length items → AsksValue bytes items k w
-      → l ≡ lexed.Opens inner → TokenAt bytes i (token_of i l) → Marked bytes i mark (Ok (end_of i l)) mark' → later ≤ now + price_of l
-      → Took (step (Opening inner i) (standing old wants.Value name)) made (standing new (first_of inner) None) → r ≡ no_more made
+  pub opened_grown : (k now later : ℕ) (mark mark' : Bool) (shape inner : Shape) (old new : Built) (w : Want) (name : Option Extent) (l : Lexed) (made : Result (Unit {0}) BuildFault) (r : Result (Option ℕ) BuildFault) → k < length items → AsksValue bytes items k w
+      → l ≡ lexed.Opens inner → TokenAt bytes (place items k) (token_of (place items k) l) → Marked bytes (place items k) mark (Ok (end_of (place items k) l)) mark' → later ≤ now + price_of l
+      → Took (step (Opening inner (place items k)) (standing old wants.Value name)) made (standing new (first_of inner) None) → r ≡ no_more made
       → Grown bytes items (point k (standing old w name) now mark) shape (k + 1) r new later mark'
-  opened_grown i k now later mark mark' shape inner old new w name l made r at inside asks e t m looked took is =
+  opened_grown k now later mark mark' shape inner old new w name l made r inside asks e t m looked took is =
       subst (λ x. Grown bytes items (point k (standing old w name) now mark) shape (k + 1) x new later mark') (sym is)
-      (subst (λ p. TokenAt bytes p (token_of p l) → Marked bytes p mark (Ok (end_of p l)) mark' → Took (step (Opening inner p) (standing old wants.Value name)) made (standing new (first_of inner) None)
-      → Grown bytes items (point k (standing old w name) now mark) shape (k + 1) (no_more made) new later mark') (sym at)
-      (λ t m took. opened_walks k now later mark mark' shape inner old new w name l made inside asks e t m looked took) t m took)
+      (opened_walks k now later mark mark' shape inner old new w name l made inside asks e t m looked took)

@@ -26,7 +26,6 @@ pub mod Holders
 pub mod Lones
 pub mod EscapeSteps
 pub mod Gaps
-pub mod Reach
 pub mod Surrogateless
 pub mod Entries
 pub mod Parts
@@ -66,8 +65,6 @@ pub mod PlaceWalk
 pub mod Placing
 pub mod TokensAt
 pub mod Listed
-pub mod Windows
-pub mod Paused
 pub mod Going
 pub mod Onward
 pub mod Arrived
@@ -88,4 +85,3 @@ pub mod Alike
 pub mod NamesTold
 pub mod NamesApart
 pub mod NamesSteps
-pub mod Pairs

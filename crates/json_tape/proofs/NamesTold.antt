@@ -17,7 +17,6 @@ use Rattle.json_tape.specs.declared.apart.NamesMet.{NamesMet}
 use Rattle.json_tape.specs.declared.apart.Owner.{Owner}
 use Rattle.json_tape.specs.Limits.{bytes_at}
 use Rattle.json_tape.specs.Cells.{is_object, members_in}
-use Rattle.json_tape.proofs.Walk.{length-change_at}
 use Rattle.json_tape.specs.Machine.{change_at, closed, kind_of_shape, level_of}
 use Rattle.json_tape.specs.Ordered.{mixed, stamp, bytes_stamp, entry_in, nothing_there, narrow}
 use Rattle.json_tape.specs.Built.{Built}
@@ -321,6 +320,11 @@ module _ (text : List ℕ) (es : List Entry) (e : Entry) (met : NamesMet) where
 
 -- ---- A container that is closed
 
+same_length : (es : List Entry) (i : ℕ) (f : Entry → Entry) → length (change_at es i f) ≡ length es
+same_length [] i f = refl
+same_length (e ∷ es) zero f = refl
+same_length (e ∷ es) (suc i) f = ap suc (same_length es i f)
+
 -- what no change is made of
 same_part : {A : Type 0} (part : Entry → A) (es : List Entry) (i : ℕ) (f : Entry → Entry) → ((e : Entry) → part (f e) ≡ part e) → (k : ℕ) → part (entry_in (change_at es i f) k) ≡ part (entry_in es k)
 same_part part (e ∷ es) zero f h zero = h e
@@ -350,7 +354,7 @@ module _ (text : List ℕ) (es : List Entry) (i place children after : ℕ) (met
 
   member_was : (n k : ℕ) → IsMemberOf shut n k → IsMemberOf es n k
   member_was n k m = record {
-    inside = (let g = m.inside in let l = length-change_at es i f in omega (arith, g, l));
+    inside = (let g = m.inside in let l = same_length es i f in omega (arith, g, l));
     role = sym (same_part (λ (e : Entry). e.role) es i f (λ e. refl) k) ∙ m.role;
     up = sym (same_part (λ (e : Entry). e.up) es i f (λ e. refl) k) ∙ m.up;
   }
@@ -375,7 +379,7 @@ module _ (text : List ℕ) (es : List Entry) (i place children after : ℕ) (met
     where
       one : (level : Level) → IsHeld text shut met limit level o.entry (length os) → IsHeld text shut met (length shut) level o.entry (length os)
       one Root k = tt
-      one (Inside shape) k = ((let q = k.0 in let z = length-change_at es i f in omega (arith, q, z)), k.1, k.2, k.3)
+      one (Inside shape) k = ((let q = k.0 in let z = same_length es i f in omega (arith, q, z)), k.1, k.2, k.3)
 
   pub told_shut : (o : Open) (os : List Open) (deep : ℕ) (shape : Shape) → o.level ≡ Inside shape → i ≡ o.entry → (shape ≡ Object → IsUnasked met o.entry → children ≤ narrow)
       → AreTold text (record { entries = es; opens = o ∷ os; deep = deep }) met → AreTold text (record { entries = shut; opens = os; deep = deep }) met
@@ -390,7 +394,7 @@ module _ (text : List ℕ) (es : List Entry) (i place children after : ℕ) (met
       | inr q ↦ subst (λ e. members_in e ≤ narrow) (sym (same_other es i f n q)) (told.few n u)
     ];
     held = more_room o.entry os (let q = head.0 in omega arith) (held_shut o.entry os (subst (λ l. AreHeld text es met (limit_under l o.entry) os) level told.held.1));
-    above = λ n k m. (let q = told.above n k (member_was n k m) in let z = length-change_at es i f in omega (arith, q, z));
+    above = λ n k m. (let q = told.above n k (member_was n k m) in let z = same_length es i f in omega (arith, q, z));
   }
     where
       head : IsHeld text es met (length es) (Inside shape) o.entry (length os)

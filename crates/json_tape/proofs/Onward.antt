@@ -1,6 +1,6 @@
 -- Where a walk enters a container, goes from child to child, and leaves it.
 use Rattle.std.proofs.Common.{◌≡◌, ◌≢◌, ℕ, zero, suc, ◌+◌, ◌<◌, ◌≤◌, ◌⊎◌, inl, inr, Bool, true, false, not, cond, List, ◌∷◌, length, Option, Some, None, refl, sym, ap, subst, ◌∙◌, arith}
-use Rattle.std.specs.Prelude.{Result, Ok, Err, IfOk, IfErr, eqb}
+use Rattle.std.specs.Prelude.{Result, Ok, Err, IfOk, eqb}
 use Rattle.std.proofs.lemmas.Option.{none-some, same_Some}
 use Rattle.std.proofs.lemmas.Bool.Decides.{nat_tests}
 use Rattle.json_tape.specs.declared.tape.Extent.{Extent}
@@ -18,17 +18,19 @@ use Rattle.json_tape.specs.declared.tape.BuildFault.TheVariants.{NotJson, Memory
 use Rattle.json_tape.specs.declared.lexing.Lexed.{Lexed}
 use Rattle.json_tape.specs.declared.lexing.Lexed.TheVariants as lexed
 use Rattle.json_tape.specs.declared.second_stage.Spot.{Spot}
-use Rattle.json_tape.specs.declared.second_stage.Before.{Before}
-use Rattle.json_tape.specs.declared.second_stage.Before.TheVariants as befores
 use Rattle.json_tape.specs.Machine.{Token, Opening, Closing, Comma, Between, Text, Word, State, step, put_close, put_comma, closes, after_comma, level_of, first_of, Took, IsSmall}
 use Rattle.json_tape.specs.Built.{Built, standing}
 use Rattle.json_tape.specs.Lexing.{sign_at, is_atom, Taken, Marked}
-use Rattle.json_tape.specs.Walked.{TokenAt, begins_value, is_text, AsksValue, AsksName, IsListed, place, byte_at, Point, point, Walked, stays, moves, Outlasts, few, Halts, want_behind, want_at, next_of, behind_of, before_of, at, AsksChild, shape_of, width, ending, Grown, Entered, Arrives, spot_behind, no_more, token_of, end_of, price_of, behind, is_whole, spot_after}
+use Rattle.json_tape.specs.Walked.{TokenAt, begins_value, is_text, AsksValue, AsksName, IsListed, place, byte_at, Point, point, Walked, stays, moves, Outlasts, few, Halts, want_at, AsksChild, shape_of, width, ending, Grown, Entered, Arrives, spot_behind, no_more, token_of, end_of, price_of, behind, is_whole, spot_after}
 use Rattle.json_tape.proofs.Going.{unopened, unput, cond_none, not_root, first_byte, blocked, here_halts, halts_more, walked_more, one, over_sign, refused_halts, value_only, name_only, colon_only, value_any, named_step, open_level, leaf_level}
 use Rattle.json_tape.proofs.Listed.{in_text}
 use Rattle.json_tape.proofs.TokensAt.{sign_token}
 use Rattle.json_tape.proofs.Walk.{step_small}
 use Rattle.std.proofs.lemmas.Bool.{cases_Bool}
+
+is_first : (b : Bool) → true ≡ not b → b ≡ false
+is_first true e = absurd (cc)
+is_first false e = refl
 
 -- a constant that is not 0
 pub is_object : (n : ℕ) → (n ≡ 0 → ⊥) → false ≡ not (not (eqb n 0))
@@ -72,9 +74,9 @@ close_first shape p es (o ∷ o' ∷ os) d l = cond_same (closes shape o.level (
 close_first shape p es _ d l = refl
 
 -- a container is closed at its first child's place as it is behind a value
-close_any : (shape : Shape) (p : ℕ) (b : Built) (behind : Bool) → level_of b.opens ≡ Inside shape → step (Closing shape p) (standing b (want_behind behind (level_of b.opens)) None) ≡ step (Closing shape p) (standing b wants.Next None)
+close_any : (shape : Shape) (p : ℕ) (b : Built) (behind : Bool) → level_of b.opens ≡ Inside shape → step (Closing shape p) (standing b (want_at behind (level_of b.opens)) None) ≡ step (Closing shape p) (standing b wants.Next None)
 close_any shape p b true l = refl
-close_any shape p b false l = ap (λ v. step (Closing shape p) (standing b (want_behind false v) None)) l ∙ close_first shape p b.entries b.opens b.deep l
+close_any shape p b false l = ap (λ v. step (Closing shape p) (standing b (want_at false v) None)) l ∙ close_first shape p b.entries b.opens b.deep l
 
 ending_sign : (shape : Shape) (p : ℕ) → sign_at p (ending shape) ≡ Some (Closing shape p)
 ending_sign Array p = refl
@@ -84,15 +86,10 @@ ending_atom : (shape : Shape) → is_atom (ending shape) ≡ false
 ending_atom Array = refl
 ending_atom Object = refl
 
--- what may come at a spot behind which no comma stands
-want_same : (before : Before) (behind : Bool) (l : Level) → behind_of before ≡ Some behind → want_behind behind l ≡ want_at before l
-want_same befores.Opening behind l e = let f : false ≡ behind = cc in ap (λ x. want_behind x l) (sym f)
-want_same befores.Value behind l e = let f : true ≡ behind = cc in ap (λ x. want_behind x l) (sym f)
-want_same befores.Comma behind l e = absurd (cc)
-
-want_comma : (before : Before) (shape : Shape) → behind_of before ≡ None → next_of shape ≡ want_at before (Inside shape)
-want_comma befores.Comma shape e = refl
-want_comma _ shape e = absurd (cc)
+-- what a child has to begin with behind a comma
+abbrev next_of : Shape → Want
+next_of Array = wants.Value
+next_of Object = wants.Name
 
 comma_step : (b : Built) (shape : Shape) → level_of b.opens ≡ Inside shape → step Comma (standing b wants.Next None) ≡ Some (standing b (next_of shape) None)
 comma_step b Array l = ap (λ x. put_comma b.entries b.opens (after_comma x wants.Next) b.deep) l
@@ -117,13 +114,9 @@ module _ (bytes items : List ℕ) (listed : IsListed bytes items) where
       closing Array n object array p e = n (array p e)
       closing Object n object array p e = n (object p e)
 
-  over_comma : (k now later : ℕ) (mark : Bool) (b : Built) (shape : Shape) → k < length items → level_of b.opens ≡ Inside shape → byte_at bytes items k ≡ 44 → later ≤ now + 3
-      → Walked bytes items (point k (standing b wants.Next None) now mark) (point (k + 1) (standing b (next_of shape) None) later mark)
-  over_comma k now later mark b shape l level q p = over_sign bytes items k 44 now later mark Comma _ _ l (in_text bytes items listed k l) q refl refl (comma_step b shape level) p
-
   pub comma_walks : (k now later : ℕ) (mark : Bool) (b : Built) (shape : Shape) → k < length items → level_of b.opens ≡ Inside shape → byte_at bytes items k ≡ 44 → later ≤ now + 3
       → (w : Want) × AsksChild bytes items (k + 1) shape w × Walked bytes items (point k (standing b wants.Next None) now mark) (point (k + 1) (standing b w None) later mark)
-  comma_walks k now later mark b shape l level q p = (next_of shape, next_asks shape (k + 1), over_comma k now later mark b shape l level q p)
+  comma_walks k now later mark b shape l level q p = (next_of shape, next_asks shape (k + 1), over_sign bytes items k 44 now later mark Comma _ _ l (in_text bytes items listed k l) q refl refl (comma_step b shape level) p)
 
   close_walks : (k now later : ℕ) (mark : Bool) (old new : Built) (shape : Shape) → k < length items → byte_at bytes items k ≡ ending shape → step (Closing shape (place items k)) (standing old wants.Next None) ≡ Some (standing new wants.Next None) → later ≤ now + 3
       → Walked bytes items (point k (standing old wants.Next None) now mark) (point (k + 1) (standing new wants.Next None) later mark)
@@ -136,97 +129,71 @@ module _ (bytes items : List ℕ) (listed : IsListed bytes items) where
   closing_arrives k now mark old new shape (Err NotJson) l q took = refused_halts bytes items listed k now mark (Closing shape (place items k)) _ l (sign_token bytes (place items k) (Closing shape (place items k)) (in_text bytes items listed k l) (ap (sign_at (place items k)) q ∙ ending_sign shape (place items k))) took
   closing_arrives k now mark old new shape (Err Memory) l q took = tt
 
-  pub ended_arrives : (i k now : ℕ) (mark : Bool) (old new : Built) (shape : Shape) (made : Result (Unit {0}) BuildFault) (r : Result Spot BuildFault) → i ≡ place items k → k < length items → byte_at bytes items k ≡ ending shape → Took (step (Closing shape i) (standing old wants.Next None)) made (standing new wants.Next None) → r ≡ spot_behind made k
+  pub ended_arrives : (k now : ℕ) (mark : Bool) (old new : Built) (shape : Shape) (made : Result (Unit {0}) BuildFault) (r : Result Spot BuildFault) → k < length items → byte_at bytes items k ≡ ending shape → Took (step (Closing shape (place items k)) (standing old wants.Next None)) made (standing new wants.Next None) → r ≡ spot_behind made k
       → Arrives bytes items (point k (standing old wants.Next None) now mark) r new now mark
-  ended_arrives i k now mark old new shape made r at l q took e =
-      subst (λ x. Arrives bytes items (point k (standing old wants.Next None) now mark) x new now mark) (sym e)
-      (closing_arrives k now mark old new shape made l q (subst (λ p. Took (step (Closing shape p) (standing old wants.Next None)) made (standing new wants.Next None)) at took))
+  ended_arrives k now mark old new shape made r l q took e = subst (λ x. Arrives bytes items (point k (standing old wants.Next None) now mark) x new now mark) (sym e) (closing_arrives k now mark old new shape made l q took)
 
   -- the state before a container's first child, or behind one
-  entry_state : (b : Built) (shape : Shape) (behind : Bool) → level_of b.opens ≡ Inside shape → standing b (want_behind behind (level_of b.opens)) None ≡ standing b (want_behind behind (Inside shape)) None
-  entry_state b shape behind l = ap (λ v. standing b (want_behind behind v) None) l
+  entry_state : (b : Built) (shape : Shape) (behind : Bool) → level_of b.opens ≡ Inside shape → standing b (want_at behind (level_of b.opens)) None ≡ standing b (want_at behind (Inside shape)) None
+  entry_state b shape behind l = ap (λ v. standing b (want_at behind v) None) l
 
   closing_entered : (k next now later : ℕ) (mark : Bool) (behind : Bool) (old new : Built) (shape : Shape) (made : Result (Unit {0}) BuildFault) → next ≡ k + 1 → k < length items → level_of old.opens ≡ Inside shape → byte_at bytes items k ≡ ending shape → Took (step (Closing shape (place items k)) (standing old wants.Next None)) made (standing new wants.Next None) → later ≤ now + 1
-      → Entered bytes items (point k (standing old (want_behind behind (level_of old.opens)) None) (now + 1) mark) shape next (no_more made) new later mark
+      → Entered bytes items (point k (standing old (want_at behind (level_of old.opens)) None) (now + 1) mark) shape next (no_more made) new later mark
   closing_entered k next now later mark behind old new shape (Ok x) e l level q took p =
-      subst (λ n. Walked bytes items (point k (standing old (want_behind behind (level_of old.opens)) None) (now + 1) mark) (point n (standing new wants.Next None) (later + 1) mark)) (sym e)
+      subst (λ n. Walked bytes items (point k (standing old (want_at behind (level_of old.opens)) None) (now + 1) mark) (point n (standing new wants.Next None) (later + 1) mark)) (sym e)
       (over_sign bytes items k (ending shape) (now + 1) (later + 1) mark (Closing shape (place items k)) _ _ l (in_text bytes items listed k l) q (ending_sign shape (place items k)) (ending_atom shape) (close_any shape (place items k) old behind level ∙ took) (omega (arith, p)))
   closing_entered k next now later mark behind old new shape (Err NotJson) e l level q took p =
       refused_halts bytes items listed k (now + 1) mark (Closing shape (place items k)) _ l (sign_token bytes (place items k) (Closing shape (place items k)) (in_text bytes items listed k l) (ap (sign_at (place items k)) q ∙ ending_sign shape (place items k))) (close_any shape (place items k) old behind level ∙ took)
   closing_entered k next now later mark behind old new shape (Err Memory) e l level q took p = tt
 
-  pub closed_entered : (i k next now later : ℕ) (mark : Bool) (behind : Bool) (old new : Built) (shape : Shape) (made : Result (Unit {0}) BuildFault) (r : Result (Option ℕ) BuildFault) → i ≡ place items k → next ≡ k + 1 → k < length items → level_of old.opens ≡ Inside shape → byte_at bytes items k ≡ ending shape → Took (step (Closing shape i) (standing old wants.Next None)) made (standing new wants.Next None) → later ≤ now + 1 → r ≡ no_more made
-      → Entered bytes items (point k (standing old (want_behind behind (level_of old.opens)) None) (now + 1) mark) shape next r new later mark
-  closed_entered i k next now later mark behind old new shape made r at e l level q took p is =
-      subst (λ x. Entered bytes items (point k (standing old (want_behind behind (level_of old.opens)) None) (now + 1) mark) shape next x new later mark) (sym is)
-      (closing_entered k next now later mark behind old new shape made e l level q (subst (λ x. Took (step (Closing shape x) (standing old wants.Next None)) made (standing new wants.Next None)) at took) p)
+  pub closed_entered : (k next now later : ℕ) (mark : Bool) (behind : Bool) (old new : Built) (shape : Shape) (made : Result (Unit {0}) BuildFault) (r : Result (Option ℕ) BuildFault) → next ≡ k + 1 → k < length items → level_of old.opens ≡ Inside shape → byte_at bytes items k ≡ ending shape → Took (step (Closing shape (place items k)) (standing old wants.Next None)) made (standing new wants.Next None) → later ≤ now + 1 → r ≡ no_more made
+      → Entered bytes items (point k (standing old (want_at behind (level_of old.opens)) None) (now + 1) mark) shape next r new later mark
+  closed_entered k next now later mark behind old new shape made r e l level q took p is =
+      subst (λ x. Entered bytes items (point k (standing old (want_at behind (level_of old.opens)) None) (now + 1) mark) shape next x new later mark) (sym is) (closing_entered k next now later mark behind old new shape made e l level q took p)
 
-  pub first_entered : (k next now later : ℕ) (mark : Bool) (behind : Bool) (b : Built) (shape : Shape) → behind ≡ false → k ≤ next → level_of b.opens ≡ Inside shape → byte_at bytes items k ≢ ending shape → later ≤ now + 1
-      → Entered bytes items (point k (standing b (want_behind behind (level_of b.opens)) None) (now + 1) mark) shape next (Ok (Some k)) b later mark
-  first_entered k next now later mark behind b shape e le level n p =
-      (level, le, (first_of shape, first_asks shape k n, stays refl (sym (ap (λ x. standing b (want_behind x (level_of b.opens)) None) e ∙ entry_state b shape false level)) refl p))
+  pub first_entered : (k next now later : ℕ) (mark : Bool) (behind : Bool) (b : Built) (shape : Shape) → true ≡ not behind → k ≤ next → level_of b.opens ≡ Inside shape → byte_at bytes items k ≢ ending shape → later ≤ now + 1
+      → Entered bytes items (point k (standing b (want_at behind (level_of b.opens)) None) (now + 1) mark) shape next (Ok (Some k)) b later mark
+  first_entered k next now later mark behind b shape e' le level n p =
+      let e = is_first behind e' in
+      (level, le, (first_of shape, first_asks shape k n, stays refl (sym (ap (λ x. standing b (want_at x (level_of b.opens)) None) e ∙ entry_state b shape false level)) refl p))
 
-  pub comma_entered : (k next now later : ℕ) (mark : Bool) (behind : Bool) (b : Built) (shape : Shape) → behind ≡ true → next ≡ k + 1 → k < length items → level_of b.opens ≡ Inside shape → byte_at bytes items k ≡ 44 → later ≤ now + 1
-      → Entered bytes items (point k (standing b (want_behind behind (level_of b.opens)) None) (now + 1) mark) shape next (Ok (Some next)) b later mark
-  comma_entered k next now later mark behind b shape e f l level q p =
+  pub comma_entered : (k next now later : ℕ) (mark : Bool) (behind : Bool) (b : Built) (shape : Shape) → false ≡ not behind → next ≡ k + 1 → k < length items → level_of b.opens ≡ Inside shape → byte_at bytes items k ≡ 44 → later ≤ now + 1
+      → Entered bytes items (point k (standing b (want_at behind (level_of b.opens)) None) (now + 1) mark) shape next (Ok (Some next)) b later mark
+  comma_entered k next now later mark behind b shape e' f l level q p =
+      let e = is_behind behind e' in
       let w = comma_walks k (now + 1) later mark b shape l level q (omega (arith, p)) in (
         level,
         omega arith,
         (
           w.0,
           subst (λ n. AsksChild bytes items n shape w.0) (sym f) w.1,
-          subst (λ n. Walked bytes items (point k (standing b (want_behind behind (level_of b.opens)) None) (now + 1) mark) (point n (standing b w.0 None) later mark)) (sym f)
-              (subst (λ x. Walked bytes items (point k (standing b (want_behind x (level_of b.opens)) None) (now + 1) mark) (point (k + 1) (standing b w.0 None) later mark)) (sym e) w.2),
+          subst (λ n. Walked bytes items (point k (standing b (want_at behind (level_of b.opens)) None) (now + 1) mark) (point n (standing b w.0 None) later mark)) (sym f)
+              (subst (λ x. Walked bytes items (point k (standing b (want_at x (level_of b.opens)) None) (now + 1) mark) (point (k + 1) (standing b w.0 None) later mark)) (sym e) w.2),
         ),
       )
 
-  pub none_entered : (k now : ℕ) (mark : Bool) (behind : Bool) (b : Built) (shape : Shape) → behind ≡ true → k < length items → level_of b.opens ≡ Inside shape → byte_at bytes items k ≢ 44 → byte_at bytes items k ≢ ending shape
-      → Halts bytes items (point k (standing b (want_behind behind (level_of b.opens)) None) (now + 1) mark)
-  none_entered k now mark behind b shape e l level comma end =
-      subst (λ x. Halts bytes items (point k (standing b (want_behind x (level_of b.opens)) None) (now + 1) mark)) (sym e) (no_sign_halts k (now + 1) mark b shape l level comma end)
-
-  -- by what stands before the spot
-  pub entered_at : (spot : Spot) (behind : Bool) (now : ℕ) (mark : Bool) (shape : Shape) (old : Built) (next : ℕ) (r : Result (Option ℕ) BuildFault) (new : Built) (later : ℕ) → behind_of spot.before ≡ Some behind
-      → Entered bytes items (point spot.number (standing old (want_behind behind (level_of old.opens)) None) (now + 1) mark) shape next r new later mark → Entered bytes items (at spot old now mark) shape next r new later mark
-  entered_at spot behind now mark shape old next r new later e h =
-      subst (λ w. Entered bytes items (point spot.number (standing old w None) (now + 1) mark) shape next r new later mark) (want_same spot.before behind (level_of old.opens) e) h
-
-  -- behind a comma that was passed already
-  pub resumed : (spot : Spot) (now : ℕ) (mark : Bool) (shape : Shape) (b : Built) → behind_of spot.before ≡ None → level_of b.opens ≡ Inside shape → Entered bytes items (at spot b now mark) shape (spot.number + 1) (Ok (Some spot.number)) b now mark
-  resumed spot now mark shape b e level = (
-    level,
-    omega arith,
-    (
-      next_of shape,
-      next_asks shape spot.number,
-      stays refl (ap (λ w. standing b w None) (want_comma spot.before shape e ∙ ap (want_at spot.before) (sym level))) refl (omega arith),
-    ),
-  )
+  pub none_entered : (k now : ℕ) (mark : Bool) (behind : Bool) (b : Built) (shape : Shape) → false ≡ not behind → k < length items → level_of b.opens ≡ Inside shape → byte_at bytes items k ≢ 44 → byte_at bytes items k ≢ ending shape
+      → Halts bytes items (point k (standing b (want_at behind (level_of b.opens)) None) (now + 1) mark)
+  none_entered k now mark behind b shape e' l level comma end =
+      let e = is_behind behind e' in
+      subst (λ x. Halts bytes items (point k (standing b (want_at x (level_of b.opens)) None) (now + 1) mark)) (sym e) (no_sign_halts k (now + 1) mark b shape l level comma end)
 
   pub over_halts : (k now : ℕ) (mark : Bool) (s : State) (shape : Shape) → length items ≤ k → level_of s.opens ≡ Inside shape → Halts bytes items (point k s now mark)
   over_halts k now mark s shape l level = here_halts bytes items _ (few 0 (omega (arith, l)) (λ h. not_root level h.0))
 
-pub closed_behind : (k : ℕ) (made : Result (Unit {0}) BuildFault) (r : Result Spot BuildFault) → r ≡ spot_behind made k → IfOk r (λ next. (next.number ≡ k + 1) × (next.before ≡ befores.Value))
-closed_behind k (Ok x) r e = subst (λ x. IfOk x (λ next. (next.number ≡ k + 1) × (next.before ≡ befores.Value))) (sym e) (refl, refl)
-closed_behind k (Err fault) r e = subst (λ x. IfOk x (λ next. (next.number ≡ k + 1) × (next.before ≡ befores.Value))) (sym e) tt
+pub closed_behind : (k : ℕ) (made : Result (Unit {0}) BuildFault) (r : Result Spot BuildFault) → r ≡ spot_behind made k → IfOk r (λ next. (next.number ≡ k + 1) × (next.behind ≡ true))
+closed_behind k (Ok x) r e = subst (λ x. IfOk x (λ next. (next.number ≡ k + 1) × (next.behind ≡ true))) (sym e) (refl, refl)
+closed_behind k (Err fault) r e = subst (λ x. IfOk x (λ next. (next.number ≡ k + 1) × (next.behind ≡ true))) (sym e) tt
 
 pub if_ok : {A : Type 0} {P Q : A → Type 0} (r : Result A BuildFault) → ((x : A) → P x → Q x) → IfOk r P → IfOk r Q
 if_ok (Ok x) f h = f x h
 if_ok (Err fault) f h = tt
-
-pub left_further : (r : Result Spot BuildFault) (k : ℕ) (More : Type 0) (from to : ℕ) → IfOk r (λ next. next ≡ record { number = k; before = befores.Comma }) → IfOk r (λ next. More) → (More → (from < k) × (k ≤ to)) → IfOk r (λ next. (from < next.number) × (next.number ≤ to))
-left_further (Ok spot) k More from to is more h = subst (λ (s : Spot). (from < s.number) × (s.number ≤ to)) (sym is) (h more)
-left_further (Err fault) k More from to is more h = tt
 
 -- ---- Children
 
 -- a child may stand at place number k, in a container on this level
 abbrev pub MayGrow : (bytes items : List ℕ) → Point → ℕ → Level → Built → ℕ → Bool → Type 0
 MayGrow bytes items a k level b looked mark = (shape : Shape) → level ≡ Inside shape → (w : Want) × AsksChild bytes items k shape w × Walked bytes items a (point k (standing b w None) looked mark)
-
--- and does behind a comma, so that the walk may pause there
-abbrev pub MayPause : (bytes items : List ℕ) → Point → ℕ → Level → Built → ℕ → Bool → Type 0
-MayPause bytes items a k level b looked mark = (shape : Shape) → level ≡ Inside shape → Walked bytes items a (point k (standing b (next_of shape) None) (looked + 1) mark)
 
 pub small_state : (k : ℕ) (b : Built) (v w : Want) (m n : Option Extent) → IsSmall k (standing b v m) → IsSmall k (standing b w n)
 small_state k b v w m n h = record { entries = h.entries; opens = h.opens }
@@ -313,21 +280,16 @@ module _ (bytes items : List ℕ) (listed : IsListed bytes items) where
   walked_onward a b (stays n s x l) = omega (arith, n)
   walked_onward a b (moves {b = c} m w) = let next = m.next in let h = walked_onward c b w in omega (arith, next, h)
 
-  -- what is shown of a text that a call handed on, by its places, is shown of this one
-  grown_same : (other others : List ℕ) (a : Point) (shape : Shape) (k looked : ℕ) (r : Result (Option ℕ) BuildFault) (new : Built) (mark : Bool) → other ≡ bytes → others ≡ items → Grown other others a shape k r new looked mark → Grown bytes items a shape k r new looked mark
-  grown_same other others a shape k looked r new mark same these h =
-      subst (λ b. Grown b items a shape k r new looked mark) same (subst (λ ps. Grown other ps a shape k r new looked mark) these h)
-
-  pub member_grown : (other others : List ℕ) (object : Bool) (k now between later : ℕ) (mark mark' : Bool) (old new : Built) (w : Want) (x : Extent) (r : Result (Option ℕ) BuildFault) → false ≡ not object → other ≡ bytes → others ≡ items
+  pub member_grown : (other : List ℕ) (object : Bool) (k now between later : ℕ) (mark mark' : Bool) (old new : Built) (w : Want) (x : Extent) (r : Result (Option ℕ) BuildFault) → false ≡ not object → other ≡ bytes
       → (AsksName bytes items k w → Walked bytes items (point k (standing old w None) now mark) (point (k + 2) (standing old wants.Value (Some x)) between mark))
-      → ((v : Want) → AsksValue other others (k + 2) v → Grown other others (point (k + 2) (standing old v (Some x)) between mark) (shape_of object) (k + 2 + 1) r new later mark')
+      → ((v : Want) → AsksValue other items (k + 2) v → Grown other items (point (k + 2) (standing old v (Some x)) between mark) (shape_of object) (k + 2 + 1) r new later mark')
       → AsksChild bytes items k (shape_of object) w → Grown bytes items (point k (standing old w None) now mark) (shape_of object) (k + width (shape_of object)) r new later mark'
-  member_grown other others true k now between later mark mark' old new w x r e same these named valued asks =
+  member_grown other true k now between later mark mark' old new w x r e same named valued asks =
       let z : k + 2 + 1 ≡ k + 3 = omega arith in
       let grown = subst (λ n. Grown bytes items (point (k + 2) (standing old wants.Value (Some x)) between mark) Object n r new later mark') z
-      (grown_same other others _ Object (k + 2 + 1) later r new mark' same these (valued wants.Value (refl, λ e. absurd (cc)))) in
+      (subst (λ b. Grown b items (point (k + 2) (standing old wants.Value (Some x)) between mark) Object (k + 2 + 1) r new later mark') same (valued wants.Value (refl, λ e. absurd (cc)))) in
       grown_more Object (k + 3) later r new mark' (named asks) grown
-  member_grown other others false k now between later mark mark' old new w x r e same these named valued asks = absurd (cc)
+  member_grown other false k now between later mark mark' old new w x r e same named valued asks = absurd (cc)
 
   same_inside : (s t : Shape) → Inside s ≡ Inside t → s ≡ t
   same_inside Array Object e = absurd (cc)
@@ -344,63 +306,45 @@ module _ (bytes items : List ℕ) (listed : IsListed bytes items) where
   entered_some a shape next looked k o b mark e h = subst (λ x. Entered bytes items a shape next (Ok x) b looked mark) e h
 
   -- the child that a loop has come to, by what was known before it
-  pub child_grown : (other others : List ℕ) (a : Point) (k n now later : ℕ) (mark mark' : Bool) (level : Level) (shape : Shape) (old new : Built) (r r' : Result (Option ℕ) BuildFault) → level ≡ Inside shape → other ≡ bytes → others ≡ items → MayGrow bytes items a k level old now mark → r ≡ r' → n ≡ k + width shape
-      → ((w : Want) → AsksChild other others k shape w → Grown other others (point k (standing old w None) now mark) shape (k + width shape) r new later mark') → Grown bytes items a shape n r' new later mark'
-  child_grown other others a k n now later mark mark' level shape old new r r' e same these may is size grown =
+  pub child_grown : (other : List ℕ) (a : Point) (k n now later : ℕ) (mark mark' : Bool) (level : Level) (shape : Shape) (old new : Built) (r r' : Result (Option ℕ) BuildFault) → level ≡ Inside shape → other ≡ bytes → MayGrow bytes items a k level old now mark → r ≡ r' → n ≡ k + width shape
+      → ((w : Want) → AsksChild other items k shape w → Grown other items (point k (standing old w None) now mark) shape (k + width shape) r new later mark') → Grown bytes items a shape n r' new later mark'
+  child_grown other a k n now later mark mark' level shape old new r r' e same may is size grown =
       let g = may shape e in
-      let asks = subst (λ b. AsksChild b others k shape g.0) (sym same) (subst (λ ps. AsksChild bytes ps k shape g.0) (sym these) g.1) in
-      let here' = grown_same other others _ shape (k + width shape) later r new mark' same these (grown g.0 asks) in
+      let here' = subst (λ b. Grown b items (point k (standing old g.0 None) now mark) shape (k + width shape) r new later mark') same (grown g.0 (subst (λ b. AsksChild b items k shape g.0) (sym same) g.1)) in
       subst (λ x. Grown bytes items a shape n x new later mark') is (subst (λ x. Grown bytes items a shape x r new later mark') (sym size) (grown_more shape (k + width shape) later r new mark' g.2 here'))
 
-  pub child_fault : (other others : List ℕ) (a : Point) (k now later : ℕ) (mark mark' : Bool) (level : Level) (shape : Shape) (old new : Built) (r : Result (Option ℕ) BuildFault) (fault : BuildFault) → level ≡ Inside shape → other ≡ bytes → others ≡ items → MayGrow bytes items a k level old now mark → r ≡ Err fault
-      → ((w : Want) → AsksChild other others k shape w → Grown other others (point k (standing old w None) now mark) shape (k + width shape) r new later mark') → Arrives bytes items a (Err fault) new later mark'
-  child_fault other others a k now later mark mark' level shape old new r fault e same these may is grown =
-      grown_fault a shape (k + width shape) later fault new mark' (child_grown other others a k (k + width shape) now later mark mark' level shape old new r (Err fault) e same these may is refl grown)
+  pub child_fault : (other : List ℕ) (a : Point) (k now later : ℕ) (mark mark' : Bool) (level : Level) (shape : Shape) (old new : Built) (r : Result (Option ℕ) BuildFault) (fault : BuildFault) → level ≡ Inside shape → other ≡ bytes → MayGrow bytes items a k level old now mark → r ≡ Err fault
+      → ((w : Want) → AsksChild other items k shape w → Grown other items (point k (standing old w None) now mark) shape (k + width shape) r new later mark') → Arrives bytes items a (Err fault) new later mark'
+  child_fault other a k now later mark mark' level shape old new r fault e same may is grown =
+      grown_fault a shape (k + width shape) later fault new mark' (child_grown other a k (k + width shape) now later mark mark' level shape old new r (Err fault) e same may is refl grown)
 
   pub next_may_grow : (a : Point) (n k looked : ℕ) (mark : Bool) (level : Level) (shape : Shape) (b : Built) (byte : ℕ) → level ≡ Inside shape → byte ≡ 44 → k ≡ n + 1 → Grown bytes items a shape n (Ok (Some byte)) b looked mark → MayGrow bytes items a k level b looked mark
   next_may_grow a n k looked mark level shape b byte e comma size g =
       let w = comma_walks bytes items listed n looked looked mark b shape g.3 g.1 (sym g.2 ∙ comma) (omega arith) in
       subst (λ x. MayGrow bytes items a x level b looked mark) (sym size) (may_grow a (n + 1) level shape b looked mark e (w.0, w.1, walked_more bytes items g.0 w.2))
 
-  pub next_may_pause : (a : Point) (n k looked : ℕ) (mark : Bool) (level : Level) (shape : Shape) (b : Built) (byte : ℕ) → level ≡ Inside shape → byte ≡ 44 → k ≡ n + 1 → Grown bytes items a shape n (Ok (Some byte)) b looked mark → MayPause bytes items a k level b looked mark
-  next_may_pause a n k looked mark level shape b byte e comma size g = λ other f.
-      subst (λ s. Walked bytes items a (point k (standing b (next_of s) None) (looked + 1) mark)) (same_inside shape other (sym e ∙ f))
-      (subst (λ x. Walked bytes items a (point x (standing b (next_of shape) None) (looked + 1) mark)) (sym size)
-      (walked_more bytes items g.0 (over_comma bytes items listed n looked (looked + 1) mark b shape g.3 g.1 (sym g.2 ∙ comma) (omega arith))))
-
-  pub paused : (a : Point) (k looked : ℕ) (mark : Bool) (shape : Shape) (b : Built) → level_of b.opens ≡ Inside shape → MayPause bytes items a k (Inside shape) b looked mark → Walked bytes items a (at (record { number = k; before = befores.Comma }) b looked mark)
-  paused a k looked mark shape b level may =
-      subst (λ w. Walked bytes items a (point k (standing b w None) (looked + 1) mark)) (ap (want_at befores.Comma) (sym level)) (may shape refl)
-
-  -- where the places run out
-  pub left_arrives : (a : Point) (k looked : ℕ) (mark : Bool) (b : Built) (r : Result Spot BuildFault) (More Whole : Type 0) → IfOk r (λ next. next ≡ record { number = k; before = befores.Comma }) → IfOk r (λ next. More) → IfErr r (λ fault. (fault ≡ NotJson) × Whole)
-      → (More → Walked bytes items a (at (record { number = k; before = befores.Comma }) b looked mark)) → (Whole → Halts bytes items a) → Arrives bytes items a r b looked mark
-  left_arrives a k looked mark b (Ok spot) More Whole is more none on stop = subst (λ s. Walked bytes items a (at s b looked mark)) (sym is) (on more)
-  left_arrives a k looked mark b (Err fault) More Whole is more none on stop = subst (λ f. Arrives bytes items a (Err f) b looked mark) (sym none.0) (stop none.1)
-
   pub grown_ended : (a : Point) (n looked : ℕ) (mark : Bool) (shape : Shape) (old new : Built) (byte : ℕ) (r : Result Spot BuildFault) → Grown bytes items a shape n (Ok (Some byte)) old looked mark
       → (byte ≡ byte_at bytes items n → Arrives bytes items (point n (standing old wants.Next None) looked mark) r new looked mark) → Arrives bytes items a r new looked mark
   grown_ended a n looked mark shape old new byte r g h = arrives_more looked r new mark g.0 (h g.2)
 
-  pub arrives_same : (other others : List ℕ) (a b : Point) (looked : ℕ) (r : Result Spot BuildFault) (new : Built) (mark : Bool) → other ≡ bytes → others ≡ items → Walked bytes items a b → Arrives other others b r new looked mark → Arrives bytes items a r new looked mark
-  arrives_same other others a b looked r new mark same these w h =
-      arrives_more looked r new mark w (subst (λ x. Arrives x items b r new looked mark) same (subst (λ ps. Arrives other ps b r new looked mark) these h))
+  pub arrives_same : (other : List ℕ) (a b : Point) (looked : ℕ) (r : Result Spot BuildFault) (new : Built) (mark : Bool) → other ≡ bytes → Walked bytes items a b → Arrives other items b r new looked mark → Arrives bytes items a r new looked mark
+  arrives_same other a b looked r new mark same w h = arrives_more looked r new mark w (subst (λ x. Arrives x items b r new looked mark) same h)
 
   -- ---- The first token
 
   abbrev First : Point → Result Spot BuildFault → Built → ℕ → Bool → Type 0
-  First a r new later mark = Arrives bytes items a r new later mark × IfOk r (λ next. level_of new.opens ≡ Root → next.before ≡ befores.Value)
+  First a r new later mark = Arrives bytes items a r new later mark × IfOk r (λ next. next.behind ≡ false → level_of new.opens ≡ Root → ⊥)
 
   first_taken : (now later : ℕ) (mark mark' : Bool) (old new : Built) (l : Lexed) → 0 < length items → TokenAt bytes (place items 0) (token_of (place items 0) l) → Marked bytes (place items 0) mark (Ok (end_of (place items 0) l)) mark' → later ≤ now + price_of l
-      → step (token_of (place items 0) l) (standing old wants.Value None) ≡ Some (standing new (behind l) None) → First (point 0 (standing old wants.Value None) now mark) (Ok (record { number = 1; before = before_of (is_whole l) })) new later mark'
-  first_taken now later mark mark' old new (lexed.Text x) l t m p took = (one bytes items 0 now (later + 1) mark mark' (Text x) _ _ l t took (omega (arith, p)) m, λ e. refl)
-  first_taken now later mark mark' old new (lexed.Number x) l t m p took = (one bytes items 0 now (later + 1) mark mark' (Word x kinds.Number) _ _ l t took (omega (arith, p)) m, λ e. refl)
-  first_taken now later mark mark' old new (lexed.Word kind x) l t m p took = (one bytes items 0 now (later + 1) mark mark' (Word x kind) _ _ l t took (omega (arith, p)) m, λ e. refl)
+      → step (token_of (place items 0) l) (standing old wants.Value None) ≡ Some (standing new (behind l) None) → First (point 0 (standing old wants.Value None) now mark) (Ok (record { number = 1; behind = is_whole l })) new later mark'
+  first_taken now later mark mark' old new (lexed.Text x) l t m p took = (one bytes items 0 now (later + 1) mark mark' (Text x) _ _ l t took (omega (arith, p)) m, λ e. absurd (cc))
+  first_taken now later mark mark' old new (lexed.Number x) l t m p took = (one bytes items 0 now (later + 1) mark mark' (Word x kinds.Number) _ _ l t took (omega (arith, p)) m, λ e. absurd (cc))
+  first_taken now later mark mark' old new (lexed.Word kind x) l t m p took = (one bytes items 0 now (later + 1) mark mark' (Word x kind) _ _ l t took (omega (arith, p)) m, λ e. absurd (cc))
   first_taken now later mark mark' old new (lexed.Opens shape) l t m p took =
       let level = open_level shape (place items 0) old.entries old.opens None old.deep _ took in (
-        subst (λ v. Walked bytes items (point 0 (standing old wants.Value None) now mark) (point 1 (standing new (want_behind false v) None) (later + 1) mark')) (sym level)
+        subst (λ v. Walked bytes items (point 0 (standing old wants.Value None) now mark) (point 1 (standing new (want_at false v) None) (later + 1) mark')) (sym level)
             (one bytes items 0 now (later + 1) mark mark' (Opening shape (place items 0)) _ _ l t took (omega (arith, p)) m),
-        λ e. absurd (not_root level e),
+        λ e. not_root level,
       )
 
   first_arrives : (now later : ℕ) (mark mark' : Bool) (old new : Built) (l : Lexed) (made : Result (Unit {0}) BuildFault) → 0 < length items → TokenAt bytes (place items 0) (token_of (place items 0) l) → Marked bytes (place items 0) mark (Ok (end_of (place items 0) l)) mark' → later ≤ now + price_of l
@@ -409,16 +353,13 @@ module _ (bytes items : List ℕ) (listed : IsListed bytes items) where
   first_arrives now later mark mark' old new l (Err NotJson) inside t m p took = (refused_halts bytes items listed 0 now mark (token_of (place items 0) l) _ inside t took, tt)
   first_arrives now later mark mark' old new l (Err Memory) inside t m p took = (tt, tt)
 
-  pub whole_arrives : (i now later : ℕ) (mark mark' : Bool) (old new : Built) (l : Lexed) (made : Result (Unit {0}) BuildFault) (r : Result Spot BuildFault) → i ≡ place items 0 → 0 < length items → TokenAt bytes i (token_of i l) → Marked bytes i mark (Ok (end_of i l)) mark' → later ≤ now + price_of l
-      → Took (step (token_of i l) (standing old wants.Value None)) made (standing new (behind l) None) → r ≡ spot_after made l → First (point 0 (standing old wants.Value None) now mark) r new later mark'
-  whole_arrives i now later mark mark' old new l made r here inside t m p took e =
-      subst (λ x. First (point 0 (standing old wants.Value None) now mark) x new later mark') (sym e)
-      (subst (λ x. TokenAt bytes x (token_of x l) → Marked bytes x mark (Ok (end_of x l)) mark' → Took (step (token_of x l) (standing old wants.Value None)) made (standing new (behind l) None) → First (point 0 (standing old wants.Value None) now mark) (spot_after made l) new later mark') (sym here)
-      (λ t m took. first_arrives now later mark mark' old new l made inside t m p took) t m took)
+  pub whole_arrives : (now later : ℕ) (mark mark' : Bool) (old new : Built) (l : Lexed) (made : Result (Unit {0}) BuildFault) (r : Result Spot BuildFault) → 0 < length items → TokenAt bytes (place items 0) (token_of (place items 0) l) → Marked bytes (place items 0) mark (Ok (end_of (place items 0) l)) mark' → later ≤ now + price_of l
+      → Took (step (token_of (place items 0) l) (standing old wants.Value None)) made (standing new (behind l) None) → r ≡ spot_after made l → First (point 0 (standing old wants.Value None) now mark) r new later mark'
+  whole_arrives now later mark mark' old new l made r inside t m p took e = subst (λ x. First (point 0 (standing old wants.Value None) now mark) x new later mark') (sym e) (first_arrives now later mark mark' old new l made inside t m p took)
 
-  pub spot_one : (made : Result (Unit {0}) BuildFault) (l : Lexed) (r : Result Spot BuildFault) (n : ℕ) → 0 < n → r ≡ spot_after made l → IfOk r (λ next. next.number ≤ n)
-  spot_one (Ok x) l r n inside e = subst (λ y. IfOk y (λ next. next.number ≤ n)) (sym e) (omega (arith, inside))
-  spot_one (Err fault) l r n inside e = subst (λ y. IfOk y (λ next. next.number ≤ n)) (sym e) tt
+  pub spot_one : (made : Result (Unit {0}) BuildFault) (l : Lexed) (r : Result Spot BuildFault) → 0 < length items → r ≡ spot_after made l → IfOk r (λ next. next.number ≤ length items)
+  spot_one (Ok x) l r inside e = subst (λ y. IfOk y (λ next. next.number ≤ length items)) (sym e) (omega (arith, inside))
+  spot_one (Err fault) l r inside e = subst (λ y. IfOk y (λ next. next.number ≤ length items)) (sym e) tt
 
   -- no place, no token
   pub nothing_halts : (now : ℕ) (mark : Bool) (b : Built) → length items ≤ 0 → Halts bytes items (point 0 (standing b wants.Value None) now mark)

@@ -4,11 +4,10 @@ use Rattle.std.specs.Prelude.{IsUtf8, nat_lt}
 use Rattle.std.proofs.lemmas.Bool.{cases_lt}
 use Rattle.std.proofs.lemmas.Bool.Decides.{nat_tests}
 use Rattle.std.proofs.lemmas.List.{take-append-drop, drop_more, length-take-le, length-drop, get_or-drop, get_or-take}
-use Rattle.structural_index.specs.Places.{byte, places, HasControlInsideTo}
+use Rattle.structural_index.specs.Places.{byte, places, HasControlInside}
 use Rattle.structural_index.specs.Seams.{AreSlashless, IsSpan, IsAtomRun, is_plain_atom, next_place}
-use Rattle.json_tape.specs.Placing.{ClosesBefore, StringEnds, IsIndexed}
+use Rattle.json_tape.specs.Placing.{ClosesBefore, StringEnds}
 use Rattle.json_tape.specs.Scanning.{string_end, turn, next_of, hold_escapes}
-use Rattle.json_tape.specs.declared.slashes.Slashes.{Slashes}
 use Rattle.json_tape.specs.declared.scan.Mode.{Mode}
 use Rattle.json_tape.specs.declared.scan.Mode.TheVariants.{Between}
 use Rattle.json_tape.specs.declared.scan.Turn.{Turn}
@@ -84,10 +83,10 @@ scanned_string bytes i None u h q e = sym e
 scanned_string bytes i (Some end) u h q e = found_string bytes i end u h q (sym e)
 
 -- found between the opening quote and the quote before the next place
-plain_string : (bytes : List ℕ) (i m reach : ℕ) → IsUtf8 bytes → (HasControlInsideTo bytes reach → ⊥) → m < reach → AreSlashless bytes (i + 1) (suc m) → IsSpan bytes i m → StringEnds bytes i (Some (suc m))
-plain_string bytes i m reach u x r none span =
+plain_string : (bytes : List ℕ) (i m : ℕ) → IsUtf8 bytes → (HasControlInside bytes → ⊥) → AreSlashless bytes (i + 1) (suc m) → IsSpan bytes i m → StringEnds bytes i (Some (suc m))
+plain_string bytes i m u x none span =
     let within = span.within in
-    (m, refl, plain_spells bytes i m reach u x r span (λ k a b e. none k (omega arith) (omega arith) (same_default bytes k (omega arith) ∙ e)))
+    (m, refl, plain_spells bytes i m u x span (λ k a b e. none k (omega arith) (omega arith) (same_default bytes k (omega arith) ∙ e)))
 
 abbrev pub part_of : List ℕ → (i next : ℕ) → List ℕ
 part_of bytes i next = take (next - (i + 1)) (drop (i + 1) bytes)
@@ -132,9 +131,9 @@ part_is bytes i m after within q =
     ∙ ap (λ b. between bytes i m ++ b ∷ []) (get_or-drop (i + 1) bytes (m - (i + 1)) 0 ∙ ap (λ k. get_or bytes k 0) at ∙ q)
 
 -- where nothing else can be wrong, the escapes alone decide
-held_part : (bytes : List ℕ) (i m reach : ℕ) → IsUtf8 bytes → (HasControlInsideTo bytes reach → ⊥) → m < reach → IsSpan bytes i m → get_or bytes m 0 ≡ 34
+held_part : (bytes : List ℕ) (i m : ℕ) → IsUtf8 bytes → (HasControlInside bytes → ⊥) → IsSpan bytes i m → get_or bytes m 0 ≡ 34
     → string_end Between 0 (part_of bytes i (suc m)) ≡ cond (hold_escapes Between (between bytes i m)) (Some (0 + length (between bytes i m) + 1)) None
-held_part bytes i m reach u x r span q =
+held_part bytes i m u x span q =
     let within = span.within in let after = span.after in
     let is = part_is bytes i m after within q in
     let long = length-take-le (m - (i + 1)) (drop (i + 1) bytes) (omega (arith, length-drop (i + 1) bytes)) in
@@ -148,7 +147,7 @@ held_part bytes i m reach u x r span q =
     high j l =
         let within = span.within in
         let here = get_or-take (m - (i + 1)) (drop (i + 1) bytes) j 0 l ∙ get_or-drop (i + 1) bytes j 0 ∙ same_default bytes (i + 1 + j) (omega arith) in
-        subst (λ b. 32 ≤ b) (sym here) (no_control (byte bytes (i + 1 + j)) (control_out bytes i m reach x r span (i + 1 + j) (omega arith) (omega arith)))
+        subst (λ b. 32 ≤ b) (sym here) (no_control (byte bytes (i + 1 + j)) (control_out bytes i m x span (i + 1 + j) (omega arith) (omega arith)))
 
 -- by the test that the code makes
 abbrev pub HasQuoteBefore : List ℕ → (i next : ℕ) → Type 0
@@ -159,28 +158,25 @@ span_before bytes i next c l q (a, b) =
     let e : next ≡ suc (next - 1) = omega arith in
     (next - 1, e, c (next - 1) e (omega arith) (sym (same_default bytes i (omega arith)) ∙ q) (sym (same_default bytes (next - 1) (omega arith)) ∙ b))
 
-pub plain_before : (bytes : List ℕ) (i next reach : ℕ) (slashes : Slashes) → IsIndexed bytes reach slashes → AreSlashless bytes (i + 1) next → ClosesBefore bytes i next → next ≤ reach → get_or bytes i 0 ≡ 34 → HasQuoteBefore bytes i next → StringEnds bytes i (Some next)
-plain_before bytes i next reach slashes of none c l q h =
-    let within = of.escapes.within in
-    let (m, e, span) = span_before bytes i next c (omega arith) q h in
-    subst (λ n. StringEnds bytes i (Some n)) (sym e) (plain_string bytes i m reach of.utf8 of.controls (omega arith) (subst (AreSlashless bytes (i + 1)) e none) span)
+pub plain_before : (bytes : List ℕ) (i next : ℕ) → IsUtf8 bytes → (HasControlInside bytes → ⊥) → AreSlashless bytes (i + 1) next → ClosesBefore bytes i next → next ≤ length bytes → get_or bytes i 0 ≡ 34 → HasQuoteBefore bytes i next → StringEnds bytes i (Some next)
+plain_before bytes i next u x none c l q h =
+    let (m, e, span) = span_before bytes i next c l q h in
+    subst (λ n. StringEnds bytes i (Some n)) (sym e) (plain_string bytes i m u x (subst (AreSlashless bytes (i + 1)) e none) span)
 
-pub held_before : (bytes : List ℕ) (i next reach : ℕ) (slashes : Slashes) → IsIndexed bytes reach slashes → ClosesBefore bytes i next → next ≤ reach → get_or bytes i 0 ≡ 34 → HasQuoteBefore bytes i next
+pub held_before : (bytes : List ℕ) (i next : ℕ) → IsUtf8 bytes → (HasControlInside bytes → ⊥) → ClosesBefore bytes i next → next ≤ length bytes → get_or bytes i 0 ≡ 34 → HasQuoteBefore bytes i next
     → hold_escapes Between (between bytes i (next - 1)) ≡ true → StringEnds bytes i (Some next)
-held_before bytes i next reach slashes of c l q h held =
-    let within = of.escapes.within in
-    let (m, e, span) = span_before bytes i next c (omega arith) q h in
+held_before bytes i next u x c l q h held =
+    let (m, e, span) = span_before bytes i next c l q h in
     let last : next - 1 ≡ m = omega arith in
     subst (λ n. StringEnds bytes i (Some n)) (sym e)
-    (part_found bytes i m _ of.utf8 q span (held_part bytes i m reach of.utf8 of.controls (omega arith) span (ap (λ k. get_or bytes k 0) (sym last) ∙ h.1) ∙ ap (λ t. cond t (Some (0 + length (between bytes i m) + 1)) None) (ap (λ k. hold_escapes Between (between bytes i k)) (sym last) ∙ held)))
+    (part_found bytes i m _ u q span (held_part bytes i m u x span (ap (λ k. get_or bytes k 0) (sym last) ∙ h.1) ∙ ap (λ t. cond t (Some (0 + length (between bytes i m) + 1)) None) (ap (λ k. hold_escapes Between (between bytes i k)) (sym last) ∙ held)))
 
-pub unheld_before : (bytes : List ℕ) (i next reach : ℕ) (slashes : Slashes) → IsIndexed bytes reach slashes → ClosesBefore bytes i next → next ≤ reach → get_or bytes i 0 ≡ 34 → HasQuoteBefore bytes i next
+pub unheld_before : (bytes : List ℕ) (i next : ℕ) → IsUtf8 bytes → (HasControlInside bytes → ⊥) → ClosesBefore bytes i next → next ≤ length bytes → get_or bytes i 0 ≡ 34 → HasQuoteBefore bytes i next
     → hold_escapes Between (between bytes i (next - 1)) ≡ false → StringEnds bytes i None
-unheld_before bytes i next reach slashes of c l q h held =
-    let within = of.escapes.within in
-    let (m, e, span) = span_before bytes i next c (omega arith) q h in
+unheld_before bytes i next u x c l q h held =
+    let (m, e, span) = span_before bytes i next c l q h in
     let last : next - 1 ≡ m = omega arith in
-    part_none bytes i m of.utf8 span (held_part bytes i m reach of.utf8 of.controls (omega arith) span (ap (λ k. get_or bytes k 0) (sym last) ∙ h.1) ∙ ap (λ t. cond t (Some (0 + length (between bytes i m) + 1)) None) (ap (λ k. hold_escapes Between (between bytes i k)) (sym last) ∙ held))
+    part_none bytes i m u span (held_part bytes i m u x span (ap (λ k. get_or bytes k 0) (sym last) ∙ h.1) ∙ ap (λ t. cond t (Some (0 + length (between bytes i m) + 1)) None) (ap (λ k. hold_escapes Between (between bytes i k)) (sym last) ∙ held))
 
 -- what the scan of a lent part says
 pub scanned_part : (bytes other part : List ℕ) (i m : ℕ) (t : Bool) → other ≡ bytes → part ≡ take (m - (i + 1)) (drop (i + 1) other) → t ≡ hold_escapes Between part → hold_escapes Between (between bytes i m) ≡ t

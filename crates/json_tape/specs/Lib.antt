@@ -26,8 +26,6 @@ pub mod Walking
 pub mod Building
 pub mod Placing
 pub mod Walked
-pub mod Windows
-pub mod Pauses
 pub mod Ordered
 pub mod Told
 pub mod Sifted

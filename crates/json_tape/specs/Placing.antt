@@ -1,24 +1,23 @@
 -- What a builder that goes from place to place asks of the text, and what it finds of a string.
 use Rattle.std.specs.Prelude.{◌≡◌, ◌<◌, ◌≤◌, ℕ, suc, ◌+◌, Bool, List, drop, length, Option, Some, None, IsUtf8}
-use Rattle.structural_index.specs.Places.{byte, HasControlInsideTo, AreSlashBlocksTo}
+use Rattle.structural_index.specs.Places.{byte, HasControlInside, AreSlashBlocks}
 use Rattle.structural_index.specs.Seams.{IsSpan, AreSlashless}
 use Rattle.json_tape.specs.declared.slashes.Slashes.{Slashes}
 use Rattle.json_tape.specs.Lexing.{quote_end}
 use Rattle.json_tape.specs.Bridge.{SpellsString}
 
--- no backslash of a text stands in the gap, and all before this byte stand in these blocks
-pub record HoldSlashes (text : List ℕ) (reach : ℕ) (slashes : Slashes) : Type 0 where
+-- no backslash of a text stands in the gap, and all stand in these blocks
+pub record HoldSlashes (text : List ℕ) (slashes : Slashes) : Type 0 where
   pub gap : AreSlashless text slashes.from slashes.to
-  pub blocks_are : AreSlashBlocksTo text reach slashes.blocks.now
+  pub blocks_are : AreSlashBlocks text slashes.blocks.now
   pub next : slashes.next ≤ length slashes.blocks.now
-  pub reaches : slashes.reach ≡ reach
-  pub within : reach ≤ length text
+  pub long : slashes.long ≡ length text
 
--- what has been shown of a text, up to this byte, before its tokens are looked at
-pub record IsIndexed (text : List ℕ) (reach : ℕ) (slashes : Slashes) : Type 0 where
+-- what has been shown of a text before its tokens are looked at
+pub record IsIndexed (text : List ℕ) (slashes : Slashes) : Type 0 where
   pub utf8 : IsUtf8 text
-  pub controls : HasControlInsideTo text reach → ⊥
-  pub escapes : HoldSlashes text reach slashes
+  pub controls : HasControlInside text → ⊥
+  pub escapes : HoldSlashes text slashes
 
 -- a quote right before the next place closes the string that begins at byte i
 abbrev pub ClosesBefore : List ℕ → (i next : ℕ) → Type 0

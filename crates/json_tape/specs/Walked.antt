@@ -1,6 +1,6 @@
 -- A walk over the places of a text, a token at each: what leads from one point of it to another, and where nothing leads on.
 use Rattle.std.specs.Prelude.{◌≡◌, ◌≢◌, ◌<◌, ◌≤◌, ℕ, zero, suc, ◌+◌, Bool, true, false, List, drop, ◌++◌, length, get_or, Option, Some, None, Result, Ok, Err, IsUtf8}
-use Rattle.structural_index.specs.Places.{places}
+use Rattle.structural_index.specs.Places.{places, IsUnclosed, HasControlInside}
 use Rattle.json_tape.specs.declared.tape.Kind.TheVariants as kinds
 use Rattle.json_tape.specs.declared.tape.Extent.{Extent}
 use Rattle.json_tape.specs.declared.tape.Shape.{Shape}
@@ -16,8 +16,6 @@ use Rattle.json_tape.specs.declared.lexing.Quoted.{Quoted}
 use Rattle.json_tape.specs.declared.apart.Met.{Met}
 use Rattle.json_tape.specs.declared.lexing.Lexed.TheVariants as lexed
 use Rattle.json_tape.specs.declared.second_stage.Spot.{Spot}
-use Rattle.json_tape.specs.declared.second_stage.Before.{Before}
-use Rattle.json_tape.specs.declared.second_stage.Before.TheVariants as befores
 use Rattle.json_tape.specs.Machine.{Token, Opening, Text, Word, State, level_of, first_of, takes_value, takes_name}
 use Rattle.json_tape.specs.Built.{Built, standing}
 use Rattle.json_tape.specs.Lexing.{IsToken, Taken, Refused, Marked}
@@ -106,6 +104,8 @@ pub record IsListed (text items : List ℕ) : Type 0 where
   pub list : items ≡ places text
   pub short : length text ≤ text_limit
   pub utf8 : IsUtf8 text
+  pub controls : HasControlInside text → ⊥
+  pub closed : IsUnclosed text → ⊥
 
 -- the place with this number, and the byte that stands there
 abbrev pub place : List ℕ → ℕ → ℕ
@@ -159,32 +159,14 @@ Halts text items a = (b : Point) × Walked text items a b × IsBlocked text item
 -- ---- The calls
 
 -- what may come before the first child of a container, or behind a value
-abbrev pub want_behind : Bool → Level → Want
-want_behind true level = wants.Next
-want_behind false Root = wants.Value
-want_behind false (Inside shape) = first_of shape
-
--- what a child has to begin with behind a comma
-abbrev pub next_of : Shape → Want
-next_of Array = wants.Value
-next_of Object = wants.Name
-
--- what may come behind what stands before a spot
-abbrev pub want_at : Before → Level → Want
-want_at befores.Opening level = want_behind false level
-want_at befores.Value level = want_behind true level
-want_at befores.Comma Root = wants.Value
-want_at befores.Comma (Inside shape) = next_of shape
-
--- whether a value stands there, where no comma does
-abbrev pub behind_of : Before → Option Bool
-behind_of befores.Opening = Some false
-behind_of befores.Value = Some true
-behind_of befores.Comma = None
+abbrev pub want_at : Bool → Level → Want
+want_at true level = wants.Next
+want_at false Root = wants.Value
+want_at false (Inside shape) = first_of shape
 
 -- the look at the next sign is paid for
 abbrev pub at : Spot → Built → ℕ → Bool → Point
-at spot b looked exceeds = point spot.number (standing b (want_at spot.before (level_of b.opens)) None) (looked + 1) exceeds
+at spot b looked exceeds = point spot.number (standing b (want_at spot.behind (level_of b.opens)) None) (looked + 1) exceeds
 
 abbrev pub Arrives : (text items : List ℕ) → Point → Result Spot BuildFault → Built → ℕ → Bool → Type 0
 Arrives text items a (Ok spot) b looked exceeds = Walked text items a (at spot b looked exceeds)
@@ -231,17 +213,13 @@ abbrev pub is_whole : Lexed → Bool
 is_whole (lexed.Opens shape) = false
 is_whole _ = true
 
-abbrev pub before_of : Bool → Before
-before_of true = befores.Value
-before_of false = befores.Opening
-
 abbrev pub spot_after : Result (Unit {0}) BuildFault → Lexed → Result Spot BuildFault
-spot_after (Ok x) l = Ok (record { number = 1; before = before_of (is_whole l) })
+spot_after (Ok x) l = Ok (record { number = 1; behind = is_whole l })
 spot_after (Err fault) l = Err fault
 
 -- what stands behind a container that was closed at place number k
 abbrev pub spot_behind : Result (Unit {0}) BuildFault → ℕ → Result Spot BuildFault
-spot_behind (Ok x) k = Ok (record { number = k + 1; before = befores.Value })
+spot_behind (Ok x) k = Ok (record { number = k + 1; behind = true })
 spot_behind (Err fault) k = Err fault
 
 -- a name and its colon
@@ -254,7 +232,7 @@ abbrev pub Grown : (text items : List ℕ) → Point → Shape → ℕ → Resul
 Grown text items a shape k (Ok (Some sign)) b looked exceeds =
     Walked text items a (point k (standing b wants.Next None) looked exceeds)
     × (level_of b.opens ≡ Inside shape) × (sign ≡ byte_at text items k) × (k < length items)
-Grown text items a shape k (Ok None) b looked exceeds = Walked text items a (point k (standing b (want_behind false (level_of b.opens)) None) (looked + 1) exceeds) × (level_of b.opens ≡ Root → ⊥)
+Grown text items a shape k (Ok None) b looked exceeds = Walked text items a (point k (standing b (want_at false (level_of b.opens)) None) (looked + 1) exceeds) × (level_of b.opens ≡ Root → ⊥)
 Grown text items a shape k (Err NotJson) b looked exceeds = Halts text items a
 Grown text items a shape k (Err Memory) b looked exceeds = Unit {0}
 

@@ -6,12 +6,10 @@ ghost use Rattle.std.specs.Str.{chars};
 ghost use Rattle.json_tape.specs.Spelling.{scalars_in, AreWordsOf};
 ghost use Rattle.decimal_order.specs.Number.{IsNumber};
 ghost use Rattle.decimal_order.specs.Limits.{IsWithinLimits};
-ghost use Rattle.json_tape.specs.Answer.{Explains, IsJson, StandsForAll, HasDepth};
+ghost use Rattle.structural_index.specs.Answer.{IsIndexOf};
+ghost use Rattle.json_tape.specs.Answer.{Explains, IsJson, StandsForAll};
 ghost use Rattle.json_tape.specs.Tree.{source_of};
 ghost use Rattle.json_tape.specs.Verdict.{text_limit, IsAccepted, IsFaultless};
-ghost use Rattle.json_tape.specs.Limits.{AreWithinLimits};
-ghost use Rattle.json_tape.specs.Surrogates.{HasNoSurrogates};
-ghost use Rattle.json_tape.specs.Sifted.{AreSifted};
 ghost use Rattle.json_tape.specs.Counted.{AreCounted};
 ghost use Rattle.json_tape.specs.Nodes.{size, children, visit, is_named, first_where};
 ghost use Rattle.json_tape.specs.Tape.{Top, tape_of};
@@ -26,12 +24,12 @@ use crate::lengths::{Lengths, count_of, count_strings, is_long};
 use crate::order::{NameOrder, Run, is_wide, member_in};
 use crate::plain::{Words, is_meant_by, is_meant_plainly, words_of};
 use crate::scalars::{Scalars, unquoted};
-use crate::second_stage::Reading;
+use crate::second_stage::walk;
 use crate::sought::{Sought, is_sought};
-use crate::stretched::{read, read_in_place};
 use crate::tape::{BuildFault, Entry, Kind, Lead, NodeId, Role, TextFault};
 use std::alloc::Global;
 use std::marker::Model;
+use structural_index::{Index, Looks, index, index_and_copy};
 
 /// The most bytes of a text.
 pub const TEXT_LIMIT: usize = 4_194_304;
@@ -74,27 +72,38 @@ fn characters(text: &[u8]) -> Result<&str, TextFault>
     }
 }
 
-// The order of the members of wide objects and the lengths of long strings, or the first fault of a text that has a tape.
-fn judge(alloc: Global, text: &str, reading: &Reading) -> Result<(NameOrder, Lengths), TextFault>
+// What a text that has no fault is kept with.
+#[derive(Drop)]
+struct Parts {
+    tape: Tape,
+    names: NameOrder,
+    lengths: Lengths,
+}
+
+// The tape, the order of the members of wide objects and the lengths of long strings of a text that has this index, or its first fault.
+fn read_indexed(alloc: Global, text: &str, index: &Index) -> Result<Parts, TextFault>
     requires short { length text.now ≤ text_limit }
-    requires spelt { IsJson text.now }
-    requires stands { StandsForAll text.now reading.now.tape }
-    requires few { length reading.now.tape < 2 ^ 31 }
-    requires depth { HasDepth text.now reading.now.depth }
-    requires numbers { reading.now.may_exceed ≡ false → AreWithinLimits text.now reading.now.tape }
-    requires lone { reading.now.may_be_lone ≡ false → HasNoSurrogates text.now }
-    requires sifted { AreSifted text.now reading.now.tape reading.now.asked.items }
-    ensures { MatchResult result (λ r. IsFaultless text.now
-        × AreKept text.now reading.now.tape (length reading.now.tape) r.0.objects.items r.0.starts.items r.0.hashes.items r.0.members.items
-        × AreCounted (record { text = text.now; entries = reading.now.tape }) r.1.strings.items r.1.lengths.items)
+    requires index { IsIndexOf index.now text.now }
+    ensures { MatchResult result (λ p. IsJson text.now × StandsForAll text.now p.tape × (length p.tape < 2 ^ 31) × IsFaultless text.now
+        × AreKept text.now p.tape (length p.tape) p.names.objects.items p.names.starts.items p.names.hashes.items p.names.members.items
+        × AreCounted (record { text = text.now; entries = p.tape }) p.lengths.strings.items p.lengths.lengths.items)
         (λ fault. Explains text.now fault) }
 {
-    let names = match judge_tape(alloc, text, reading) {
+    let reading = match walk(alloc, index, &mut Looks::new(text.as_bytes())) {
+        Ok(reading) => reading,
+        Err(BuildFault::NotJson) => return Err(TextFault::NotJson),
+        Err(BuildFault::Memory) => return Err(TextFault::Memory),
+    };
+    let names = match judge_tape(alloc, text, index.slashes.as_slice(), &reading) {
         Ok(names) => names,
         Err(fault) => return Err(fault),
     };
     match count_strings(alloc, text, &reading.tape, reading.longest) {
-        Ok(lengths) => Ok((names, lengths)),
+        Ok(lengths) => Ok(Parts {
+            tape: reading.tape,
+            names,
+            lengths,
+        }),
         Err(_) => Err(TextFault::Memory),
     }
 }
@@ -114,21 +123,18 @@ impl Document {
             Ok(checked) => checked,
             Err(fault) => return Err(fault),
         };
-        let (reading, copy) = match read(alloc, text) {
-            Ok(done) => done,
-            Err(BuildFault::NotJson) => return Err(TextFault::NotJson),
-            Err(BuildFault::Memory) => return Err(TextFault::Memory),
+        let Ok((index, copy)) = index_and_copy(alloc, text) else {
+            return Err(TextFault::Memory);
         };
-        let (names, lengths) = match judge(alloc, checked, &reading) {
-            Ok(judged) => judged,
-            Err(fault) => return Err(fault),
-        };
-        Ok(Document {
-            text: unsafe { String::from_utf8_unchecked(copy) },
-            tape: reading.tape,
-            names,
-            lengths,
-        })
+        match read_indexed(alloc, checked, &index) {
+            Ok(parts) => Ok(Document {
+                text: unsafe { String::from_utf8_unchecked(copy) },
+                tape: parts.tape,
+                names: parts.names,
+                lengths: parts.lengths,
+            }),
+            Err(fault) => Err(fault),
+        }
     }
 
     /// Reads a text that is in a list of its own, which becomes the document's. What is refused, and in which order, is as [`Document::read`]
@@ -141,21 +147,18 @@ impl Document {
             Ok(checked) => checked,
             Err(fault) => return Err(fault),
         };
-        let reading = match read_in_place(alloc, bytes) {
-            Ok(done) => done,
-            Err(BuildFault::NotJson) => return Err(TextFault::NotJson),
-            Err(BuildFault::Memory) => return Err(TextFault::Memory),
+        let Ok(index) = index(alloc, bytes) else {
+            return Err(TextFault::Memory);
         };
-        let (names, lengths) = match judge(alloc, checked, &reading) {
-            Ok(judged) => judged,
-            Err(fault) => return Err(fault),
-        };
-        Ok(Document {
-            text: unsafe { String::from_utf8_unchecked(text) },
-            tape: reading.tape,
-            names,
-            lengths,
-        })
+        match read_indexed(alloc, checked, &index) {
+            Ok(parts) => Ok(Document {
+                text: unsafe { String::from_utf8_unchecked(text) },
+                tape: parts.tape,
+                names: parts.names,
+                lengths: parts.lengths,
+            }),
+            Err(fault) => Err(fault),
+        }
     }
 
     /// All bytes of the text, as they were read.

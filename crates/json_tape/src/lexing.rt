@@ -130,15 +130,15 @@ fn string_end(
     slashes: &mut Slashes<'_>,
 ) -> Option<(usize, bool)>
     requires in_text { i < length looks.old.0 }
-    requires near { next ≤ slashes.old.reach }
+    requires near { next ≤ length looks.old.0 }
     requires short { length looks.old.0 ≤ text_limit }
     requires quote { slice_index looks.old.0 i ≡ 34 }
-    requires indexed { IsIndexed looks.old.0 slashes.old.reach slashes.old }
+    requires indexed { IsIndexed looks.old.0 slashes.old }
     requires closes { ClosesBefore looks.old.0 i next }
     ensures ends { StringEnds looks.old.0 i (end_in result) }
     ensures bound { IfSome result (λ x. (i < x.0) × (x.0 ≤ length looks.old.0)) }
     ensures plain { IfSome result (λ x. IsTrue x.1 → (i + 1 < x.0) × AreSlashless looks.old.0 (i + 1) x.0) }
-    ensures slashes { HoldSlashes looks.old.0 slashes.old.reach slashes.new }
+    ensures slashes { HoldSlashes looks.old.0 slashes.new }
     ensures same { looks.new.0 ≡ looks.old.0 }
     ensures looked { IfSome result (λ x. looks.new.1 + i ≤ looks.old.1 + x.0) }
     ensures quick { IfSome result (λ x. IsTrue x.1 → looks.new.1 ≤ looks.old.1 + 1) }
@@ -167,16 +167,16 @@ fn string_end(
 #[inline(always)]
 fn string(looks: &mut Looks<'_>, i: usize, next: usize, slashes: &mut Slashes<'_>) -> Option<Quoted>
     requires in_text { i < length looks.old.0 }
-    requires near { next ≤ slashes.old.reach }
+    requires near { next ≤ length looks.old.0 }
     requires short { length looks.old.0 ≤ text_limit }
     requires quote { slice_index looks.old.0 i ≡ 34 }
-    requires indexed { IsIndexed looks.old.0 slashes.old.reach slashes.old }
+    requires indexed { IsIndexed looks.old.0 slashes.old }
     requires closes { ClosesBefore looks.old.0 i next }
     ensures string { IsNameAt looks.old.0 i (source_in result) }
     ensures room { IfSome result (λ q. HasRoom q.source) }
     ensures none { result ≡ None → IsValueAt looks.old.0 i None }
     ensures plain { IfSome result (λ q. IsTrue q.plain → IsPlain looks.old.0 q.source × (2 ≤ q.source.len) × (q.source.start + q.source.len ≤ length looks.old.0)) }
-    ensures slashes { HoldSlashes looks.old.0 slashes.old.reach slashes.new }
+    ensures slashes { HoldSlashes looks.old.0 slashes.new }
     ensures same { looks.new.0 ≡ looks.old.0 }
     ensures looked { IfSome result (λ q. looks.new.1 ≤ looks.old.1 + q.source.len) }
     ensures quick { IfSome result (λ q. IsTrue q.plain → looks.new.1 ≤ looks.old.1 + 1) }
@@ -202,14 +202,14 @@ pub fn name(
     slashes: &mut Slashes<'_>,
 ) -> Option<Quoted>
     requires in_text { i < length looks.old.0 }
-    requires near { next ≤ slashes.old.reach }
+    requires near { next ≤ length looks.old.0 }
     requires short { length looks.old.0 ≤ text_limit }
-    requires indexed { IsIndexed looks.old.0 slashes.old.reach slashes.old }
+    requires indexed { IsIndexed looks.old.0 slashes.old }
     requires closes { ClosesBefore looks.old.0 i next }
     ensures name { IsNameAt looks.old.0 i (source_in result) }
     ensures room { IfSome result (λ q. HasRoom q.source) }
     ensures plain { IfSome result (λ q. IsTrue q.plain → IsPlain looks.old.0 q.source × (2 ≤ q.source.len) × (q.source.start + q.source.len ≤ length looks.old.0)) }
-    ensures slashes { HoldSlashes looks.old.0 slashes.old.reach slashes.new }
+    ensures slashes { HoldSlashes looks.old.0 slashes.new }
     ensures same { looks.new.0 ≡ looks.old.0 }
     ensures looked { IfSome result (λ q. looks.new.1 ≤ looks.old.1 + q.source.len + 1) }
     ensures quick { IfSome result (λ q. IsTrue q.plain → looks.new.1 ≤ looks.old.1 + 2) }
@@ -265,15 +265,15 @@ pub fn value(
     may_exceed: &mut bool,
 ) -> Option<Lexed>
     requires in_text { i < length looks.old.0 }
-    requires near { next ≤ slashes.old.reach }
+    requires near { next ≤ length looks.old.0 }
     requires short { length looks.old.0 ≤ text_limit }
-    requires indexed { IsIndexed looks.old.0 slashes.old.reach slashes.old }
+    requires indexed { IsIndexed looks.old.0 slashes.old }
     requires closes { ClosesBefore looks.old.0 i next }
     requires no_blank { blank (slice_index looks.old.0 i) ≡ false }
     ensures value { IsValueAt looks.old.0 i result }
     ensures fits { IfSome result FitsTape }
     ensures marked { IfSome result (λ l. Marked looks.old.0 i may_exceed.old (Ok (end_of i l)) may_exceed.new) }
-    ensures slashes { HoldSlashes looks.old.0 slashes.old.reach slashes.new }
+    ensures slashes { HoldSlashes looks.old.0 slashes.new }
     ensures same { looks.new.0 ≡ looks.old.0 }
     ensures looked { IfSome result (λ l. looks.new.1 ≤ looks.old.1 + price_of l) }
 {

@@ -35,9 +35,7 @@ mod scan;
 mod second_stage;
 mod slashes;
 mod sought;
-mod stretched;
 mod tape;
-mod window;
 
 pub use children::Children;
 pub use compact::Tape;

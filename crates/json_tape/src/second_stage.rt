@@ -2,9 +2,8 @@
 //! What may come next is known by where in the code the walk stands, so that only that is looked for: a child, which is a name, a colon
 //! and a value in an object, and behind it the comma or the end.
 
-ghost use Rattle.std.specs.Prelude.{◌≡◌, ◌≢◌, ◌+◌, ◌-◌, ◌^◌, ◌<◌, ◌≤◌, ℕ, List, Bool, None, length, get_or, IfOk, IfErr, OnOk, IfSome, IsUtf8, IsErrOf, IsTrue, true, false};
+ghost use Rattle.std.specs.Prelude.{◌≡◌, ◌≢◌, ◌+◌, ◌-◌, ◌^◌, ◌<◌, ◌≤◌, ℕ, List, Bool, None, length, get_or, IfOk, OnOk, IfSome, IsUtf8, IsErrOf, IsTrue, true, false};
 ghost use Rattle.structural_index.specs.Answer.{IsIndexOf};
-ghost use Rattle.structural_index.specs.Places.{places, AreSlashBlocks};
 ghost use Rattle.json_tape.specs.Machine.{Closing, IsSmall, Took, step, level_of};
 ghost use Rattle.json_tape.specs.Built.{Built, standing, nothing};
 ghost use Rattle.json_tape.specs.Limits.{AreWithinLimits};
@@ -12,13 +11,11 @@ ghost use Rattle.json_tape.specs.Answer.{IsJson, StandsForAll, HasDepth, IsNoJso
 ghost use Rattle.json_tape.specs.Building.{IsBounded};
 ghost use Rattle.json_tape.specs.Opened.{HasRoom};
 ghost use Rattle.json_tape.specs.Sifted.{AreSifted};
-ghost use Rattle.json_tape.specs.Surrogates.{HasNoSurrogates};
 ghost use Rattle.json_tape.specs.Verdict.{text_limit};
 ghost use Rattle.json_tape.specs.Placing.{HoldSlashes};
 ghost use Rattle.json_tape.specs.Told.{IsStamped, IsUnasked, AreTold, IsFresh, IsSameTop, IsSeated, HasTable, top_of, children_of};
 ghost use Rattle.json_tape.specs.Ordered.{narrow};
-ghost use Rattle.json_tape.specs.Walked.{met_source, IsListed, FitsTape, token_of, behind, behind_of, with_sign, no_more, spot_after, is_whole as whole_token, spot_behind, place, byte_at, ending as ending_of, width as width_of, shape_of, point, at, Arrives, Named, Grown, Entered, AsksName, AsksValue, AsksChild};
-ghost use Rattle.json_tape.specs.Windows.{IsWindow};
+ghost use Rattle.json_tape.specs.Walked.{met_source, IsListed, FitsTape, token_of, behind, with_sign, no_more, spot_after, is_whole as whole_token, spot_behind, byte_at, ending as ending_of, width as width_of, shape_of, point, at, Arrives, Named, Grown, Entered, AsksName, AsksValue, AsksChild};
 
 use crate::apart::{Met, NamesMet, Owner, stamped};
 use crate::builder::Builder;
@@ -26,30 +23,14 @@ use crate::compact::Tape;
 use crate::lexing::{Lexed, name, value};
 use crate::slashes::Slashes;
 use crate::tape::{BuildFault, Extent, Kind, Level, Shape, Want};
-use crate::window::Window;
 use std::alloc::Global;
 use structural_index::{Index, Looks};
 
-// For whom a text is walked: each has a copy of its own, so that all of it is put in line, and a count of looks that nobody asks for costs
-// nothing.
-const BUILT: u8 = 0;
-
-/// For a document that is read.
-pub const READ: u8 = 1;
-
-/// What stands before a spot of a walk: the sign that opened the container around it, if any did, a value, or the comma behind one.
-#[derive(Clone, Copy)]
-pub enum Before {
-    Opening,
-    Value,
-    Comma,
-}
-
-/// How far a walk has come: the number of the next place, and what stands before it.
+/// How far a walk has come: the number of the next place, and whether a value stands before it. If none does, it is that of a first child.
 #[derive(Clone, Copy)]
 pub struct Spot {
     pub number: usize,
-    pub before: Before,
+    pub behind: bool,
 }
 
 // An object or an array. The functions that are made for each of them take it as a constant, and are two copies each.
@@ -78,30 +59,16 @@ fn ending<const OBJECT: bool>() -> u8
     if OBJECT { b'}' } else { b']' }
 }
 
-// Whether a value stands before a spot, where no comma does.
+// The place behind place number k, or the end of the text.
 #[inline(always)]
-fn behind_value(before: Before) -> Option<bool>
-    ensures { result ≡ behind_of before }
+fn place_behind(places: &[u32], k: usize, end: usize) -> usize
+    requires { k < length places.now }
+    ensures { result ≡ get_or places.now (k + 1) end }
 {
-    match before {
-        Before::Opening => Some(false),
-        Before::Value => Some(true),
-        Before::Comma => None,
-    }
-}
-
-// The place behind the first one, or the end of the text.
-#[inline(always)]
-fn second_place(looks: &Looks<'_>, window: Window<'_>) -> usize
-    requires window { IsWindow looks.now.0 window }
-    requires first { window.first ≡ 0 }
-    requires ready { 0 < window.pause }
-    ensures { result ≡ get_or (places looks.now.0) 1 (length looks.now.0) }
-{
-    if 1 < window.end {
-        window.place(looks, 1) as usize
+    if k + 1 < places.len() {
+        places[k + 1] as usize
     } else {
-        looks.length()
+        end
     }
 }
 
@@ -151,59 +118,53 @@ fn put(
     }
 }
 
-// The name at the place with this number among those at hand, and the colon behind it. It is place number k of the text.
+// The name at place number k and the colon behind it.
 #[inline(always)]
-fn named(
-    looks: &mut Looks<'_>,
-    window: Window<'_>,
-    j: usize,
-    slashes: &mut Slashes<'_>,
-) -> Option<Met>
-    requires window { IsWindow looks.old.0 window }
-    requires inside { j + 1 < length window.places.now }
-    requires slashes { HoldSlashes looks.old.0 window.reach slashes.old }
-    ensures named { (k : ℕ) → k ≡ window.entry.first + j → (b : Built) (w : Want) (exceeds : Bool) → AsksName looks.old.0 (places looks.old.0) k w
-        → Named looks.old.0 (places looks.old.0) (point k (standing b w None) looks.old.1 exceeds) b (k + 2) (met_source result) looks.new.1 exceeds }
+fn named(looks: &mut Looks<'_>, places: &[u32], k: usize, slashes: &mut Slashes<'_>) -> Option<Met>
+    requires listed { IsListed looks.old.0 places.now }
+    requires inside { k + 1 < length places.now }
+    requires slashes { HoldSlashes looks.old.0 slashes.old }
+    ensures named { (b : Built) (w : Want) (exceeds : Bool) → AsksName looks.old.0 places.now k w
+        → Named looks.old.0 places.now (point k (standing b w None) looks.old.1 exceeds) b (k + 2) (met_source result) looks.new.1 exceeds }
     ensures room { IfSome result (λ m. HasRoom m.source) }
     ensures stamped { IfSome result (λ m. IsStamped looks.old.0 m.source m.stamp) }
-    ensures slashes { HoldSlashes looks.old.0 window.entry.reach slashes.new }
+    ensures slashes { HoldSlashes looks.old.0 slashes.new }
     ensures same { looks.new.0 ≡ looks.old.0 }
 {
-    let start = window.nth(looks, j) as usize;
-    let colon = window.nth(looks, j + 1) as usize;
-    match name(looks, start, colon, slashes) {
+    let colon = places[k + 1] as usize;
+    match name(looks, places[k] as usize, colon, slashes) {
         Some(name) if looks.at(colon) == b':' => Some(stamped(looks, name)),
         _ => None,
     }
 }
 
-// The value at the place with this number among those at hand, which has one behind it: an element, or a member of this name. Gives the sign behind it, which is looked
+// The value at place number k, which has one behind it: an element, or a member of this name. Gives the sign behind it, which is looked
 // at before the entry is written, or nothing where a container was opened.
 #[inline(always)]
-fn valued<const OBJECT: bool, const CALLER: u8>(
+fn valued<const OBJECT: bool>(
     looks: &mut Looks<'_>,
-    window: Window<'_>,
-    j: usize,
+    places: &[u32],
+    k: usize,
     name: Option<Extent>,
     slashes: &mut Slashes<'_>,
     builder: &mut Builder,
     may_exceed: &mut bool,
 ) -> Result<Option<u8>, BuildFault>
-    requires window { IsWindow looks.old.0 window }
-    requires inside { j + 1 < length window.places.now }
-    requires slashes { HoldSlashes looks.old.0 window.reach slashes.old }
-    requires small { IsSmall (window.first + j) (standing builder.old Want.Next None) }
+    requires listed { IsListed looks.old.0 places.now }
+    requires inside { k + 1 < length places.now }
+    requires slashes { HoldSlashes looks.old.0 slashes.old }
+    requires small { IsSmall k (standing builder.old Want.Next None) }
     requires level { level_of builder.old.opens ≡ Level.Inside (shape_of OBJECT) }
     requires name { IfSome name HasRoom }
-    ensures grown { (k : ℕ) → k ≡ window.entry.first + j → (w : Want) → AsksValue looks.old.0 (places looks.old.0) k w
-        → Grown looks.old.0 (places looks.old.0) (point k (standing builder.old w name) looks.old.1 may_exceed.old) (shape_of OBJECT) (k + 1) result builder.new looks.new.1 may_exceed.new }
+    ensures grown { (w : Want) → AsksValue looks.old.0 places.now k w
+        → Grown looks.old.0 places.now (point k (standing builder.old w name) looks.old.1 may_exceed.old) (shape_of OBJECT) (k + 1) result builder.new looks.new.1 may_exceed.new }
     ensures told { IfOk result (λ made. (met : NamesMet) → AreTold looks.old.0 builder.old met → IsFresh looks.old.0 builder.old met name → AreTold looks.old.0 builder.new met) }
     ensures top { IfOk result (λ made. IfSome made (λ sign. IsSameTop builder.old.opens builder.new.opens)) }
-    ensures slashes { HoldSlashes looks.old.0 window.entry.reach slashes.new }
+    ensures slashes { HoldSlashes looks.old.0 slashes.new }
     ensures same { looks.new.0 ≡ looks.old.0 }
 {
-    let i = window.nth(looks, j);
-    let next = window.nth(looks, j + 1) as usize;
+    let i = places[k];
+    let next = places[k + 1] as usize;
     let level = Level::Inside(shape::<OBJECT>());
     match value(looks, i as usize, next, slashes, may_exceed) {
         None => Err(BuildFault::NotJson),
@@ -223,46 +184,46 @@ fn valued<const OBJECT: bool, const CALLER: u8>(
     }
 }
 
-// The child at the place with this number among those at hand, which has as many places as one needs, and one behind them.
+// The child at place number k, which has as many places as one needs, and one behind them.
 #[inline(always)]
-fn child<const OBJECT: bool, const CALLER: u8>(
+fn child<const OBJECT: bool>(
     looks: &mut Looks<'_>,
-    window: Window<'_>,
-    j: usize,
+    places: &[u32],
+    k: usize,
     slashes: &mut Slashes<'_>,
     builder: &mut Builder,
     may_exceed: &mut bool,
     met: &mut NamesMet,
     owner: Owner,
 ) -> Result<Option<u8>, BuildFault>
-    requires window { IsWindow looks.old.0 window }
-    requires inside { j + width_of (shape_of OBJECT) < length window.places.now }
-    requires slashes { HoldSlashes looks.old.0 window.reach slashes.old }
-    requires small { IsSmall (window.first + j) (standing builder.old Want.Next None) }
+    requires listed { IsListed looks.old.0 places.now }
+    requires inside { k + width_of (shape_of OBJECT) < length places.now }
+    requires slashes { HoldSlashes looks.old.0 slashes.old }
+    requires small { IsSmall k (standing builder.old Want.Next None) }
     requires level { level_of builder.old.opens ≡ Level.Inside (shape_of OBJECT) }
     requires told { AreTold looks.old.0 builder.old met.old }
     requires seated { IsTrue OBJECT → IsSeated builder.old owner met.old }
     requires table { HasTable owner }
-    ensures grown { (k : ℕ) → k ≡ window.entry.first + j → (w : Want) → AsksChild looks.old.0 (places looks.old.0) k (shape_of OBJECT) w
-        → Grown looks.old.0 (places looks.old.0) (point k (standing builder.old w None) looks.old.1 may_exceed.old) (shape_of OBJECT) (k + width_of (shape_of OBJECT)) result builder.new looks.new.1 may_exceed.new }
+    ensures grown { (w : Want) → AsksChild looks.old.0 places.now k (shape_of OBJECT) w
+        → Grown looks.old.0 places.now (point k (standing builder.old w None) looks.old.1 may_exceed.old) (shape_of OBJECT) (k + width_of (shape_of OBJECT)) result builder.new looks.new.1 may_exceed.new }
     ensures told { IfOk result (λ made. AreTold looks.old.0 builder.new met.new) }
     ensures seated { IfOk result (λ made. IfSome made (λ sign. IsTrue OBJECT → IsSeated builder.new owner met.new)) }
-    ensures slashes { HoldSlashes looks.old.0 window.entry.reach slashes.new }
+    ensures slashes { HoldSlashes looks.old.0 slashes.new }
     ensures same { looks.new.0 ≡ looks.old.0 }
 {
     if !OBJECT {
-        return valued::<OBJECT, CALLER>(looks, window, j, None, slashes, builder, may_exceed);
+        return valued::<OBJECT>(looks, places, k, None, slashes, builder, may_exceed);
     }
-    let Some(name) = named(looks, window, j, slashes) else {
+    let Some(name) = named(looks, places, k, slashes) else {
         return Err(BuildFault::NotJson);
     };
     if met.meet(owner, name.stamp).is_err() {
         return Err(BuildFault::Memory);
     }
-    valued::<OBJECT, CALLER>(
+    valued::<OBJECT>(
         looks,
-        window,
-        j + 2,
+        places,
+        k + 2,
         Some(name.source),
         slashes,
         builder,
@@ -279,7 +240,7 @@ fn closed_at(closed: Result<(), BuildFault>, k: usize) -> Result<Spot, BuildFaul
     match closed {
         Ok(()) => Ok(Spot {
             number: k + 1,
-            before: Before::Value,
+            behind: true,
         }),
         Err(fault) => Err(fault),
     }
@@ -319,28 +280,28 @@ fn shut<const OBJECT: bool>(
     }
 }
 
-// The end of the container, if this sign, at the place with number k, is its end. A comma is not.
+// The end of the container, if this sign at place number k is its end. A comma is not.
 #[inline(always)]
 fn ended<const OBJECT: bool>(
-    end: u32,
+    places: &[u32],
     k: usize,
     sign: u8,
     builder: &mut Builder,
     met: &mut NamesMet,
 ) -> Result<Spot, BuildFault>
-    requires far { k < 2 ^ 63 }
-    requires near { end < 2 ^ 24 }
+    requires inside { k < length places.now }
+    requires near { get_or places.now k 0 < 2 ^ 24 }
     requires level { level_of builder.old.opens ≡ Level.Inside (shape_of OBJECT) }
     requires no_comma { sign ≢ 44 }
-    ensures arrives { (text : List ℕ) (looked : ℕ) (exceeds : Bool) → IsListed text (places text) → k < length (places text) → end ≡ place (places text) k → sign ≡ byte_at text (places text) k
-        → Arrives text (places text) (point k (standing builder.old Want.Next None) looked exceeds) result builder.new looked exceeds }
-    ensures behind { IfOk result (λ next. (next.number ≡ k + 1) × (next.before ≡ Before.Value)) }
+    ensures arrives { (text : List ℕ) (looked : ℕ) (exceeds : Bool) → IsListed text places.now → sign ≡ byte_at text places.now k
+        → Arrives text places.now (point k (standing builder.old Want.Next None) looked exceeds) result builder.new looked exceeds }
+    ensures behind { IfOk result (λ next. (next.number ≡ k + 1) × (next.behind ≡ true)) }
     ensures told { IfOk result (λ next. (text : List ℕ) → AreTold text builder.old met.old → AreTold text builder.new met.new) }
 {
     if sign != ending::<OBJECT>() {
         return Err(BuildFault::NotJson);
     }
-    closed_at(shut::<OBJECT>(builder, end, met), k)
+    closed_at(shut::<OBJECT>(builder, places[k], met), k)
 }
 
 // What the walk finds where it enters a container, or comes back to it: the number of the place at which the next child has to begin, or
@@ -348,33 +309,26 @@ fn ended<const OBJECT: bool>(
 #[inline(always)]
 fn entered<const OBJECT: bool>(
     looks: &mut Looks<'_>,
-    window: Window<'_>,
+    places: &[u32],
     spot: Spot,
     builder: &mut Builder,
     met: &mut NamesMet,
 ) -> Result<Option<usize>, BuildFault>
-    requires window { IsWindow looks.old.0 window }
-    requires from { window.first ≤ spot.number }
-    requires ready { spot.number < window.pause }
+    requires listed { IsListed looks.old.0 places.now }
     requires level { level_of builder.old.opens ≡ Level.Inside (shape_of OBJECT) }
-    ensures entered { (exceeds : Bool) → Entered looks.old.0 (places looks.old.0) (at spot builder.old looks.old.1 exceeds) (shape_of OBJECT) (spot.number + 1) result builder.new looks.new.1 exceeds }
-    ensures inside { IfOk result (λ next. spot.number < window.entry.end) }
-    ensures not_before { IfOk result (λ next. IfSome next (λ first. spot.number ≤ first)) }
+    ensures entered { (exceeds : Bool) → Entered looks.old.0 places.now (at spot builder.old looks.old.1 exceeds) (shape_of OBJECT) (spot.number + 1) result builder.new looks.new.1 exceeds }
+    ensures inside { IfOk result (λ next. spot.number < length places.now) }
     ensures told { IfOk result (λ next. (text : List ℕ) → AreTold text builder.old met.old → AreTold text builder.new met.new) }
     ensures same { looks.new.0 ≡ looks.old.0 }
 {
-    if spot.number >= window.end {
+    if spot.number >= places.len() {
         return Err(BuildFault::NotJson);
     }
-    let Some(behind) = behind_value(spot.before) else {
-        return Ok(Some(spot.number));
-    };
-    let place = window.place(looks, spot.number);
-    let sign = looks.at(place as usize);
+    let sign = looks.at(places[spot.number] as usize);
     if sign == ending::<OBJECT>() {
-        return nothing_more(shut::<OBJECT>(builder, place, met));
+        return nothing_more(shut::<OBJECT>(builder, places[spot.number], met));
     }
-    if !behind {
+    if !spot.behind {
         return Ok(Some(spot.number));
     }
     if sign == b',' {
@@ -404,53 +358,35 @@ fn seat<const OBJECT: bool>(builder: &Builder, met: &mut NamesMet) -> Result<Own
     }
 }
 
-// Where a container's places run out behind a comma, before place number k: the walk pauses there, unless all are at hand.
-#[inline(always)]
-fn left_off(looks: &Looks<'_>, window: Window<'_>, k: usize) -> Result<Spot, BuildFault>
-    ensures spot { IfOk result (λ next. next ≡ record { number = k; before = Before.Comma }) }
-    ensures more { IfOk result (λ next. window.entry.reach ≢ length looks.now.0) }
-    ensures none { IfErr result (λ fault. (fault ≡ BuildFault.NotJson) × (window.entry.reach ≡ length looks.now.0)) }
-{
-    if window.reach == looks.length() {
-        return Err(BuildFault::NotJson);
-    }
-    Ok(Spot {
-        number: k,
-        before: Before::Comma,
-    })
-}
-
 // The children of the innermost container from here on, up to one that holds others or to the end of the container.
 #[inline(always)]
-fn run<const OBJECT: bool, const CALLER: u8>(
+fn run<const OBJECT: bool>(
     looks: &mut Looks<'_>,
-    window: Window<'_>,
+    places: &[u32],
     spot: Spot,
     slashes: &mut Slashes<'_>,
     builder: &mut Builder,
     may_exceed: &mut bool,
     met: &mut NamesMet,
 ) -> Result<Spot, BuildFault>
-    requires window { IsWindow looks.old.0 window }
-    requires slashes { HoldSlashes looks.old.0 window.reach slashes.old }
-    requires from { window.first ≤ spot.number }
-    requires ready { spot.number < window.pause }
+    requires listed { IsListed looks.old.0 places.now }
+    requires slashes { HoldSlashes looks.old.0 slashes.old }
     requires small { IsSmall spot.number (standing builder.old Want.Next None) }
     requires level { level_of builder.old.opens ≡ Level.Inside (shape_of OBJECT) }
     requires told { AreTold looks.old.0 builder.old met.old }
-    ensures arrives { Arrives looks.old.0 (places looks.old.0) (at spot builder.old looks.old.1 may_exceed.old) result builder.new looks.new.1 may_exceed.new }
-    ensures further { IfOk result (λ next. (spot.number < next.number) × (next.number ≤ window.entry.end)) }
-    ensures whole { IfOk result (λ next. level_of builder.new.opens ≡ Level.Root → next.before ≡ Before.Value) }
+    ensures arrives { Arrives looks.old.0 places.now (at spot builder.old looks.old.1 may_exceed.old) result builder.new looks.new.1 may_exceed.new }
+    ensures further { IfOk result (λ next. (spot.number < next.number) × (next.number ≤ length places.now)) }
+    ensures opened { IfOk result (λ next. next.behind ≡ false → level_of builder.new.opens ≡ Level.Root → ⊥) }
     ensures told { IfOk result (λ next. AreTold looks.old.0 builder.new met.new) }
-    ensures slashes { HoldSlashes looks.old.0 window.entry.reach slashes.new }
+    ensures slashes { HoldSlashes looks.old.0 slashes.new }
     ensures same { looks.new.0 ≡ looks.old.0 }
 {
-    let first = match entered::<OBJECT>(looks, window, spot, builder, met) {
+    let first = match entered::<OBJECT>(looks, places, spot, builder, met) {
         Err(fault) => return Err(fault),
         Ok(None) => {
             return Ok(Spot {
                 number: spot.number + 1,
-                before: Before::Value,
+                behind: true,
             });
         }
         Ok(Some(first)) => first,
@@ -459,32 +395,30 @@ fn run<const OBJECT: bool, const CALLER: u8>(
         Ok(owner) => owner,
         Err(fault) => return Err(fault),
     };
-    let mut j = first - window.first;
-    while j + width::<OBJECT>() < window.len() {
-        match child::<OBJECT, CALLER>(looks, window, j, slashes, builder, may_exceed, met, owner) {
+    let mut k = first;
+    while k + width::<OBJECT>() < places.len() {
+        match child::<OBJECT>(looks, places, k, slashes, builder, may_exceed, met, owner) {
             Err(fault) => return Err(fault),
             Ok(None) => {
                 return Ok(Spot {
-                    number: window.first + j + width::<OBJECT>(),
-                    before: Before::Opening,
+                    number: k + width::<OBJECT>(),
+                    behind: false,
                 });
             }
-            Ok(Some(b',')) => j += width::<OBJECT>() + 1,
+            Ok(Some(b',')) => k += width::<OBJECT>() + 1,
             Ok(Some(sign)) => {
-                let last = j + width::<OBJECT>();
-                let end = window.nth(looks, last);
-                return ended::<OBJECT>(end, window.first + last, sign, builder, met);
+                return ended::<OBJECT>(places, k + width::<OBJECT>(), sign, builder, met);
             }
         }
     }
-    left_off(looks, window, window.first + j)
+    Err(BuildFault::NotJson)
 }
 
 // The same for the shape that the container has.
 #[inline(always)]
-fn children<const CALLER: u8>(
+fn children(
     looks: &mut Looks<'_>,
-    window: Window<'_>,
+    places: &[u32],
     spot: Spot,
     shape: Shape,
     slashes: &mut Slashes<'_>,
@@ -492,63 +426,51 @@ fn children<const CALLER: u8>(
     may_exceed: &mut bool,
     met: &mut NamesMet,
 ) -> Result<Spot, BuildFault>
-    requires window { IsWindow looks.old.0 window }
-    requires slashes { HoldSlashes looks.old.0 window.reach slashes.old }
-    requires from { window.first ≤ spot.number }
-    requires ready { spot.number < window.pause }
+    requires listed { IsListed looks.old.0 places.now }
+    requires slashes { HoldSlashes looks.old.0 slashes.old }
     requires small { IsSmall spot.number (standing builder.old Want.Next None) }
     requires level { level_of builder.old.opens ≡ Level.Inside shape }
     requires told { AreTold looks.old.0 builder.old met.old }
-    ensures arrives { Arrives looks.old.0 (places looks.old.0) (at spot builder.old looks.old.1 may_exceed.old) result builder.new looks.new.1 may_exceed.new }
-    ensures further { IfOk result (λ next. (spot.number < next.number) × (next.number ≤ window.entry.end)) }
-    ensures whole { IfOk result (λ next. level_of builder.new.opens ≡ Level.Root → next.before ≡ Before.Value) }
+    ensures arrives { Arrives looks.old.0 places.now (at spot builder.old looks.old.1 may_exceed.old) result builder.new looks.new.1 may_exceed.new }
+    ensures further { IfOk result (λ next. (spot.number < next.number) × (next.number ≤ length places.now)) }
+    ensures opened { IfOk result (λ next. next.behind ≡ false → level_of builder.new.opens ≡ Level.Root → ⊥) }
     ensures told { IfOk result (λ next. AreTold looks.old.0 builder.new met.new) }
-    ensures slashes { HoldSlashes looks.old.0 window.entry.reach slashes.new }
+    ensures slashes { HoldSlashes looks.old.0 slashes.new }
     ensures same { looks.new.0 ≡ looks.old.0 }
 {
     match shape {
-        Shape::Array => run::<false, CALLER>(
-            looks, window, spot, slashes, builder, may_exceed, met,
-        ),
-        Shape::Object => run::<true, CALLER>(
-            looks, window, spot, slashes, builder, may_exceed, met,
-        ),
+        Shape::Array => run::<false>(looks, places, spot, slashes, builder, may_exceed, met),
+        Shape::Object => run::<true>(looks, places, spot, slashes, builder, may_exceed, met),
     }
 }
 
-// What lies in the containers that are open here, up to the end of the outermost one, or to where the walk pauses.
+// What lies in the containers that are open here, up to the end of the outermost one.
 #[inline(always)]
-pub fn containers<const CALLER: u8>(
+fn containers(
     looks: &mut Looks<'_>,
-    window: Window<'_>,
+    places: &[u32],
     spot: Spot,
     slashes: &mut Slashes<'_>,
     builder: &mut Builder,
     may_exceed: &mut bool,
     met: &mut NamesMet,
 ) -> Result<Spot, BuildFault>
-    requires window { IsWindow looks.old.0 window }
-    requires slashes { HoldSlashes looks.old.0 window.reach slashes.old }
-    requires from { window.first ≤ spot.number }
-    requires inside { spot.number ≤ window.end }
+    requires listed { IsListed looks.old.0 places.now }
+    requires slashes { HoldSlashes looks.old.0 slashes.old }
+    requires inside { spot.number ≤ length places.now }
     requires small { IsSmall spot.number (standing builder.old Want.Next None) }
-    requires whole { level_of builder.old.opens ≡ Level.Root → spot.before ≡ Before.Value }
+    requires opened { spot.behind ≡ false → level_of builder.old.opens ≡ Level.Root → ⊥ }
     requires told { AreTold looks.old.0 builder.old met.old }
-    ensures arrives { Arrives looks.old.0 (places looks.old.0) (at spot builder.old looks.old.1 may_exceed.old) result builder.new looks.new.1 may_exceed.new }
-    ensures over { IfOk result (λ next. next.number < window.entry.pause → level_of builder.new.opens ≡ Level.Root) }
-    ensures whole { IfOk result (λ next. level_of builder.new.opens ≡ Level.Root → next.before ≡ Before.Value) }
-    ensures inside { IfOk result (λ next. (spot.number ≤ next.number) × (next.number ≤ window.entry.end)) }
+    ensures arrives { Arrives looks.old.0 places.now (at spot builder.old looks.old.1 may_exceed.old) result builder.new looks.new.1 may_exceed.new }
+    ensures over { IfOk result (λ next. (level_of builder.new.opens ≡ Level.Root) × (next.behind ≡ true)) }
     ensures told { IfOk result (λ next. AreTold looks.old.0 builder.new met.new) }
-    ensures slashes { HoldSlashes looks.old.0 window.entry.reach slashes.new }
+    ensures slashes { HoldSlashes looks.old.0 slashes.new }
     ensures same { looks.new.0 ≡ looks.old.0 }
 {
     let mut next = spot;
     while let Level::Inside(shape) = builder.level() {
-        if next.number >= window.pause {
-            return Ok(next);
-        }
-        match children::<CALLER>(
-            looks, window, next, shape, slashes, builder, may_exceed, met,
+        match children(
+            looks, places, next, shape, slashes, builder, may_exceed, met,
         ) {
             Ok(spot) => next = spot,
             Err(fault) => return Err(fault),
@@ -565,11 +487,7 @@ fn first_spot(made: Result<(), BuildFault>, lexed: Lexed) -> Result<Spot, BuildF
     match made {
         Ok(()) => Ok(Spot {
             number: 1,
-            before: if is_whole(lexed) {
-                Before::Value
-            } else {
-                Before::Opening
-            },
+            behind: is_whole(lexed),
         }),
         Err(fault) => Err(fault),
     }
@@ -588,75 +506,49 @@ fn is_whole(lexed: Lexed) -> bool
 
 // The value of the whole text, or the bracket or brace that opens it.
 #[inline(always)]
-pub fn whole<const CALLER: u8>(
+fn whole(
     looks: &mut Looks<'_>,
-    window: Window<'_>,
+    places: &[u32],
     slashes: &mut Slashes<'_>,
     builder: &mut Builder,
     may_exceed: &mut bool,
 ) -> Result<Spot, BuildFault>
-    requires window { IsWindow looks.old.0 window }
-    requires begins { window.first ≡ 0 }
-    requires ready { 0 < window.pause }
-    requires slashes { HoldSlashes looks.old.0 window.reach slashes.old }
+    requires listed { IsListed looks.old.0 places.now }
+    requires slashes { HoldSlashes looks.old.0 slashes.old }
     requires first { builder.old ≡ nothing }
-    ensures arrives { Arrives looks.old.0 (places looks.old.0) (point 0 (standing builder.old Want.Value None) looks.old.1 may_exceed.old) result builder.new looks.new.1 may_exceed.new }
+    ensures arrives { Arrives looks.old.0 places.now (point 0 (standing builder.old Want.Value None) looks.old.1 may_exceed.old) result builder.new looks.new.1 may_exceed.new }
     ensures told { IfOk result (λ next. (met : NamesMet) → AreTold looks.old.0 builder.old met → AreTold looks.old.0 builder.new met) }
-    ensures further { IfOk result (λ next. next.number ≤ window.entry.end) }
-    ensures whole { IfOk result (λ next. level_of builder.new.opens ≡ Level.Root → next.before ≡ Before.Value) }
-    ensures slashes { HoldSlashes looks.old.0 window.entry.reach slashes.new }
+    ensures further { IfOk result (λ next. next.number ≤ length places.now) }
+    ensures opened { IfOk result (λ next. next.behind ≡ false → level_of builder.new.opens ≡ Level.Root → ⊥) }
+    ensures slashes { HoldSlashes looks.old.0 slashes.new }
     ensures same { looks.new.0 ≡ looks.old.0 }
 {
-    if window.end == 0 {
+    if places.is_empty() {
         return Err(BuildFault::NotJson);
     }
-    let i = window.place(looks, 0);
-    let next = second_place(looks, window);
+    let i = places[0];
+    let next = place_behind(places, 0, looks.length());
     let Some(lexed) = value(looks, i as usize, next, slashes, may_exceed) else {
         return Err(BuildFault::NotJson);
     };
     first_spot(put(builder, Level::Root, None, i, lexed), lexed)
 }
 
-/// What reading a text found: its tape, how many containers lie in one another at most, whether a number may be beyond the limits,
-/// whether a surrogate may be lone, and the most bytes of a value that is a string. `asked` has the numbers of the objects that are to be
-/// looked at more closely, in no order; in all others names were told apart.
+/// What a walk found: the tape, how many containers lie in one another at most, whether a number may be beyond the limits, and the most
+/// bytes of a value that is a string. `asked` has the numbers of the objects that are to be looked at more closely, in no order; in all
+/// others names were told apart.
 #[derive(Drop)]
 pub struct Reading {
     pub tape: Tape,
     pub depth: usize,
     pub may_exceed: bool,
-    pub may_be_lone: bool,
     pub longest: u32,
     pub asked: Vec<u32>,
 }
 
-// All places of a text, unless its index shows that it is no JSON.
-#[inline(always)]
-fn all_of<'a>(index: &'a Index, looks: &Looks<'_>) -> Option<Window<'a>>
-    requires short { length looks.now.0 ≤ text_limit }
-    requires utf8 { IsUtf8 looks.now.0 }
-    requires index { IsIndexOf index.now looks.now.0 }
-    ensures window { IfSome result (λ w. IsWindow looks.now.0 w) }
-    ensures first { IfSome result (λ w. w.first ≡ 0) }
-    ensures end { IfSome result (λ w. w.end ≡ length (places looks.now.0)) }
-    ensures reach { IfSome result (λ w. w.reach ≡ length looks.now.0) }
-    ensures pause { IfSome result (λ w. w.end < w.pause) }
-    ensures none { result ≡ None → IsNoJson looks.now.0 }
-{
-    if index.unclosed || index.control_inside {
-        return None;
-    }
-    Some(Window::new(index.places.as_slice(), 0, looks.length(), true))
-}
-
-/// The tape of a text and its marks, or why there is none, by the places of its index.
-#[inline(always)]
-fn walk<const CALLER: u8>(
-    alloc: Global,
-    index: &Index,
-    looks: &mut Looks<'_>,
-) -> Result<Reading, BuildFault>
+/// The tape of the text that is looked at and what else was found of it, from the places of its index, or why it has no tape.
+#[inline(never)]
+pub fn walk(alloc: Global, index: &Index, looks: &mut Looks<'_>) -> Result<Reading, BuildFault>
     requires short { length looks.old.0 ≤ text_limit }
     requires utf8 { IsUtf8 looks.old.0 }
     requires index { IsIndexOf index.now looks.old.0 }
@@ -673,20 +565,21 @@ fn walk<const CALLER: u8>(
     ensures looked { IfOk result (λ reading. IsBounded looks.old.0 looks.old.1 looks.new.1) }
     ensures sifted { IfOk result (λ reading. AreSifted looks.old.0 reading.tape reading.asked.items) }
 {
-    let Some(window) = all_of(index, looks) else {
+    if index.unclosed || index.control_inside {
         return Err(BuildFault::NotJson);
-    };
-    let mut slashes = Slashes::new(index.slashes.as_slice(), 0, looks.length());
-    let mut builder = Builder::new(alloc, index.places.len() / 2 + 1)?;
+    }
+    let places = index.places.as_slice();
+    let mut slashes = Slashes::new(index.slashes.as_slice(), looks.length());
+    let mut builder = Builder::new(alloc, places.len() / 2 + 1)?;
     let mut may_exceed = false;
     let mut met = NamesMet::new(alloc);
-    let first = match whole::<CALLER>(looks, window, &mut slashes, &mut builder, &mut may_exceed) {
+    let first = match whole(looks, places, &mut slashes, &mut builder, &mut may_exceed) {
         Ok(first) => first,
         Err(fault) => return Err(fault),
     };
-    let last = match containers::<CALLER>(
+    let last = match containers(
         looks,
-        window,
+        places,
         first,
         &mut slashes,
         &mut builder,
@@ -696,7 +589,7 @@ fn walk<const CALLER: u8>(
         Ok(last) => last,
         Err(fault) => return Err(fault),
     };
-    if last.number < window.end {
+    if last.number < places.len() {
         return Err(BuildFault::NotJson);
     }
     let depth = builder.deepest();
@@ -705,7 +598,6 @@ fn walk<const CALLER: u8>(
         tape: builder.into_tape(),
         depth,
         may_exceed,
-        may_be_lone: true,
         longest,
         asked: met.asked,
     })
@@ -728,7 +620,7 @@ pub fn build(alloc: Global, index: &Index, looks: &mut Looks<'_>) -> Result<Tape
     // At most three looks for each place, and one for each source byte of a string, a number or a word.
     ensures looked { IfOk result (λ tape. IsBounded looks.old.0 looks.old.1 looks.new.1) }
 {
-    match walk::<BUILT>(alloc, index, looks) {
+    match walk(alloc, index, looks) {
         Ok(reading) => Ok(reading.tape),
         Err(fault) => Err(fault),
     }

@@ -1,7 +1,7 @@
 // Where in a text no backslash stands.
 
 ghost use Rattle.std.specs.Prelude.{ℕ, List, ◌≡◌, ◌+◌, ◌-◌, ◌<◌, ◌≤◌, IsTrue, get_or, length};
-ghost use Rattle.structural_index.specs.Places.{AreSlashBlocksTo};
+ghost use Rattle.structural_index.specs.Places.{AreSlashBlocks};
 ghost use Rattle.structural_index.specs.Seams.{AreSlashless};
 ghost use Rattle.json_tape.specs.Placing.{HoldSlashes};
 
@@ -9,14 +9,14 @@ ghost use Rattle.json_tape.specs.Placing.{HoldSlashes};
 pub const BLOCK: usize = 64;
 
 /// A gap, from one place to before another, in which no backslash of a text stands, and the number of the first block behind it of
-/// those in which backslashes stand. The list of these may speak of the first bytes alone, before its reach.
+/// those in which backslashes stand.
 #[derive(Clone, Copy)]
 pub struct Slashes<'a> {
     from: usize,
     to: usize,
     blocks: &'a [u32],
     next: usize,
-    reach: usize,
+    long: usize,
 }
 
 // The place behind the block in front of this one.
@@ -31,43 +31,35 @@ fn gap_start(blocks: &[u32], next: usize) -> usize
     }
 }
 
-// The first byte of this block, or how far the list reaches.
-fn gap_end(blocks: &[u32], next: usize, reach: usize) -> usize
-    ensures { result ≡ get_or blocks.now next reach }
+// The first byte of this block, or the end of the text.
+fn gap_end(blocks: &[u32], next: usize, long: usize) -> usize
+    ensures { result ≡ get_or blocks.now next long }
 {
     if next < blocks.len() {
         blocks[next] as usize
     } else {
-        reach
+        long
     }
 }
 
 impl<'a> Slashes<'a> {
-    /// No gap yet, in a text whose backslashes before this reach stand in these blocks, of which the one to look at next has this number.
-    pub fn new(blocks: &'a [u32], next: usize, reach: usize) -> Slashes<'a>
-        requires { next ≤ length blocks.now }
-        ensures { (text : List ℕ) → AreSlashBlocksTo text reach blocks.now → reach ≤ length text → HoldSlashes text reach result }
+    /// No gap yet, in a text of this length whose backslashes stand in these blocks.
+    pub fn new(blocks: &'a [u32], long: usize) -> Slashes<'a>
+        ensures { (text : List ℕ) → AreSlashBlocks text blocks.now → long ≡ length text → HoldSlashes text result }
     {
         Slashes {
             from: 0,
             to: 0,
             blocks,
-            next,
-            reach,
+            next: 0,
+            long,
         }
-    }
-
-    /// The number of the block to look at next, from which a longer list goes on.
-    pub fn next(&self) -> usize
-        ensures { result ≡ self.now.next }
-    {
-        self.next
     }
 
     /// Whether none stands from one place to before another.
     #[inline(always)]
     pub fn spare(&self, start: usize, end: usize) -> bool
-        ensures { IsTrue result → (text : List ℕ) (reach : ℕ) → HoldSlashes text reach self.now → AreSlashless text start end }
+        ensures { IsTrue result → (text : List ℕ) → HoldSlashes text self.now → AreSlashless text start end }
     {
         self.from <= start && end <= self.to
     }
@@ -76,14 +68,14 @@ impl<'a> Slashes<'a> {
     #[inline(never)]
     pub fn advance(&mut self, start: usize)
         requires { self.old.next ≤ length self.old.blocks.now }
-        ensures { (text : List ℕ) (reach : ℕ) → HoldSlashes text reach self.old → HoldSlashes text reach self.new }
+        ensures { (text : List ℕ) → HoldSlashes text self.old → HoldSlashes text self.new }
     {
         let mut next = self.next;
         while next < self.blocks.len() && self.blocks[next] as usize + BLOCK <= start {
             next += 1;
         }
         self.from = gap_start(self.blocks, next);
-        self.to = gap_end(self.blocks, next, self.reach);
+        self.to = gap_end(self.blocks, next, self.long);
         self.next = next;
     }
 }

@@ -10,7 +10,7 @@ use path_server::query_text;
 use path_types::compile;
 use std::alloc::{AllocError, Global};
 use std::io;
-use structural_index::{Looks, Stretches, index};
+use structural_index::{Index, Looks, index, index_and_copy};
 use tape_select::{BUDGET, Selected, select};
 
 const OBJECT: &[u8] = b"{\"a\":[10,20],\"\\u0061b\":{\"c\":[]}}";
@@ -27,7 +27,7 @@ pub fn make<R: Print + AllocGlobal>(rt: &R, name: &str) -> io::Result<bool> {
     match name {
         "index" => index_twice(rt, b"{\"a\": [1]}")?,
         "index_of_arrays" => index_twice(rt, ARRAYS.as_bytes())?,
-        "stretches" => stretches_twice(rt, ARRAYS.as_bytes())?,
+        "index_and_copy" => index_and_copy_twice(rt, ARRAYS.as_bytes())?,
         "read" => read_twice(rt, OBJECT),
         "read_of_arrays" => read_twice(rt, ARRAYS.as_bytes()),
         "read_owned" => read_owned_twice(rt)?,
@@ -50,7 +50,7 @@ fn index_twice<R: Print + AllocGlobal>(rt: &R, text: &[u8]) -> io::Result<()>
         let came = index(rt.alloc(), text);
         ends(rt);
         match came {
-            Ok(index) => tell(rt, "Ok", places(rt.alloc(), &index.places)?.as_slice()),
+            Ok(index) => tell(rt, "Ok", places(rt.alloc(), &index)?.as_slice()),
             Err(fault) => tell_fault(rt, &fault, b""),
         }
     }
@@ -58,17 +58,16 @@ fn index_twice<R: Print + AllocGlobal>(rt: &R, text: &[u8]) -> io::Result<()>
 }
 
 // The places, and the copy behind them.
-fn stretches_twice<R: Print + AllocGlobal>(rt: &R, text: &[u8]) -> io::Result<()>
+fn index_and_copy_twice<R: Print + AllocGlobal>(rt: &R, text: &[u8]) -> io::Result<()>
     requires { length text.now + 64 ≤ 2 ^ 32 }
 {
     for _ in 0..2 {
         begins(rt);
-        let came = whole(rt.alloc(), text);
+        let came = index_and_copy(rt.alloc(), text);
         ends(rt);
         match came {
-            Ok(stretches) => {
-                let mut told = places(rt.alloc(), stretches.places())?;
-                let (_, copy) = stretches.into_parts();
+            Ok((index, copy)) => {
+                let mut told = places(rt.alloc(), &index)?;
                 told.extend_from_slice(&copy)?;
                 tell(rt, "Ok", told.as_slice());
             }
@@ -78,21 +77,10 @@ fn stretches_twice<R: Print + AllocGlobal>(rt: &R, text: &[u8]) -> io::Result<()
     Ok(())
 }
 
-// All stretches of a text, and a copy.
-fn whole(alloc: Global, text: &[u8]) -> Result<Stretches<'_>, AllocError>
-    requires { length text.now + 64 ≤ 2 ^ 32 }
-{
-    let mut stretches = Stretches::copying(alloc, text)?;
-    while !stretches.is_whole() {
-        stretches = stretches.further::<true>()?;
-    }
-    Ok(stretches)
-}
-
 // A byte for each place.
-fn places(alloc: Global, found: &[u32]) -> Result<Vec<u8>, AllocError> {
+fn places(alloc: Global, index: &Index) -> Result<Vec<u8>, AllocError> {
     let mut bytes = Vec::new(alloc);
-    for place in found {
+    for place in &index.places {
         bytes.push((*place % 256) as u8)?;
     }
     Ok(bytes)

@@ -1,7 +1,7 @@
 -- Whether a test holds of a number below another: block by block, and of the bytes of a whole text.
 use Rattle.std.proofs.Common.{◌≡◌, ℕ, zero, suc, ◌+◌, ◌-◌, ◌^◌, ◌<◌, ◌≤◌, ◌⊎◌, inl, inr, Bool, true, false, not, ◌&&◌, ◌||◌, ◌==◌, List, length, refl, sym, ap, ap₂, ◌∙◌, arith, add-zero, add-suc, w64, IsTrue, ◌↔◌}
 use Rattle.std.proofs.lemmas.List.{get_or_past}
-use Rattle.std.proofs.lemmas.Bool.{eqb-true, cases_lt, false≢true}
+use Rattle.std.proofs.lemmas.Bool.{cases_lt, false≢true}
 use Rattle.std.proofs.lemmas.Bool.Decides.{nat_tests}
 use Rattle.std.proofs.lemmas.Nat.Bits.{bit_at-trailing_zeros}
 use Rattle.std.specs.Int.{bit_at}
@@ -9,7 +9,7 @@ use lib.Bits.{bit_or, and_le_l, and_le_r, or_add_and}
 use Rattle.bit_words.specs.Words.{is_set, HasBits}
 use Rattle.bit_words.proofs.Bits.{is_set-zero}
 use Rattle.byte_masks.specs.Classes.{control_byte}
-use Rattle.structural_index.specs.Places.{byte, is_interior, HasControlInsideTo}
+use Rattle.structural_index.specs.Places.{byte, is_interior, HasControlInside}
 use Rattle.structural_index.specs.Blocks.{any_below, is_control_inside}
 
 -- ---- tests
@@ -108,8 +108,8 @@ module _ (text : List ℕ) where
   pub control_end : (at : ℕ) → length text ≤ at → any_below (is_control_inside text) at ≡ any_below (is_control_inside text) (length text)
   control_end at h = grind (arith, any_end (is_control_inside text) (length text) at h (λ i. ap (λ c. is_interior text (length text + i) && control_byte c) (space i) ∙ and-false (is_interior text (length text + i))))
 
-  pub control_told : (n : ℕ) (flag : Bool) → flag ≡ any_below (is_control_inside text) n → IsTrue flag ↔ HasControlInsideTo text n
-  control_told n flag e = (
-    λ t. (let w = any_where (is_control_inside text) n (sym e ∙ t) in let p = both (is_interior text w.0) (control_byte (byte text w.0)) w.2 in (w.0, w.1, p.0, p.1)),
-    λ w. e ∙ any_found (is_control_inside text) n w.0 w.1 (ap₂ (λ x y. x && y) w.2 w.3),
+  pub control_whole : (flag : Bool) → flag ≡ any_below (is_control_inside text) (length text) → IsTrue flag ↔ HasControlInside text
+  control_whole flag e = (
+    λ t. (let w = any_where (is_control_inside text) (length text) (sym e ∙ t) in let p = both (is_interior text w.0) (control_byte (byte text w.0)) w.2 in (w.0, w.1, p.0, p.1)),
+    λ w. e ∙ any_found (is_control_inside text) (length text) w.0 w.1 (ap₂ (λ x y. x && y) w.2 w.3),
   )

@@ -1,5 +1,5 @@
 -- What stands in one lane of a vector, and what a bit of a mask tells of it.
-use Rattle.std.proofs.Common.{◌≡◌, ℕ, zero, suc, ◌+◌, ◌*◌, ◌-◌, ◌/◌, ◌%◌, ◌^◌, ◌<◌, ◌≤◌, ◌≢◌, eqb, leb, ltb, bit_or, cond, Bool, true, false, List, map, replicate, length, get_or, w64, inl, inr, refl, sym, ap, ap₂, ◌∙◌, arith}
+use Rattle.std.proofs.Common.{◌≡◌, ℕ, ◌+◌, ◌*◌, ◌-◌, ◌/◌, ◌%◌, ◌^◌, ◌<◌, ◌≤◌, ◌≢◌, eqb, leb, ltb, bit_or, cond, Bool, true, false, List, map, replicate, length, get_or, w64, inl, inr, refl, sym, ap, ap₂, ◌∙◌, arith}
 use Rattle.std.specs.Int.{bit_at, trailing_zeros}
 use Rattle.std.proofs.lemmas.Bool.{cases_lt, eqb-true}
 use Rattle.std.proofs.lemmas.Bool.Decides.{nat_tests}

@@ -12,24 +12,24 @@ returns-in-Some-clause-ends c =
 
 pub returns-then-spare-clause-ends : goal.returns-then-spare-clause-ends
 returns-then-spare-clause-ends c =
-    plain_before c.args.looks.now.0 c.args.i c.args.next _ _ c.requires.indexed
-    (c.spare.ensures c.if-spare.true c.args.looks.now.0 _ c.requires.indexed.escapes)
+    plain_before c.args.looks.now.0 c.args.i c.args.next c.requires.indexed.utf8 c.requires.indexed.controls
+    (c.spare.ensures c.if-spare.true c.args.looks.now.0 c.requires.indexed.escapes)
     c.requires.closes c.requires.near c.requires.quote (c.has_quote_before.ensures.behind c.if-not-has_quote_before.false, c.has_quote_before.ensures.quote c.if-not-has_quote_before.false)
 
 pub returns-then-spare-2-clause-ends : goal.returns-then-spare-2-clause-ends
 returns-then-spare-2-clause-ends c =
-    plain_before c.args.looks.now.0 c.args.i c.args.next _ _ c.requires.indexed
-    (c.spare-2.ensures c.if-spare-2.true c.args.looks.now.0 _ (c.advance.ensures c.args.looks.now.0 _ c.requires.indexed.escapes))
+    plain_before c.args.looks.now.0 c.args.i c.args.next c.requires.indexed.utf8 c.requires.indexed.controls
+    (c.spare-2.ensures c.if-spare-2.true c.args.looks.now.0 (c.advance.ensures c.args.looks.now.0 c.requires.indexed.escapes))
     c.requires.closes c.requires.near c.requires.quote (c.has_quote_before.ensures.behind c.if-not-has_quote_before.false, c.has_quote_before.ensures.quote c.if-not-has_quote_before.false)
 
 pub returns-then-escapes_hold-clause-ends : goal.returns-then-escapes_hold-clause-ends
 returns-then-escapes_hold-clause-ends c =
-    held_before c.args.looks.now.0 c.args.i c.args.next _ _ c.requires.indexed c.requires.closes c.requires.near c.requires.quote
+    held_before c.args.looks.now.0 c.args.i c.args.next c.requires.indexed.utf8 c.requires.indexed.controls c.requires.closes c.requires.near c.requires.quote
     (c.has_quote_before.ensures.behind c.if-not-has_quote_before.false, c.has_quote_before.ensures.quote c.if-not-has_quote_before.false)
     (scanned_part c.args.looks.now.0 _ _ c.args.i (c.args.next - 1) _ c.has_quote_before.ensures.same c.part.ensures.value c.escapes_hold.ensures ∙ c.if-escapes_hold.true)
 
 pub returns-else-escapes_hold-clause-ends : goal.returns-else-escapes_hold-clause-ends
 returns-else-escapes_hold-clause-ends c =
-    unheld_before c.args.looks.now.0 c.args.i c.args.next _ _ c.requires.indexed c.requires.closes c.requires.near c.requires.quote
+    unheld_before c.args.looks.now.0 c.args.i c.args.next c.requires.indexed.utf8 c.requires.indexed.controls c.requires.closes c.requires.near c.requires.quote
     (c.has_quote_before.ensures.behind c.if-not-has_quote_before.false, c.has_quote_before.ensures.quote c.if-not-has_quote_before.false)
     (scanned_part c.args.looks.now.0 _ _ c.args.i (c.args.next - 1) _ c.has_quote_before.ensures.same c.part.ensures.value c.escapes_hold.ensures ∙ c.if-escapes_hold.false)

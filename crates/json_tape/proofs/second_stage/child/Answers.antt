@@ -1,6 +1,4 @@
-use Rattle.std.proofs.Common.{◌+◌, Some, ap, arith}
-use Rattle.structural_index.specs.Places.{places}
-use Rattle.json_tape.proofs.Windows.{listed}
+use Rattle.std.proofs.Common.{◌+◌, Some, arith}
 use Rattle.json_tape.proofs.Keeping.{unless_err}
 use Rattle.json_tape.proofs.WalkEnds.{reads_small}
 use Rattle.json_tape.proofs.Onward.{is_object, is_behind, member_grown}
@@ -9,12 +7,12 @@ use Rattle.json_tape.proofs.NamesSteps.{child_told, seated_on}
 use Rattle.json_tape.proofs.second_stage.child.Goals as goal
 
 pub valued-requires-2-clause-small : goal.valued-requires-2-clause-small
-valued-requires-2-clause-small g c = reads_small (c.args.window.first + c.args.j) (c.args.window.first + (c.args.j + 2)) _ (omega arith) c.requires.small
+valued-requires-2-clause-small g c = reads_small c.args.k (c.args.k + 2) _ (omega arith) c.requires.small
 
 pub returns-clause-grown : goal.returns-clause-grown
-returns-clause-grown g c = λ k at w asks.
-    member_grown c.args.looks.now.0 (places c.args.looks.now.0) (listed c.args.looks.now.0 c.args.window c.requires.window) c.named.new.looks.0 (places c.named.new.looks.0) _ k c.args.looks.now.1 c.named.new.looks.1 c.valued-2.new.looks.1 c.args.may_exceed.now c.valued-2.new.may_exceed c.args.builder.now c.valued-2.new.builder w c.in-Some.name.source c.valued-2.result
-    (is_object g.row.OBJECT c.if-not-this.false) c.named.ensures.same (ap places c.named.ensures.same) (c.in-Some.ensures.named k at c.args.builder.now w c.args.may_exceed.now) (c.valued-2.ensures.grown (k + 2) (omega (arith, at))) asks
+returns-clause-grown g c = λ w asks.
+    member_grown c.args.looks.now.0 c.args.places.now c.requires.listed c.named.new.looks.0 _ c.args.k c.args.looks.now.1 c.named.new.looks.1 c.valued-2.new.looks.1 c.args.may_exceed.now c.valued-2.new.may_exceed c.args.builder.now c.valued-2.new.builder w c.in-Some.name.source c.valued-2.result
+    (is_object g.row.OBJECT c.if-not-this.false) c.named.ensures.same (c.in-Some.ensures.named c.args.builder.now w c.args.may_exceed.now) c.valued-2.ensures.grown asks
 
 pub returns-clause-told : goal.returns-clause-told
 returns-clause-told g c =

@@ -1,4 +1,4 @@
-use Rattle.std.proofs.Common.{◌≡◌, ◌≢◌, ◌+◌, ◌-◌, ◌<◌, ◌≤◌, get_or, subst, arith}
+use Rattle.std.proofs.Common.{◌≡◌, ◌+◌, ◌-◌, ◌<◌, get_or, arith}
 use lib.Lanes.{chunk}
 use Rattle.structural_index.proofs.Lanes.{loaded, unstopped_lane}
 use Rattle.structural_index.proofs.looks.unstopped_run.Goals as goal

@@ -3,12 +3,11 @@ use Rattle.json_tape.proofs.Gaps.{gap_free}
 use Rattle.json_tape.proofs.slashes.Slashes.advance.Goals as goal
 
 pub returns : goal.returns
-returns c text reach held =
+returns c text held =
     let next = c.loop-next.next in
     record {
-      gap = gap_free text _ reach c.gap_start-self.result c.gap_end-self.result next held.blocks_are c.loop-next.invariant c.gap_start-self.ensures (c.gap_end-self.ensures ∙ ap (get_or _ next) held.reaches);
+      gap = gap_free text _ c.gap_start-self.result c.gap_end-self.result next held.blocks_are c.loop-next.invariant c.gap_start-self.ensures (c.gap_end-self.ensures ∙ ap (get_or _ next) held.long);
       blocks_are = held.blocks_are;
       next = c.loop-next.invariant;
-      reaches = held.reaches;
-      within = held.within;
+      long = held.long;
     }

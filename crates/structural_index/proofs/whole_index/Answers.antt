@@ -1,0 +1,13 @@
+use Rattle.std.proofs.Common.{rules}
+use Rattle.structural_index.proofs.Below.{control_whole}
+use Rattle.structural_index.proofs.whole_index.Goals as goal
+
+pub returns : goal.returns
+returns c =
+    let whole = c.in_ok-places.ensures in
+    record {
+      places_are = whole.all_places;
+      unclosed_is = search (rules, whole);
+      control_is = control_whole c.args.text.now _ whole.control;
+      slashes_are = whole.all_slashes;
+    }
