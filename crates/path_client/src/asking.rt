@@ -2,10 +2,9 @@
 
 use crate::connection::{Connection, open};
 use crate::documents::{dump, of_document, query};
-use crate::failure::{Context, Failure};
 use crate::keys;
 use crate::loading::load;
-use crate::options::{Asked, Verb};
+use client_commands::{Asked, Context, Failure, Verb};
 use client_frames::{Usage, read_names, read_usage};
 use client_lines::append_names;
 use standard_streams::write_whole;
@@ -13,7 +12,7 @@ use std::io::{self, Read, Write};
 use std::net::Net;
 use std::rt::{Clock, Files};
 use std::time::Instant;
-use store_names::CollName;
+use store_names::{CollName, DocName};
 use wire_frames::Command;
 
 /// Answers a subcommand that asks a server.
@@ -27,13 +26,22 @@ pub fn answer<R: Input + Print + Eprint + Net + Files + Clock + AllocGlobal>(
     }
     let key = keys::read(rt, context.key_file)?;
     match asked.verb {
-        Verb::Usage => usage(
-            rt,
-            open(rt, context.address, key, asked.timeout)?,
-            asked.json,
-        ),
-        Verb::Ping => ping(rt, open(rt, context.address, key, asked.timeout)?),
+        Verb::Usage | Verb::Ping => of_tenant(rt, asked, context, key),
         _ => of_collection(rt, asked, context, key),
+    }
+}
+
+// Answers a subcommand on all that the tenant keeps.
+fn of_tenant<R: Print + Net + Clock + AllocGlobal>(
+    rt: &R,
+    asked: &Asked<'_>,
+    context: &Context<'_>,
+    key: [u8; 16],
+) -> Result<(), Failure> {
+    let mut connection = open(rt, context.address, key, asked.timeout)?;
+    match asked.verb {
+        Verb::Ping => ping(rt, &mut connection),
+        _ => usage(rt, &mut connection, asked.json),
     }
 }
 
@@ -47,37 +55,33 @@ fn of_collection<R: Input + Print + Eprint + Net + Files + Clock + AllocGlobal>(
     let Some(collection) = CollName::read(asked.collection.as_bytes()) else {
         return Err(Failure::CollectionName);
     };
-    let connection = open(rt, context.address, key, asked.timeout)?;
+    let mut connection = open(rt, context.address, key, asked.timeout)?;
     match asked.verb {
-        Verb::List => list(rt, connection, collection),
-        Verb::Query => query(rt, connection, collection, asked),
-        Verb::Drop => drop_collection(connection, collection),
-        Verb::Load => load(rt, connection, collection, asked, context.is_terminal),
-        Verb::Dump => dump(rt, connection, collection),
-        _ => of_document(rt, connection, collection, asked),
+        Verb::List => list(rt, &mut connection, collection),
+        Verb::Query => query(rt, &mut connection, collection, asked),
+        Verb::Drop => connection.done(&Command::DropCollection { collection }),
+        Verb::Load => load(rt, &mut connection, collection, asked, context.is_terminal),
+        Verb::Dump => dump(rt, &mut connection, collection),
+        _ => of_document(rt, &mut connection, collection, asked),
     }
 }
 
 fn list<R: Print + AllocGlobal, S: Read + Write + Drop>(
     rt: &R,
-    mut connection: Connection<S>,
+    connection: &mut Connection<S>,
     collection: CollName<'_>,
 ) -> Result<(), Failure> {
     let payload = connection.ask(&Command::List { collection })?;
     let names = read_names(rt.alloc(), payload).map_err(Failure::of_payload)?;
+    print_names(rt, names.as_slice())
+}
+
+fn print_names<R: Print + AllocGlobal>(rt: &R, names: &[DocName<'_>]) -> Result<(), Failure> {
     let mut out = Vec::new(rt.alloc());
-    match append_names(names.as_slice(), &mut out) {
+    match append_names(names, &mut out) {
         Ok(()) => print(rt, out.as_slice()),
         Err(_) => Err(Failure::Memory),
     }
-}
-
-fn drop_collection<S: Read + Write + Drop>(
-    mut connection: Connection<S>,
-    collection: CollName<'_>,
-) -> Result<(), Failure> {
-    connection.ask(&Command::DropCollection { collection })?;
-    Ok(())
 }
 
 fn usage_of<S: Read + Write + Drop>(connection: &mut Connection<S>) -> Result<Usage, Failure> {
@@ -87,14 +91,14 @@ fn usage_of<S: Read + Write + Drop>(connection: &mut Connection<S>) -> Result<Us
 
 fn usage<R: Print, S: Read + Write + Drop>(
     rt: &R,
-    mut connection: Connection<S>,
+    connection: &mut Connection<S>,
     json: bool,
 ) -> Result<(), Failure> {
     let Usage {
         collections,
         documents,
         bytes,
-    } = usage_of(&mut connection)?;
+    } = usage_of(connection)?;
     let printed = if json {
         println!(rt;
             "{{\"collections\":{collections},\"documents\":{documents},\"bytes\":{bytes}}}"
@@ -107,10 +111,10 @@ fn usage<R: Print, S: Read + Write + Drop>(
 
 fn ping<R: Print + Clock, S: Read + Write + Drop>(
     rt: &R,
-    mut connection: Connection<S>,
+    connection: &mut Connection<S>,
 ) -> Result<(), Failure> {
     let began = Instant::now(rt);
-    usage_of(&mut connection)?;
+    usage_of(connection)?;
     let micros = match began {
         Ok(instant) => micros_since(rt, &instant),
         Err(_) => 0,

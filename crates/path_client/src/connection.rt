@@ -1,6 +1,6 @@
 //! A connection to a server: requests sent, and replies read.
 
-use crate::failure::Failure;
+use client_commands::Failure;
 use client_frames::{Answer, Front, Reply, answer_to, front_of, write_request};
 use standard_streams::write_whole;
 use std::alloc::Global;
@@ -81,14 +81,26 @@ impl<S: Read + Write + Drop> Connection<S> {
             self.pass();
         }
         self.is_told = true;
-        let mut frame = Vec::new(self.alloc);
-        let number = self.add(command, &mut frame)?;
-        self.send(frame.as_slice())?;
+        let number = self.request(command)?;
         self.wait()?;
         match answer_to(self.reply()?, number).map_err(Failure::NoAnswer)? {
             Answer::Done(payload) => Ok(payload),
             Answer::Refused(status) => Err(Failure::Refused(status)),
         }
+    }
+
+    /// Sends a request and waits until it is done.
+    pub fn done(&mut self, command: &Command<'_>) -> Result<(), Failure> {
+        self.ask(command)?;
+        Ok(())
+    }
+
+    // Sends a request, and answers its number.
+    fn request(&mut self, command: &Command<'_>) -> Result<u32, Failure> {
+        let mut frame = Vec::new(self.alloc);
+        let number = self.add(command, &mut frame)?;
+        self.send(frame.as_slice())?;
+        Ok(number)
     }
 
     /// Waits until a whole reply is there, and answers its status where it is that to the request with this number; passes it.

@@ -2,9 +2,8 @@
 
 use crate::asking::print;
 use crate::connection::Connection;
-use crate::failure::Failure;
-use crate::options::{Asked, Verb};
-use client_frames::{read_hits, read_names};
+use client_commands::{Asked, Failure, Verb};
+use client_frames::{Hit, read_hits, read_names};
 use client_lines::{LineFault, append_document, append_hits, append_json_hits};
 use json_tape::TEXT_LIMIT;
 use standard_streams::{ReadFault, read_past};
@@ -37,7 +36,7 @@ fn text_of<R: Input + Files + AllocGlobal>(rt: &R, file: Option<&str>) -> Result
 /// Answers a subcommand on a document.
 pub fn of_document<R: Input + Print + Files + AllocGlobal, S: Read + Write + Drop>(
     rt: &R,
-    mut connection: Connection<S>,
+    connection: &mut Connection<S>,
     collection: CollName<'_>,
     asked: &Asked<'_>,
 ) -> Result<(), Failure> {
@@ -45,24 +44,13 @@ pub fn of_document<R: Input + Print + Files + AllocGlobal, S: Read + Write + Dro
         return Err(Failure::DocumentName);
     };
     match asked.verb {
-        Verb::Get => get(rt, &mut connection, collection, document),
-        Verb::Remove => done(
-            &mut connection,
-            &Command::Remove {
-                collection,
-                document,
-            },
-        ),
-        verb => put(rt, &mut connection, collection, document, verb, asked.file),
+        Verb::Get => get(rt, connection, collection, document),
+        Verb::Remove => connection.done(&Command::Remove {
+            collection,
+            document,
+        }),
+        verb => put(rt, connection, collection, document, verb, asked.file),
     }
-}
-
-fn done<S: Read + Write + Drop>(
-    connection: &mut Connection<S>,
-    command: &Command<'_>,
-) -> Result<(), Failure> {
-    connection.ask(command)?;
-    Ok(())
 }
 
 fn get<R: Print, S: Read + Write + Drop>(
@@ -100,13 +88,13 @@ fn put<R: Input + Files + AllocGlobal, S: Read + Write + Drop>(
             text,
         },
     };
-    done(connection, &command)
+    connection.done(&command)
 }
 
 /// Prints a line for each hit.
 pub fn query<R: Print + AllocGlobal, S: Read + Write + Drop>(
     rt: &R,
-    mut connection: Connection<S>,
+    connection: &mut Connection<S>,
     collection: CollName<'_>,
     asked: &Asked<'_>,
 ) -> Result<(), Failure> {
@@ -119,14 +107,22 @@ pub fn query<R: Print + AllocGlobal, S: Read + Write + Drop>(
 fn hit_lines(alloc: Global, payload: &[u8], json: bool) -> Result<Vec<u8>, Failure> {
     let hits = read_hits(alloc, payload).map_err(Failure::of_payload)?;
     let mut out = Vec::new(alloc);
-    let appended = if json {
-        append_json_hits(alloc, hits.as_slice(), &mut out).map_err(Failure::of_line)
-    } else {
-        append_hits(hits.as_slice(), &mut out).map_err(|_| Failure::Memory)
-    };
-    match appended {
+    match append_lines(alloc, hits.as_slice(), json, &mut out) {
         Ok(()) => Ok(out),
         Err(failure) => Err(failure),
+    }
+}
+
+fn append_lines(
+    alloc: Global,
+    hits: &[Hit<'_>],
+    json: bool,
+    out: &mut Vec<u8>,
+) -> Result<(), Failure> {
+    if json {
+        append_json_hits(alloc, hits, out).map_err(Failure::of_line)
+    } else {
+        append_hits(hits, out).map_err(|_| Failure::Memory)
     }
 }
 
@@ -143,13 +139,22 @@ fn names_of<S: Read + Write + Drop>(
 /// Prints each document of a collection as a line of JSON.
 pub fn dump<R: Print + AllocGlobal, S: Read + Write + Drop>(
     rt: &R,
-    mut connection: Connection<S>,
+    connection: &mut Connection<S>,
     collection: CollName<'_>,
 ) -> Result<(), Failure> {
-    let payload = names_of(rt.alloc(), &mut connection, collection)?;
+    let payload = names_of(rt.alloc(), connection, collection)?;
     let names = read_names(rt.alloc(), payload.as_slice()).map_err(Failure::of_payload)?;
-    for name in &names {
-        dump_one(rt, &mut connection, collection, *name)?;
+    dump_all(rt, connection, collection, names.as_slice())
+}
+
+fn dump_all<R: Print + AllocGlobal, S: Read + Write + Drop>(
+    rt: &R,
+    connection: &mut Connection<S>,
+    collection: CollName<'_>,
+    names: &[DocName<'_>],
+) -> Result<(), Failure> {
+    for name in names {
+        dump_one(rt, connection, collection, *name)?;
     }
     Ok(())
 }

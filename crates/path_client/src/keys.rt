@@ -1,6 +1,6 @@
 //! Keys: the one of a file, and new ones.
 
-use crate::failure::Failure;
+use client_commands::Failure;
 use client_lines::read_key;
 use standard_streams::{ReadFault, read_past};
 use std::fs;

@@ -2,8 +2,7 @@
 
 use crate::asking::micros_since;
 use crate::connection::Connection;
-use crate::failure::{Failure, status_name};
-use crate::options::Asked;
+use client_commands::{Asked, Failure, status_name};
 use client_frames::SendFault;
 use client_lines::{LineFault, NamedText, name_in, read_document, read_name_query};
 use path_types::ValidQuery;
@@ -40,6 +39,13 @@ struct Waiting {
     bytes: u64,
 }
 
+/// A line of input, numbered from 1, and what is put of it.
+#[derive(Clone, Copy)]
+struct Line<'a> {
+    number: u64,
+    text: &'a [u8],
+}
+
 /// What was done so far.
 #[derive(Clone, Copy)]
 struct Counts {
@@ -50,12 +56,10 @@ struct Counts {
 
 /// Documents on their way.
 #[derive(Drop)]
-struct Loading<S: Drop> {
-    connection: Connection<S>,
+struct Loading {
     frames: Vec<u8>,
     waiting: VecDeque<Waiting>,
     counts: Counts,
-    naming: Option<ValidQuery>,
 }
 
 /// When a load began, and when its progress was told last.
@@ -80,32 +84,27 @@ fn naming_of(alloc: Global, query: Option<&str>) -> Result<Option<ValidQuery>, F
 /// Puts the documents of the file, or of standard input.
 pub fn load<R: Input + Print + Eprint + Files + Clock + AllocGlobal, S: Read + Write + Drop>(
     rt: &R,
-    connection: Connection<S>,
+    connection: &mut Connection<S>,
     collection: CollName<'_>,
     asked: &Asked<'_>,
     is_terminal: bool,
 ) -> Result<(), Failure> {
-    let alloc = rt.alloc();
-    let naming = naming_of(alloc, asked.name)?;
-    let mut loading = Loading {
-        connection,
-        frames: Vec::new(alloc),
-        waiting: VecDeque::new(alloc),
-        counts: Counts {
-            documents: 0,
-            refused: 0,
-            bytes: 0,
-        },
-        naming,
-    };
-    match asked.file {
+    let naming = naming_of(rt.alloc(), asked.name)?;
+    let counts = match asked.file {
         Some(path) => match fs::open(rt, path) {
-            Ok(file) => load_all(rt, &mut loading, collection, file, is_terminal)?,
+            Ok(file) => load_all(rt, connection, collection, &naming, file, is_terminal)?,
             Err(_) => return Err(Failure::Read),
         },
-        None => load_all(rt, &mut loading, collection, rt.reader(), is_terminal)?,
-    }
-    end(rt, loading.counts)
+        None => load_all(
+            rt,
+            connection,
+            collection,
+            &naming,
+            rt.reader(),
+            is_terminal,
+        )?,
+    };
+    end(rt, counts)
 }
 
 // Tells how many documents were put.
@@ -122,29 +121,28 @@ fn end<R: Print>(rt: &R, counts: Counts) -> Result<(), Failure> {
 
 fn load_all<R: Eprint + Clock + AllocGlobal, S: Read + Write + Drop, I: Read + Drop>(
     rt: &R,
-    loading: &mut Loading<S>,
+    connection: &mut Connection<S>,
     collection: CollName<'_>,
+    naming: &Option<ValidQuery>,
     input: I,
     is_terminal: bool,
-) -> Result<(), Failure> {
-    let Ok(mut reader) = BufReader::new(rt.alloc(), input) else {
-        return Err(Failure::Memory);
-    };
+) -> Result<Counts, Failure> {
+    let mut loading = Loading::new(rt.alloc());
     let mut progress = Progress::new(rt, is_terminal);
-    let mut line = Vec::new(rt.alloc());
-    for number in 1..u64::MAX {
-        if !next_line(&mut reader, &mut line)? {
-            break;
-        }
-        loading.put(rt, collection, number, without_end(line.as_slice()))?;
-        if loading.is_full() {
-            loading.settle(rt, HALF)?;
-            progress.tell(rt, loading.counts, PROGRESS);
-        }
+    match BufReader::new(rt.alloc(), input) {
+        Ok(mut reader) => loading.load_lines(
+            rt,
+            connection,
+            collection,
+            naming,
+            &mut reader,
+            &mut progress,
+        )?,
+        Err(_) => return Err(Failure::Memory),
     }
-    loading.settle(rt, 0)?;
+    loading.settle(rt, connection, 0)?;
     progress.tell(rt, loading.counts, 0);
-    Ok(())
+    Ok(loading.counts)
 }
 
 // Reads the next line in the place of what stood there; whether there was one. Of a line above the limit, the first bytes.
@@ -198,9 +196,60 @@ impl Progress {
     }
 }
 
-impl<S: Read + Write + Drop> Loading<S> {
+impl Loading {
+    fn new(alloc: Global) -> Loading {
+        Loading {
+            frames: Vec::new(alloc),
+            waiting: VecDeque::new(alloc),
+            counts: Counts {
+                documents: 0,
+                refused: 0,
+                bytes: 0,
+            },
+        }
+    }
+
     fn is_full(&self) -> bool {
         self.waiting.len() >= MOST_WAITING || self.frames.len() >= PIECE
+    }
+
+    // Puts the document of each line.
+    fn load_lines<R: Eprint + Clock + AllocGlobal, S: Read + Write + Drop, I: BufRead + Drop>(
+        &mut self,
+        rt: &R,
+        connection: &mut Connection<S>,
+        collection: CollName<'_>,
+        naming: &Option<ValidQuery>,
+        reader: &mut I,
+        progress: &mut Progress,
+    ) -> Result<(), Failure> {
+        let mut text = Vec::new(rt.alloc());
+        for number in 1..u64::MAX {
+            if !next_line(reader, &mut text)? {
+                break;
+            }
+            let line = Line {
+                number,
+                text: without_end(text.as_slice()),
+            };
+            self.put(rt, connection, collection, naming, line)?;
+            self.go_on(rt, connection, progress)?;
+        }
+        Ok(())
+    }
+
+    // Takes replies where many wait.
+    fn go_on<R: Eprint + Clock, S: Read + Write + Drop>(
+        &mut self,
+        rt: &R,
+        connection: &mut Connection<S>,
+        progress: &mut Progress,
+    ) -> Result<(), Failure> {
+        if self.is_full() {
+            self.settle(rt, connection, HALF)?;
+            progress.tell(rt, self.counts, PROGRESS);
+        }
+        Ok(())
     }
 
     // Tells of a line that was not put, and counts it.
@@ -214,30 +263,31 @@ impl<S: Read + Write + Drop> Loading<S> {
     }
 
     // Adds the request of a line, or tells why there is none.
-    fn put<'x, R: Eprint + AllocGlobal>(
+    fn put<R: Eprint + AllocGlobal, S: Read + Write + Drop>(
         &mut self,
         rt: &R,
-        collection: CollName<'x>,
-        line: u64,
-        text: &'x [u8],
+        connection: &mut Connection<S>,
+        collection: CollName<'_>,
+        naming: &Option<ValidQuery>,
+        line: Line<'_>,
     ) -> Result<(), Failure> {
-        if text.is_empty() {
+        if line.text.is_empty() {
             return Ok(());
         }
-        match &self.naming {
-            Some(query) => match name_in(rt.alloc(), query, text) {
-                Ok(name) => self.add(rt, collection, line, name, text),
-                Err(fault) => self.refuse(rt, line, fault),
+        match naming {
+            Some(query) => match name_in(rt.alloc(), query, line.text) {
+                Ok(name) => self.add(rt, connection, collection, name, line),
+                Err(fault) => self.refuse(rt, line.number, fault),
             },
-            None => match read_document(rt.alloc(), text) {
-                Ok(NamedText { name, text }) => self.add(
-                    rt,
-                    collection,
-                    line,
-                    name,
-                    text.as_bytes(),
-                ),
-                Err(fault) => self.refuse(rt, line, fault),
+            None => match read_document(rt.alloc(), line.text) {
+                Ok(NamedText { name, text }) => {
+                    let line = Line {
+                        number: line.number,
+                        text: text.as_bytes(),
+                    };
+                    self.add(rt, connection, collection, name, line)
+                }
+                Err(fault) => self.refuse(rt, line.number, fault),
             },
         }
     }
@@ -252,36 +302,50 @@ impl<S: Read + Write + Drop> Loading<S> {
         }
     }
 
-    fn add<'x, R: Eprint>(
+    fn add<R: Eprint, S: Read + Write + Drop>(
         &mut self,
         rt: &R,
-        collection: CollName<'x>,
-        line: u64,
+        connection: &mut Connection<S>,
+        collection: CollName<'_>,
         name: String,
-        text: &'x [u8],
+        line: Line<'_>,
     ) -> Result<(), Failure> {
+        match self.frame(connection, collection, name.as_str(), line.text) {
+            Ok(number) => self.wait(Waiting {
+                line: line.number,
+                number,
+                name,
+                bytes: line.text.len() as u64,
+            }),
+            Err(Failure::DocumentName) => {
+                self.tell(rt, line.number, "BadName", name.as_str());
+                Ok(())
+            }
+            Err(Failure::Send(SendFault::TextTooLong)) => {
+                self.tell(rt, line.number, "TooLong", name.as_str());
+                Ok(())
+            }
+            Err(failure) => Err(failure),
+        }
+    }
+
+    // Appends the frame of a put, and answers its number.
+    fn frame<S: Read + Write + Drop>(
+        &mut self,
+        connection: &mut Connection<S>,
+        collection: CollName<'_>,
+        name: &str,
+        text: &[u8],
+    ) -> Result<u32, Failure> {
         let Some(document) = DocName::read(name.as_bytes()) else {
-            self.tell(rt, line, "BadName", name.as_str());
-            return Ok(());
+            return Err(Failure::DocumentName);
         };
         let command = Command::Put {
             collection,
             document,
             text,
         };
-        match self.connection.add(&command, &mut self.frames) {
-            Ok(number) => self.wait(Waiting {
-                line,
-                number,
-                name,
-                bytes: text.len() as u64,
-            }),
-            Err(Failure::Send(SendFault::TextTooLong)) => {
-                self.tell(rt, line, "TooLong", name.as_str());
-                Ok(())
-            }
-            Err(failure) => Err(failure),
-        }
+        connection.add(&command, &mut self.frames)
     }
 
     fn wait(&mut self, waiting: Waiting) -> Result<(), Failure> {
@@ -289,12 +353,17 @@ impl<S: Read + Write + Drop> Loading<S> {
     }
 
     // Sends what is not sent, and takes replies until no more than so many are waited for.
-    fn settle<R: Eprint>(&mut self, rt: &R, most: usize) -> Result<(), Failure> {
-        self.connection.send(self.frames.as_slice())?;
+    fn settle<R: Eprint, S: Read + Write + Drop>(
+        &mut self,
+        rt: &R,
+        connection: &mut Connection<S>,
+        most: usize,
+    ) -> Result<(), Failure> {
+        connection.send(self.frames.as_slice())?;
         self.frames.clear();
         for _ in most..self.waiting.len() {
             match self.waiting.pop_front() {
-                Some(first) => self.take(rt, first)?,
+                Some(first) => self.take(rt, connection, first)?,
                 None => break,
             }
         }
@@ -302,8 +371,13 @@ impl<S: Read + Write + Drop> Loading<S> {
     }
 
     // Takes the reply to a put.
-    fn take<R: Eprint>(&mut self, rt: &R, put: Waiting) -> Result<(), Failure> {
-        match self.connection.take(put.number)? {
+    fn take<R: Eprint, S: Read + Write + Drop>(
+        &mut self,
+        rt: &R,
+        connection: &mut Connection<S>,
+        put: Waiting,
+    ) -> Result<(), Failure> {
+        match connection.take(put.number)? {
             Some(status) => self.tell(rt, put.line, status_name(status), put.name.as_str()),
             None => {
                 self.counts.documents = self.counts.documents.saturating_add(1);

@@ -4,13 +4,10 @@
 mod asking;
 mod connection;
 mod documents;
-mod failure;
 mod keys;
 mod loading;
-mod options;
 
-use crate::failure::{Context, Failure};
-use crate::options::{Asked, Verb, read_options};
+use client_commands::{Asked, Context, Failure, Options, Verb, read_options};
 use std::env::{self, VarError};
 use std::io::IsTerminal;
 use std::net::Net;
@@ -62,12 +59,12 @@ fn answer<R: Input + Print + Eprint + Net + Files + Clock + AllocGlobal>(
     }
 }
 
-fn run<R: Input + Print + Eprint + Env + Net + Files + Clock + AllocGlobal>(
+// Does what the command line asks for, and answers the exit status.
+fn carry_out<R: Input + Print + Eprint + Env + Net + Files + Clock + AllocGlobal>(
     rt: &R,
+    options: &Options<'_>,
     is_terminal: bool,
 ) -> Result<u8, Failure> {
-    let words = words_of(rt)?;
-    let options = read_options(rt.alloc(), words.as_slice())?;
     let address = given(rt, options.address, ADDRESS_VARIABLE)?;
     let key_file = given(rt, options.key_file, KEY_FILE_VARIABLE)?;
     let context = Context {
@@ -78,6 +75,17 @@ fn run<R: Input + Print + Eprint + Env + Net + Files + Clock + AllocGlobal>(
     match answer(rt, &options.asked, &context) {
         Ok(()) => Ok(0),
         Err(failure) => Ok(failure.report(rt, &context)),
+    }
+}
+
+fn run<R: Input + Print + Eprint + Env + Net + Files + Clock + AllocGlobal>(
+    rt: &R,
+    is_terminal: bool,
+) -> Result<u8, Failure> {
+    let words = words_of(rt)?;
+    match read_options(rt.alloc(), words.as_slice()) {
+        Ok(options) => carry_out(rt, &options, is_terminal),
+        Err(fault) => Ok(fault.report(rt)),
     }
 }
 

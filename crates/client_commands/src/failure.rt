@@ -1,0 +1,142 @@
+//! Why a command ends before it is done, and the exit status that it ends with.
+
+ghost use Rattle.std.specs.Prelude.{◌≡◌, ◌⊎◌, ◌↔◌};
+ghost use Rattle.std.specs.IoError.{error_kind};
+ghost use Rattle.client_commands.specs.Statuses.{status_of, status_of_refusal};
+
+use client_frames::{AnswerFault, PayloadFault, SendFault};
+use client_lines::{KeyFault, LineFault};
+use std::io::{self, ErrorKind};
+
+/// Why a command ends early.
+#[derive(Clone, Copy)]
+pub enum Failure {
+    /// A word of the command line is not UTF-8.
+    Words,
+    /// No address is given.
+    AddressMissing,
+    /// The address names no host and port.
+    NoAddress,
+    /// No file with a key is given.
+    NoKeyFile,
+    /// The file with the key could not be read.
+    KeyFileUnread,
+    /// The file has no key.
+    KeyFile(KeyFault),
+    /// A word is not the name of a collection.
+    CollectionName,
+    /// A word is not the name of a document.
+    DocumentName,
+    /// The text or the query is above its limit.
+    Send(SendFault),
+    /// The query of `--name` is not a singular query.
+    NameQuery,
+    /// The server refused the request, with this status.
+    Refused(u8),
+    /// Some of the documents were refused.
+    SomeRefused,
+    /// No connection could be opened.
+    NoServer,
+    /// The server took not all of the request.
+    Unsent,
+    /// The server ended the connection before its reply.
+    Ended,
+    /// The server said nothing for too long.
+    Timeout,
+    /// The connection broke.
+    Broken,
+    /// What came is no reply.
+    NoReply,
+    /// The reply answers no request, or another.
+    NoAnswer(AnswerFault),
+    /// The system gives no random bytes.
+    NoRandom,
+    /// The input could not be read.
+    Read,
+    /// The output could not be written.
+    Write,
+    /// A growth was refused.
+    Memory,
+}
+
+impl Failure {
+    /// What a payload means that was not read.
+    pub fn of_payload(fault: PayloadFault) -> Failure
+        ensures memory { (result ≡ Failure.Memory) ↔ (fault ≡ PayloadFault.Memory) }
+        ensures status { status_of result ≡ 4 }
+    {
+        match fault {
+            PayloadFault::NoPayload => Failure::NoReply,
+            PayloadFault::Memory => Failure::Memory,
+        }
+    }
+
+    /// What a line means that was not made of a reply.
+    pub fn of_line(fault: LineFault) -> Failure
+        ensures memory { (result ≡ Failure.Memory) ↔ (fault ≡ LineFault.Memory) }
+        ensures status { status_of result ≡ 4 }
+    {
+        match fault {
+            LineFault::Memory => Failure::Memory,
+            _ => Failure::NoReply,
+        }
+    }
+
+    /// What a failed read of the command line's words means.
+    pub fn of_words(error: &io::Error) -> Failure
+        ensures memory { (result ≡ Failure.Memory) ↔ (error_kind error.now ≡ ErrorKind.OutOfMemory) }
+    {
+        match error.kind() {
+            ErrorKind::OutOfMemory => Failure::Memory,
+            _ => Failure::Words,
+        }
+    }
+
+    /// What a failed read of the input means.
+    pub fn of_input(error: &io::Error) -> Failure
+        ensures memory { (result ≡ Failure.Memory) ↔ (error_kind error.now ≡ ErrorKind.OutOfMemory) }
+        ensures status { status_of result ≡ 4 }
+    {
+        match error.kind() {
+            ErrorKind::OutOfMemory => Failure::Memory,
+            _ => Failure::Read,
+        }
+    }
+
+    /// What a failed read of the connection means.
+    pub fn of_read(error: &io::Error) -> Failure
+        ensures timeout { (result ≡ Failure.Timeout) ↔ ((error_kind error.now ≡ ErrorKind.WouldBlock) ⊎ (error_kind error.now ≡ ErrorKind.TimedOut)) }
+        ensures status { status_of result ≡ 4 }
+    {
+        match error.kind() {
+            ErrorKind::WouldBlock | ErrorKind::TimedOut => Failure::Timeout,
+            _ => Failure::Broken,
+        }
+    }
+
+    /// The exit status.
+    pub fn status(self) -> u8
+        ensures { result ≡ status_of self }
+    {
+        match self {
+            Failure::Words | Failure::AddressMissing | Failure::NoAddress | Failure::NoKeyFile => 3,
+            Failure::KeyFileUnread | Failure::KeyFile(_) => 3,
+            Failure::CollectionName | Failure::DocumentName | Failure::NameQuery => 3,
+            Failure::Send(SendFault::TextTooLong) => 1,
+            Failure::Send(SendFault::QueryTooLong) => 2,
+            Failure::Refused(status) => status_of_refusal(status),
+            Failure::SomeRefused => 1,
+            _ => 4,
+        }
+    }
+}
+
+// 2 where the query is refused, and else 1.
+fn status_of_refusal(status: u8) -> u8
+    ensures { result ≡ status_of_refusal status }
+{
+    match status {
+        16..=18 | 22 => 2,
+        _ => 1,
+    }
+}

@@ -1,0 +1,159 @@
+//! What is printed where a command ends early: the failure's name, and what to do about it.
+
+ghost use Rattle.std.specs.Prelude.{◌≡◌};
+ghost use Rattle.client_commands.specs.Statuses.{status_of};
+
+use crate::failure::Failure;
+use crate::statuses::refusal;
+use client_frames::{AnswerFault, SendFault};
+use client_lines::KeyFault;
+use std::fmt;
+
+/// The status of a tenant that the server does not know.
+const NO_TENANT: u8 = 2;
+
+/// The status of a text above its limit.
+const TOO_LONG: u8 = 5;
+
+/// The status of a query above its limit.
+const QUERY_TOO_LONG: u8 = 16;
+
+/// What a failure is told with: where the server is, and where the key.
+#[derive(Clone, Copy)]
+pub struct Context<'a> {
+    pub address: &'a str,
+    pub key_file: &'a str,
+    /// Whether standard error is a terminal.
+    pub is_terminal: bool,
+}
+
+impl<'a> Context<'a> {
+    /// Nothing is known yet.
+    pub const NONE: Context<'static> = Context {
+        address: "",
+        key_file: "",
+        is_terminal: false,
+    };
+}
+
+impl Failure {
+    /// Prints what happened to standard error, and answers the exit status.
+    pub fn report<R: Eprint>(self, rt: &R, context: &Context<'_>) -> u8
+        ensures { result ≡ status_of self }
+    {
+        let (name, what) = message(self);
+        let about = about(self, context);
+        let _ = eprintln!(rt; "path_client: {name}: {what}{about}");
+        self.status()
+    }
+}
+
+// The failure's name, and what is to be done.
+fn message(failure: Failure) -> (&'static str, &'static str) {
+    match failure {
+        Failure::KeyFile(fault) => of_key(fault),
+        Failure::Send(SendFault::TextTooLong) => refusal(TOO_LONG),
+        Failure::Send(SendFault::QueryTooLong) => refusal(QUERY_TOO_LONG),
+        Failure::Refused(status) => refusal(status),
+        Failure::NoAnswer(AnswerFault::FrameFault) => (
+            "FrameFault",
+            "the server met a framing fault: ",
+        ),
+        Failure::NoAnswer(_) => of_ends(Failure::NoReply),
+        _ => of_words(failure),
+    }
+}
+
+fn of_key(fault: KeyFault) -> (&'static str, &'static str) {
+    match fault {
+        KeyFault::NoKey => (
+            "NoKey",
+            "path_client new-key prints a key for the empty file ",
+        ),
+        KeyFault::SeveralKeys => (
+            "SeveralKeys",
+            "a client has one key: write a file with one of those in ",
+        ),
+        KeyFault::BadKey => (
+            "BadKey",
+            "a key has 32 hexadecimal digits, unlike what is in ",
+        ),
+    }
+}
+
+// Of the words of the command line and of the environment.
+fn of_words(failure: Failure) -> (&'static str, &'static str) {
+    match failure {
+        Failure::Words => (
+            "BadCommandLine",
+            "a word of it, or a variable of the environment, is not UTF-8",
+        ),
+        Failure::AddressMissing => (
+            "NoAddress",
+            "say where the server is by --at ADDR or PATH_SERVER_AT",
+        ),
+        Failure::NoAddress => (
+            "NoAddress",
+            "an address is a host, a colon and a port, not ",
+        ),
+        Failure::NoKeyFile => (
+            "NoKeyFile",
+            "say which file has the tenant's key by --key-file FILE or PATH_SERVER_KEY_FILE",
+        ),
+        Failure::KeyFileUnread => ("ReadFault", "no file of keys can be read at "),
+        Failure::CollectionName => (
+            "BadName",
+            "a collection's name has 1 to 64 ASCII letters, digits, '.', '-' or '_'",
+        ),
+        Failure::DocumentName => (
+            "BadName",
+            "a document's name has 1 to 128 ASCII letters, digits, '.', '-' or '_'",
+        ),
+        Failure::NameQuery => ("NameQuery", "--name takes a singular query, as $.id"),
+        _ => of_ends(failure),
+    }
+}
+
+// Of the server, the streams and memory.
+fn of_ends(failure: Failure) -> (&'static str, &'static str) {
+    match failure {
+        Failure::SomeRefused => ("Refused", "the documents above were not put"),
+        Failure::NoServer => ("NetFault", "no server answers at "),
+        Failure::Unsent => (
+            "WriteFault",
+            "the connection broke, and the request may have been carried out: ",
+        ),
+        Failure::Ended => (
+            "ReadFault",
+            "the server ended the connection, and the request may have been carried out: ",
+        ),
+        Failure::Timeout => (
+            "Timeout",
+            "the server says nothing, and may still carry out the request: ",
+        ),
+        Failure::Broken => (
+            "ReadFault",
+            "the connection broke, and the request may have been carried out: ",
+        ),
+        Failure::NoReply => ("NoReply", "what answers is no path_server: "),
+        Failure::NoRandom => (
+            "ReadFault",
+            "the system gives no random bytes at /dev/urandom",
+        ),
+        Failure::Read => ("ReadFault", "the input cannot be read"),
+        Failure::Write => ("WriteFault", "the output cannot be written"),
+        _ => ("NoMemory", "this program was refused memory"),
+    }
+}
+
+// The file or the address that a failure is about, or nothing.
+fn about<'a>(failure: Failure, context: &Context<'a>) -> &'a str {
+    match failure {
+        Failure::KeyFileUnread | Failure::KeyFile(_) | Failure::Refused(NO_TENANT) =>
+            context.key_file,
+        Failure::NoAddress | Failure::NoServer | Failure::NoReply | Failure::NoAnswer(_) =>
+            context.address,
+        Failure::Unsent | Failure::Ended | Failure::Timeout | Failure::Broken => context.address,
+        _ => "",
+    }
+}

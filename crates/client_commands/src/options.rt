@@ -1,0 +1,341 @@
+//! The command line.
+
+ghost use Rattle.std.specs.Prelude.{◌≡◌, ◌⊎◌, ◌↔◌};
+ghost use Rattle.clap.specs.Values.{kind_of};
+ghost use Rattle.client_commands.specs.Statuses.{status_of_fault, status_of_kind};
+
+use crate::failure::Failure;
+use crate::messages::Context;
+use clap::builder::ValueParser;
+use clap::error::ErrorKind;
+use clap::{Arg, ArgAction, ArgMatches, Command, Error};
+use std::alloc::{AllocError, Global};
+
+/// The version, which `--version` prints behind the program's name.
+const VERSION: &str = "0.1.0";
+
+/// The longest time in seconds that is waited for a server, a day.
+const MOST_SECONDS: u64 = 86_400;
+
+/// What is asked.
+#[derive(Clone, Copy)]
+pub enum Verb {
+    Put,
+    PutNew,
+    Get,
+    Remove,
+    List,
+    Query,
+    Drop,
+    Usage,
+    Load,
+    Dump,
+    NewKey,
+    Ping,
+}
+
+/// What the command line asks for. Words that the verb has not are empty.
+#[derive(Clone, Copy)]
+pub struct Asked<'a> {
+    pub verb: Verb,
+    pub collection: &'a str,
+    pub document: &'a str,
+    pub query: &'a str,
+    /// The file to read in the place of standard input.
+    pub file: Option<&'a str>,
+    /// The query that tells each document's name.
+    pub name: Option<&'a str>,
+    /// Whether output is JSON.
+    pub json: bool,
+    /// The seconds that are waited for a byte of the server.
+    pub timeout: u64,
+}
+
+/// A command line.
+#[derive(Clone, Copy)]
+pub struct Options<'a> {
+    pub address: Option<&'a str>,
+    pub key_file: Option<&'a str>,
+    pub asked: Asked<'a>,
+}
+
+/// A word of the command line: an option, or what stands behind a subcommand.
+#[derive(Clone, Copy)]
+enum Word {
+    Address,
+    KeyFile,
+    Timeout,
+    Json,
+    Collection,
+    Document,
+    Query,
+    File,
+    Name,
+}
+
+/// The options that may stand before or behind the subcommand.
+const OPTIONS: [Word; 4] = [Word::Address, Word::KeyFile, Word::Timeout, Word::Json];
+
+/// The subcommands: the name, what it is, what it does, and the words behind it.
+const VERBS: [(&str, Verb, &str, &[Word]); 12] = [
+    (
+        "put",
+        Verb::Put,
+        "Keeps the text of FILE, or of standard input, under a document",
+        &[Word::Collection, Word::Document, Word::File],
+    ),
+    (
+        "put-new",
+        Verb::PutNew,
+        "Does so where no document is there",
+        &[Word::Collection, Word::Document, Word::File],
+    ),
+    (
+        "get",
+        Verb::Get,
+        "Prints the text of a document as it was put",
+        &[Word::Collection, Word::Document],
+    ),
+    (
+        "remove",
+        Verb::Remove,
+        "Takes a document away",
+        &[Word::Collection, Word::Document],
+    ),
+    (
+        "list",
+        Verb::List,
+        "Prints the names of a collection's documents, a line each",
+        &[Word::Collection],
+    ),
+    (
+        "query",
+        Verb::Query,
+        "Prints a line for each hit of a JSONPath query (RFC 9535): document, tab, path, tab, value",
+        &[Word::Collection, Word::Query],
+    ),
+    (
+        "drop",
+        Verb::Drop,
+        "Takes a collection away with all its documents",
+        &[Word::Collection],
+    ),
+    ("usage", Verb::Usage, "Prints what the tenant keeps", &[]),
+    (
+        "load",
+        Verb::Load,
+        "Puts the documents of FILE, or of standard input: a line of JSON each, as dump prints them",
+        &[Word::Collection, Word::Name, Word::File],
+    ),
+    (
+        "dump",
+        Verb::Dump,
+        "Prints each document of a collection as a line of JSON: {\"name\":..,\"text\":..}",
+        &[Word::Collection],
+    ),
+    ("new-key", Verb::NewKey, "Prints a new random key", &[]),
+    ("ping", Verb::Ping, "Prints how long a request takes", &[]),
+];
+
+// An option with a value, which may stand before or behind the subcommand.
+fn option<'a>(alloc: Global, name: &'a str, value: &'a str, help: &'a str) -> Arg<'a> {
+    Arg::new(alloc, name)
+        .long(name)
+        .value_name(value)
+        .help(help)
+        .global(true)
+        .action(ArgAction::Set)
+}
+
+fn timeout_option<'a>(alloc: Global) -> Arg<'a> {
+    option(
+        alloc,
+        "timeout",
+        "SECONDS",
+        "How long to wait for a byte of the server",
+    )
+    .default_value("30")
+    .value_parser(ValueParser::Unsigned(1, MOST_SECONDS))
+}
+
+fn json_option<'a>(alloc: Global) -> Arg<'a> {
+    Arg::new(alloc, "json")
+        .long("json")
+        .help("Prints hits and usage as JSON")
+        .global(true)
+        .action(ArgAction::SetTrue)
+}
+
+fn name_option<'a>(alloc: Global) -> Arg<'a> {
+    Arg::new(alloc, "name")
+        .long("name")
+        .value_name("QUERY")
+        .help("Takes a document a line, whose name is the string that this query selects")
+        .action(ArgAction::Set)
+}
+
+// A word that has to be there.
+fn needed<'a>(alloc: Global, name: &'a str) -> Arg<'a> {
+    Arg::new(alloc, name).required(true).action(ArgAction::Set)
+}
+
+fn arg<'a>(alloc: Global, word: Word) -> Arg<'a> {
+    match word {
+        Word::Address => option(
+            alloc,
+            "at",
+            "ADDR",
+            "The server, as 127.0.0.1:7000 [default: PATH_SERVER_AT]",
+        ),
+        Word::KeyFile => option(
+            alloc,
+            "key-file",
+            "FILE",
+            "A file with the tenant's key [default: PATH_SERVER_KEY_FILE]",
+        ),
+        Word::Timeout => timeout_option(alloc),
+        Word::Json => json_option(alloc),
+        Word::Collection => needed(alloc, "COLLECTION"),
+        Word::Document => needed(alloc, "DOCUMENT"),
+        Word::Query => needed(alloc, "QUERY"),
+        Word::File => Arg::new(alloc, "FILE").action(ArgAction::Set),
+        Word::Name => name_option(alloc),
+    }
+}
+
+fn with_words<'a>(
+    alloc: Global,
+    command: Command<'a>,
+    words: &[Word],
+) -> Result<Command<'a>, AllocError> {
+    let mut command = command;
+    for word in words {
+        command = command.arg(arg(alloc, *word))?;
+    }
+    Ok(command)
+}
+
+fn with_verbs<'a>(alloc: Global, command: Command<'a>) -> Result<Command<'a>, AllocError> {
+    let mut command = command;
+    for row in &VERBS {
+        let (name, _, about, words) = *row;
+        let verb = Command::new(alloc, name).about(about);
+        command = command.subcommand(with_words(alloc, verb, words)?)?;
+    }
+    Ok(command)
+}
+
+fn command<'a>(alloc: Global) -> Result<Command<'a>, AllocError> {
+    let command = Command::new(alloc, "path_client")
+        .version(VERSION)
+        .about("Asks a path_server")
+        .after_help(
+            "Exit status: 0 done, 1 refused by the server, 2 the query is refused, 3 invalid command line or key file, 4 no answer",
+        )
+        .subcommand_required(true)
+        .disable_help_subcommand(true);
+    with_verbs(alloc, with_words(alloc, command, &OPTIONS)?)
+}
+
+fn parsed<'a>(alloc: Global, words: &'a [String]) -> Result<ArgMatches<'a>, Error> {
+    command(alloc)?.try_get_matches_from(words)
+}
+
+/// Why a command line asks for nothing.
+#[derive(Drop)]
+pub enum CommandLineFault {
+    /// It is invalid, or asks for help or the version, which this prints.
+    Printed(Error),
+    /// A growth was refused, or a subcommand is unknown.
+    Failed(Failure),
+}
+
+impl CommandLineFault {
+    /// What a failed parse of the command line means.
+    pub fn of(error: Error) -> CommandLineFault
+        ensures memory { (result ≡ CommandLineFault.Failed Failure.Memory) ↔ (kind_of error ≡ ErrorKind.OutOfMemory) }
+        ensures status { status_of_fault result ≡ status_of_kind (kind_of error) }
+    {
+        match error.kind() {
+            ErrorKind::OutOfMemory => CommandLineFault::Failed(Failure::Memory),
+            _ => CommandLineFault::Printed(error),
+        }
+    }
+
+    /// Prints help and the version to standard output and all else to standard error, and answers the exit status: 4 where that was not printed
+    /// which was asked for.
+    pub fn report<R: Print + Eprint>(&self, rt: &R) -> u8
+        ensures { (result ≡ status_of_fault self.now) ⊎ (result ≡ 4) }
+    {
+        match self {
+            CommandLineFault::Printed(error) => print(rt, error),
+            CommandLineFault::Failed(failure) => failure.report(rt, &Context::NONE),
+        }
+    }
+}
+
+fn print<R: Print + Eprint>(rt: &R, error: &Error) -> u8
+    ensures { (result ≡ status_of_kind (kind_of error.now)) ⊎ (result ≡ 4) }
+{
+    if error.use_stderr() {
+        let _ = rt.eprint(error);
+        return status_at(error.kind());
+    }
+    match rt.print(error) {
+        Ok(()) => status_at(error.kind()),
+        Err(_) => 4,
+    }
+}
+
+fn status_at(kind: ErrorKind) -> u8
+    ensures { result ≡ status_of_kind kind }
+{
+    match kind {
+        ErrorKind::DisplayHelp | ErrorKind::DisplayVersion => 0,
+        ErrorKind::OutOfMemory => 4,
+        _ => 3,
+    }
+}
+
+/// What the words of a command line ask for, of which the first is the program's name.
+pub fn read_options<'a>(
+    alloc: Global,
+    words: &'a [String],
+) -> Result<Options<'a>, CommandLineFault> {
+    match parsed(alloc, words) {
+        Ok(matches) => match options_of(&matches) {
+            Some(options) => Ok(options),
+            None => Err(CommandLineFault::Failed(Failure::Words)),
+        },
+        Err(error) => Err(CommandLineFault::of(error)),
+    }
+}
+
+fn verb_of(name: &str) -> Option<Verb> {
+    for row in &VERBS {
+        let (word, verb, _, _) = *row;
+        if word == name {
+            return Some(verb);
+        }
+    }
+    None
+}
+
+fn options_of<'a>(matches: &ArgMatches<'a>) -> Option<Options<'a>> {
+    let (name, words) = matches.subcommand()?;
+    let asked = Asked {
+        verb: verb_of(name)?,
+        collection: words.get_str("COLLECTION").unwrap_or_default(),
+        document: words.get_str("DOCUMENT").unwrap_or_default(),
+        query: words.get_str("QUERY").unwrap_or_default(),
+        file: words.get_str("FILE"),
+        name: words.get_str("name"),
+        json: words.get_flag("json"),
+        timeout: words.get_one("timeout")?,
+    };
+    Some(Options {
+        address: words.get_str("at"),
+        key_file: words.get_str("key-file"),
+        asked,
+    })
+}
