@@ -84,20 +84,18 @@ impl<C: Core, T: Time + Drop> Counted<C, T> {
     }
 }
 
-impl<T: Time + Drop> Counted<HubCore, T> {
-    /// Opens a connection's session, and tells whether that was not refused.
-    pub fn connect(&mut self, conn: u32) -> bool
-        ensures { MatchBool result (Opens conn self.old self.new) (self.new ≡ self.old) }
-    {
-        self.core.connect(conn).is_ok()
-    }
+/// Opens a connection's session, and tells whether that was not refused.
+pub(crate) fn connect<T: Time + Drop>(counted: &mut Counted<HubCore, T>, conn: u32) -> bool
+    ensures { MatchBool result (Opens conn counted.old counted.new) (counted.new ≡ counted.old) }
+{
+    counted.core.connect(conn).is_ok()
+}
 
-    /// Ends a connection's session.
-    pub fn disconnect(&mut self, conn: u32)
-        ensures { Closes conn self.old self.new }
-    {
-        self.core.disconnect(conn);
-    }
+/// Ends a connection's session.
+pub(crate) fn disconnect<T: Time + Drop>(counted: &mut Counted<HubCore, T>, conn: u32)
+    ensures { Closes conn counted.old counted.new }
+{
+    counted.core.disconnect(conn);
 }
 
 impl<C: Core, T: Time + Drop> Core for Counted<C, T> {

@@ -8,7 +8,7 @@ ghost use Rattle.event_loop.specs.Shares.{StayFree, IsGivenBack, claim_at};
 
 use crate::claim::{Budgets, Claim, Pool, Purpose};
 use crate::connection::{ALLOWANCE, Connection, Outcome, Phase, Plan};
-use crate::counted::Counted;
+use crate::counted::{Counted, connect, disconnect};
 use crate::journal::{End, Ending};
 use crate::limits::Limits;
 use crate::system::{Peer, Report, Time};
@@ -151,7 +151,7 @@ impl<S: Peer, T: Time + Drop> Open<S, T> {
         if self.connections.vacant_key() != key || self.connections.reserve(1).is_err() {
             return false;
         }
-        if !self.core.connect(conn) {
+        if !connect(&mut self.core, conn) {
             return false;
         }
         let connection = Connection::new(self.alloc, number, peer, stream, now);
@@ -440,7 +440,7 @@ impl<S: Peer, T: Time + Drop> Open<S, T> {
         let connection = self.connections.get_mut(key)?;
         let claim = connection.claim;
         connection.linger(now);
-        self.core.disconnect(conn);
+        disconnect(&mut self.core, conn);
         claim
     }
 
@@ -460,7 +460,7 @@ impl<S: Peer, T: Time + Drop> Open<S, T> {
     {
         let conn = conn_of(key)?;
         let connection = self.connections.try_remove(key)?;
-        self.core.disconnect(conn);
+        disconnect(&mut self.core, conn);
         connection.claim
     }
 
