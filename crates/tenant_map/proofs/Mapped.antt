@@ -46,14 +46,6 @@ remove_absent {K} {X} test (e ∷ es) h =
     elim (test e.0) as (λ b. cond b (Some e.1) (lookup test es) ≡ None → cond b es (e ∷ remove_entry test es) ≡ e ∷ es)
     [ true ↦ λ (i : Some e.1 ≡ None). absurd (cc) | false ↦ λ i. ap (λ xs. e ∷ xs) (remove_absent test es i) ] h
 
-pub set_value_same : {K X : Type 0} (test : K → Bool) (es : List (K × X)) (v : X) → lookup test es ≡ Some v → set_value test es v ≡ es
-set_value_same test [] v h = refl
-set_value_same {K} {X} test (e ∷ es) v h =
-    elim (test e.0) as (λ b. cond b (Some e.1) (lookup test es) ≡ Some v → cond b ((e.0, v) ∷ es) (e ∷ set_value test es v) ≡ e ∷ es) [
-      | true ↦ λ (i : Some e.1 ≡ Some v). let w : e.1 ≡ v = cc in ap (λ (x : X). (e.0, x) ∷ es) (sym w)
-      | false ↦ λ i. ap (λ xs. e ∷ xs) (set_value_same test es v i)
-    ] h
-
 -- where a text is, its collection is
 pub record IsThere (c d t : List ℕ) (m : Map) : Type 0 where
   pub documents : Documents

@@ -12,10 +12,10 @@ use Rattle.tenant_map.specs.Keyed.{bytes_cmp, at, upsert, upsert_by, Ascends}
 use Rattle.tenant_map.specs.Maps.{Documents, Map, IsCollection, IsMap, text_at, documents_of, put_text, remove_text, remove_by, drop_texts, keep}
 use Rattle.tenant_map.proofs.Seen.{All-remove_entry, All-set_value, All-insert_entry, lookup_holds}
 
-at_symm : (x y : List ℕ) → at x y ≡ at y x
+pub at_symm : (x y : List ℕ) → at x y ≡ at y x
 at_symm x y = (eq_by_cmp_equiv nat_list_cmp_total).symm x y
 
-at_congr : (x y z : List ℕ) → at x y ≡ true → at x z ≡ at y z
+pub at_congr : (x y z : List ℕ) → at x y ≡ true → at x z ≡ at y z
 at_congr x y z h = (eq_by_cmp_equiv nat_list_cmp_total).congr x y z h
 
 -- ---- In key order

@@ -2,17 +2,10 @@
 use Rattle.std.specs.Option.{is_some}
 use Rattle.std.proofs.lemmas.List.{take-append-drop, take_more, length-take}
 use Rattle.std.proofs.Common.{◌≡◌, ℕ, ◌+◌, ◌<◌, List, [], ◌∷◌, ◌++◌, length, take, drop, get_or, append_assoc, Bool, true, false, cond, ◌||◌, Option, Some, None, refl, sym, ap, ◌∙◌, arith}
-use Rattle.std.specs.Cmp.{eq_by_cmp_equiv}
-use Rattle.std.specs.Cmp.Lexicographic.{nat_list_cmp_total}
 use Rattle.std.specs.List.{list_any, position_from}
 use Rattle.tenant_map.specs.Keyed.{at}
 use Rattle.tenant_map.specs.Tenancy.{place_in, has_repeated}
-
-at_symm : (x y : List ℕ) → at x y ≡ at y x
-at_symm x y = (eq_by_cmp_equiv nat_list_cmp_total).symm x y
-
-at_congr : (x y z : List ℕ) → at x y ≡ true → at x z ≡ at y z
-at_congr x y z h = (eq_by_cmp_equiv nat_list_cmp_total).congr x y z h
+use Rattle.tenant_map.proofs.Ordered.{at_symm, at_congr}
 
 -- what is found in a front, or after it
 abbrev or_else : {A : Type 0} → Option A → Option A → Option A

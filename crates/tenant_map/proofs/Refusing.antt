@@ -6,7 +6,7 @@ use Rattle.json_tape.specs.Answer.{Explains, NoneApplies}
 use Rattle.json_tape.specs.declared.tape.TextFault.{TextFault}
 use Rattle.json_tape.specs.declared.tape.TextFault.TheVariants as verdict
 use Rattle.tenant_map.specs.declared.faults.StoreFault.{StoreFault}
-use Rattle.tenant_map.specs.declared.faults.StoreFault.TheVariants.{TooLong, NotUtf8, NotJson, TooDeep, NumberLimit, LoneSurrogate, DuplicateName, TooManyCollections, TooManyDocuments, TooManyBytes, NotFound, ReplyTooLarge, NoMemory, Costly, Exists}
+use Rattle.tenant_map.specs.declared.faults.StoreFault.TheVariants as faults
 use Rattle.tenant_map.specs.declared.usage.Usage.{Usage}
 use Rattle.tenant_map.specs.Maps.{Map, put_text}
 use Rattle.tenant_map.specs.Quotas.{quota_by, quota_fault, usage_of}
@@ -24,47 +24,26 @@ refused_text verdict.Memory t h = h
 
 -- a text's verdict refuses a put, and one of a new document
 pub put_refused : (f : StoreFault) (c d t : List ℕ) (m : Map) → FailsVerdict t f → RefusesPut c d t m f
-put_refused TooLong c d t m h = h
-put_refused NotUtf8 c d t m h = h
-put_refused NotJson c d t m h = h
-put_refused TooDeep c d t m h = h
-put_refused NumberLimit c d t m h = h
-put_refused LoneSurrogate c d t m h = h
-put_refused DuplicateName c d t m h = h
-put_refused TooManyCollections c d t m h = absurd h
-put_refused TooManyDocuments c d t m h = absurd h
-put_refused TooManyBytes c d t m h = absurd h
-put_refused NotFound c d t m h = h
-put_refused ReplyTooLarge c d t m h = h
-put_refused NoMemory c d t m h = h
-put_refused Costly c d t m h = h
-put_refused Exists c d t m h = h
+put_refused faults.TooManyCollections c d t m h = absurd h
+put_refused faults.TooManyDocuments c d t m h = absurd h
+put_refused faults.TooManyBytes c d t m h = absurd h
+put_refused f c d t m h = h
 
 pub put_new_refused : (f : StoreFault) (c d t : List ℕ) (m : Map) → FailsVerdict t f → RefusesPutNew c d t m f
-put_new_refused TooLong c d t m h = h
-put_new_refused NotUtf8 c d t m h = h
-put_new_refused NotJson c d t m h = h
-put_new_refused TooDeep c d t m h = h
-put_new_refused NumberLimit c d t m h = h
-put_new_refused LoneSurrogate c d t m h = h
-put_new_refused DuplicateName c d t m h = h
-put_new_refused TooManyCollections c d t m h = absurd h
-put_new_refused TooManyDocuments c d t m h = absurd h
-put_new_refused TooManyBytes c d t m h = absurd h
-put_new_refused NotFound c d t m h = h
-put_new_refused ReplyTooLarge c d t m h = h
-put_new_refused NoMemory c d t m h = h
-put_new_refused Costly c d t m h = h
-put_new_refused Exists c d t m h = absurd h
+put_new_refused faults.Exists c d t m h = absurd h
+put_new_refused faults.TooManyCollections c d t m h = absurd h
+put_new_refused faults.TooManyDocuments c d t m h = absurd h
+put_new_refused faults.TooManyBytes c d t m h = absurd h
+put_new_refused f c d t m h = h
 
 pub none_applies : (t : List ℕ) (tree : Tree) → IsAccepted t tree → NoneApplies t 2
 none_applies t tree a = λ f low h. a.1 f h
 
 -- a usage's fault is a quota
 IsQuota : StoreFault → Type 0
-IsQuota f = (f ≡ TooManyCollections) ⊎ ((f ≡ TooManyDocuments) ⊎ (f ≡ TooManyBytes))
+IsQuota f = (f ≡ faults.TooManyCollections) ⊎ ((f ≡ faults.TooManyDocuments) ⊎ (f ≡ faults.TooManyBytes))
 
-quota_of : (f : StoreFault) (a b k : Bool) → cond a (Some TooManyCollections) (cond b (Some TooManyDocuments) (cond k (Some TooManyBytes) None)) ≡ Some f → IsQuota f
+quota_of : (f : StoreFault) (a b k : Bool) → cond a (Some faults.TooManyCollections) (cond b (Some faults.TooManyDocuments) (cond k (Some faults.TooManyBytes) None)) ≡ Some f → IsQuota f
 unfolding IsQuota
 quota_of f true b k h = inl cc
 quota_of f false true k h = inr (inl cc)
@@ -75,7 +54,7 @@ quota_is : (f : StoreFault) (m : Map) → quota_fault m ≡ Some f → IsQuota f
 unfolding quota_by
 quota_is f m h = quota_of f _ _ _ h
 
-by_quota : (P : StoreFault → Type 0) (f : StoreFault) → IsQuota f → P TooManyCollections → P TooManyDocuments → P TooManyBytes → P f
+by_quota : (P : StoreFault → Type 0) (f : StoreFault) → IsQuota f → P faults.TooManyCollections → P faults.TooManyDocuments → P faults.TooManyBytes → P f
 unfolding IsQuota
 by_quota P f (inl e) a b k = subst P (sym e) a
 by_quota P f (inr (inl e)) a b k = subst P (sym e) b
@@ -94,7 +73,7 @@ new_kept_refused c d t m f free doc (inr q) = by_quota (λ g. quota_fault (put_t
 pub quota_fails : (c d t : List ℕ) (m : Map) (f : StoreFault) (u : Usage) → u ≡ usage_of (put_text c d t m) → Some f ≡ quota_by u → FailsKeeping c d t m f
 quota_fails c d t m f u h q = inr (sym (ap quota_by h) ∙ sym q)
 
-pub no_memory_fails : (c d t : List ℕ) (m : Map) → FailsKeeping c d t m NoMemory
+pub no_memory_fails : (c d t : List ℕ) (m : Map) → FailsKeeping c d t m faults.NoMemory
 no_memory_fails c d t m = inl refl
 
 -- what is there or not

@@ -1,5 +1,6 @@
 -- What is done to entries is done to them as they are seen.
 use Rattle.std.proofs.Common.{◌≡◌, Bor, subst, suc, List, [], ◌∷◌, length, Bool, true, false, cond, Option, Some, None, Ordering, refl, ap, ◌∙◌}
+use Rattle.std.proofs.lemmas.Iterator.Adapters.{option_map_id}
 use Rattle.std.specs.Option.{option_map, option_copied}
 use Rattle.std.specs.List.{AllByRecursion}
 use Rattle.std.specs.Ordering.{match_ordering}
@@ -18,13 +19,9 @@ lookup-seen {Y = Y} g h test (e ∷ es) =
     elim (test (g e.0)) as (λ b. cond b (Some (h e.1)) (lookup test (seen_by g h es)) ≡ option_map h (cond b (Some e.1) (lookup (λ k. test (g k)) es)))
     [ true ↦ refl | false ↦ lookup-seen g h test es ]
 
-pub option_map_same : {X : Type 0} (o : Option X) → option_map (λ x. x) o ≡ o
-option_map_same None = refl
-option_map_same (Some x) = refl
-
 -- where the values are seen as they are
 pub lookup-under : {K J X : Type 0} (g : K → J) (test : J → Bool) (es : List (K × X)) → lookup test (seen_by g (λ x. x) es) ≡ lookup (λ k. test (g k)) es
-lookup-under g test es = lookup-seen g (λ x. x) test es ∙ option_map_same (lookup (λ k. test (g k)) es)
+lookup-under g test es = lookup-seen g (λ x. x) test es ∙ option_map_id (lookup (λ k. test (g k)) es)
 
 pub remove_entry-seen : {K J X Y : Type 0} (g : K → J) (h : X → Y) (test : J → Bool) (es : List (K × X)) → remove_entry test (seen_by g h es) ≡ seen_by g h (remove_entry (λ k. test (g k)) es)
 remove_entry-seen g h test [] = refl

@@ -4,7 +4,7 @@ use Rattle.json_tape.specs.Verdict.{rank, IsRefused}
 use Rattle.json_tape.specs.declared.tape.TextFault.{TextFault}
 use Rattle.json_tape.specs.declared.tape.TextFault.TheVariants as verdict
 use Rattle.tenant_map.specs.declared.faults.StoreFault.{StoreFault}
-use Rattle.tenant_map.specs.declared.faults.StoreFault.TheVariants.{TooLong, NotUtf8, NotJson, TooDeep, NumberLimit, LoneSurrogate, DuplicateName, TooManyCollections, TooManyDocuments, TooManyBytes, NotFound, ReplyTooLarge, NoMemory, Costly, Exists}
+use Rattle.tenant_map.specs.declared.faults.StoreFault.TheVariants as faults
 use Rattle.tenant_map.specs.Maps.{Map, put_text}
 use Rattle.tenant_map.specs.Quotas.{quota_fault}
 use Rattle.tenant_map.specs.Answers.{IsDocument, FailsVerdict, IsFree, AcceptsPut, RefusesPut, AcceptsPutNew, RefusesPutNew, of_text}
@@ -36,67 +36,40 @@ refused_once t f g x y =
 IsVerdict : List ℕ → StoreFault → Type 0
 IsVerdict t f = (v : TextFault) × IsRefused t v × (f ≡ of_text v)
 
-verdict_of : (t : List ℕ) (f : StoreFault) → f ≢ NoMemory → FailsVerdict t f → IsVerdict t f
+verdict_of : (t : List ℕ) (f : StoreFault) → f ≢ faults.NoMemory → FailsVerdict t f → IsVerdict t f
 unfolding IsVerdict
-verdict_of t TooLong n h = (verdict.TooLong, h, refl)
-verdict_of t NotUtf8 n h = (verdict.NotUtf8, h, refl)
-verdict_of t NotJson n h = (verdict.NotJson, h, refl)
-verdict_of t TooDeep n h = (verdict.TooDeep, h, refl)
-verdict_of t NumberLimit n h = (verdict.NumberLimit, h, refl)
-verdict_of t LoneSurrogate n h = (verdict.LoneSurrogate, h, refl)
-verdict_of t DuplicateName n h = (verdict.DuplicateName, h, refl)
-verdict_of t TooManyCollections n h = absurd h
-verdict_of t TooManyDocuments n h = absurd h
-verdict_of t TooManyBytes n h = absurd h
-verdict_of t NotFound n h = absurd h
-verdict_of t ReplyTooLarge n h = absurd h
-verdict_of t NoMemory n h = absurd (n refl)
-verdict_of t Costly n h = absurd h
-verdict_of t Exists n h = absurd h
+verdict_of t faults.TooLong n h = (verdict.TooLong, h, refl)
+verdict_of t faults.NotUtf8 n h = (verdict.NotUtf8, h, refl)
+verdict_of t faults.NotJson n h = (verdict.NotJson, h, refl)
+verdict_of t faults.TooDeep n h = (verdict.TooDeep, h, refl)
+verdict_of t faults.NumberLimit n h = (verdict.NumberLimit, h, refl)
+verdict_of t faults.LoneSurrogate n h = (verdict.LoneSurrogate, h, refl)
+verdict_of t faults.DuplicateName n h = (verdict.DuplicateName, h, refl)
+verdict_of t faults.NoMemory n h = absurd (n refl)
+verdict_of t f n h = absurd h
 
 -- the text's verdict, or a quota
 Cause : (c d t : List ℕ) → Map → StoreFault → Type 0
 Cause c d t m f = IsVerdict t f ⊎ (IsDocument t × (quota_fault (put_text c d t m) ≡ Some f))
 
-cause : (c d t : List ℕ) (m : Map) (f : StoreFault) → f ≢ NoMemory → RefusesPut c d t m f → Cause c d t m f
+cause : (c d t : List ℕ) (m : Map) (f : StoreFault) → f ≢ faults.NoMemory → RefusesPut c d t m f → Cause c d t m f
 unfolding Cause
-cause c d t m TooLong n h = inl (verdict_of t TooLong n h)
-cause c d t m NotUtf8 n h = inl (verdict_of t NotUtf8 n h)
-cause c d t m NotJson n h = inl (verdict_of t NotJson n h)
-cause c d t m TooDeep n h = inl (verdict_of t TooDeep n h)
-cause c d t m NumberLimit n h = inl (verdict_of t NumberLimit n h)
-cause c d t m LoneSurrogate n h = inl (verdict_of t LoneSurrogate n h)
-cause c d t m DuplicateName n h = inl (verdict_of t DuplicateName n h)
-cause c d t m TooManyCollections n h = inr h
-cause c d t m TooManyDocuments n h = inr h
-cause c d t m TooManyBytes n h = inr h
-cause c d t m NotFound n h = inl (verdict_of t NotFound n h)
-cause c d t m ReplyTooLarge n h = inl (verdict_of t ReplyTooLarge n h)
-cause c d t m NoMemory n h = inl (verdict_of t NoMemory n h)
-cause c d t m Costly n h = inl (verdict_of t Costly n h)
-cause c d t m Exists n h = inl (verdict_of t Exists n h)
+cause c d t m faults.TooManyCollections n h = inr h
+cause c d t m faults.TooManyDocuments n h = inr h
+cause c d t m faults.TooManyBytes n h = inr h
+cause c d t m f n h = inl (verdict_of t f n h)
 
 -- the text's verdict, the document that is there, or a quota
 NewCause : (c d t : List ℕ) → Map → StoreFault → Type 0
-NewCause c d t m f = IsVerdict t f ⊎ ((IsDocument t × (IsFree c d m → ⊥) × (f ≡ Exists)) ⊎ (IsFree c d m × (IsDocument t × (quota_fault (put_text c d t m) ≡ Some f))))
+NewCause c d t m f = IsVerdict t f ⊎ ((IsDocument t × (IsFree c d m → ⊥) × (f ≡ faults.Exists)) ⊎ (IsFree c d m × (IsDocument t × (quota_fault (put_text c d t m) ≡ Some f))))
 
-new_cause : (c d t : List ℕ) (m : Map) (f : StoreFault) → f ≢ NoMemory → RefusesPutNew c d t m f → NewCause c d t m f
+new_cause : (c d t : List ℕ) (m : Map) (f : StoreFault) → f ≢ faults.NoMemory → RefusesPutNew c d t m f → NewCause c d t m f
 unfolding NewCause
-new_cause c d t m TooLong n h = inl (verdict_of t TooLong n h)
-new_cause c d t m NotUtf8 n h = inl (verdict_of t NotUtf8 n h)
-new_cause c d t m NotJson n h = inl (verdict_of t NotJson n h)
-new_cause c d t m TooDeep n h = inl (verdict_of t TooDeep n h)
-new_cause c d t m NumberLimit n h = inl (verdict_of t NumberLimit n h)
-new_cause c d t m LoneSurrogate n h = inl (verdict_of t LoneSurrogate n h)
-new_cause c d t m DuplicateName n h = inl (verdict_of t DuplicateName n h)
-new_cause c d t m TooManyCollections n h = inr (inr h)
-new_cause c d t m TooManyDocuments n h = inr (inr h)
-new_cause c d t m TooManyBytes n h = inr (inr h)
-new_cause c d t m NotFound n h = inl (verdict_of t NotFound n h)
-new_cause c d t m ReplyTooLarge n h = inl (verdict_of t ReplyTooLarge n h)
-new_cause c d t m NoMemory n h = inl (verdict_of t NoMemory n h)
-new_cause c d t m Costly n h = inl (verdict_of t Costly n h)
-new_cause c d t m Exists n h = inr (inl (h.0, h.1, refl))
+new_cause c d t m faults.Exists n h = inr (inl (h.0, h.1, refl))
+new_cause c d t m faults.TooManyCollections n h = inr (inr h)
+new_cause c d t m faults.TooManyDocuments n h = inr (inr h)
+new_cause c d t m faults.TooManyBytes n h = inr (inr h)
+new_cause c d t m f n h = inl (verdict_of t f n h)
 
 no_document : (t : List ℕ) (v : TextFault) → IsDocument t → IsRefused t v → ⊥
 no_document t v (tree, a) r = a.1 v r.0

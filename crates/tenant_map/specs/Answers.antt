@@ -6,7 +6,7 @@ use Rattle.json_tape.specs.Answer.{NoneApplies}
 use Rattle.json_tape.specs.declared.tape.TextFault.{TextFault}
 use Rattle.json_tape.specs.declared.tape.TextFault.TheVariants as verdict
 use Rattle.tenant_map.specs.declared.faults.StoreFault.{StoreFault}
-use Rattle.tenant_map.specs.declared.faults.StoreFault.TheVariants.{TooLong, NotUtf8, NotJson, TooDeep, NumberLimit, LoneSurrogate, DuplicateName, TooManyCollections, TooManyDocuments, TooManyBytes, NotFound, NoMemory, Exists}
+use Rattle.tenant_map.specs.declared.faults.StoreFault.TheVariants as faults
 use Rattle.tenant_map.specs.Maps.{Map, put_text, text_at}
 use Rattle.tenant_map.specs.Quotas.{quota_fault}
 
@@ -20,21 +20,21 @@ FailsQuota collection document text m fault = IsDocument text × (quota_fault (p
 
 -- Why a text is refused: its verdict. Want of memory is met only with a text that is neither too long nor not UTF-8.
 abbrev pub FailsVerdict : List ℕ → StoreFault → Type 0
-FailsVerdict text TooLong = IsRefused text verdict.TooLong
-FailsVerdict text NotUtf8 = IsRefused text verdict.NotUtf8
-FailsVerdict text NotJson = IsRefused text verdict.NotJson
-FailsVerdict text TooDeep = IsRefused text verdict.TooDeep
-FailsVerdict text NumberLimit = IsRefused text verdict.NumberLimit
-FailsVerdict text LoneSurrogate = IsRefused text verdict.LoneSurrogate
-FailsVerdict text DuplicateName = IsRefused text verdict.DuplicateName
-FailsVerdict text NoMemory = NoneApplies text 2
+FailsVerdict text faults.TooLong = IsRefused text verdict.TooLong
+FailsVerdict text faults.NotUtf8 = IsRefused text verdict.NotUtf8
+FailsVerdict text faults.NotJson = IsRefused text verdict.NotJson
+FailsVerdict text faults.TooDeep = IsRefused text verdict.TooDeep
+FailsVerdict text faults.NumberLimit = IsRefused text verdict.NumberLimit
+FailsVerdict text faults.LoneSurrogate = IsRefused text verdict.LoneSurrogate
+FailsVerdict text faults.DuplicateName = IsRefused text verdict.DuplicateName
+FailsVerdict text faults.NoMemory = NoneApplies text 2
 FailsVerdict text _ = ⊥
 
 -- Why a put is refused: the text's verdict, then the quotas as they would be counted after it.
 abbrev pub RefusesPut : (collection document text : List ℕ) → Map → StoreFault → Type 0
-RefusesPut collection document text m TooManyCollections = FailsQuota collection document text m TooManyCollections
-RefusesPut collection document text m TooManyDocuments = FailsQuota collection document text m TooManyDocuments
-RefusesPut collection document text m TooManyBytes = FailsQuota collection document text m TooManyBytes
+RefusesPut collection document text m faults.TooManyCollections = FailsQuota collection document text m faults.TooManyCollections
+RefusesPut collection document text m faults.TooManyDocuments = FailsQuota collection document text m faults.TooManyDocuments
+RefusesPut collection document text m faults.TooManyBytes = FailsQuota collection document text m faults.TooManyBytes
 RefusesPut collection document text m fault = FailsVerdict text fault
 
 -- a put that nothing refuses
@@ -49,10 +49,10 @@ IsFree collection document m = text_at collection document m ≡ None
 
 -- Why a put of a new document is refused: the text's verdict, then the document that is there, then the quotas as of a put.
 abbrev pub RefusesPutNew : (collection document text : List ℕ) → Map → StoreFault → Type 0
-RefusesPutNew collection document text m Exists = IsDocument text × (IsFree collection document m → ⊥)
-RefusesPutNew collection document text m TooManyCollections = IsFree collection document m × FailsQuota collection document text m TooManyCollections
-RefusesPutNew collection document text m TooManyDocuments = IsFree collection document m × FailsQuota collection document text m TooManyDocuments
-RefusesPutNew collection document text m TooManyBytes = IsFree collection document m × FailsQuota collection document text m TooManyBytes
+RefusesPutNew collection document text m faults.Exists = IsDocument text × (IsFree collection document m → ⊥)
+RefusesPutNew collection document text m faults.TooManyCollections = IsFree collection document m × FailsQuota collection document text m faults.TooManyCollections
+RefusesPutNew collection document text m faults.TooManyDocuments = IsFree collection document m × FailsQuota collection document text m faults.TooManyDocuments
+RefusesPutNew collection document text m faults.TooManyBytes = IsFree collection document m × FailsQuota collection document text m faults.TooManyBytes
 RefusesPutNew collection document text m fault = FailsVerdict text fault
 
 -- a put of a new document that nothing refuses
@@ -62,20 +62,20 @@ pub record AcceptsPutNew (collection document text : List ℕ) (old new : Map) :
 
 -- why a text that was read is not kept: a quota, or want of memory
 abbrev pub FailsKeeping : (collection document text : List ℕ) → Map → StoreFault → Type 0
-FailsKeeping collection document text m fault = (fault ≡ NoMemory) ⊎ (quota_fault (put_text collection document text m) ≡ Some fault)
+FailsKeeping collection document text m fault = (fault ≡ faults.NoMemory) ⊎ (quota_fault (put_text collection document text m) ≡ Some fault)
 
 -- the text's verdict as a fault of the store
 abbrev pub of_text : TextFault → StoreFault
-of_text verdict.TooLong = TooLong
-of_text verdict.NotUtf8 = NotUtf8
-of_text verdict.NotJson = NotJson
-of_text verdict.TooDeep = TooDeep
-of_text verdict.NumberLimit = NumberLimit
-of_text verdict.LoneSurrogate = LoneSurrogate
-of_text verdict.DuplicateName = DuplicateName
-of_text verdict.Memory = NoMemory
+of_text verdict.TooLong = faults.TooLong
+of_text verdict.NotUtf8 = faults.NotUtf8
+of_text verdict.NotJson = faults.NotJson
+of_text verdict.TooDeep = faults.TooDeep
+of_text verdict.NumberLimit = faults.NumberLimit
+of_text verdict.LoneSurrogate = faults.LoneSurrogate
+of_text verdict.DuplicateName = faults.DuplicateName
+of_text verdict.Memory = faults.NoMemory
 
 -- the fault of a command on what has to be there, by what was found
 abbrev pub missing : {X : Type 0} → Option X → Option StoreFault
-missing None = Some NotFound
+missing None = Some faults.NotFound
 missing (Some x) = None

@@ -4,7 +4,8 @@ use Rattle.std.specs.Map.{lookup, set_value}
 use Rattle.std.specs.BTreeMap.{insert_entry}
 use Rattle.tenant_map.specs.Keyed.{at, by_bytes, bytes_cmp, upsert}
 use Rattle.tenant_map.proofs.Seen.{lookup-under, set_value-seen, insert_entry-seen}
-use Rattle.tenant_map.proofs.Mapped.{put_some, put_none, set_value_same}
+use Rattle.std.proofs.lemmas.Map.Steps.{set_value_same}
+use Rattle.tenant_map.proofs.Mapped.{put_some, put_none}
 use Rattle.tenant_map.proofs.tenant.put_at.Goals as goal
 
 pub returns-in-Some-clause-ok : goal.returns-in-Some-clause-ok

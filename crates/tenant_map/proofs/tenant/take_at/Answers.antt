@@ -3,7 +3,8 @@ use Rattle.std.specs.Map.{lookup, set_value}
 use Rattle.tenant_map.specs.Keyed.{at, by_bytes}
 use Rattle.tenant_map.specs.Maps.{drop_texts, keep}
 use Rattle.tenant_map.proofs.Seen.{lookup-under, set_value-seen}
-use Rattle.tenant_map.proofs.Mapped.{text_at_some, text_at_none, set_value_same, remove_absent, removed_some, kept_none, kept_some}
+use Rattle.std.proofs.lemmas.Map.Steps.{set_value_same}
+use Rattle.tenant_map.proofs.Mapped.{text_at_some, text_at_none, remove_absent, removed_some, kept_none, kept_some}
 use Rattle.tenant_map.proofs.tenant.take_at.Goals as goal
 
 pub returns-in-None-clause-value : goal.returns-in-None-clause-value
