@@ -4,6 +4,7 @@ ghost use Rattle.std.specs.Prelude.{◌≡◌, ◌⊎◌, ◌↔◌};
 ghost use Rattle.std.specs.IoError.{error_kind};
 ghost use Rattle.client_commands.specs.Statuses.{status_of, status_of_refusal};
 
+use crate::messages::{Context, tell};
 use client_frames::{AnswerFault, PayloadFault, SendFault};
 use client_lines::{KeyFault, LineFault};
 use std::io::{self, ErrorKind};
@@ -128,6 +129,14 @@ impl Failure {
             Failure::SomeRefused => 1,
             _ => 4,
         }
+    }
+
+    /// Prints what happened to standard error, and answers the exit status.
+    pub fn report<R: Eprint>(self, rt: &R, context: &Context<'_>) -> u8
+        ensures { result ≡ status_of self }
+    {
+        tell(rt, self, context);
+        self.status()
     }
 }
 

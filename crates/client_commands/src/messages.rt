@@ -1,8 +1,5 @@
 //! What is printed where a command ends early: the failure's name, and what to do about it.
 
-ghost use Rattle.std.specs.Prelude.{◌≡◌};
-ghost use Rattle.client_commands.specs.Statuses.{status_of};
-
 use crate::failure::Failure;
 use crate::statuses::refusal;
 use client_frames::{AnswerFault, SendFault};
@@ -36,16 +33,11 @@ impl<'a> Context<'a> {
     };
 }
 
-impl Failure {
-    /// Prints what happened to standard error, and answers the exit status.
-    pub fn report<R: Eprint>(self, rt: &R, context: &Context<'_>) -> u8
-        ensures { result ≡ status_of self }
-    {
-        let (name, what) = message(self);
-        let about = about(self, context);
-        let _ = eprintln!(rt; "path_client: {name}: {what}{about}");
-        self.status()
-    }
+/// Prints what happened to standard error.
+pub fn tell<R: Eprint>(rt: &R, failure: Failure, context: &Context<'_>) {
+    let (name, what) = message(failure);
+    let about = about(failure, context);
+    let _ = eprintln!(rt; "path_client: {name}: {what}{about}");
 }
 
 // The failure's name, and what is to be done.
