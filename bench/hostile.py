@@ -2,10 +2,10 @@
 """Times `path_server query` on texts and queries that were made to take long: bench/hostile.py [SECONDS [WORD]].
 
 Each text has up to 1,048,576 bytes, or as many as the environment's MEBIBYTES (1 to 4) says, each query up to 4,096. A row of the table is
-the shape, how the program ended, its seconds of processor time, and the aim: 1 s for each mebibyte, and at least 1.5 s for what has a
-charge of nearly 10,000,000 units. The program has a stack of 256 KiB, and is stopped after so many SECONDS (5). With a WORD, only the rows that have it in their names are run. The
-last line is the number of rows above their aim, and the exit status is 1 where there is one. The program is the one that
-bin/build makes, or the one that the environment's PATH_SERVER names.
+the shape, how the program ended, its seconds of processor time, and the aim: 1 s for each mebibyte, at least 1.5 s for what has a charge of
+nearly 10,000,000 units, and 0.1 s for each mebibyte for what a product asks. The program has a stack of 256 KiB, and is stopped after so many
+SECONDS (5). With a WORD, only the rows that have it in their names are run. The last line is the number of rows above their aim, and the exit
+status is 1 where there is one. The program is the one that bin/build makes, or the one that the environment's PATH_SERVER names.
 """
 import collections
 import functools
@@ -21,7 +21,7 @@ from running import PROGRAM, need_program
 MEBIBYTES = int(os.environ.get("MEBIBYTES") or 1)
 TEXT, QUERY, STACK = MEBIBYTES << 20, 4_096, 256 << 10
 DEPTH = 254
-AIM, AIM_OF_UNITS = 1.0 * MEBIBYTES, max(1.5, 1.0 * MEBIBYTES)
+AIM, AIM_OF_UNITS, AIM_OF_ASKED = 1.0 * MEBIBYTES, max(1.5, 1.0 * MEBIBYTES), 0.1 * MEBIBYTES
 NUMBER, STRING = "7" * 256, '"' + "s" * 998 + '"'
 LEAVES = {"zeros": "0", "words": "true", "long numbers": NUMBER, "strings": '"a"', "long strings": STRING,
           "escapes": '"' + "\\u0061" * 160 + '"', "arrays": "[0]", "empty arrays": "[]", "objects": '{"a":0}',
@@ -301,10 +301,40 @@ def free():
     yield "strings of one long prefix for nothing", many(f'"{prefix}y"'), distinct(f'@=="{prefix}{chr(at)}"' for at in range(97, 120))
     yield "zeros, parentheses 31 deep for nothing", texts["zeros"], within(31, "(", "||".join(["@==2"] * 660), ")").join(["$[?", "]"])
     yield "zeros, a name and keys for nothing", texts["zeros"], distinct(itertools.chain(["@.a"], (f"@=={key}" for key in range(1, 2_000))))
+    between = (f"@=={key}" if key % 40 else f"@.a{key}" for key in range(1, 2_000))
+    yield "zeros, names between keys for nothing", texts["zeros"], distinct(between)
+    yield "zeros, a name between keys in parentheses for nothing", texts["zeros"], distinct(itertools.chain(["@.a"], (f"!(@!={key}&&@!={key + 1})" for key in range(1, 2_000))))
+    pairs = [a + op + b for a, b in ["@$", "$@", "@@", "$$"] for op in ["==", "!=", "<", "<=", ">", ">="]]
+    yield "zeros, all pairs for nothing", texts["zeros"], distinct(itertools.cycle(pairs))
+    yield "zeros, pairs and keys for nothing", texts["zeros"], distinct(f"@==$&&@=={key}" for key in range(1, 2_000))
+    yield "arrays, all pairs for nothing", many("[0]"), distinct(itertools.cycle(pairs))
+    yield "objects, the text for nothing", many('{"a":0}'), filled("@==$")
+    yield "an object of zeros, all pairs for nothing", members(numbered())[0], distinct(itertools.cycle(pairs))
+    sides = itertools.cycle(["@", "length(@)", "count(@)", "value(@)", "$"])
+    yield "zeros, five sides for nothing", texts["zeros"], distinct(f"{side}=={key}" for side, key in zip(sides, range(1, 2_000)))
     yield "strings, lengths and keys for nothing", texts["strings"], distinct(f'@>="{key}"&&length(@)=={key}' for key in range(2, 2_000))
 
 
-ROWS = {free: AIM, rooted: AIM, levels: AIM, equality: AIM, depths: AIM, selectors: AIM, filters: AIM, readings: AIM, units: AIM_OF_UNITS}
+def asked():
+    """Queries that a product asks, on items."""
+    items, size = [], 0
+    for at in itertools.count():
+        country, tags = "de" if at % 3 else "fr", f'["new","t{at % 10}"]' if at % 5 == 0 else f'["t{at % 10}"]'
+        item = f'{{"id":{at},"name":"item {at}","price":{at % 100}.5,"stock":{at % 7},"tags":{tags},"maker":{{"country":"{country}"}}}}'
+        size += len(item) + 1
+        if size > TEXT - 64:
+            break
+        items.append(item)
+    text = '{"limit":50,"country":"de","items":[' + ",".join(items) + "]}"
+    queries = ["$.items[17].name", "$.items[-10:]", "$.items[*].name", "$..name", "$.items[?@.id==4000]", "$.items[?@.price<10].name",
+               "$.items[?@.price<10&&@.stock>0&&@.maker.country=='de']", "$.items[?@.price<$.limit&&@.maker.country==$.country].id",
+               "$.items[?@.id==1||@.id==20||@.id==300||@.id==4000||@.id==5000]", "$.items[?@.tags[?@=='new']].id",
+               "$.items[?length(@.name)>8&&count(@.tags[*])>1]", "$..[?@.country=='fr']"]
+    for query in queries:
+        yield f"items, {query}", text, query
+
+
+ROWS = {asked: AIM_OF_ASKED, free: AIM, rooted: AIM, levels: AIM, equality: AIM, depths: AIM, selectors: AIM, filters: AIM, readings: AIM, units: AIM_OF_UNITS}
 
 
 def limit_stack():

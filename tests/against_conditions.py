@@ -1,8 +1,8 @@
 #!/usr/bin/env python3
-"""Compares what random conditions on one side select with a plain evaluator: tests/against_conditions.py [CONDITIONS [SEED]].
+"""Compares what random conditions on a few sides select with a plain evaluator: tests/against_conditions.py [CONDITIONS [SEED]].
 
-A condition joins comparisons of one side with literals by `||`, `&&`, `!` and parentheses; its values are the literals, others between
-and beyond them, and arrays and objects. The evaluator is plain_queries.py. The program is the one that bin/build makes or the
+A condition joins comparisons of one side with literals, and of `@` and `$`, by `||`, `&&`, `!` and parentheses; its values are the literals,
+others between and beyond them, and arrays and objects. The evaluator is plain_queries.py. The program is the one that bin/build makes or the
 one that the environment's PATH_SERVER names.
 """
 import random
@@ -30,7 +30,9 @@ def comparison(chance, side):
     kind = chance.random()
     if kind < 0.05:
         return chance.choice(["@", "$", "@.a"])
-    left, right = (literal(chance) if kind < 0.15 else side), literal(chance)
+    if kind < 0.12:
+        return chance.choice("@$") + chance.choice(OPERATORS) + chance.choice("@$")
+    left, right = (literal(chance) if kind < 0.2 else side), literal(chance)
     left, right = (left, right) if chance.randrange(2) else (right, left)
     return left + chance.choice(OPERATORS) + right
 
@@ -46,9 +48,12 @@ def condition(chance, side, depth):
 
 
 def query(chance):
-    """A filter by conditions on one side, or on one of two now and then."""
-    sides = [chance.choice(SIDES) for _ in range(chance.choice([1, 1, 1, 2]))]
-    parts = [condition(chance, chance.choice(sides), 3) for _ in range(chance.randint(1, 6))]
+    """A filter by conditions on one side, or on a few, often several next to each other on the same."""
+    sides = [chance.choice(SIDES) for _ in range(chance.choice([1, 1, 2, 3]))]
+    side, parts = sides[0], []
+    for _ in range(chance.choice([1, 2, 4, 8, 16])):
+        side = chance.choice(sides) if chance.random() < 0.2 else side
+        parts.append(condition(chance, side, chance.choice([0, 0, 1, 3])))
     return "$[?" + chance.choice(["||", "&&"]).join(parts) + "]"
 
 
