@@ -84,7 +84,7 @@ def main():
         while time.monotonic() < until:
             rounds.round()
         server.finish(report)
-        found = set(server.ends().values()) - {"FrameFault", "ReadFault", "WriteFault"}
+        found = {it for it in server.ends().values() if not it.endswith(" lines dropped")} - {"FrameFault", "ReadFault", "WriteFault"}
         report.case("the names of ends", "", set(), found)
     told = f"{rounds.opened} connections, {rounds.replies} replies, at most {rounds.most} KiB"
     report.close(f"long listening: {told} in {minutes:g} minutes, seed {seed}")
