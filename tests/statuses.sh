@@ -52,6 +52,8 @@ expect 2 '' 'path_server: NotWellFormed' '[1]' query '$['
 expect 2 '' 'path_server: NotValid' '[1]' query '$[?count(@)]'
 expect 2 '' 'path_server: QueryTooLong' '[1]' query "\$$(times 4096 ' ').a"
 expect 0 "path_server 0.1.0$newline" '' '' --version
+expect 3 '' any ''
+expect 3 '' any '' query '$' '$'
 expect 3 '' any '' query
 expect 3 '' any '' question '$'
 expect 3 '' 'path_server: BadCommandLine' '' query "$(printf '\377')"
@@ -102,6 +104,9 @@ expect 3 '' any '' serve 127.0.0.1:0 "$key"
 expect 3 '' any '' serve 127.0.0.1:0 "$key" 0
 expect 3 '' any '' serve 127.0.0.1:0 "$key" 1000001
 expect 3 '' any '' serve 127.0.0.1:0 "$key" one
+for count in 18446744073709551617 -1 1.5 ''; do
+    expect 3 '' any '' serve 127.0.0.1:0 "$key" "$count"
+done
 expect 3 '' any '' call
 expect 3 '' 'path_server: BadKeys' '' serve 127.0.0.1:0 "$key," 1
 expect 3 '' 'path_server: BadKeys' '' serve nowhere '' 1
@@ -151,13 +156,34 @@ compare_fault 'path_server: WriteFault' "$(echo "${usage// /}" | "$program" call
 expect_served
 compare_fault 'path_server: ReadFault' "$("$program" call nowhere </ 2>"$room/errors"; echo "$?$(cat "$room/errors")")"
 
+# The server that the command line asks for ends with 0 once its standard input is closed.
+expect_listens() {
+    local got
+    got=$("$program" listen 127.0.0.1:0 "$@" 2>&1 < <(:) | sed 's/^listening 127.0.0.1:[0-9]*$/listening/'; echo "${PIPESTATUS[0]}")
+    tried=$((tried + 1))
+    [ "$got" = "listening${newline}served 0 connections, 0 requests${newline}0" ] || { printf 'listen %s: %.200s\n' "$*" "$got" >&2; failed=$((failed + 1)); }
+}
+
 expect 3 '' any '' listen 127.0.0.1:0
-expect 3 '' any '' listen 127.0.0.1:0 "$key" --connections 0
+expect 3 '' any '' listen 127.0.0.1:0 --log
+expect 3 '' any '' listen 127.0.0.1:0 "$key" "$other"
+expect 3 '' any '' listen 127.0.0.1:0 "$key" --idle
+for words in '--connections 0' '--connections 1000001' '--memory 14680071' '--memory 0' '--memory 1.5' '--idle 0' '--idle 31536001' \
+    '--stall 0' '--stall 31536001' '--frame-time 0' '--frame-time 31536001' '--spare 0' '--spare 31536001' '--spare -1' '--stall ten'; do
+    expect 3 '' any '' listen 127.0.0.1:0 "$key" $words
+done
+for words in '--connections 1' '--memory 14680072' '--idle 31536000' '--stall 1' '--frame-time 31536000' '--spare 1' '--log'; do
+    expect_listens "$key" $words
+done
 expect 3 '' 'path_server: BadKeys' '' listen 127.0.0.1:0 "$key,"
 expect 4 '' "path_server: NetFault${newline}nowhere: invalid input parameter" '' listen nowhere "$key"
 expect 4 '' 'path_server: ReadFault' '' listen 127.0.0.1:0 --keys "$room/none"
 printf '%s\n' "$key" >"$room/keys"
 expect 3 '' 'path_server: RepeatedKey' '' listen 127.0.0.1:0 "$key" --keys "$room/keys"
+printf '# tenants\r\n\r\n%s\r\n  # more\n\n %s \n' "$key" "$other" >"$room/keys"
+expect_listens --keys "$room/keys"
+printf '%s,%s' "$key" "$other" >"$room/keys"
+expect_listens --keys "$room/keys"
 printf '# tenants\r\n\r\n%s\r\n  # more\n%s,%s\n' "$key" "$other" "${key%?}" >"$room/keys"
 expect 3 '' "path_server: BadKeys${newline}$room/keys: line 5" '' listen 127.0.0.1:0 --keys "$room/keys"
 printf '# none\n' >"$room/keys"

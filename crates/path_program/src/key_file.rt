@@ -58,35 +58,3 @@ fn bad_line(alloc: Global, path: &str, number: u64) -> Failure {
         Err(_) => Failure::Memory,
     }
 }
-
-#[cfg(test)]
-mod tests {
-    use super::*;
-    use std::test::Fail;
-
-    const ONE: [u8; 16] = [0x11; 16];
-
-    const TWO: [u8; 16] = [0x22; 16];
-
-    #[test]
-    fn lines_of_keys(rt: HostRuntime) -> Result<(), Fail> {
-        let text =
-            b"# tenants\r\n\r\n11111111111111111111111111111111\r\n  # more\n\n 22222222222222222222222222222222 \n";
-        let keys = keys_of(rt.alloc(), "keys", text)?;
-        assert_eq!(rt; keys.as_slice(), [ONE, TWO].as_slice());
-        let text = b"11111111111111111111111111111111,22222222222222222222222222222222";
-        let keys = keys_of(rt.alloc(), "keys", text)?;
-        assert_eq!(rt; keys.as_slice(), [ONE, TWO].as_slice());
-        Ok(())
-    }
-
-    #[test]
-    fn line_that_is_none(rt: HostRuntime) -> Result<(), Fail> {
-        let text = b"# tenants\n11111111111111111111111111111111\n1111\n";
-        match keys_of(rt.alloc(), "keys", text) {
-            Err(Failure::KeyLine(line)) => assert_eq!(rt; line.number, 3),
-            _ => return Err(Fail::new(format_args!("not refused by its line"))),
-        }
-        Ok(())
-    }
-}

@@ -1,13 +1,11 @@
 //! The program `path_server`: answers what its command line asks for on the standard streams or over sockets, and ends with a status.
 #![tactic(auto)]
 
-mod end_lines;
 mod key_file;
-mod loop_lines;
 mod many;
 
-use crate::end_lines::EndLines;
 use command_line::{Failure, Request, read_request};
+use connection_lines::EndLines;
 use path_hub::Hub;
 use path_server::{call_stream, query_stream, read_call, read_keys, replay_stream};
 use socket_wire::{StreamListener, StreamWire, serve_streams};

@@ -4,8 +4,8 @@ ghost use Rattle.std.specs.Prelude.{◌≡◌};
 ghost use Rattle.command_line.specs.Statuses.{status_of};
 
 use crate::key_file::read_key_file;
-use crate::loop_lines::LoopLines;
 use command_line::{AddressFault, Failure, Listening};
+use connection_lines::LoopLines;
 use event_loop::{Gate, Limits, LoopFault, Server, Since, Sockets, Totals};
 use path_hub::Hub;
 use path_listen::HubCore;
