@@ -434,7 +434,7 @@ def slowly(report):
                     break
                 got += piece
                 if len(got) < 4_000_000:
-                    time.sleep(len(got) / 1_000_000 - (time.monotonic() - began) if len(got) / 1_000_000 > time.monotonic() - began else 0)
+                    time.sleep(max(len(got) / 1_000_000 - (time.monotonic() - began), 0))
             report.case("bytes of a reply that is read slowly", "", 8_000_000, len(got) // 1_000_000 * 1_000_000)
         server.finish(report)
 

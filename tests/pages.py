@@ -37,7 +37,7 @@ LONG = re.compile(r"(?:\w+=\S* )*(?:nice )?(bin/(?:check\b(?!-)|build\b|edits tr
 FOLDERS = "bin|bench|clients|crates|deploy|docs|tests"
 PATH = re.compile(rf"`((?:{FOLDERS})/[\w./@-]*\w/?)(?:[ `].*)?")
 ADDRESS = re.compile(r"(127\.0\.0\.1[: ])([1-9]\d{3,4})")
-SCRIPT = re.compile(r"(?:bin/|deploy/|printf |echo |cat |export |exec |for |haproxy -db |key=)")
+SCRIPT = re.compile(r"(?:bin/|deploy/|printf |echo |cat |export |exec |for [^\n]*; do|haproxy -db |key=)")
 SERVES = re.compile(r"^bin/path_server(?:_run)? (?:listen|serve) [^&|]*\Z", re.M)
 TOOLS = re.compile(r"(?:\| *|\n|etc/)(jq|nc|xxd|curl|node|socat|haproxy)\b")
 COUNTED = re.compile(r"`bin/definitions (\w+::[\w:]+)`[^|]*\|(?:[^|]*\|)*? *(\d+ files?, [\d,]+ lines)")
