@@ -143,6 +143,8 @@ def passes_on(report):
 
 
 def main():
+    # a shell that starts this in the background has it ignore SIGINT, and then no script below can trap it
+    signal.signal(signal.SIGINT, signal.default_int_handler)
     report = Report()
     for number in (signal.SIGTERM, signal.SIGINT):
         serves_to_the_end(report, number.name, number)
