@@ -66,7 +66,7 @@ class Room:
 def check_subcommands(report, room):
     room.case(["put", "shop", "order-1"], 0, text=TEXT)
     room.case(["put", "shop", "order-2", room.file("text", b" [1] ")], 0)
-    room.refused(["put-new", "shop", "order-1"], 1, "Exists: the document is there: put takes its place", text=b"1")
+    room.refused(["put-new", "shop", "order-1"], 1, "Exists: the document exists: put replaces it", text=b"1")
     room.case(["put-new", "shop", "order-3"], 0, text=b"1")
     room.case(["get", "shop", "order-1"], 0, TEXT)
     room.case(["get", "shop", "order-2"], 0, b" [1] ")
@@ -86,7 +86,7 @@ def check_subcommands(report, room):
     room.refused(["remove", "shop", "order-3"], 1, "NotFound: there is no such document or collection")
     room.case(["drop", "odd"], 0)
     room.refused(["drop", "odd"], 1, "NotFound: there is no such document or collection")
-    room.refused(["put", "shop", "order-1"], 1, "NotJson: the text is no JSON (RFC 8259)", text=b"{")
+    room.refused(["put", "shop", "order-1"], 1, "NotJson: the text is not JSON (RFC 8259)", text=b"{")
     room.refused(["query", "shop", "$["], 2, "NotWellFormed: the query is not well-formed (RFC 9535, section 2.1)")
     room.refused(["query", "shop", "$[?count(@)]"], 2, "NotValid: the query is not valid (RFC 9535, section 2.1)")
     room.case(["get", "shop", "order-1"], 0, TEXT)
@@ -98,25 +98,25 @@ def check_keys(report, room):
     new = [room.run("new-key").stdout for _ in range(2)]
     report.case("two new keys", "", (True, True, True), (*(bool(re.fullmatch(rb"[0-9a-f]{32}\n", it)) for it in new), new[0] != new[1]))
     for name, text, line in (
-        ("empty", "", "NoKey: path_client new-key prints a key for the empty file "),
-        ("blank", " \n", "NoKey: path_client new-key prints a key for the empty file "),
-        ("several", f"{KEY.hex()},{KEY.hex()}", "SeveralKeys: a client has one key: write a file with one of those in "),
-        ("lines", f"{KEY.hex()}\n{KEY.hex()}\n", "SeveralKeys: a client has one key: write a file with one of those in "),
-        ("short", KEY.hex()[1:], "BadKey: a key has 32 hexadecimal digits, unlike what is in "),
-        ("long", KEY.hex() + "0", "BadKey: a key has 32 hexadecimal digits, unlike what is in "),
+        ("empty", "", "NoKey: path_client new-key makes a key for the empty file "),
+        ("blank", " \n", "NoKey: path_client new-key makes a key for the empty file "),
+        ("several", f"{KEY.hex()},{KEY.hex()}", "SeveralKeys: a client uses one key: make a file with one of the keys in "),
+        ("lines", f"{KEY.hex()}\n{KEY.hex()}\n", "SeveralKeys: a client uses one key: make a file with one of the keys in "),
+        ("short", KEY.hex()[1:], "BadKey: a key has 32 hexadecimal digits, unlike the one in "),
+        ("long", KEY.hex() + "0", "BadKey: a key has 32 hexadecimal digits, unlike the one in "),
     ):
         path = room.file(name, text)
         room.refused(["usage"], 3, line + path, PATH_SERVER_KEY_FILE=path)
-    room.refused(["usage", "--key-file", "none.txt"], 3, "ReadFault: no file of keys can be read at none.txt")
-    room.refused(["usage"], 3, "NoKeyFile: say which file has the tenant's key by --key-file FILE or PATH_SERVER_KEY_FILE", PATH_SERVER_KEY_FILE="")
+    room.refused(["usage", "--key-file", "none.txt"], 3, "ReadFault: cannot read the key file none.txt")
+    room.refused(["usage"], 3, "NoKeyFile: give the file with the tenant's key by --key-file FILE or PATH_SERVER_KEY_FILE", PATH_SERVER_KEY_FILE="")
     stranger = room.file("stranger", STRANGER.hex())
-    room.refused(["usage", "--key-file", stranger], 1, f"NoTenant: the server knows no tenant with the key of {stranger}")
+    room.refused(["usage", "--key-file", stranger], 1, f"NoTenant: the server has no tenant with the key in {stranger}")
     spaced = room.file("spaced", f"\r\n\t {KEY.hex()} ,\n")
     room.case(["--key-file", spaced, "usage"], 0, b"collections 0, documents 0, bytes 0\n")
 
 
 def check_what_is_invalid(room):
-    room.refused(["usage"], 3, "NoAddress: say where the server is by --at ADDR or PATH_SERVER_AT", PATH_SERVER_AT="")
+    room.refused(["usage"], 3, "NoAddress: give the server's address by --at ADDR or PATH_SERVER_AT", PATH_SERVER_AT="")
     room.refused(["usage", "--at", "127.0.0.1"], 3, "NoAddress: an address is a host, a colon and a port, not 127.0.0.1")
     room.refused(["usage", "--at", "127.0.0.1:1"], 4, "NetFault: no server answers at 127.0.0.1:1")
     collection = "BadName: a collection's name has 1 to 64 ASCII letters, digits, '.', '-' or '_'"
@@ -126,34 +126,34 @@ def check_what_is_invalid(room):
         room.refused(["get", "c", name + ("b" * 64 if len(name) > 64 else "")], 3, document)
     room.refused(["put", "c", "d"], 1, "TooLong: a text has at most 4194304 bytes", text=b" " * 4_194_304 + b"1")
     room.refused(["query", "c", "$" + " " * 4_096], 2, "QueryTooLong: a query has at most 4096 bytes")
-    room.refused(["put", "c", "d", "none.json"], 4, "ReadFault: the input cannot be read")
-    room.refused(["load", "c", "--name", "$..id"], 3, "NameQuery: --name takes a singular query, as $.id")
+    room.refused(["put", "c", "d", "none.json"], 4, "ReadFault: cannot read the input")
+    room.refused(["load", "c", "--name", "$..id"], 3, "NameQuery: --name takes a singular query, such as $.id")
     for words in ([], ["fetch"], ["get", "c"], ["get", "c", "d", "e"], ["usage", "--timeout", "0"], ["list", "c", "--name", "$.a"]):
         room.case(words, 3, errors=any)
     room.case(["--version"], 0, b"path_client 0.1.0\n")
     if os.path.exists("/dev/full"):
         with open("/dev/full", "wb") as full:
             ended = subprocess.run([PROGRAM, "new-key"], stdout=full, stderr=subprocess.PIPE, timeout=60)
-        room.report.case("new-key to a full device", "", (4, b"path_client: WriteFault: the output cannot be written\n"), (ended.returncode, ended.stderr))
+        room.report.case("new-key to a full device", "", (4, b"path_client: WriteFault: cannot write the output\n"), (ended.returncode, ended.stderr))
 
 
 def check_peers(room):
     """Servers that answer what is no reply. None of them is told as done."""
     for name, words, reply, line in (
-        ("the end", ["usage"], "", "ReadFault: the server ended the connection, and the request may have been carried out: "),
-        ("the end within a reply", ["usage"], "00000011 00 00000001 0000", "ReadFault: the server ended the connection, and the request may have been carried out: "),
-        ("a body below 5 bytes", ["usage"], "00000004 00 000000", "NoReply: what answers is no path_server: "),
-        ("a body above the limit", ["usage"], "00800001", "NoReply: what answers is no path_server: "),
-        ("another protocol", ["usage"], b"HTTP/1.1 400 Bad Request\r\n\r\n".hex(), "NoReply: what answers is no path_server: "),
-        ("another number", ["drop", "c"], "00000005 00 00000002", "NoReply: what answers is no path_server: "),
-        ("a framing fault", ["drop", "c"], "00000005 ff 00000000", "FrameFault: the server met a framing fault: "),
-        ("a payload behind a refusal", ["drop", "c"], "00000006 0f 00000001 00", "NoReply: what answers is no path_server: "),
-        ("a payload too short", ["usage"], "00000010 00 00000001 00000001 00000002 000000", "NoReply: what answers is no path_server: "),
-        ("a payload too long", ["usage"], "00000012 00 00000001 00000001 00000002 00000003 00", "NoReply: what answers is no path_server: "),
-        ("fewer names than their number", ["list", "c"], "0000000b 00 00000001 00000002 0161", "NoReply: what answers is no path_server: "),
-        ("a name that is none", ["list", "c"], "0000000b 00 00000001 00000001 0120", "NoReply: what answers is no path_server: "),
-        ("a value that is cut", ["query", "c", "$"], "00000015 00 00000001 00000001 0164 00000001 24 00000002 31", "NoReply: what answers is no path_server: "),
-        ("a path that is not UTF-8", ["--json", "query", "c", "$"], "00000015 00 00000001 00000001 0164 00000001 ff 00000001 31", "NoReply: what answers is no path_server: "),
+        ("the end", ["usage"], "", "ReadFault: the server closed the connection, but the request may have been carried out: "),
+        ("the end within a reply", ["usage"], "00000011 00 00000001 0000", "ReadFault: the server closed the connection, but the request may have been carried out: "),
+        ("a body below 5 bytes", ["usage"], "00000004 00 000000", "NoReply: this is not the answer of a path_server: "),
+        ("a body above the limit", ["usage"], "00800001", "NoReply: this is not the answer of a path_server: "),
+        ("another protocol", ["usage"], b"HTTP/1.1 400 Bad Request\r\n\r\n".hex(), "NoReply: this is not the answer of a path_server: "),
+        ("another number", ["drop", "c"], "00000005 00 00000002", "NoReply: this is not the answer of a path_server: "),
+        ("a framing fault", ["drop", "c"], "00000005 ff 00000000", "FrameFault: the server could not read the request: "),
+        ("a payload behind a refusal", ["drop", "c"], "00000006 0f 00000001 00", "NoReply: this is not the answer of a path_server: "),
+        ("a payload too short", ["usage"], "00000010 00 00000001 00000001 00000002 000000", "NoReply: this is not the answer of a path_server: "),
+        ("a payload too long", ["usage"], "00000012 00 00000001 00000001 00000002 00000003 00", "NoReply: this is not the answer of a path_server: "),
+        ("fewer names than their number", ["list", "c"], "0000000b 00 00000001 00000002 0161", "NoReply: this is not the answer of a path_server: "),
+        ("a name that is none", ["list", "c"], "0000000b 00 00000001 00000001 0120", "NoReply: this is not the answer of a path_server: "),
+        ("a value that is cut", ["query", "c", "$"], "00000015 00 00000001 00000001 0164 00000001 24 00000002 31", "NoReply: this is not the answer of a path_server: "),
+        ("a path that is not UTF-8", ["--json", "query", "c", "$"], "00000015 00 00000001 00000001 0164 00000001 ff 00000001 31", "NoReply: this is not the answer of a path_server: "),
         ("a status to come", ["drop", "c"], "00000005 4d 00000001", "Unknown: the server is newer than this client"),
     ):
         peer = Answering(bytes.fromhex(reply))
@@ -168,7 +168,7 @@ def check_peers(room):
         room.case([*words, "--at", "127.0.0.1:{}".format(Answering(bytes.fromhex(reply)).address[1])], 0, output)
     silent = "127.0.0.1:{}".format(Answering(None).address[1])
     began = time.monotonic()
-    room.refused(["usage", "--at", silent, "--timeout", "1"], 4, f"Timeout: the server says nothing, and may still carry out the request: {silent}")
+    room.refused(["usage", "--at", silent, "--timeout", "1"], 4, f"Timeout: the server did not answer in time and may still carry out the request: {silent}")
     room.report.case("the seconds that silence is waited for", "", True, 0.9 < time.monotonic() - began < 20)
 
 
@@ -221,19 +221,19 @@ def check_load(report, room):
              b'\xff\n{"text":"[1]","name":"c","more":null}')
     refused = b"".join(b"path_client: line %s\n" % it for it in (
         b"3: NotJson", b"4: BadName: x y", b"5: NoName", b"6: NoText", b"7: NoName", b"8: NotUtf8", b"1: NotJson: a"))
-    refused += b"path_client: Refused: the documents above were not put\n"
+    refused += b"path_client: Refused: the lines above were not stored\n"
     room.case(["load", "c"], 1, b"loaded 1 documents, 3 bytes\n", refused, text=lines)
     room.case(["get", "c", "c"], 0, b"[1]")
     named = b'{"id":"n1","v": 1}\n{"id":2}\n{"id":"n\\u0032"}\n{"a":1,"a":2}\n[]\n{"id":"n 3"}\n'
     refused = b"".join(b"path_client: line %s\n" % it for it in (b"2: NoName", b"4: DuplicateName", b"5: NoName", b"6: BadName: n 3"))
-    refused += b"path_client: Refused: the documents above were not put\n"
+    refused += b"path_client: Refused: the lines above were not stored\n"
     room.case(["load", "c", room.file("lines", named), "--name", "$.id"], 1, b"loaded 2 documents, 34 bytes\n", refused)
     room.case(["get", "c", "n1"], 0, b'{"id":"n1","v": 1}')
     room.case(["get", "c", "n2"], 0, b'{"id":"n\\u0032"}')
     text = b'"' + b"\n".replace(b"\n", b" ") * 4_194_303 + b'"'
     long_line = json.dumps({"name": "long", "text": text.decode()}).encode() + b'\n{"name":"next","text":"1"}\n'
     room.case(["load", "c"], 1, b"loaded 1 documents, 1 bytes\n",
-              b"path_client: line 1: TooLong: long\npath_client: Refused: the documents above were not put\n", text=long_line)
+              b"path_client: line 1: TooLong: long\npath_client: Refused: the lines above were not stored\n", text=long_line)
     room.case(["load", "c"], 0, b"loaded 0 documents, 0 bytes\n")
     room.case(["drop", "c"], 0)
 

@@ -1,4 +1,4 @@
-//! Why a command ends before it is done, and the exit status that it ends with.
+//! Why a command fails, and its exit status.
 
 ghost use Rattle.std.specs.Prelude.{◌≡◌, ◌⊎◌, ◌↔◌};
 ghost use Rattle.std.specs.IoError.{error_kind};
@@ -9,20 +9,20 @@ use client_frames::{AnswerFault, PayloadFault, SendFault};
 use client_lines::{KeyFault, LineFault};
 use std::io::{self, ErrorKind};
 
-/// Why a command ends early.
+/// Why a command fails.
 #[derive(Clone, Copy)]
 pub enum Failure {
-    /// A word of the command line is not UTF-8.
+    /// A word of the command line, or a variable of the environment, is not UTF-8.
     Words,
     /// No address is given.
     AddressMissing,
-    /// The address names no host and port.
+    /// The address is not a host, a colon and a port.
     NoAddress,
     /// No file with a key is given.
     NoKeyFile,
     /// The file with the key could not be read.
     KeyFileUnread,
-    /// The file has no key.
+    /// The file does not have exactly one key.
     KeyFile(KeyFault),
     /// A word is not the name of a collection.
     CollectionName,
@@ -38,30 +38,30 @@ pub enum Failure {
     SomeRefused,
     /// No connection could be opened.
     NoServer,
-    /// The server took not all of the request.
+    /// The connection broke while the request was sent.
     Unsent,
-    /// The server ended the connection before its reply.
+    /// The server closed the connection before its reply.
     Ended,
-    /// The server said nothing for too long.
+    /// No byte came within the timeout.
     Timeout,
     /// The connection broke.
     Broken,
-    /// What came is no reply.
+    /// The bytes that came are not a reply.
     NoReply,
-    /// The reply answers no request, or another.
+    /// The reply has the wrong number, or says that the server could not read the request.
     NoAnswer(AnswerFault),
-    /// The system gives no random bytes.
+    /// Random bytes could not be read.
     NoRandom,
     /// The input could not be read.
     Read,
     /// The output could not be written.
     Write,
-    /// A growth was refused.
+    /// An allocation failed.
     Memory,
 }
 
 impl Failure {
-    /// What a payload means that was not read.
+    /// The failure of a payload that could not be read.
     pub fn of_payload(fault: PayloadFault) -> Failure
         ensures memory { (result ≡ Failure.Memory) ↔ (fault ≡ PayloadFault.Memory) }
         ensures status { status_of result ≡ 4 }
@@ -72,7 +72,7 @@ impl Failure {
         }
     }
 
-    /// What a line means that was not made of a reply.
+    /// The failure of a line that could not be written from a reply.
     pub fn of_line(fault: LineFault) -> Failure
         ensures memory { (result ≡ Failure.Memory) ↔ (fault ≡ LineFault.Memory) }
         ensures status { status_of result ≡ 4 }
@@ -83,7 +83,7 @@ impl Failure {
         }
     }
 
-    /// What a failed read of the command line's words means.
+    /// The failure of a command line whose words could not be read.
     pub fn of_words(error: &io::Error) -> Failure
         ensures memory { (result ≡ Failure.Memory) ↔ (error_kind error.now ≡ ErrorKind.OutOfMemory) }
     {
@@ -93,7 +93,7 @@ impl Failure {
         }
     }
 
-    /// What a failed read of the input means.
+    /// The failure of an input that could not be read.
     pub fn of_input(error: &io::Error) -> Failure
         ensures memory { (result ≡ Failure.Memory) ↔ (error_kind error.now ≡ ErrorKind.OutOfMemory) }
         ensures status { status_of result ≡ 4 }
@@ -104,7 +104,7 @@ impl Failure {
         }
     }
 
-    /// What a failed read of the connection means.
+    /// The failure of a connection that could not be read.
     pub fn of_read(error: &io::Error) -> Failure
         ensures timeout { (result ≡ Failure.Timeout) ↔ ((error_kind error.now ≡ ErrorKind.WouldBlock) ⊎ (error_kind error.now ≡ ErrorKind.TimedOut)) }
         ensures status { status_of result ≡ 4 }
@@ -131,7 +131,7 @@ impl Failure {
         }
     }
 
-    /// Prints what happened to standard error, and answers the exit status.
+    /// Prints the message to standard error and gives the exit status.
     pub fn report<R: Eprint>(self, rt: &R, context: &Context<'_>) -> u8
         ensures { result ≡ status_of self }
     {
@@ -140,7 +140,7 @@ impl Failure {
     }
 }
 
-// 2 where the query is refused, and else 1.
+// 2 if the query is refused, 1 otherwise.
 fn status_of_refusal(status: u8) -> u8
     ensures { result ≡ status_of_refusal status }
 {

@@ -1,6 +1,6 @@
-//! The commands of the program `path_client`: what its command line asks for, why a command ends early, and how it then ends.
+//! The command line of the program `path_client`: its commands and options, and the message and exit status of each failure.
 //!
-//! [`read_options`] parses the words. [`Failure`] is why a command ends early, with its message and its exit status.
+//! [`read_options`] parses a command line. [`Failure`] says why a command fails.
 #![tactic(auto)]
 
 mod failure;

@@ -1,4 +1,4 @@
-//! What is printed where a command ends early: the failure's name, and what to do about it.
+//! The message of a failure: its name, and what to do about it.
 
 use crate::failure::Failure;
 use crate::statuses::refusal;
@@ -15,7 +15,7 @@ const TOO_LONG: u8 = 5;
 /// The status of a query above its limit.
 const QUERY_TOO_LONG: u8 = 16;
 
-/// What a failure is told with: where the server is, and where the key.
+/// What a message may name: the server's address and the key file.
 #[derive(Clone, Copy)]
 pub struct Context<'a> {
     pub address: &'a str,
@@ -25,7 +25,7 @@ pub struct Context<'a> {
 }
 
 impl<'a> Context<'a> {
-    /// Nothing is known yet.
+    /// Before the command line is read.
     pub const NONE: Context<'static> = Context {
         address: "",
         key_file: "",
@@ -49,7 +49,7 @@ fn message(failure: Failure) -> (&'static str, &'static str) {
         Failure::Refused(status) => refusal(status),
         Failure::NoAnswer(AnswerFault::FrameFault) => (
             "FrameFault",
-            "the server met a framing fault: ",
+            "the server could not read the request: ",
         ),
         Failure::NoAnswer(_) => of_ends(Failure::NoReply),
         _ => of_words(failure),
@@ -60,15 +60,15 @@ fn of_key(fault: KeyFault) -> (&'static str, &'static str) {
     match fault {
         KeyFault::NoKey => (
             "NoKey",
-            "path_client new-key prints a key for the empty file ",
+            "path_client new-key makes a key for the empty file ",
         ),
         KeyFault::SeveralKeys => (
             "SeveralKeys",
-            "a client has one key: write a file with one of those in ",
+            "a client uses one key: make a file with one of the keys in ",
         ),
         KeyFault::BadKey => (
             "BadKey",
-            "a key has 32 hexadecimal digits, unlike what is in ",
+            "a key has 32 hexadecimal digits, unlike the one in ",
         ),
     }
 }
@@ -78,11 +78,11 @@ fn of_words(failure: Failure) -> (&'static str, &'static str) {
     match failure {
         Failure::Words => (
             "BadCommandLine",
-            "a word of it, or a variable of the environment, is not UTF-8",
+            "an argument or an environment variable is not UTF-8",
         ),
         Failure::AddressMissing => (
             "NoAddress",
-            "say where the server is by --at ADDR or PATH_SERVER_AT",
+            "give the server's address by --at ADDR or PATH_SERVER_AT",
         ),
         Failure::NoAddress => (
             "NoAddress",
@@ -90,9 +90,9 @@ fn of_words(failure: Failure) -> (&'static str, &'static str) {
         ),
         Failure::NoKeyFile => (
             "NoKeyFile",
-            "say which file has the tenant's key by --key-file FILE or PATH_SERVER_KEY_FILE",
+            "give the file with the tenant's key by --key-file FILE or PATH_SERVER_KEY_FILE",
         ),
-        Failure::KeyFileUnread => ("ReadFault", "no file of keys can be read at "),
+        Failure::KeyFileUnread => ("ReadFault", "cannot read the key file "),
         Failure::CollectionName => (
             "BadName",
             "a collection's name has 1 to 64 ASCII letters, digits, '.', '-' or '_'",
@@ -101,7 +101,7 @@ fn of_words(failure: Failure) -> (&'static str, &'static str) {
             "BadName",
             "a document's name has 1 to 128 ASCII letters, digits, '.', '-' or '_'",
         ),
-        Failure::NameQuery => ("NameQuery", "--name takes a singular query, as $.id"),
+        Failure::NameQuery => ("NameQuery", "--name takes a singular query, such as $.id"),
         _ => of_ends(failure),
     }
 }
@@ -109,32 +109,32 @@ fn of_words(failure: Failure) -> (&'static str, &'static str) {
 // Of the server, the streams and memory.
 fn of_ends(failure: Failure) -> (&'static str, &'static str) {
     match failure {
-        Failure::SomeRefused => ("Refused", "the documents above were not put"),
+        Failure::SomeRefused => ("Refused", "the lines above were not stored"),
         Failure::NoServer => ("NetFault", "no server answers at "),
         Failure::Unsent => (
             "WriteFault",
-            "the connection broke, and the request may have been carried out: ",
+            "the connection broke, but the request may have been carried out: ",
         ),
         Failure::Ended => (
             "ReadFault",
-            "the server ended the connection, and the request may have been carried out: ",
+            "the server closed the connection, but the request may have been carried out: ",
         ),
         Failure::Timeout => (
             "Timeout",
-            "the server says nothing, and may still carry out the request: ",
+            "the server did not answer in time and may still carry out the request: ",
         ),
         Failure::Broken => (
             "ReadFault",
-            "the connection broke, and the request may have been carried out: ",
+            "the connection broke, but the request may have been carried out: ",
         ),
-        Failure::NoReply => ("NoReply", "what answers is no path_server: "),
+        Failure::NoReply => ("NoReply", "this is not the answer of a path_server: "),
         Failure::NoRandom => (
             "ReadFault",
-            "the system gives no random bytes at /dev/urandom",
+            "cannot read random bytes from /dev/urandom",
         ),
-        Failure::Read => ("ReadFault", "the input cannot be read"),
-        Failure::Write => ("WriteFault", "the output cannot be written"),
-        _ => ("NoMemory", "this program was refused memory"),
+        Failure::Read => ("ReadFault", "cannot read the input"),
+        Failure::Write => ("WriteFault", "cannot write the output"),
+        _ => ("NoMemory", "path_client ran out of memory"),
     }
 }
 

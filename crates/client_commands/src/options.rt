@@ -11,13 +11,13 @@ use clap::error::ErrorKind;
 use clap::{Arg, ArgAction, ArgMatches, Command, Error};
 use std::alloc::{AllocError, Global};
 
-/// The version, which `--version` prints behind the program's name.
+/// The version, which `--version` prints after the program's name.
 const VERSION: &str = "0.1.0";
 
-/// The longest time in seconds that is waited for a server, a day.
+/// The longest `--timeout` in seconds, a day.
 const MOST_SECONDS: u64 = 86_400;
 
-/// What is asked.
+/// The command that is asked for.
 #[derive(Clone, Copy)]
 pub enum Verb {
     Put,
@@ -34,20 +34,20 @@ pub enum Verb {
     Ping,
 }
 
-/// What the command line asks for. Words that the verb has not are empty.
+/// What the command line asks for. Words that the command does not have are empty.
 #[derive(Clone, Copy)]
 pub struct Asked<'a> {
     pub verb: Verb,
     pub collection: &'a str,
     pub document: &'a str,
     pub query: &'a str,
-    /// The file to read in the place of standard input.
+    /// The file to read instead of standard input.
     pub file: Option<&'a str>,
-    /// The query that tells each document's name.
+    /// The query that selects each document's name.
     pub name: Option<&'a str>,
     /// Whether output is JSON.
     pub json: bool,
-    /// The seconds that are waited for a byte of the server.
+    /// The seconds to wait for a byte from the server.
     pub timeout: u64,
 }
 
@@ -59,7 +59,7 @@ pub struct Options<'a> {
     pub asked: Asked<'a>,
 }
 
-/// A word of the command line: an option, or what stands behind a subcommand.
+/// A word of the command line: an option, or an argument of a subcommand.
 #[derive(Clone, Copy)]
 enum Word {
     Address,
@@ -73,21 +73,21 @@ enum Word {
     Name,
 }
 
-/// The options that may stand before or behind the subcommand.
+/// The options that may stand before or after the subcommand.
 const OPTIONS: [Word; 4] = [Word::Address, Word::KeyFile, Word::Timeout, Word::Json];
 
-/// The subcommands: the name, what it is, what it does, and the words behind it.
+/// The subcommands: name, command, help, and arguments.
 const VERBS: [(&str, Verb, &str, &[Word]); 12] = [
     (
         "put",
         Verb::Put,
-        "Keeps the text of FILE, or of standard input, under a document",
+        "Stores the text of FILE, or of standard input, as a document",
         &[Word::Collection, Word::Document, Word::File],
     ),
     (
         "put-new",
         Verb::PutNew,
-        "Does so where no document is there",
+        "Stores a text as put does, but only if there is no such document yet",
         &[Word::Collection, Word::Document, Word::File],
     ),
     (
@@ -99,13 +99,13 @@ const VERBS: [(&str, Verb, &str, &[Word]); 12] = [
     (
         "remove",
         Verb::Remove,
-        "Takes a document away",
+        "Removes a document",
         &[Word::Collection, Word::Document],
     ),
     (
         "list",
         Verb::List,
-        "Prints the names of a collection's documents, a line each",
+        "Prints the names of a collection's documents, one on a line",
         &[Word::Collection],
     ),
     (
@@ -117,14 +117,14 @@ const VERBS: [(&str, Verb, &str, &[Word]); 12] = [
     (
         "drop",
         Verb::Drop,
-        "Takes a collection away with all its documents",
+        "Removes a collection with all its documents",
         &[Word::Collection],
     ),
-    ("usage", Verb::Usage, "Prints what the tenant keeps", &[]),
+    ("usage", Verb::Usage, "Prints how many collections, documents and bytes of texts the tenant has", &[]),
     (
         "load",
         Verb::Load,
-        "Puts the documents of FILE, or of standard input: a line of JSON each, as dump prints them",
+        "Stores the documents in FILE, or on standard input: one line of JSON each, as dump prints them",
         &[Word::Collection, Word::Name, Word::File],
     ),
     (
@@ -134,10 +134,10 @@ const VERBS: [(&str, Verb, &str, &[Word]); 12] = [
         &[Word::Collection],
     ),
     ("new-key", Verb::NewKey, "Prints a new random key", &[]),
-    ("ping", Verb::Ping, "Prints how long a request takes", &[]),
+    ("ping", Verb::Ping, "Prints how long one request takes", &[]),
 ];
 
-// An option with a value, which may stand before or behind the subcommand.
+// An option with a value, which may stand before or after the subcommand.
 fn option<'a>(alloc: Global, name: &'a str, value: &'a str, help: &'a str) -> Arg<'a> {
     Arg::new(alloc, name)
         .long(name)
@@ -152,7 +152,7 @@ fn timeout_option<'a>(alloc: Global) -> Arg<'a> {
         alloc,
         "timeout",
         "SECONDS",
-        "How long to wait for a byte of the server",
+        "How long to wait for a byte from the server",
     )
     .default_value("30")
     .value_parser(ValueParser::Unsigned(1, MOST_SECONDS))
@@ -170,7 +170,7 @@ fn name_option<'a>(alloc: Global) -> Arg<'a> {
     Arg::new(alloc, "name")
         .long("name")
         .value_name("QUERY")
-        .help("Takes a document a line, whose name is the string that this query selects")
+        .help("Takes each line as a document, named by the string that this query selects")
         .action(ArgAction::Set)
 }
 
@@ -185,7 +185,7 @@ fn arg<'a>(alloc: Global, word: Word) -> Arg<'a> {
             alloc,
             "at",
             "ADDR",
-            "The server, as 127.0.0.1:7000 [default: PATH_SERVER_AT]",
+            "The server's address, such as 127.0.0.1:7000 [default: PATH_SERVER_AT]",
         ),
         Word::KeyFile => option(
             alloc,
@@ -228,9 +228,9 @@ fn with_verbs<'a>(alloc: Global, command: Command<'a>) -> Result<Command<'a>, Al
 fn command<'a>(alloc: Global) -> Result<Command<'a>, AllocError> {
     let command = Command::new(alloc, "path_client")
         .version(VERSION)
-        .about("Asks a path_server")
+        .about("Stores, reads and queries documents on a path_server")
         .after_help(
-            "Exit status: 0 done, 1 refused by the server, 2 the query is refused, 3 invalid command line or key file, 4 no answer",
+            "Exit status: 0 done, 1 refused by the server, 2 invalid or costly query, 3 invalid command line or key file, 4 no answer",
         )
         .subcommand_required(true)
         .disable_help_subcommand(true);
@@ -241,17 +241,17 @@ fn parsed<'a>(alloc: Global, words: &'a [String]) -> Result<ArgMatches<'a>, Erro
     command(alloc)?.try_get_matches_from(words)
 }
 
-/// Why a command line asks for nothing.
+/// Why a command line gives no command.
 #[derive(Drop)]
 pub enum CommandLineFault {
-    /// It is invalid, or asks for help or the version, which this prints.
+    /// It is invalid, or asks for help or the version: the error has the text to print.
     Printed(Error),
-    /// A growth was refused, or a subcommand is unknown.
+    /// An allocation failed, or a subcommand is unknown.
     Failed(Failure),
 }
 
 impl CommandLineFault {
-    /// What a failed parse of the command line means.
+    /// The fault of a command line that did not parse.
     pub fn of(error: Error) -> CommandLineFault
         ensures memory { (result ≡ CommandLineFault.Failed Failure.Memory) ↔ (kind_of error ≡ ErrorKind.OutOfMemory) }
         ensures status { status_of_fault result ≡ status_of_kind (kind_of error) }
@@ -262,8 +262,8 @@ impl CommandLineFault {
         }
     }
 
-    /// Prints help and the version to standard output and all else to standard error, and answers the exit status: 4 where that was not printed
-    /// which was asked for.
+    /// Prints help and the version to standard output, everything else to standard error, and gives the exit status. If help or the version
+    /// cannot be printed, the status is 4.
     pub fn report<R: Print + Eprint>(&self, rt: &R) -> u8
         ensures { (result ≡ status_of_fault self.now) ⊎ (result ≡ 4) }
     {
@@ -297,7 +297,7 @@ fn status_at(kind: ErrorKind) -> u8
     }
 }
 
-/// What the words of a command line ask for, of which the first is the program's name.
+/// What a command line asks for, whose first word is the program's name.
 pub fn read_options<'a>(
     alloc: Global,
     words: &'a [String],

@@ -1,31 +1,31 @@
 //! The statuses of the protocol: their names, and what to do about each.
 
-/// The names of the statuses from 0 on, as the protocol has them, and what to do about each.
+/// The name of each status from 0 on, as in the protocol, and what to do about it.
 const STATUSES: [(&str, &str); 24] = [
     ("Ok", ""),
     (
         "Short",
-        "the server and this client disagree about the protocol: use those of one version",
+        "server and client disagree about the protocol: use the same version of both",
     ),
-    ("NoTenant", "the server knows no tenant with the key of "),
+    ("NoTenant", "the server has no tenant with the key in "),
     ("BadCommand", "the server is older than this client"),
     (
         "BadFields",
-        "the server and this client disagree about names: use those of one version",
+        "server and client disagree about names: use the same version of both",
     ),
     ("TooLong", "a text has at most 4194304 bytes"),
-    ("NotUtf8", "a text is UTF-8"),
-    ("NotJson", "the text is no JSON (RFC 8259)"),
+    ("NotUtf8", "the text is not UTF-8"),
+    ("NotJson", "the text is not JSON (RFC 8259)"),
     (
         "TooDeep",
-        "a text has at most 256 containers in one another",
+        "a text has at most 256 levels of arrays and objects",
     ),
     (
         "NumberLimit",
         "a number has at most 256 bytes, and an exponent up to 999999999",
     ),
-    ("LoneSurrogate", "a surrogate escape stands in a pair"),
-    ("DuplicateName", "an object has each name once"),
+    ("LoneSurrogate", "an escape has half of a surrogate pair alone"),
+    ("DuplicateName", "an object has the same name twice"),
     (
         "TooManyCollections",
         "a tenant has at most 16 collections: drop one",
@@ -48,17 +48,17 @@ const STATUSES: [(&str, &str); 24] = [
     ("Retired", ""),
     (
         "ReplyTooLarge",
-        "the hits have more than 8388608 bytes: ask for fewer",
+        "the reply would have more than 8388608 bytes: ask for fewer hits",
     ),
     (
         "NoMemory",
-        "the server was refused memory, and nothing has changed: try again",
+        "the server ran out of memory and changed nothing: try again",
     ),
     (
         "Costly",
-        "the query is too costly on these documents: ask for less",
+        "the query costs more than 10000000 units: ask for less",
     ),
-    ("Exists", "the document is there: put takes its place"),
+    ("Exists", "the document exists: put replaces it"),
 ];
 
 /// The name of a status.

@@ -1,4 +1,4 @@
-//! Why the program ends before it has answered, and the status that it ends with.
+//! Why the program fails, and its exit status.
 
 ghost use Rattle.std.specs.Prelude.{◌≡◌, ◌⊎◌, ◌↔◌};
 ghost use Rattle.std.specs.IoError.{error_kind};
@@ -22,25 +22,25 @@ pub enum Failure {
     CommandLine(clap::Error),
     /// A word of the command line is not UTF-8.
     Words,
-    /// The query on standard input is not answered.
+    /// The query on the text on standard input was not answered.
     Query(QueryStreamFault),
     /// The keys are not in their written form.
     Keys(KeysFault),
-    /// The script on standard input is not replayed.
+    /// The script on standard input was not replayed.
     Replay(ReplayStreamFault),
-    /// The keys are refused.
+    /// The keys are refused: none, too many, or one key twice.
     Tenants(TenantsFault),
     /// The address is invalid, or could not be bound or connected to, or a connection could not be accepted.
     Net,
     /// The same, with the address and the system's reason.
     Address(AddressFault),
-    /// A line of a file of keys is not in their written form.
+    /// A line of the key file is not in the written form of keys.
     KeyLine(KeyLine),
     /// The line with the bound address could not be printed.
     Write,
     /// The request frames on standard input could not be read.
     Read(ReadFault),
-    /// The request frames are not answered.
+    /// The request frames were not answered.
     Call(CallStreamFault),
     /// An allocation failed.
     Memory,
@@ -73,7 +73,7 @@ impl fmt::Display for KeyLine {
 }
 
 impl Failure {
-    /// What a failed parse of the command line means.
+    /// The failure of a command line that did not parse.
     pub fn of_command_line(error: clap::Error) -> Failure
         ensures memory { (result ≡ Failure.Memory) ↔ (kind_of error ≡ ParseKind.OutOfMemory) }
         ensures status { status_of result ≡ status_of_kind (kind_of error) }
@@ -84,7 +84,7 @@ impl Failure {
         }
     }
 
-    /// What a failed read of the command line's words means.
+    /// The failure of a command line whose words could not be read.
     pub fn of_words(error: &io::Error) -> Failure
         ensures memory { (result ≡ Failure.Memory) ↔ (error_kind error.now ≡ ErrorKind.OutOfMemory) }
     {
@@ -115,8 +115,8 @@ impl Failure {
         }
     }
 
-    /// Prints what happened, help and the version to standard output and all else to standard error, and answers the exit
-    /// status: that of a failed write where what was asked for could not be printed.
+    /// Prints help and the version to standard output, everything else to standard error, and gives the exit status. If help or the version
+    /// cannot be printed, the status is that of a failed write.
     pub fn report<R: Print + Eprint>(&self, rt: &R) -> u8
         ensures { (result ≡ status_of self.now) ⊎ (result ≡ 4) }
     {

@@ -1,6 +1,6 @@
-//! The command line of the program `path_server`: what its words ask for, and the line and exit status of each failure.
+//! The command line of the program `path_server`: its commands and options, and the message and exit status of each failure.
 //!
-//! [`read_request`] parses the words. [`Failure`] is why the program ends before it has answered.
+//! [`read_request`] parses a command line. [`Failure`] says why the program fails.
 #![tactic(auto)]
 
 mod failure;

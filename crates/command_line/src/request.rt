@@ -8,31 +8,31 @@ use std::alloc::{AllocError, Global};
 /// The version, which `--version` prints behind the program's name.
 pub const VERSION: &str = "0.1.0";
 
-/// The most connections that one run of the program serves.
+/// The most connections that `serve` serves.
 const MOST_CONNECTIONS: u64 = 1_000_000;
 
 /// The most connections that may be open at once.
 const MOST_OPEN: u64 = 1_000_000;
 
-/// The least limit on memory, what one longest request and one longest reply take.
+/// The least limit on memory: one longest request and one longest reply.
 const LEAST_BYTES: u64 = 14_680_072;
 
-/// The most bytes that connections may hold together, a pebibyte.
+/// The greatest limit on memory, a pebibyte.
 const MOST_BYTES: u64 = 1 << 50;
 
 /// The longest time in seconds, a year.
 const MOST_SECONDS: u64 = 31_536_000;
 
-const KEYS_HELP: &str = "The tenants' keys: 32 hexadecimal digits each, joined by commas";
+const KEYS_HELP: &str = "The tenants' keys, 32 hexadecimal digits each, separated by commas";
 
-const ADDRESS_HELP: &str = "A host, a colon and a port, as 127.0.0.1:7000 or [::1]:7000";
+const ADDRESS_HELP: &str = "Host and port, such as 127.0.0.1:7000 or [::1]:7000";
 
 /// What the command line asks for.
 #[derive(Drop)]
 pub enum Request<'a> {
-    /// The lines of this query on standard input.
+    /// The hits of this query in the text on standard input.
     Query(&'a str),
-    /// The lines of the replies to the script on standard input, with tenants of these keys.
+    /// The replies to the script on standard input, with tenants of these keys.
     Replay(&'a str),
     /// A server at an address, with tenants of these keys, for so many connections.
     Serve {
@@ -42,7 +42,7 @@ pub enum Request<'a> {
     },
     /// A server of many connections at once.
     Listen(Listening<'a>),
-    /// The lines of the replies to the frames on standard input by the server at this address.
+    /// The replies of the server at this address to the frames on standard input.
     Call(&'a str),
 }
 
@@ -51,23 +51,23 @@ pub enum Request<'a> {
 pub struct Listening<'a> {
     /// The address.
     pub address: &'a str,
-    /// The tenants' keys.
+    /// The tenants' keys, if they stand on the command line.
     pub keys: Option<&'a str>,
-    /// The file with further keys.
+    /// The file with further keys, if there is one.
     pub file: Option<&'a str>,
-    /// The most connections that are open at once.
+    /// The most connections open at once.
     pub connections: usize,
-    /// The bytes of long requests that are read and of replies that are owed, together.
+    /// The most bytes buffered for long requests and replies together.
     pub memory: usize,
-    /// The seconds after which a connection is closed on which no byte moved.
+    /// The seconds after which an idle connection is closed.
     pub idle: Option<u64>,
-    /// The seconds after which one that holds memory for which others wait, and on which no byte moved, is closed.
+    /// The seconds after which an idle connection is closed while it holds memory that others wait for.
     pub stall: u64,
-    /// The seconds after which one that holds memory for which others wait is closed, whatever moved.
+    /// The seconds after which a connection that holds memory is closed while others wait for it.
     pub frame_time: u64,
-    /// The seconds for which a connection must have been idle to make room for a new one.
+    /// The seconds that a connection must have been idle to make room for a new one.
     pub spare: u64,
-    /// Whether a line with counts is printed each minute.
+    /// Whether a line of counts is printed each minute.
     pub log: bool,
 }
 
@@ -82,7 +82,7 @@ fn word<'a>(alloc: Global, name: &'a str, help: &'a str) -> Arg<'a> {
 fn query<'a>(alloc: Global) -> Result<Command<'a>, AllocError> {
     Command::new(alloc, "query")
         .about(
-            "Reads a JSON text and prints a line for each node that the query selects: its path, a tab and its text",
+            "Queries the JSON text on standard input and prints a line for each hit: path, tab, value",
         )
         .arg(word(alloc, "QUERY", "A JSONPath query (RFC 9535)"))
 }
@@ -90,14 +90,14 @@ fn query<'a>(alloc: Global) -> Result<Command<'a>, AllocError> {
 fn replay<'a>(alloc: Global) -> Result<Command<'a>, AllocError> {
     Command::new(alloc, "replay")
         .about(
-            "Reads a script of connections' events and prints a line for each reply: its connection and its bytes",
+            "Runs the script on standard input and prints a line for each reply: connection, space, reply frame",
         )
         .arg(word(alloc, "KEYS", KEYS_HELP))
 }
 
 fn serve<'a>(alloc: Global) -> Result<Command<'a>, AllocError> {
     Command::new(alloc, "serve")
-        .about("Prints a line with the bound address and serves connections, one after the other")
+        .about("Prints the bound address, serves COUNT connections one after the other, and ends")
         .arg(word(alloc, "ADDR", ADDRESS_HELP))?
         .arg(word(alloc, "KEYS", KEYS_HELP))?
         .arg(word(alloc, "COUNT", "The number of connections, 1 to 1000000").value_parser(
@@ -108,7 +108,7 @@ fn serve<'a>(alloc: Global) -> Result<Command<'a>, AllocError> {
 fn listen<'a>(alloc: Global) -> Result<Command<'a>, AllocError> {
     Command::new(alloc, "listen")
         .about(
-            "Prints a line with the bound address and serves many connections at once, until standard input is closed",
+            "Prints the bound address and serves many connections at once, until standard input is closed",
         )
         .arg(word(alloc, "ADDR", ADDRESS_HELP))?
         .arg(keys_word(alloc)?)?
@@ -116,14 +116,14 @@ fn listen<'a>(alloc: Global) -> Result<Command<'a>, AllocError> {
             alloc,
             "keys",
             "FILE",
-            "A file with keys, joined by commas or line feeds",
+            "A file with keys, separated by commas or line feeds",
         ))?
         .arg(
             option(
                 alloc,
                 "connections",
                 "NUMBER",
-                "The most connections that are open at once, 1 to 1000000",
+                "The most connections open at once, 1 to 1000000",
             )
             .default_value("10000")
             .value_parser(ValueParser::Unsigned(1, MOST_OPEN)),
@@ -133,7 +133,7 @@ fn listen<'a>(alloc: Global) -> Result<Command<'a>, AllocError> {
                 alloc,
                 "memory",
                 "BYTES",
-                "The memory for requests that are read and replies that are owed, at least 14680072",
+                "The most bytes buffered for long requests and replies, at least 14680072",
             )
             .default_value("1073741824")
             .value_parser(ValueParser::Unsigned(LEAST_BYTES, MOST_BYTES)),
@@ -142,31 +142,31 @@ fn listen<'a>(alloc: Global) -> Result<Command<'a>, AllocError> {
             alloc,
             "idle",
             "SECONDS",
-            "Closes a connection on which no byte moved for so long, 1 to 31536000",
+            "Closes a connection that was idle for this long, 1 to 31536000",
         )
         .value_parser(ValueParser::Unsigned(1, MOST_SECONDS)))?
         .arg(seconds(
             alloc,
             "stall",
-            "Closes a connection that holds memory for which others wait, and on which no byte moved for so long",
+            "Closes a connection that was idle for this long while it held memory that others wait for",
             "10",
         ))?
         .arg(seconds(
             alloc,
             "frame-time",
-            "Closes a connection that holds memory for which others wait for so long",
+            "Closes a connection that held memory for this long while others wait for it",
             "60",
         ))?
         .arg(seconds(
             alloc,
             "spare",
-            "At the limit on connections, one that was idle for so long makes room for a new one",
+            "At the limit on connections, closes one that was idle for this long to admit a new one",
             "10",
         ))?
         .arg(
             Arg::new(alloc, "log")
                 .long("log")
-                .help("Prints a line with counts on standard error each minute")
+                .help("Prints a line of counts to standard error each minute")
                 .action(ArgAction::SetTrue),
         )
 }
@@ -197,7 +197,7 @@ fn seconds<'a>(alloc: Global, name: &'a str, help: &'a str, default: &'a str) ->
 fn call<'a>(alloc: Global) -> Result<Command<'a>, AllocError> {
     Command::new(alloc, "call")
         .about(
-            "Sends the request frames on standard input, a line of hexadecimal digits each, and prints a line for each reply",
+            "Sends the request frames on standard input, one line of hexadecimal digits each, and prints a line for each reply",
         )
         .arg(word(alloc, "ADDR", ADDRESS_HELP))
 }
@@ -205,7 +205,7 @@ fn call<'a>(alloc: Global) -> Result<Command<'a>, AllocError> {
 fn command<'a>(alloc: Global) -> Result<Command<'a>, AllocError> {
     Command::new(alloc, "path_server")
         .version(VERSION)
-        .about("Keeps JSON texts and answers JSONPath queries")
+        .about("Stores JSON texts for many tenants and answers JSONPath queries (RFC 9535)")
         .subcommand_required(true)
         .disable_help_subcommand(true)
         .subcommand(query(alloc)?)?
@@ -219,7 +219,7 @@ fn parsed<'a>(alloc: Global, words: &'a [String]) -> Result<ArgMatches<'a>, Erro
     command(alloc)?.try_get_matches_from(words)
 }
 
-/// The request that the words of a command line spell, of which the first is the program's name.
+/// The request of a command line, whose first word is the program's name.
 pub fn read_request<'a>(alloc: Global, words: &'a [String]) -> Result<Request<'a>, Failure> {
     let matches = parsed(alloc, words).map_err(Failure::of_command_line)?;
     match request_of(&matches) {
