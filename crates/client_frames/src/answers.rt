@@ -1,45 +1,45 @@
-//! What a reply says of a request.
+//! The answers in replies.
 
 ghost use Rattle.client_frames.specs.Answers.{Answers};
 
 use crate::replies::Reply;
 use thiserror::Error;
 
-/// The status of a request that was done.
+/// The status of a request that succeeded.
 const OK: u8 = 0;
 
 /// The status of a framing fault, which answers no request.
 const FRAME_FAULT: u8 = 255;
 
-/// What a reply says of its request.
+/// The answer to a request.
 #[derive(Clone, Copy, Debug)]
 pub enum Answer<'a> {
-    /// It was done, with this payload.
+    /// The request succeeded, with this payload.
     Done(&'a [u8]),
-    /// It was refused, with this status, which is neither that of Ok nor that of a framing fault.
+    /// The request was refused with this status, which is neither Ok nor FrameFault.
     Refused(u8),
 }
 
-/// Why a reply answers no request, or not the one that is waited for.
+/// Why a reply does not answer the expected request.
 #[derive(Clone, Copy, Debug, PartialEq, Eq, Error)]
 pub enum AnswerFault {
-    /// The server met a framing fault, and reads no further.
-    #[error("the server met a framing fault")]
+    /// The server could not read the frames, and reads no further.
+    #[error("the server reports a framing fault")]
     FrameFault,
-    /// The reply has another request's number.
-    #[error("a reply has another request's number")]
+    /// The reply has the number of another request.
+    #[error("the reply has the number of another request")]
     OtherNumber,
-    /// The reply has a payload behind the status of a refusal.
+    /// The reply is a refusal with a payload.
     #[error("a refusal has a payload")]
     PayloadOfRefusal,
 }
 
-/// What a reply says of the request with this number.
+/// The answer to the request with this number.
 ///
 /// # Errors
 ///
-/// FrameFault if the status is that of a framing fault, whatever the number; then OtherNumber if the number is another; then
-/// PayloadOfRefusal if a status other than Ok has a payload.
+/// In this order: FrameFault if that is the status, whatever the number; OtherNumber if the number is not this one; PayloadOfRefusal if
+/// a status other than Ok has a payload.
 pub fn answer_to(reply: Reply<'_>, number: u32) -> Result<Answer<'_>, AnswerFault>
     ensures { Answers reply.entry.status reply.entry.number number reply.entry.payload.now result }
 {

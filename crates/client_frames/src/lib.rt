@@ -1,7 +1,7 @@
-//! What a client of the server sends and reads: the frames of requests and replies, over bytes alone.
+//! The frames of requests and replies, for clients. It works on bytes and has no sockets.
 //!
-//! [`write_request`] writes the frame of a request. [`front_of`] finds the reply that bytes begin with, [`answer_to`] what it says of a request, and
-//! [`read_hits`], [`read_names`] and [`read_usage`] read the payloads of QUERY, LIST and USAGE. Bytes that are not a reply are a fault of their own.
+//! [`write_request`] writes the frame of a request. [`front_of`] finds the reply at the front of the bytes received, and [`answer_to`] the
+//! answer in it. [`read_hits`], [`read_names`] and [`read_usage`] read the payloads of QUERY, LIST and USAGE.
 #![tactic(auto)]
 
 mod answers;

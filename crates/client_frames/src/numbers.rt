@@ -1,4 +1,4 @@
-//! Numbers in four bytes, the most significant first, and runs of bytes.
+//! Big-endian numbers of four bytes, and fields with a length.
 
 ghost use Rattle.std.specs.Prelude.{◌≡◌, ◌<◌, ◌≤◌, ◌^◌, ◌++◌, IfSome, length, take};
 ghost use Rattle.std.specs.Option.{option_map};
@@ -8,7 +8,7 @@ ghost use Rattle.tenant_store.specs.Payloads.{field};
 ghost use Rattle.wire_frames.specs.Requests.{prefixed};
 ghost use Rattle.client_frames.specs.Readings.{bytes_at, number_at, field_at};
 
-/// The number that the first four bytes spell.
+/// The number in the first four bytes.
 pub fn spelled(bytes: &[u8]) -> u32
     requires { 4 ≤ length bytes.now }
     ensures value { result ≡ from_be_bytes w32 (take 4 bytes.now) }
@@ -17,7 +17,7 @@ pub fn spelled(bytes: &[u8]) -> u32
     u32::from_be_bytes([bytes[0], bytes[1], bytes[2], bytes[3]])
 }
 
-/// A number, and the bytes behind it.
+/// A number, and the bytes after it.
 #[tactic(auto, unfolding(crate::specs::Readings::number_at, tenant_map::specs::Listings::number))]
 pub fn take_number(bytes: &[u8]) -> Option<(u32, &[u8])>
     ensures read { option_map (λ p. (p.0, p.1.now)) result ≡ number_at bytes.now }
@@ -29,7 +29,7 @@ pub fn take_number(bytes: &[u8]) -> Option<(u32, &[u8])>
     Some((spelled(bytes), bytes.split_at(4).1))
 }
 
-/// So many bytes, and those behind them.
+/// The first bytes, and those after them.
 #[tactic(auto, unfolding(crate::specs::Readings::bytes_at))]
 pub fn take_bytes(bytes: &[u8], count: usize) -> Option<(&[u8], &[u8])>
     ensures read { option_map (λ p. (p.0.now, p.1.now)) result ≡ bytes_at count bytes.now }
@@ -41,7 +41,7 @@ pub fn take_bytes(bytes: &[u8], count: usize) -> Option<(&[u8], &[u8])>
     Some(bytes.split_at(count))
 }
 
-/// Bytes behind their length, and those behind them.
+/// A field after its length in four bytes, and the bytes after it.
 #[tactic(auto, unfolding(crate::specs::Readings::field_at))]
 pub fn take_field(bytes: &[u8]) -> Option<(&[u8], &[u8])>
     ensures read { option_map (λ p. (p.0.now, p.1.now)) result ≡ field_at bytes.now }
@@ -52,7 +52,7 @@ pub fn take_field(bytes: &[u8]) -> Option<(&[u8], &[u8])>
     take_bytes(rest, length as usize)
 }
 
-/// Bytes behind their length in one byte, and those behind them.
+/// A field after its length in one byte, and the bytes after it.
 #[tactic(auto, unfolding(wire_frames::specs::Requests::prefixed))]
 pub fn take_prefixed(bytes: &[u8]) -> Option<(&[u8], &[u8])>
     ensures read { option_map (λ p. (p.0.now, p.1.now)) result ≡ prefixed bytes.now }

@@ -21,7 +21,7 @@ pub struct Hit<'a> {
     pub value: &'a [u8],
 }
 
-/// What a tenant keeps: the numbers of its collections and documents, and the bytes of all its texts.
+/// What a tenant stores: the numbers of collections and documents, and the bytes of all texts.
 #[derive(Clone, Copy, Debug, PartialEq, Eq)]
 pub struct Usage {
     pub collections: u32,
@@ -29,14 +29,14 @@ pub struct Usage {
     pub bytes: u32,
 }
 
-/// Why a payload was not read.
+/// Why a payload could not be read.
 #[derive(Clone, Copy, Debug, Drop, PartialEq, Eq, Error)]
 pub enum PayloadFault {
-    /// It is not the payload of that command: bytes are missing or left over, or a name is invalid.
-    #[error("a payload is not the command's")]
+    /// It is not a payload of the command: bytes are missing or left over, or a name is invalid.
+    #[error("the payload is not one of the command")]
     NoPayload,
     /// An allocation failed.
-    #[error("a growth was refused")]
+    #[error("an allocation failed")]
     Memory,
 }
 

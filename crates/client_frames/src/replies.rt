@@ -1,4 +1,4 @@
-//! Replies among the bytes that came.
+//! Replies in the bytes received.
 
 ghost use Rattle.std.specs.Prelude.{◌≡◌, ◌≤◌, ◌+◌, ◌∷◌, ◌++◌, length};
 ghost use Rattle.std.specs.Int.{w32, to_be_bytes};
@@ -10,10 +10,10 @@ use store_names::LONGEST_REPLY;
 /// The bytes of a frame's length.
 const LENGTH_BYTES: usize = 4;
 
-/// The bytes of a reply's body before its payload: the status and the number.
+/// The bytes of a reply's body before the payload: the status and the number.
 const BEFORE_PAYLOAD: usize = 5;
 
-/// A reply: its status, the number of its request and its payload, which only the status Ok (0) has.
+/// A reply: its status, its request's number and its payload, which is empty unless the status is Ok (0).
 #[derive(Clone, Copy, Debug)]
 pub struct Reply<'a> {
     pub status: u8,
@@ -21,18 +21,18 @@ pub struct Reply<'a> {
     pub payload: &'a [u8],
 }
 
-/// What bytes begin with.
+/// What is at the front of the bytes received.
 #[derive(Clone, Copy, Debug)]
 pub enum Front<'a> {
-    /// A whole reply, and the bytes behind it.
+    /// A whole reply, and the bytes after it.
     Whole(Reply<'a>, &'a [u8]),
-    /// Less than a reply.
+    /// A part of a reply.
     Wait,
-    /// A length that no reply has: no reply comes, whatever follows.
+    /// A length that no reply has, so no reply can follow.
     NoReply,
 }
 
-/// What bytes that came from a server begin with.
+/// Looks for a reply at the front of the bytes received.
 pub fn front_of(bytes: &[u8]) -> Front<'_>
     ensures { Shows bytes.now result }
 {

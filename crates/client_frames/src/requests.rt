@@ -16,17 +16,17 @@ use wire_frames::Command;
 /// The bytes of a body before its fields: the command, the number and the key.
 const BEFORE_FIELDS: usize = 21;
 
-/// Why a request was not written.
+/// Why a request could not be written.
 #[derive(Clone, Copy, Debug, Drop, PartialEq, Eq, Error)]
 pub enum SendFault {
-    /// The text is above [`json_tape::TEXT_LIMIT`].
-    #[error("the text is longer than a document may be")]
+    /// The text is longer than [`json_tape::TEXT_LIMIT`].
+    #[error("the text is too long")]
     TextTooLong,
-    /// The query is above [`path_grammar::QUERY_LIMIT`].
-    #[error("the query is longer than a query may be")]
+    /// The query is longer than [`path_grammar::QUERY_LIMIT`].
+    #[error("the query is too long")]
     QueryTooLong,
     /// An allocation failed.
-    #[error("a growth was refused")]
+    #[error("an allocation failed")]
     Memory,
 }
 
@@ -40,7 +40,7 @@ impl From<AllocError> for SendFault {
     }
 }
 
-/// What a body has beside its number and its key. A name is empty where the command has none.
+/// The parts of a body other than number and key. A name that the command does not have is empty.
 #[derive(Clone, Copy)]
 struct Parts<'a> {
     command: u8,
@@ -88,7 +88,7 @@ fn parts_of<'a>(command: &Command<'a>) -> Parts<'a>
     }
 }
 
-/// That the text or the query of a command is not above its limit.
+/// Checks that the text or query of a command is within its limit.
 fn check(command: &Command<'_>) -> Result<(), SendFault>
     ensures within { OnOk result (IsWithin (asked_of command.now)) }
     ensures refused { IfErr result (λ fault. IsAbove fault (asked_of command.now)) }
@@ -109,7 +109,7 @@ fn field_length(name: &[u8]) -> usize
     if name.is_empty() { 0 } else { 1 + name.len() }
 }
 
-/// The length of the body with these parts.
+/// The length of a body with these parts.
 #[tactic(auto, using(crate::proofs::Sending::long_body))]
 fn body_length(given: &Parts<'_>) -> u32
     requires collection { length given.now.collection.now ≤ 64 }
@@ -156,12 +156,12 @@ fn append(head: &[u8], key: &[u8], given: &Parts<'_>, out: &mut Vec<u8>) -> Resu
     out.extend_from_slice(given.rest)
 }
 
-/// Appends the frame of a request: a number, which its reply repeats, the tenant's key and a command.
+/// Appends the frame of a request: the number, which its reply repeats, the tenant's key and a command.
 ///
 /// # Errors
 ///
-/// TextTooLong and QueryTooLong if the text or the query is above its limit, whatever it holds; Memory if an allocation failed. The
-/// vector's bytes are unchanged then.
+/// TextTooLong or QueryTooLong if the text or the query is above its limit; Memory if an allocation failed. The vector's bytes are then
+/// unchanged.
 pub fn write_request(
     number: u32,
     key: &[u8; 16],

@@ -13,31 +13,31 @@ use serde_json::{Value, json};
 use std::alloc::{AllocError, AllocFailed, Global};
 use thiserror::Error;
 
-/// Why a line was not read or written.
+/// Why a line could not be read or written.
 #[derive(Clone, Copy, Debug, Drop, PartialEq, Eq, Error)]
 pub enum LineFault {
     /// It is not UTF-8.
     #[error("it is not UTF-8")]
     NotUtf8,
     /// It is not a JSON text (RFC 8259).
-    #[error("it is no JSON text")]
+    #[error("it is not a JSON text")]
     NotJson,
-    /// It has no string under `name`, or where a query says.
+    /// It has no string `name`, or none where the query of `--name` looks.
     #[error("it has no name")]
     NoName,
-    /// It has no string under `text`.
+    /// It has no string `text`.
     #[error("it has no text")]
     NoText,
-    /// It is not a document.
-    #[error("it is no document: {0}")]
+    /// The server would refuse it as a document.
+    #[error("it is not a document: {0}")]
     NoDocument(TextFault),
     /// An allocation failed.
-    #[error("a growth was refused")]
+    #[error("an allocation failed")]
     Memory,
 }
 
 impl LineFault {
-    /// The name of the refusal, as in the protocol if it has one.
+    /// The name of the refusal: that of the protocol's status, if there is one.
     pub fn name(&self) -> &'static str {
         match self {
             LineFault::NotUtf8 => "NotUtf8",
@@ -49,7 +49,7 @@ impl LineFault {
         }
     }
 
-    /// What a refused text means.
+    /// The fault of a text that is refused.
     pub fn of_text(fault: TextFault) -> LineFault {
         match fault {
             TextFault::Memory => LineFault::Memory,
@@ -91,14 +91,14 @@ impl<T: Drop> From<AllocFailed<T>> for LineFault {
     }
 }
 
-/// A document's name and its text.
+/// A document's name and text.
 #[derive(Drop)]
 pub struct NamedText {
     pub name: String,
     pub text: String,
 }
 
-/// Appends the line of a document: the text of a JSON object with the strings `name` and `text`, as which it is read back, and a line feed.
+/// Appends the line of a document: a JSON object with the strings `name` and `text`, and a line feed. [`read_document`] reads it back.
 pub fn append_document(
     alloc: Global,
     name: &str,
@@ -119,7 +119,7 @@ fn document_value(alloc: Global, name: &str, text: &str) -> Result<Value, AllocE
     json!(in alloc; {"name": name, "text": text})
 }
 
-/// The text of an object with the strings `name` and `text`, as which it is read back.
+/// A JSON object with the strings `name` and `text`.
 fn document_text(alloc: Global, name: &str, text: &str) -> Result<String, AllocError>
     ensures line { IfOk result (λ s. string_bytes s ≡ spec.document_text name.now text.now) }
     ensures reads { IfOk result (λ s. read (string_bytes s) ≡ Some (document name.now text.now)) }
@@ -142,7 +142,7 @@ fn parse(alloc: Global, line: &[u8]) -> Result<Value, LineFault>
     }
 }
 
-/// A copy of the string under a name, if there is one.
+/// A copy of the string with this name, if there is one.
 fn string_at(alloc: Global, value: &Value, key: &str) -> Result<Option<String>, AllocError>
     ensures { IfOk result (λ o. option_map string_bytes o ≡ option_and_then as_str (get key.now (view value.now))) }
 {
@@ -152,7 +152,7 @@ fn string_at(alloc: Global, value: &Value, key: &str) -> Result<Option<String>, 
     }
 }
 
-/// The name and the text of a line of a dump.
+/// Reads the name and the text from a line of a dump.
 ///
 /// # Errors
 ///

@@ -60,8 +60,8 @@ fn append_json_hit(alloc: Global, hit: &Hit<'_>, out: &mut Vec<u8>) -> Result<()
     Ok(out.extend_from_slice(b"}\n")?)
 }
 
-/// Appends a line for each hit, a JSON object with the members `document`, `path` and `value`: the value's own bytes, in which line feeds
-/// are blanks.
+/// Appends a line for each hit: a JSON object with the members `document`, `path` and `value`. The value is as in the text, with blanks for
+/// line feeds.
 ///
 /// # Errors
 ///

@@ -1,4 +1,4 @@
-//! A file with a tenant's key.
+//! Key files.
 
 ghost use Rattle.std.specs.Prelude.{◌≡◌, ◌≤◌, length, IfOk};
 ghost use Rattle.std.specs.List.{list_all};
@@ -8,16 +8,16 @@ ghost use Rattle.client_lines.specs.Keys as keys;
 use hex::FromHex;
 use thiserror::Error;
 
-/// Why a text does not hold a key.
+/// Why a text is not one key.
 #[derive(Clone, Copy, Debug, Drop, PartialEq, Eq, Error)]
 pub enum KeyFault {
     /// There is no key.
     #[error("it has no key")]
     NoKey,
-    /// There are several words.
+    /// There are several keys.
     #[error("it has several keys")]
     SeveralKeys,
-    /// The word is not 32 hexadecimal digits.
+    /// The key is not 32 hexadecimal digits.
     #[error("a key has 32 hexadecimal digits")]
     BadKey,
 }
@@ -34,7 +34,7 @@ fn are_separators(bytes: &[u8]) -> bool
     bytes.iter().all(|byte| is_separator(*byte))
 }
 
-/// The bytes before the first separator, or before the first byte that is not one.
+/// The number of bytes before the first separator, or before the first other byte.
 fn bytes_before(text: &[u8], separator: bool) -> usize
     ensures { result ≤ length text.now }
 {
@@ -47,7 +47,7 @@ fn bytes_before(text: &[u8], separator: bool) -> usize
     }
 }
 
-/// The key that a text holds: 32 hexadecimal digits of either case, with separators around them.
+/// Reads a key: 32 hexadecimal digits of either case, with separators around them.
 ///
 /// # Errors
 ///

@@ -1,7 +1,7 @@
-//! The lines of the client: what it prints of a reply, and what it reads of a file.
+//! The lines that the client prints and reads.
 //!
-//! [`append_hits`], [`append_json_hits`] and [`append_names`] print replies; [`append_document`] writes a line of a dump, which
-//! [`read_document`] reads, and [`name_in`] finds the name of a document that is a line; [`read_key`] reads a file with a key.
+//! [`append_hits`], [`append_json_hits`] and [`append_names`] write the lines of a reply. [`append_document`] writes a line of a dump, and
+//! [`read_document`] reads it. [`name_in`] finds a document's name in its text. [`read_key`] reads a key file.
 #![tactic(auto)]
 
 mod documents;

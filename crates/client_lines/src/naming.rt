@@ -14,7 +14,7 @@ use path_types::{QueryFault, ValidQuery, compile};
 use std::alloc::{AllocError, Global};
 use tape_select::{BUDGET, SelectFault, select};
 
-/// The singular query (RFC 9535, section 2.3.5.1) that a text is, or `None` if it is not one. An error if an allocation failed.
+/// Reads a singular query (RFC 9535, section 2.3.5.1); `None` if the text is not one. An error if an allocation failed.
 pub fn read_name_query(alloc: Global, text: &[u8]) -> Result<Option<ValidQuery>, AllocError>
     ensures valid { IfOk result (λ o. IfSome o (λ q. IsValidQuery text.now (query_view q))) }
     ensures singular { IfOk result (λ o. IfSome o (λ q. IsTrue (singular.is_singular (query_view q)))) }
@@ -26,12 +26,12 @@ pub fn read_name_query(alloc: Global, text: &[u8]) -> Result<Option<ValidQuery>,
     }
 }
 
-/// The string that a query selects from a text: its first node.
+/// The string that a query selects from a text, as its first node.
 ///
 /// # Errors
 ///
-/// NoDocument with the reason for which the server would refuse the text; NoName if the query selects no string first; Memory if an allocation
-/// failed.
+/// NoDocument with the reason, if the server would refuse the text; NoName if the first node is not a string or there is none; Memory if an
+/// allocation failed.
 pub fn name_in(alloc: Global, query: &ValidQuery, text: &[u8]) -> Result<String, LineFault>
     ensures { IfOk result (λ name. TellsName (query_view query.now) text.now (string_bytes name)) }
 {

@@ -1,11 +1,11 @@
-//! Bytes put behind others.
+//! Appending bytes.
 
 ghost use Rattle.std.specs.Prelude.{◌≡◌, ◌++◌, flat_map, map, OnOk};
 ghost use Rattle.client_lines.specs.Lines.{blanked};
 
 use std::alloc::AllocError;
 
-/// Appends pieces, one behind the other.
+/// Appends pieces in order.
 pub fn append_all(pieces: &[&[u8]], out: &mut Vec<u8>) -> Result<(), AllocError>
     ensures { OnOk result (out.new.items ≡ out.old.items ++ flat_map (λ p. p.now) pieces.now) }
 {
@@ -15,7 +15,7 @@ pub fn append_all(pieces: &[&[u8]], out: &mut Vec<u8>) -> Result<(), AllocError>
     Ok(())
 }
 
-/// Appends bytes, with blanks in the place of line feeds.
+/// Appends bytes, with blanks for line feeds.
 pub fn append_blanked(bytes: &[u8], out: &mut Vec<u8>) -> Result<(), AllocError>
     ensures { OnOk result (out.new.items ≡ out.old.items ++ map blanked bytes.now) }
 {

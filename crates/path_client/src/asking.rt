@@ -1,4 +1,4 @@
-//! One request for each subcommand, and what is printed of its reply.
+//! The subcommands that send one request and print its reply.
 
 use crate::connection::{Connection, open};
 use crate::documents::{dump, of_document, query};
@@ -15,7 +15,7 @@ use std::time::Instant;
 use store_names::{CollName, DocName};
 use wire_frames::Command;
 
-/// Answers a subcommand that asks a server.
+/// Runs a subcommand that needs a server.
 pub fn answer<R: Input + Print + Eprint + Net + Files + Clock + AllocGlobal>(
     rt: &R,
     asked: &Asked<'_>,
@@ -123,7 +123,7 @@ fn ping<R: Print + Clock, S: Read + Write + Drop>(
     println!(rt; "{millis}.{rest:03} ms").map_err(|_| Failure::Write)
 }
 
-/// The microseconds since then, or 0 where the clock cannot be read.
+/// The microseconds since then, or 0 if the clock cannot be read.
 pub fn micros_since<R: Clock>(rt: &R, began: &Instant) -> u64 {
     match began.elapsed(rt) {
         Ok(took) => u64::try_from(took.as_micros()).unwrap_or(u64::MAX),

@@ -12,7 +12,7 @@ use wire_frames::Command;
 /// The most bytes of one read.
 const PIECE: usize = 65_536;
 
-/// A connection, and the bytes that came over it.
+/// A connection, and the bytes received on it.
 #[derive(Drop)]
 pub struct Connection<S: Drop> {
     alloc: Global,
@@ -32,7 +32,7 @@ fn first_address<R: Net>(rt: &R, address: &str) -> Option<std::net::SocketAddr> 
     }
 }
 
-/// Opens a connection to the first address of those that the text names.
+/// Opens a connection to the first address that the text resolves to.
 pub fn open<R: Net + AllocGlobal>(
     rt: &R,
     address: &str,
@@ -62,7 +62,7 @@ pub fn open<R: Net + AllocGlobal>(
 }
 
 impl<S: Read + Write + Drop> Connection<S> {
-    /// Appends the frame of a request, which gets the next number.
+    /// Appends the frame of a request with the next number.
     pub fn add(&mut self, command: &Command<'_>, out: &mut Vec<u8>) -> Result<u32, Failure> {
         let number = self.number.wrapping_add(1);
         write_request(number, &self.key, command, out).map_err(Failure::Send)?;
@@ -75,7 +75,7 @@ impl<S: Read + Write + Drop> Connection<S> {
         write_whole(&mut self.stream, bytes).map_err(|_| Failure::Unsent)
     }
 
-    /// Sends a request and waits for the payload of its reply.
+    /// Sends a request and waits for its payload.
     pub fn ask(&mut self, command: &Command<'_>) -> Result<&[u8], Failure> {
         if self.is_told {
             self.pass();
@@ -89,7 +89,7 @@ impl<S: Read + Write + Drop> Connection<S> {
         }
     }
 
-    /// Sends a request and waits until it is done.
+    /// Sends a request without a payload and waits for its reply.
     pub fn done(&mut self, command: &Command<'_>) -> Result<(), Failure> {
         self.ask(command)?;
         Ok(())
@@ -103,7 +103,7 @@ impl<S: Read + Write + Drop> Connection<S> {
         Ok(number)
     }
 
-    /// Waits until a whole reply is there, and answers its status where it is that to the request with this number; passes it.
+    /// Waits for the reply to the request with this number, removes it from the buffer, and returns its status if it is a refusal.
     pub fn take(&mut self, number: u32) -> Result<Option<u8>, Failure> {
         self.wait()?;
         let refused = match answer_to(self.reply()?, number).map_err(Failure::NoAnswer)? {

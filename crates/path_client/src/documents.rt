@@ -1,4 +1,4 @@
-//! The subcommands that have texts.
+//! The subcommands that send or print texts.
 
 use crate::asking::print;
 use crate::connection::Connection;
@@ -33,7 +33,7 @@ fn text_of<R: Input + Files + AllocGlobal>(rt: &R, file: Option<&str>) -> Result
     }
 }
 
-/// Answers a subcommand on a document.
+/// Runs a subcommand on one document.
 pub fn of_document<R: Input + Print + Files + AllocGlobal, S: Read + Write + Drop>(
     rt: &R,
     connection: &mut Connection<S>,

@@ -1,4 +1,4 @@
-//! Keys: the one of a file, and new ones.
+//! Keys: reads one from a file, and makes new ones.
 
 use client_commands::Failure;
 use client_lines::read_key;
@@ -7,13 +7,13 @@ use std::fs;
 use std::io::Read;
 use std::rt::Files;
 
-/// The most bytes of a file with a key.
+/// The most bytes of a key file.
 const MOST_BYTES: u64 = 65_536;
 
-/// Where the system gives random bytes.
+/// Where the system has random bytes.
 const RANDOM: &str = "/dev/urandom";
 
-/// The key of a file.
+/// Reads the key in a file.
 pub fn read<R: Files + AllocGlobal>(rt: &R, path: &str) -> Result<[u8; 16], Failure> {
     if path.is_empty() {
         return Err(Failure::NoKeyFile);

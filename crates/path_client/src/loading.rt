@@ -1,4 +1,4 @@
-//! Documents put, a line of input each, with many requests on their way.
+//! The subcommand `load`: puts one document for each line, with many requests on their way.
 
 use crate::asking::micros_since;
 use crate::connection::Connection;
@@ -15,19 +15,19 @@ use std::time::Instant;
 use store_names::{CollName, DocName};
 use wire_frames::Command;
 
-/// The most requests that wait for a reply.
+/// The most requests without a reply.
 const MOST_WAITING: usize = 64;
 
-/// How many still wait when the next are sent.
+/// The number of requests without a reply at which the next are sent.
 const HALF: usize = 32;
 
-/// The bytes of frames that are sent at a time.
+/// The bytes of frames sent at a time.
 const PIECE: usize = 65_536;
 
-/// The most bytes of a line: each byte of a text may be spelled by six.
+/// The most bytes of a line: a byte of a text may take six.
 const LONGEST_LINE: u64 = 25_165_824;
 
-/// How long a line of progress stands, in microseconds.
+/// The time between two lines of progress, in microseconds.
 const PROGRESS: u64 = 200_000;
 
 /// A put that waits for its reply.
@@ -39,7 +39,7 @@ struct Waiting {
     bytes: u64,
 }
 
-/// A line of input, numbered from 1, and what is put of it.
+/// A line of input, numbered from 1, with its document.
 #[derive(Clone, Copy)]
 struct Line<'a> {
     number: u64,
@@ -54,7 +54,7 @@ struct Counts {
     bytes: u64,
 }
 
-/// Documents on their way.
+/// The requests without a reply.
 #[derive(Drop)]
 struct Loading {
     frames: Vec<u8>,
@@ -62,7 +62,7 @@ struct Loading {
     counts: Counts,
 }
 
-/// When a load began, and when its progress was told last.
+/// When the load began, and when its progress was last printed.
 #[derive(Drop)]
 struct Progress {
     began: Option<Instant>,
@@ -81,7 +81,7 @@ fn naming_of(alloc: Global, query: Option<&str>) -> Result<Option<ValidQuery>, F
     }
 }
 
-/// Puts the documents of the file, or of standard input.
+/// Puts the documents in the file, or on standard input.
 pub fn load<R: Input + Print + Eprint + Files + Clock + AllocGlobal, S: Read + Write + Drop>(
     rt: &R,
     connection: &mut Connection<S>,

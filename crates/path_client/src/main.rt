@@ -1,4 +1,4 @@
-//! The program `path_client`: asks a server what its command line says, and ends with a status.
+//! The program `path_client`: sends the requests of its command line to a server.
 #![tactic(auto)]
 
 mod asking;
@@ -14,10 +14,10 @@ use std::net::Net;
 use std::process::ExitCode;
 use std::rt::{Clock, Env, Files};
 
-/// The variable of the environment that has the server's address.
+/// The environment variable with the server's address.
 const ADDRESS_VARIABLE: &str = "PATH_SERVER_AT";
 
-/// The variable of the environment that has the name of the file with the key.
+/// The environment variable with the name of the key file.
 const KEY_FILE_VARIABLE: &str = "PATH_SERVER_KEY_FILE";
 
 fn words_of<R: Env + AllocGlobal>(rt: &R) -> Result<Vec<String>, Failure> {
