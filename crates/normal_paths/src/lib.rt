@@ -1,7 +1,7 @@
-//! Normalized paths (RFC 9535, section 2.7): the one query of names and indexes that selects a node and no other.
+//! Normalized paths (RFC 9535, section 2.7): the query of names and indexes that selects exactly one node.
 //!
-//! [`write_path`] costs the depth of the node and the length of the path; it takes memory for the vector, and for the way up
-//! where the node is deeper than 32 levels.
+//! The time of [`write_path`] is proportional to the node's depth and the path's length. It allocates for the vector, and for the way
+//! up from a node deeper than 32 levels.
 #![tactic(auto)]
 
 mod name;

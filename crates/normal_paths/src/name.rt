@@ -48,7 +48,7 @@ fn write_scalar(out: &mut Vec<u8>, scalar: char) -> Result<(), AllocError>
     }
 }
 
-/// Appends a name without its quotes; at a refusal a part of it may stand there.
+/// Appends a name without quotes. If an allocation fails, part of the name may have been appended.
 pub fn write_name(out: &mut Vec<u8>, name: Scalars<'_>) -> Result<(), AllocError>
     ensures written { IfOk result (λ _. out.new.items ≡ out.old.items ++ name_text name.entry) }
     ensures kept { take (length out.old.items) out.new.items ≡ out.old.items }
@@ -71,7 +71,7 @@ fn scalar_length(scalar: char) -> usize
     }
 }
 
-/// The length of a name without its quotes, in bytes.
+/// The length of a name without quotes, in bytes.
 pub fn name_length(name: Scalars<'_>) -> usize
     requires { length name < 2 ^ 32 }
     ensures length { result ≡ length (name_text name.entry) }

@@ -87,7 +87,7 @@ fn write_way(
     Ok(())
 }
 
-/// Appends the normalized path of a node, in UTF-8: at most 6,291,457 bytes. A refused growth leaves the vector unchanged.
+/// Appends the normalized path of a node in UTF-8, at most 6,291,457 bytes. If an allocation fails, the vector is unchanged.
 pub fn write_path(
     alloc: Global,
     doc: &Document,
@@ -125,7 +125,7 @@ fn step_length(doc: &Document, node: NodeId) -> usize
     }
 }
 
-/// The length of a node's normalized path, in bytes: at most six for each byte of a text, and one.
+/// The length of a node's normalized path in bytes: at most one more than six times the length of the text.
 pub fn path_length(doc: &Document, node: NodeId) -> usize
     requires { node.0 < count doc.now }
     ensures value { result ≡ length (normal_path (node_at doc.now node.0)) }

@@ -1,36 +1,36 @@
-//! What answers the requests of many connections.
+//! The server behind the connections.
 ghost use Rattle.std.specs.Prelude.{◌≡◌, ℕ, List, Bool};
 ghost use Rattle.std.specs.Bool.{MatchBool};
 ghost use Rattle.outbox.specs.Appends.{Appends};
 
-/// What came of a look for a request.
+/// The outcome of [`Core::answer_next`].
 #[derive(Clone, Copy, Debug, PartialEq, Eq)]
 pub enum Step {
-    /// It was answered, and others may wait.
+    /// A request was answered, and others may wait.
     Replied,
-    /// None waits.
+    /// No request waits.
     Idle,
-    /// It was answered, and no other one will be.
+    /// The last request of the connection was answered.
     Last,
-    /// There was no memory for a reply, and none is answered any more.
+    /// There was no memory for a reply: no further request of the connection is answered.
     Refused,
 }
 
-/// A server of many connections. It takes pieces of their streams, and answers the requests in them one at a time.
+/// A server of many connections: it takes pieces of their streams and answers the requests in them one at a time.
 pub trait Core {
-    /// What taking a piece of a connection's stream leaves.
+    /// The states before and after a piece of a connection's stream is taken.
     ghost takes: { ℕ → Self → List ℕ → Self → Type 0 };
 
-    /// What answering a connection's next request with a reply leaves.
+    /// The states before and after a connection's next request is answered with a reply.
     ghost answers: { ℕ → Self → List ℕ → Self → Type 0 };
 
     /// No request of the connection waits.
     ghost idle: { ℕ → Self → Type 0 };
 
-    /// None of the connection's requests is answered any more.
+    /// No further request of the connection is answered.
     ghost over: { ℕ → Self → Bool };
 
-    /// Takes a piece, which is not empty. `false` where it is declined, which changes nothing.
+    /// Takes a piece, which is not empty. `false` if it declines the piece and changes nothing.
     fn take(&mut self, conn: u32, piece: &[u8]) -> bool
         ensures { MatchBool result (takes conn self.old piece.now self.new × (over conn self.new ≡ over conn self.old)) (self.new ≡ self.old) };
 
@@ -38,7 +38,7 @@ pub trait Core {
     fn answer_next(&mut self, conn: u32, out: &mut Vec<u8>) -> Step
         ensures { Appends (answers conn) (idle conn) (over conn) result self.old out.old.items out.new.items self.new };
 
-    /// Whether the turn ends although requests may wait, as where those that it answered took long.
+    /// Whether the turn ends although requests may wait, for instance because it took long.
     fn rests(&self) -> bool {
         false
     }

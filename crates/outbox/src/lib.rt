@@ -1,7 +1,7 @@
-//! What a server owes each of many connections, and one turn at one of them.
+//! The buffered replies of a connection, and one turn of reading, answering and writing.
 //!
-//! An [`Outbox`] holds the bytes that were answered and not written yet. [`turn`] reads at most one piece, has a few
-//! requests answered and writes at most twice; it never waits. [`in_order`] says what holds over every list of events.
+//! An [`Outbox`] holds the bytes that a connection is owed: replies that are not written yet. [`turn`] reads at most one piece, answers a few
+//! requests and writes at most twice; it never waits. [`in_order`] states what holds over every list of events.
 #![tactic(auto)]
 
 mod answers;

@@ -1,4 +1,4 @@
-//! The bytes that a connection's peer is owed.
+//! The bytes that a connection is owed: replies that are not written yet.
 ghost use Rattle.std.specs.Prelude.{◌≡◌, ◌≤◌, length};
 ghost use Rattle.outbox.specs.Lines as lines;
 ghost use Rattle.outbox.specs.Lines.{fresh, after, Fails, Ends, Writable};
@@ -9,13 +9,13 @@ use crate::stage::Stage;
 use std::alloc::Global;
 use std::marker::Model;
 
-/// The bytes owed beyond which a connection isn't read.
+/// A connection that is owed as many bytes is not read.
 pub const CAP: usize = 262_144;
 
-/// The room that replies may leave unused.
+/// The capacity that may stay unused.
 const FIT: usize = 65_536;
 
-/// What a connection's peer is owed, and whether more is read of it.
+/// The bytes that a connection is owed, and whether it is still read.
 #[derive(Drop)]
 pub struct Outbox {
     bytes: Vec<u8>,
@@ -36,7 +36,7 @@ impl Model for Outbox {
 }
 
 impl Outbox {
-    /// One that owes nothing, of an open connection.
+    /// The empty outbox of an open connection.
     pub fn new(alloc: Global) -> Outbox
         ensures { result ≡ fresh }
     {
@@ -47,35 +47,35 @@ impl Outbox {
         }
     }
 
-    /// What is owed.
+    /// The bytes owed.
     pub fn owed(&self) -> &[u8]
         ensures { result.now ≡ self.now.owed }
     {
         &self.bytes[self.start..]
     }
 
-    /// Whether something is owed.
+    /// Whether any byte is owed.
     pub fn owes(&self) -> bool
         ensures { result ≡ lines.owes self.now }
     {
         self.start < self.bytes.len()
     }
 
-    /// Whether more is read: it is open, and owes less than [`CAP`].
+    /// Whether the connection is read: it is open, and owed less than [`CAP`].
     pub fn reads(&self) -> bool
         ensures { result ≡ lines.reads self.now }
     {
         matches!(self.stage, Stage::Open) && self.bytes.len() - self.start < CAP
     }
 
-    /// Whether it is done with: nothing is read of it any more, and nothing is owed.
+    /// Whether the connection is over: it is no longer read, and nothing is owed.
     pub fn is_over(&self) -> bool
         ensures { result ≡ lines.is_over self.now }
     {
         !matches!(self.stage, Stage::Open) && !self.owes()
     }
 
-    /// So many of the bytes owed were written.
+    /// Notes that the first `count` bytes owed were written.
     pub fn wrote(&mut self, count: usize)
         requires { count ≤ length self.old.owed }
         ensures { self.new ≡ after self.old (Writable count) }
@@ -88,7 +88,7 @@ impl Outbox {
         }
     }
 
-    /// No piece comes any more.
+    /// Notes the end of the input: the bytes owed are still written.
     pub fn end(&mut self)
         ensures { self.new ≡ after self.old Ends }
     {
@@ -97,7 +97,7 @@ impl Outbox {
         }
     }
 
-    /// A fault came: what is owed is thrown away.
+    /// Notes a fault: the bytes owed are discarded.
     pub fn fail(&mut self)
         ensures { self.new ≡ after self.old Fails }
     {
@@ -107,7 +107,7 @@ impl Outbox {
         self.start = 0;
     }
 
-    /// Has the next request answered, and owes the reply too.
+    /// Has the next request answered, and appends its reply to the bytes owed.
     pub fn answer_next<C: Core>(&mut self, core: &mut C, conn: u32) -> Step
         ensures { appends.Owes (C.answers conn) (C.idle conn) (C.over conn) result core.old self.old self.new core.new }
     {

@@ -1,4 +1,4 @@
-//! One turn at one connection.
+//! One turn on one connection.
 ghost use Rattle.std.specs.Prelude.{◌<◌, length, Option};
 ghost use Rattle.outbox.specs.Told.{Told};
 ghost use Rattle.outbox.specs.Turns.{Turned, Flushes, here, can_read, can_answer, can_go_on, most_requests};
@@ -11,11 +11,11 @@ use crate::wire::{Given, Taken, Wire};
 /// The most requests that one turn answers.
 pub const REQUESTS: u32 = 64;
 
-/// Writes what is owed, reads a piece where no request waits, answers at most [`REQUESTS`] of them, and writes again. Nothing is read
-/// or answered while the outbox holds its cap, and one request is answered where the core rests.
+/// Writes the bytes owed, reads one piece if no request waits, answers at most [`REQUESTS`] requests, and writes again. It neither reads
+/// nor answers while the outbox is at its cap, and stops after one answer if the core rests.
 ///
-/// A fault of the wire throws away what is owed, and ends the connection. The end of its input, a piece that the core declines, its
-/// last answer and one that it refuses leave what is owed to be written.
+/// A fault of the wire discards the bytes owed and ends the connection. They are still written after the end of the input, a declined
+/// piece, a last answer or a refused one.
 pub fn turn<W: Wire, C: Core>(
     outbox: &mut Outbox,
     wire: &mut W,
@@ -48,10 +48,9 @@ fn flush<W: Wire>(outbox: &mut Outbox, wire: &mut W, ready: &mut Readiness)
     }
 }
 
-/// Reads one piece, where no request waits, and neither answers nor writes: so that what a request needs can be made ready before it is
-/// answered.
+/// Reads one piece if no request waits, and neither answers nor writes. The caller can then reserve what the request needs.
 ///
-/// A fault of the wire and the end of its input come to what they do in a [`turn`], and so does a piece that the core declines.
+/// Faults of the wire, the end of the input and declined pieces have the same effect as in a [`turn`].
 pub fn feed<W: Wire, C: Core>(
     outbox: &mut Outbox,
     wire: &mut W,

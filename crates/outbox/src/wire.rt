@@ -1,25 +1,25 @@
-//! A connection that never waits.
+//! Connections that never wait.
 ghost use Rattle.std.specs.Prelude.{Option};
 ghost use Rattle.outbox.specs.Told.{Told};
 ghost use Rattle.outbox.specs.Moves.{Gives, Takes};
 
-/// What a read gave.
+/// The outcome of a read.
 #[derive(Clone, Copy, Debug, PartialEq, Eq)]
 pub enum Given {
-    /// So many bytes at the front of the buffer.
+    /// This many bytes were read into the front of the buffer.
     Bytes(usize),
-    /// No byte comes any more.
+    /// The end of the input.
     Ended,
-    /// None is there yet.
+    /// No byte is there yet.
     Blocked,
     /// A fault.
     Failed,
 }
 
-/// What a write took.
+/// The outcome of a write.
 #[derive(Clone, Copy, Debug, PartialEq, Eq)]
 pub enum Taken {
-    /// So many bytes from the front.
+    /// This many bytes were written from the front.
     Bytes(usize),
     /// There is no room yet.
     Blocked,
@@ -27,16 +27,16 @@ pub enum Taken {
     Failed,
 }
 
-/// A connection whose reads and writes answer at once.
+/// A connection whose reads and writes return at once.
 pub trait Wire {
-    /// The bytes that went each way, where it tells them: one over memory does, one over a socket doesn't.
+    /// The bytes that went each way, if the wire shows them: one over memory does, one over a socket does not.
     ghost told: { Self → Option Told };
 
-    /// Reads into the front of a buffer, at least one byte where the buffer is not empty.
+    /// Reads into the front of a buffer: at least one byte, if the buffer is not empty.
     fn read(&mut self, buffer: &mut [u8]) -> Given
         ensures { Gives (told self.old) result buffer.new (told self.new) };
 
-    /// Takes bytes from the front of a slice, at least one where it is not empty.
+    /// Writes from the front of a slice: at least one byte, if the slice is not empty.
     fn write(&mut self, bytes: &[u8]) -> Taken
         ensures { Takes (told self.old) bytes.now result (told self.new) };
 }

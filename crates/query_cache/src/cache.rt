@@ -1,4 +1,4 @@
-//! The cache.
+//! An LRU cache of compiled queries.
 ghost use Rattle.std.specs.Prelude.{◌≡◌, ◌≤◌, [], length, IfOk, IfErr, OnErr, IsTrue, None, is_none, is_some, false};
 ghost use Rattle.std.specs.Borrow.{sem};
 ghost use Rattle.std.specs.Map.{lookup};
@@ -16,10 +16,10 @@ use std::alloc::{AllocError, Global};
 use std::marker::Model;
 use std::num::NonZeroUsize;
 
-/// The most texts of a cache.
+/// The greatest capacity of a cache.
 pub const LARGEST_CAPACITY: usize = 1_024;
 
-/// Valid queries by their texts, the most recently used first, and beside them the last one that found no room.
+/// Valid queries by their texts, the most recently used first. Beside this list, the last query for which there was no memory.
 #[derive(Drop)]
 pub struct Cache {
     queries: LruCache<Vec<u8>, ValidQuery>,
@@ -41,11 +41,11 @@ impl Cache {
     ghost use Rattle.query_cache.specs.Compiled.{query_in, Owns, LeavesList};
     ghost use Rattle.query_cache.specs.Lending.{EndsAs};
 
-    /// An empty cache for so many texts.
+    /// An empty cache for at most `capacity` texts.
     ///
     /// # Errors
     ///
-    /// Where a growth was refused.
+    /// If an allocation failed.
     pub fn new(alloc: Global, capacity: usize) -> Result<Cache, AllocError>
         requires some { 1 ≤ capacity }
         requires few { capacity ≤ 1024 }
@@ -59,22 +59,22 @@ impl Cache {
         })
     }
 
-    /// Whether the text is held. It changes nothing.
+    /// Whether the cache holds the text. This does not count as a use of it.
     pub fn holds(&self, text: &[u8]) -> bool
         ensures { result ≡ is_held text.now self.now.texts }
     {
         self.queries.contains(text)
     }
 
-    /// The query of a text, as [`compile`] gives it, whatever the cache holds.
+    /// The query of a text, as [`compile`] returns it, whatever the cache holds.
     ///
-    /// The text comes to the front. A new text drops the last of a full cache; where it finds no memory there, the cache keeps its
-    /// query until the next one that finds none, and the list stays. The list is never longer than the capacity.
+    /// The text becomes the most recently used. In a full cache, a new text evicts the least recently used. If there is no memory for the
+    /// entry, the list is unchanged, and the cache keeps the query aside until the next one without memory.
     ///
     /// # Errors
     ///
-    /// Those of [`compile`], in its order; a text that is too long is refused before the cache is asked, and one that is held
-    /// never. The list stays. `Memory` comes only from compiling.
+    /// Those of [`compile`], in its order, only for texts that the cache does not hold. The list is then unchanged. `Memory` comes from
+    /// compiling alone.
     pub fn lookup(&mut self, alloc: Global, text: &[u8]) -> Result<Compiled<'_>, QueryFault>
         ensures valid { IfOk result (λ compiled. IsValidQuery text.now (query_view (query_in compiled))) }
         ensures refused { IfErr result (λ fault. RefusesQueryText text.now fault) }
@@ -94,8 +94,8 @@ impl Cache {
         }
     }
 
-    /// Brings a text to the front, as [`Cache::lookup`] does, and lends nothing. Where there is no room for it, its query is handed
-    /// out.
+    /// Makes a text the most recently used, as [`Cache::lookup`] does, but lends nothing. If there is no memory for the entry, its query
+    /// is returned.
     ///
     /// # Errors
     ///
@@ -119,7 +119,7 @@ impl Cache {
         Ok(keep(queries, alloc, text, query))
     }
 
-    /// Lends the query of a text that is held.
+    /// Lends the query of a text in the cache.
     fn lend(&self, text: &[u8]) -> &ValidQuery
         requires { IsTrue (is_held text.now self.now.texts) }
         ensures { IsValidQuery text.now (query_view result.now) }
@@ -127,7 +127,7 @@ impl Cache {
         self.queries.peek(text).unwrap()
     }
 
-    /// Keeps a query beside the list, in the place of the last one, and lends it.
+    /// Keeps a query aside instead of the previous one, and lends it.
     fn set_aside(&mut self, query: ValidQuery) -> &ValidQuery
         ensures value { result.now ≡ query }
         ensures* list { sem 𝓛 (EndsAs self.entry (λ cache. cache ≡ self.old)) }
@@ -136,7 +136,7 @@ impl Cache {
     }
 }
 
-/// Brings a text that is held to the front, and tells whether it is held.
+/// Moves a text to the front, if the cache holds it, and says whether it does.
 fn bring_forward(queries: &mut LruCache<Vec<u8>, ValidQuery>, text: &[u8]) -> bool
     ensures held { result ≡ is_some (lookup (is_text text.now) queries.old.entries) }
     ensures order { queries.new ≡ lru_cache (promoted (is_text text.now) queries.old.entries) queries.old.cap }
@@ -144,7 +144,7 @@ fn bring_forward(queries: &mut LruCache<Vec<u8>, ValidQuery>, text: &[u8]) -> bo
     queries.promote(text)
 }
 
-/// Puts the query of a text that is not held to the front, or hands it back where there is no room for it.
+/// Inserts the query of a new text at the front, or returns it if there is no memory.
 fn keep(
     queries: &mut LruCache<Vec<u8>, ValidQuery>,
     alloc: Global,

@@ -1,10 +1,10 @@
-//! A compiled query, wherever it lies.
+//! A compiled query in the cache or aside.
 ghost use Rattle.std.specs.Prelude.{◌≡◌};
 ghost use Rattle.query_cache.specs.Compiled.{query_in, is_listed};
 
 use path_types::ValidQuery;
 
-/// A query that was looked up, and that the cache lends.
+/// A query that [`crate::Cache::lookup`] lends.
 #[derive(Clone, Copy)]
 pub struct Compiled<'a> {
     pub(crate) query: &'a ValidQuery,
@@ -19,7 +19,7 @@ impl<'a> Compiled<'a> {
         self.query
     }
 
-    /// Whether the cache holds its text. Otherwise there was no room for it, and it lasts until the next look-up.
+    /// Whether the cache holds its text. If not, there was no memory for the entry, and the query lasts until the next look-up.
     pub fn is_cached(&self) -> bool
         ensures { result ≡ is_listed self.now }
     {

@@ -1,4 +1,4 @@
-//! Compiled queries by their texts, those used last.
+//! An LRU cache of compiled queries by their texts.
 #![tactic(auto)]
 
 mod cache;
