@@ -1,6 +1,6 @@
 //! The syntax tree of a query.
 
-/// A query: the segments behind its `$` (RFC 9535, section 2.1).
+/// A query: the segments after its `$` (RFC 9535, section 2.1).
 #[derive(Drop)]
 pub struct Query {
     pub segments: Vec<Segment>,
@@ -23,11 +23,11 @@ pub enum Selector {
     Name(Vec<char>),
     /// All member values or all elements.
     Wild,
-    /// One element, counted from the end where the number is negative.
+    /// One element, counted from the end if the number is negative.
     Index(IntLit),
-    /// The children for which an expression holds.
+    /// The children for which the expression is true.
     Filter(Box<Expr>),
-    /// A run of elements.
+    /// The elements from `start`, before `stop`, by `step`.
     Slice {
         start: Option<IntLit>,
         stop: Option<IntLit>,
@@ -35,30 +35,30 @@ pub enum Selector {
     },
 }
 
-/// A number of an index or a slice.
+/// A number in an index or a slice.
 #[derive(Clone, Copy)]
 pub enum IntLit {
-    /// A number of absolute value at most 9,007,199,254,740,991, where the parser made it.
+    /// A number of absolute value at most 9,007,199,254,740,991, if the parser made it.
     Within(i64),
-    /// A number past that.
+    /// A number outside that range.
     Beyond,
 }
 
-/// A logical expression (RFC 9535, section 2.3.5). Parentheses leave no mark.
+/// A logical expression (RFC 9535, section 2.3.5). Parentheses have no node of their own.
 #[derive(Drop)]
 #[cycle(ast)]
 pub enum Expr {
-    /// Operands with `||` between them: two or more, where the parser made it.
+    /// Operands joined by `||`: two or more, if the parser made it.
     Any(Vec<Expr>),
-    /// Operands with `&&` between them: two or more, where the parser made it.
+    /// Operands joined by `&&`: two or more, if the parser made it.
     Each(Vec<Expr>),
     /// A negation.
     Not(Box<Expr>),
-    /// Two sides with an operator between them.
+    /// A comparison.
     Compare(Comparable, Op, Comparable),
-    /// Whether a query selects any node.
+    /// A test: whether a query selects any node.
     Test(SubQuery),
-    /// A call by itself.
+    /// A function call as a test.
     TestCall(Call),
 }
 
@@ -66,7 +66,7 @@ pub enum Expr {
 #[derive(Drop)]
 #[cycle(ast)]
 pub struct SubQuery {
-    /// Whether it begins at the document's root (`$`), or at the child that the filter is tried on (`@`).
+    /// Whether it begins at the root (`$`), or at the child that the filter is applied to (`@`).
     pub from_root: bool,
     pub segments: Vec<Segment>,
 }
@@ -76,12 +76,12 @@ pub struct SubQuery {
 #[cycle(ast)]
 pub enum Comparable {
     Lit(Literal),
-    /// A query that selects one node at most.
+    /// A singular query: it selects at most one node.
     Single(SubQuery),
     Func(Call),
 }
 
-/// A call of a function (RFC 9535, section 2.4): its name in ASCII, and its arguments in order.
+/// A function call (RFC 9535, section 2.4): its name in ASCII, and its arguments in order.
 #[derive(Drop)]
 #[cycle(ast)]
 pub struct Call {
@@ -89,29 +89,29 @@ pub struct Call {
     pub arguments: Vec<Argument>,
 }
 
-/// An argument of a call (RFC 9535, section 2.4).
+/// An argument of a function call (RFC 9535, section 2.4).
 #[derive(Drop)]
 #[cycle(ast)]
 pub enum Argument {
     Lit(Literal),
     Nodes(SubQuery),
     Func(Call),
-    /// A logical expression that is no query and no call by itself.
+    /// Any other logical expression.
     Logical(Box<Expr>),
 }
 
 /// A literal (RFC 9535, section 2.3.5.1).
 #[derive(Drop)]
 pub enum Literal {
-    /// A number, by the bytes that spell it.
+    /// A number, as it is written.
     Number(Vec<u8>),
-    /// A string, by its scalar values.
+    /// A string, as scalar values.
     Text(Vec<char>),
     Bool(bool),
     Null,
 }
 
-/// An operator of a comparison (RFC 9535, section 2.3.5.1).
+/// A comparison operator (RFC 9535, section 2.3.5.1).
 #[derive(Clone, Copy)]
 pub enum Op {
     Eq,

@@ -1,7 +1,7 @@
-//! Reads what may hold filters: segments, logical expressions and calls, which call one another.
+//! Reads segments, logical expressions and function calls: the recursive part of the grammar.
 //!
-//! `level` is the number of filters, parentheses and argument lists that may still stand one in another. No part of the text is
-//! read twice, but for a literal that begins an argument.
+//! `level` says how many more filters, parentheses and argument lists may be nested. Only a literal that begins an argument is
+//! read twice.
 
 ghost use Rattle.std.specs.Prelude.{◌≡◌, ◌∷◌, map, option_map, IfOk, IfSome, IsTrue};
 ghost use Rattle.std.specs.List.{list_all};
@@ -259,7 +259,7 @@ fn segment(alloc: Global, text: &[char], level: u8) -> Result<(Segment, &[char])
     }
 }
 
-/// The segments at the front: each takes a character, so there are no more than that.
+/// The segments at the front. Each takes at least one character, which bounds their number.
 #[cycle(expressions)]
 pub fn segments(
     alloc: Global,

@@ -1,4 +1,4 @@
-//! Why a query text has no tree.
+//! Why a query text is refused.
 
 ghost use Rattle.std.specs.Prelude.{◌≡◌};
 ghost use Rattle.path_grammar.specs.declared.fault.ParseFault.TheVariants.{Memory};
@@ -6,16 +6,16 @@ ghost use Rattle.path_grammar.specs.declared.fault.ParseFault.TheVariants.{Memor
 use std::alloc::{AllocError, AllocFailed};
 use thiserror::Error;
 
-/// Why a query text has no tree, in the order in which it is found.
+/// Why a query text is refused, in the order of the checks.
 #[derive(Clone, Copy, Debug, Drop, PartialEq, Eq, Error)]
 pub enum ParseFault {
-    /// More than 4,096 bytes.
+    /// The text has more than 4,096 bytes.
     #[error("QueryTooLong")]
     QueryTooLong,
-    /// Not UTF-8, or no query of the grammar.
+    /// The text is not UTF-8, or not a query of the grammar.
     #[error("NotWellFormed")]
     NotWellFormed,
-    /// A growth was refused.
+    /// An allocation failed.
     #[error("NoMemory")]
     Memory,
 }

@@ -1,7 +1,7 @@
-//! Query text to syntax tree (RFC 9535, sections 2.1 to 2.5).
+//! Parses a query text into a syntax tree (RFC 9535, sections 2.1 to 2.5).
 //!
-//! [`parse`] reads a whole text from left to right, once, and answers its tree or one named refusal. It knows nothing of
-//! validity, which another crate judges on the tree.
+//! [`parse`] reads a text once, from left to right, and returns its tree or a named refusal. It does not check validity:
+//! `path_types` does, on the tree.
 #![tactic(auto)]
 
 mod ast;

@@ -66,7 +66,7 @@ fn int(text: &[char]) -> Result<(IntLit, &[char]), ParseFault>
     }
 }
 
-/// The integer at the front and the blanks behind it, if one begins there.
+/// The integer at the front with the blanks after it, if one begins there.
 #[tactic(auto, unfolding(crate::specs::ReadingNumbers::part_at))]
 pub fn part(text: &[char]) -> Result<(Option<IntLit>, &[char]), ParseFault>
     ensures { Gives (λ x. (x.0, x.1.now)) result (part_at text.now) }
@@ -141,7 +141,7 @@ fn exponent_end(text: &[char]) -> Result<&[char], ParseFault>
     }
 }
 
-/// The text behind the number at the front.
+/// The text after the number at the front.
 #[tactic(auto, unfolding(crate::specs::ReadingNumbers::number_end))]
 pub fn number_end(text: &[char]) -> Result<&[char], ParseFault>
     ensures { Gives (λ t. t.now) result (number_end text.now) }

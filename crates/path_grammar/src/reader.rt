@@ -15,7 +15,7 @@ use std::alloc::Global;
 /// The greatest length of a query text, in bytes.
 pub const QUERY_LIMIT: usize = 4096;
 
-/// The greatest number of filters, parentheses and argument lists that stand one in another.
+/// The most filters, parentheses and argument lists inside one another.
 pub const LEVEL_LIMIT: u8 = 32;
 
 #[tactic(auto, unfolding(crate::specs::ReadingFilters::query_at, crate::specs::ReadingFilters::ended))]
@@ -46,10 +46,12 @@ fn characters(alloc: Global, bytes: &[u8]) -> Result<Vec<char>, ParseFault>
     }
 }
 
-/// The tree of a query text: of all its bytes, which are UTF-8 and spell one query (RFC 9535, section 2.1.1).
+/// The syntax tree of a whole query text in UTF-8 (RFC 9535, section 2.1.1).
 ///
-/// Refused are, in this order: more than [`QUERY_LIMIT`] bytes (QueryTooLong); what spells no query (NotWellFormed). Memory
-/// comes where a growth was refused.
+/// # Errors
+///
+/// In this order: `QueryTooLong` above [`QUERY_LIMIT`] bytes; `NotWellFormed` if the text is not a query of the grammar. `Memory` if an
+/// allocation failed.
 pub fn parse(alloc: Global, text: &[u8]) -> Result<Query, ParseFault>
     ensures spelled { IfOk result (λ q. IsQuery text.now (query_view q)) }
     ensures one_tree { IfOk result (λ q. (other : Segments) → IsQuery text.now other → other ≡ query_view q) }

@@ -13,7 +13,7 @@ pub fn skip_blanks(text: &[char]) -> &[char]
     split_run(text, Class::Blank).1
 }
 
-/// The text behind this character, where it is the first.
+/// The text after this character, if the text begins with it.
 #[tactic(auto, unfolding(crate::specs::Reading::behind))]
 pub fn behind(text: &[char], wanted: char) -> Option<&[char]>
     ensures { option_map (λ t. t.now) result ≡ behind wanted text.now }
@@ -24,7 +24,7 @@ pub fn behind(text: &[char], wanted: char) -> Option<&[char]>
     }
 }
 
-/// The text behind this character, which has to stand there.
+/// The text after this character, with which the text has to begin.
 pub fn closed(text: &[char], wanted: char) -> Result<&[char], ParseFault>
     ensures { Gives (λ t. t.now) result (behind wanted text.now) }
 {

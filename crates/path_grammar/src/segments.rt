@@ -1,4 +1,4 @@
-//! Reads the parts of selectors and segments that hold no filter.
+//! Reads the parts of selectors and segments that cannot contain a filter.
 
 ghost use Rattle.std.specs.Prelude.{◌≡◌, map, option_map};
 ghost use Rattle.path_grammar.specs.Reading.{Gives};

@@ -1,4 +1,4 @@
-//! Which queries select one node at most.
+//! Singular queries.
 
 ghost use Rattle.std.specs.Prelude.{◌≡◌};
 ghost use Rattle.path_grammar.specs.Singular.{is_singular, is_one};
@@ -26,7 +26,7 @@ fn is_one(selectors: &[Selector]) -> bool
     }
 }
 
-/// Whether each segment is a child segment of one name or one index (RFC 9535, section 2.3.5.1).
+/// Whether a query is singular: each segment is a child segment with one name or one index (RFC 9535, section 2.3.5.1).
 pub fn is_singular(segments: &[Segment]) -> bool
     ensures { result ≡ is_singular (segments_view segments.now) }
 {

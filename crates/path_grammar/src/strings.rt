@@ -168,7 +168,7 @@ fn inside(
     Err(ParseFault::NotWellFormed)
 }
 
-/// The scalar values of a string in quotes of either kind.
+/// The scalar values of a string in single or double quotes.
 #[tactic(auto, unfolding(crate::specs::ReadingStrings::string_at))]
 pub fn string(alloc: Global, text: &[char]) -> Result<(Vec<char>, &[char]), ParseFault>
     ensures { Gives (λ x. (x.0.items, x.1.now)) result (string_at text.now) }

@@ -1,5 +1,6 @@
-//! Which queries are valid (RFC 9535, section 2.1): a walk over the syntax tree, a type for the trees that passed it, and the
-//! verdict on a query's text.
+//! Decides whether a query is valid (RFC 9535, section 2.1).
+//!
+//! [`check`] walks the syntax tree and wraps a valid one in [`ValidQuery`]. [`compile`] parses a query text and checks it.
 #![tactic(auto)]
 
 mod laws;

@@ -1,4 +1,4 @@
-//! The verdict on a query text.
+//! From a query text to a valid query.
 
 ghost use Rattle.std.specs.Prelude.{IfErr, IfOk};
 ghost use Rattle.path_grammar.specs.View.{query_view};
@@ -9,28 +9,29 @@ use path_grammar::{ParseFault, parse};
 use std::alloc::Global;
 use thiserror::Error;
 
-/// Why a query text is refused, in the order in which it is found.
+/// Why a query text is refused, in the order of the checks.
 #[derive(Clone, Copy, Debug, Drop, PartialEq, Eq, Error)]
 pub enum QueryFault {
     /// The text has more bytes than [`path_grammar::QUERY_LIMIT`].
     #[error("QueryTooLong")]
     QueryTooLong,
-    /// The text is not UTF-8, or none of the grammar (RFC 9535, section 2.1.1).
+    /// The text is not UTF-8, or not a query of the grammar (RFC 9535, section 2.1.1).
     #[error("NotWellFormed")]
     NotWellFormed,
     /// The query is not valid (RFC 9535, section 2.1).
     #[error("NotValid")]
     NotValid,
-    /// A growth was refused.
+    /// An allocation failed.
     #[error("NoMemory")]
     Memory,
 }
 
-/// The valid query that a text spells (RFC 9535, section 2.1).
+/// Parses a query text and checks the query (RFC 9535, section 2.1).
 ///
-/// Refused are, in this order: more than [`path_grammar::QUERY_LIMIT`] bytes (QueryTooLong); what spells no query
-/// (NotWellFormed); what spells one that is not valid (NotValid). Memory comes where a growth was refused, which only a text
-/// within the limit makes.
+/// # Errors
+///
+/// In this order: `QueryTooLong` above [`path_grammar::QUERY_LIMIT`] bytes; `NotWellFormed` if the text is not a query of the grammar;
+/// `NotValid` if the query is not valid. `Memory` if an allocation failed; a text above the limit makes none.
 pub fn compile(alloc: Global, query: &[u8]) -> Result<ValidQuery, QueryFault>
     ensures valid { IfOk result (λ v. IsValidQuery query.now (query_view v)) }
     ensures refused { IfErr result (λ fault. RefusesQueryText query.now fault) }

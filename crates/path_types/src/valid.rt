@@ -1,4 +1,4 @@
-//! The walk that judges a tree.
+//! The walk that checks a syntax tree.
 
 ghost use Rattle.std.specs.Prelude.{◌≡◌, map};
 ghost use Rattle.path_grammar.specs.Tree.{exprs_of, arguments_of};
@@ -11,7 +11,7 @@ use path_grammar::{
     Argument, Call, Comparable, Expr, IntLit, Literal, Segment, Selector, is_singular,
 };
 
-/// The greatest absolute value of a number of an index or a slice (RFC 9535, section 2.1).
+/// The greatest absolute value of a number in an index or a slice (RFC 9535, section 2.1).
 pub const INT_LIMIT: i64 = 9_007_199_254_740_991;
 
 fn is_int(number: IntLit) -> bool

@@ -1,4 +1,4 @@
-//! A query that is valid.
+//! Valid queries.
 
 ghost use Rattle.std.specs.Prelude.{◌≡◌, ◌↔◌, IsTrue, IsOk, IfOk, IfErr};
 ghost use Rattle.path_grammar.specs.View.{query_view, segments_view};
@@ -9,7 +9,7 @@ use path_grammar::{Query, Segment};
 use std::marker::Model;
 use thiserror::Error;
 
-/// A query is well-formed and not valid (RFC 9535, section 2.1).
+/// The query is well-formed but not valid (RFC 9535, section 2.1).
 #[derive(Clone, Copy, Debug, PartialEq, Eq, Error)]
 #[error("NotValid")]
 pub struct NotValid;
@@ -47,7 +47,7 @@ impl ValidQuery {
     }
 }
 
-/// The query, where it is valid (RFC 9535, section 2.1); otherwise it is handed back as it came.
+/// Checks a query (RFC 9535, section 2.1). One that is not valid is returned unchanged in the error.
 pub fn check(query: Query) -> Result<ValidQuery, (NotValid, Query)>
     ensures valid { IsOk result ↔ IsTrue (is_valid (query_view query)) }
     ensures same { IfOk result (λ v. v ≡ query) }
