@@ -116,11 +116,14 @@ def reading(it):
     best = implementation(head[3])
     yield plot("reading", "Reading speed, by file")
     yield filled("A text is read into a document that queries can use, and all of RFC 8259 is checked, repeated names included. simdjson's DOM parser converts numbers, "
-                 "and looks for no repeated name. The files are the usual ones of JSON benchmarks, cut to 1 MiB; `orders_1m.json` is made. "
-                 "Gigabytes a second, the best of 200 rounds:")
+                 "and looks for no repeated name. " + of_files(row[0] for row in rows) + "Gigabytes a second, the best of 200 rounds:")
     yield table(["file", "path_server", "simdjson, SSE4.2", f"simdjson, {best}", "ratio to SSE4.2"],
                 [[f"{row[0]}, {it['bytes'][row[0]]:,} bytes", *row[1:]] for row in rows])
     yield filled("path_server is built for SSE4.2. " + share("Python reads these files at {} gigabytes a second.", list(it["python"].values())))
+
+
+def of_files(names):
+    return "The files are the usual ones of JSON benchmarks, cut to 1 MiB; `orders_1m.json` is made. " if len(list(names)) > 1 else "The file is made, of small orders. "
 
 
 def beside(it):
@@ -134,10 +137,46 @@ def beside(it):
                 [[name, *(rounded(them[count][at]) for count in (1, 100) for at in (0, 1))] for name, them in by_name.items()])
 
 
+# ---- building and checking
+
+TOOLS = ("tests/fitting.py", "tests/trying.py", "tests/definitions.py", "bin/edits fit", "bin/check-layout", "bin/definitions")
+OF_GATE = {"rt ci": "`rt ci`: proofs from nothing, two compilers, tests of the crates", "bin/edits try must-fail": "`bin/edits try must-fail`, beside it: wrong bodies are refused"}
+
+
+def minutes(seconds):
+    return f"{seconds / 60:.1f}" if seconds < 600 else f"{seconds / 60:.0f}"
+
+
+def building(figures):
+    """What the first calls and the gate take. It has three parts, which are recorded apart."""
+    first, built, gate = (of(figures, name) for name in ("unproved", "build", "gate"))
+    crates = f"{built['crates']} crates" if built else "all crates"
+    rows = [("both programs without a proof, as the first call makes them", first), (f"`bin/build`: {crates} proved, both programs compiled", built),
+            ("`bin/check`: the whole gate", gate and {"wall": gate["wall"], "processor": sum(it[2] for it in gate["parts"])})]
+    yield filled("What a first call waits for, what goes on behind it, and the gate, from nothing. Processor minutes are those of all processors together.")
+    yield table(["what", "minutes", "processor minutes"], [[what, *((minutes(it["wall"]), minutes(it["processor"])) if it else (NONE, NONE))] for what, it in rows])
+    if gate:
+        yield "The parts of the gate:"
+        yield table(["part", "minutes", "processor minutes", "passed", "failed"], list(of_gate(gate["parts"])))
+        if gate["kept"]:
+            yield f"The proofs of {gate['kept']} crates were kept from an earlier run."
+
+
+def of_gate(parts):
+    groups = {}
+    for name, *counts in parts:
+        title = OF_GATE.get(name) or ("the tools of `bin/`, and their tests" if name.startswith(TOOLS) else "the scripts of `tests/` and `clients/`")
+        groups.setdefault(title, []).append(counts)
+    for title, found in groups.items():
+        wall, processor, passed, failed = map(sum, zip(*found))
+        yield [title, minutes(wall), minutes(processor), f"{passed:,}", failed]
+
+
 # ---- the inside
 
 def shapes(it):
-    yield filled("The time to read a text of one shape, and of one with four times as many parts: linear is 4. The longer texts have some 4 MiB.")
+    yield filled("The time to read a text of one shape, and of one with four times as many parts. The last column is the second time over the first: 4 is linear. "
+                 "The longer texts have some 4 MiB.")
     yield table(*of_rows(it["shapes"]))
 
 
@@ -220,13 +259,15 @@ def benchmarks(figures):
                      "by half between machines and by a tenth between runs, so compare within a table.")]
     for name, (title, made) in SECTIONS.items():
         blocks += section(f"## {title}", figures, name, made)
+    blocks += ["## Building and checking", *building(figures)]
     blocks.append("## The inside")
     blocks.append("For whoever changes the code. These programs call the crates directly (`crates/path_bench`).")
     for name, (title, made) in INSIDE.items():
         blocks += section(f"### {title}", figures, name, made)
-    blocks += ["## Repeat it", "    bench/peers.sh\n    bin/build\n    (cd crates/path_bench && rt lib)\n    bench/report.py",
+    blocks += ["## Repeat it", "    bench/peers.sh\n    bin/build\n    bench/report.py",
                filled("`bench/peers.sh` installs the peers from Debian. `bench/report.py --help` lists the parts: `--only connections,rounds` measures some of them, and "
-                      "`--quick` only shows that each part works. Run it while nothing else runs."),
+                      "`--quick` only shows that each part works. Run it while nothing else runs. The times of a build and of the gate come from what these printed: "
+                      "`bench/report.py --build build/log` and `bench/report.py --gate FILE`."),
                "Next: [PROVED.md](PROVED.md) says what is proved, [TRIED.md](TRIED.md) what was tried for speed."]
     return "\n\n".join(blocks) + "\n"
 
@@ -235,6 +276,15 @@ def benchmarks(figures):
 
 def of(figures, name):
     return figures["parts"].get(name, {}).get("result")
+
+
+def with_times(text, figures):
+    """Text with the minutes of a first answer, a build and a gate between their marks, as far as they are recorded."""
+    for name in ("unproved", "build", "gate"):
+        it = of(figures, name)
+        if it:
+            text = re.sub(rf"(<!-- {name} -->).*?(<!-- -->)", rf"\g<1>{max(round(it['wall'] / 60), 2)} minutes\2", text, flags=re.S)
+    return text
 
 
 def readme(figures):
@@ -267,4 +317,4 @@ def readme(figures):
         said += f" One thread answers {rounded(rate)} requests a second over 100 connections."
     if "jq" in shell:
         said += f" A file of 1 MiB is queried {shell['jq'][0] / shell['path_server'][0]:.0f} times as fast as with jq."
-    return "\n".join([BEGIN, "", filled(said), "", table(["", "get, us", "query, us", "filter 1 MiB, ms", "use it when"], rows), "", END])
+    return "\n".join([BEGIN, "", filled(said), "", table(["", "get, µs", "query, µs", "filter 1 MiB, ms", "use it when"], rows), "", END])

@@ -4,7 +4,7 @@ bench/report.py runs each part as a process of its own, so that one that fails o
 """
 import json
 import os
-import statistics
+import resource
 import subprocess
 import sys
 import tempfile
@@ -16,9 +16,11 @@ import many
 import memory
 import program
 import sockets
-from running import LIBRARY, compiled, items, need_program
+from running import LIBRARY, TOP, compiled, items, need_program
 
-NAMES = ("connections", "rounds", "queries", "memory", "beside", "reading", "index", "compiled", "store", "hub", "hostile")
+NAMES = ("connections", "rounds", "queries", "memory", "beside", "reading", "unproved", "index", "compiled", "store", "hub", "hostile")
+# those that call the crates directly, through the library of crates/path_bench
+LINKED = ("reading", "index", "compiled", "store", "hub")
 
 
 class Missing(Exception):
@@ -27,7 +29,7 @@ class Missing(Exception):
 
 def library():
     if not os.access(LIBRARY, os.R_OK):
-        raise Missing(f"no library {LIBRARY}: (cd crates/path_bench && rt lib) makes it")
+        raise Missing(f"no library {LIBRARY}: rt lib makes it, in crates/path_bench")
     return LIBRARY
 
 
@@ -123,15 +125,20 @@ def index(settings):
         return {"tables": [rows]}
 
 
+# ---- the first answer
+
+def unproved(settings):
+    """How long the programs take to build without a proof, both at a time as the first call builds them."""
+    with tempfile.TemporaryDirectory() as folder:
+        began = time.monotonic()
+        running = [subprocess.Popen([TOP / "bin/unproved", it, Path(folder) / it]) for it in ("path_client", "path_program")[:1 if settings["quick"] else 2]]
+        if any([it.wait() for it in running]):
+            raise Missing("bin/unproved made no program")
+        used = resource.getrusage(resource.RUSAGE_CHILDREN)
+        return {"wall": time.monotonic() - began, "processor": used.ru_utime + used.ru_stime}
+
+
 # ---- the inside
-
-def with_library(source, words=()):
-    def part(settings):
-        with tempfile.TemporaryDirectory() as folder:
-            given = [texts(settings, folder)[0]] if words else []
-            return {"tables": printed_by(folder, source, given)}
-    return part
-
 
 def compiled_queries(settings):
     with tempfile.TemporaryDirectory() as folder:
@@ -155,7 +162,7 @@ def hostile_rows(settings):
     return {"rows": rows}
 
 
-PARTS = dict(zip(NAMES, (connections, rounds, queries, by_documents, beside, reading, index, compiled_queries, store, hub, hostile_rows)))
+PARTS = dict(zip(NAMES, (connections, rounds, queries, by_documents, beside, reading, unproved, index, compiled_queries, store, hub, hostile_rows)))
 
 
 def main():

@@ -1,17 +1,20 @@
 #!/usr/bin/env python3
-"""The report: bench/report.py [--only PART,..] [--quick] [--texts FOLDER] [--into FOLDER] [--draw | --check] measures the program beside the
-peers that are installed, and writes docs/BENCHMARKS.md, its plots (docs/plots) and the figures in README.
+"""The report: bench/report.py [--only PART,..] [--quick] [--texts FOLDER] [--into FOLDER] [--draw | --check | --build FILE | --gate FILE]
+measures the program beside the peers that are installed, and writes docs/BENCHMARKS.md, its plots (docs/plots) and the figures in README.
 
   --only PART,..   measures these parts and keeps what is recorded of the others: {parts}
   --quick          measures so little that it only shows that each part works; writes nowhere but into --into
   --texts FOLDER   reads the JSON files of this folder (*.json, 100,000 bytes and more) beside the text that is made
   --into FOLDER    writes the page, the plots and README's part there, and not into the repository
   --draw           measures nothing, and writes page and plots of what is recorded
+  --build FILE     records the times of a first build, of which FILE is what bin/build printed (build/log), and draws
+  --gate FILE      records the times of a gate, of which FILE is what bin/check printed, and draws
   --check          measures and writes nothing: status 1 if the page or README is not what the recorded figures give
 
 What was measured is recorded in docs/plots/figures.json. A part that fails or takes more than {most} minutes is recorded as not measured, and
 the others go on. The program is the one that bin/build makes; with the environment's PATH_SERVER or PATH_BENCH naming others, which may have
-no proof, it writes into --into alone. Plots need matplotlib (Debian's python3-matplotlib).
+no proof, it writes into --into alone. `rt lib` makes the library of crates/path_bench, which some parts call. Plots need matplotlib (Debian's
+python3-matplotlib).
 """
 import argparse
 import datetime
@@ -26,9 +29,10 @@ import tempfile
 import time
 from pathlib import Path
 
+import logs
 import page
-from parts import NAMES
-from running import LIBRARY, PROGRAM, TOP, need_program, postgres_folder
+from parts import LINKED, NAMES
+from running import TOP, need_program, postgres_folder
 
 HERE = Path(__file__).resolve().parent
 FIGURES, PLOTS, PAGE, README = "docs/plots/figures.json", "docs/plots", "docs/BENCHMARKS.md", "README.md"
@@ -111,6 +115,29 @@ def measure(name, settings):
     return {**entry, "failed": " ".join(reason.split())[:160].rstrip(".")}
 
 
+def make_library():
+    """Has rt make the library of crates/path_bench of the sources as they stand, unless the environment names one. What keeps it from that is told."""
+    if os.environ.get("PATH_BENCH"):
+        return
+    print("crates/path_bench ..", end=" ", flush=True)
+    began = time.monotonic()
+    try:
+        ran = subprocess.run(["rt", "lib"], cwd=TOP / "crates/path_bench", stdin=subprocess.DEVNULL, stdout=subprocess.PIPE, stderr=subprocess.STDOUT, encoding="utf-8")
+        failed = ran.stdout if ran.returncode else ""
+    except OSError as error:
+        failed = f"no rt: {error}\n"
+    print(f"{time.monotonic() - began:.0f} s" + (": NOT MADE" if failed else ""), flush=True)
+    print(failed, end="", file=sys.stderr)
+
+
+def read_times(name, reader, file):
+    """What a log says of times, as a part of the report."""
+    try:
+        return {"date": now(), "commit": commit(), "result": reader(file.read_text(encoding="utf-8", errors="replace"))}
+    except (OSError, logs.NoTimes) as error:
+        sys.exit(f"bench/report.py: --{name} {file}: {error}")
+
+
 def draw(figures_file, folder):
     """Draws with the first Python here that has matplotlib."""
     for python in dict.fromkeys([sys.executable, "/usr/bin/python3", shutil.which("python3") or sys.executable]):
@@ -132,7 +159,7 @@ def with_figures(text, figures):
     _, end, after = rest.partition(page.END)
     if not begin or not end:
         sys.exit(f"bench/report.py: {README} has no place for the figures")
-    return before + page.readme(figures) + after
+    return page.with_times(before, figures) + page.readme(figures) + page.with_times(after, figures)
 
 
 def write(figures, folder):
@@ -160,7 +187,8 @@ def read_words():
     words.add_argument("--help", action="store_true")
     words.add_argument("--only", default=",".join(NAMES))
     words.add_argument("--texts")
-    words.add_argument("--into", type=Path)
+    for option in ("--into", "--build", "--gate"):
+        words.add_argument(option, type=Path)
     for flag in ("--quick", "--draw", "--check"):
         words.add_argument(flag, action="store_true")
     given = words.parse_args()
@@ -178,18 +206,24 @@ def main():
     given = read_words()
     if given.check:
         sys.exit(check())
+    read = {"build": (logs.of_build, given.build), "gate": (logs.of_gate, given.gate)}
+    read = {name: read_times(name, *it) for name, it in read.items() if it[1]}
+    measures = not given.draw and not read
     named = bool(os.environ.get("PATH_SERVER") or os.environ.get("PATH_BENCH"))
-    if (given.quick or named) and not given.into and not given.draw:
+    if (given.quick or named) and not given.into and measures:
         sys.exit("bench/report.py: a quick run, or a program that the environment names, needs --into FOLDER")
     figures, folder = recorded(), given.into or TOP
-    if not given.draw:
+    figures["parts"].update(read)
+    if measures:
         need_program()
         if len(given.only) == len(NAMES) or not figures["about"]:
             figures["about"] = about(named)
         if os.getloadavg()[0] > 0.5:
             print(f"bench/report.py: other work runs here, the load is {os.getloadavg()[0]:.2f}; the figures will be worse than on a quiet machine", file=sys.stderr)
-        for it in [*peers()[1], *[LIBRARY] * (not os.access(LIBRARY, os.R_OK))]:
+        for it in peers()[1]:
             print(f"bench/report.py: not here, and left out: {it}", file=sys.stderr)
+        if set(LINKED) & set(given.only):
+            make_library()
         settings = {"quick": given.quick, "texts": given.texts and str(Path(given.texts).resolve())}
         for name in given.only:
             print(f"{name} ..", end=" ", flush=True)
@@ -197,8 +231,8 @@ def main():
             it = figures["parts"][name]
             print(f"{it['seconds']:.0f} s" + (f": NOT MEASURED: {it['failed']}" if "failed" in it else ""), flush=True)
     write(figures, folder)
-    failed = [] if given.draw else [name for name in given.only if "failed" in figures["parts"][name]]
-    told = "" if given.draw else f"; {len(given.only) - len(failed)} parts measured, {len(failed)} not"
+    failed = [name for name in given.only if "failed" in figures["parts"][name]] if measures else []
+    told = f"; {len(given.only) - len(failed)} parts measured, {len(failed)} not" if measures else ""
     print(f"wrote {folder / PAGE}, {folder / README} and the plots in {folder / PLOTS}{told}")
     sys.exit(1 if failed else 0)
 

@@ -14,7 +14,7 @@ The pages are README.md, CONTRIBUTING.md, those of docs/, and the README.md of e
 - An example in Rust of a crate's page is a test. `rt try --test` compiles and runs them all, where there is rt.
 - A link to a file, and what stands between backquotes and begins with a folder of this repository, is there.
 - The pictures are what their script draws, and the figures of README and docs/BENCHMARKS.md those that bench/report.py recorded. A line beside
-  "bin/definitions PATH" in a table, `N files, M lines`, is what that command counts.
+  "bin/definitions PATH" in a table, `N files, M lines`, is what that command counts. README's two counts of lines are those of docs/PROVED.md.
 
 It runs the programs that bin/build makes, or those that the environment's PATH_SERVER and PATH_CLIENT name.
 """
@@ -216,6 +216,14 @@ def count_definitions(report, name, text):
         report.case(f"{name}: bin/definitions {path}", "", wanted.replace(",", ""), found[0].replace(",", "") if found else ran.stderr)
 
 
+def compare_counts(report):
+    """The lines of definitions in README with those in docs/PROVED.md, which count_definitions compares with the command."""
+    counted = dict(COUNTED.findall((TOP / "docs/PROVED.md").read_text(encoding="utf-8")))
+    wanted = [counted[path].split()[2] for path in ("json_tape::Document::read", "path_hub::run")]
+    found = re.search(r"([\d,]+) lines\s+say which texts are accepted, ([\d,]+)\s+the whole theorem", (TOP / "README.md").read_text(encoding="utf-8"))
+    report.case("README.md: lines of definitions", "", wanted, list(found.groups()) if found else "none")
+
+
 def try_examples(report, chosen):
     """The examples in Rust, as the tests of a crate in a copy of the sources."""
     found = {page.parent.name: "\n".join(block) for page in chosen for language, block in parts(page.read_text(encoding="utf-8")) if language == "rust"}
@@ -251,6 +259,7 @@ def main():
         ask_tables(report, name, text)
         look_for_files(report, name, text)
         count_definitions(report, name, text)
+    compare_counts(report)
     drawn = subprocess.run([TOP / "docs/pictures/draw.py", "--check"], stdout=subprocess.PIPE, encoding="utf-8")
     report.case("the pictures are those of docs/pictures/draw.py", "", "", drawn.stdout)
     figures = subprocess.run([TOP / "bench/report.py", "--check"], stdout=subprocess.PIPE, encoding="utf-8")

@@ -10,11 +10,11 @@ from .client import Client, connect, read_key
 from .frames import Hit, Refused, Status
 
 QUERY_REFUSALS = (Status.QueryTooLong, Status.NotWellFormed, Status.NotValid, Status.Costly)
-STATUSES = """exit status: 0 done, 1 refused by the server, 2 the query is refused, 3 invalid command line or key file, 4 no connection"""
+STATUSES = """exit status: 0 done, 1 refused by the server, 2 invalid or costly query, 3 invalid command line or key file, 4 no connection"""
 
 
 class Parser(argparse.ArgumentParser):
-    """Ends with status 3 where the command line is invalid."""
+    """Ends with status 3 if the command line is invalid."""
 
     def error(self, message: str) -> NoReturn:
         self.print_usage(sys.stderr)
@@ -31,15 +31,15 @@ def parser() -> argparse.ArgumentParser:
     commands = top.add_subparsers(dest="command", metavar="COMMAND", parser_class=Parser)
     commands.required = True
     for name, words, text in (
-        ("put", ["COLLECTION", "DOCUMENT"], "keep the text on standard input under a document"),
-        ("put-new", ["COLLECTION", "DOCUMENT"], "the same where no document is there"),
+        ("put", ["COLLECTION", "DOCUMENT"], "store the text on standard input as a document"),
+        ("put-new", ["COLLECTION", "DOCUMENT"], "the same, but only if there is no such document yet"),
         ("get", ["COLLECTION", "DOCUMENT"], "print a document's text"),
-        ("remove", ["COLLECTION", "DOCUMENT"], "take a document away"),
+        ("remove", ["COLLECTION", "DOCUMENT"], "remove a document"),
         ("list", ["COLLECTION"], "print the names of a collection's documents"),
         ("query", ["COLLECTION", "QUERY"], "print a line for each hit: document, tab, path, tab, value"),
-        ("drop", ["COLLECTION"], "take a collection away"),
-        ("usage", [], "print what the tenant keeps"),
-        ("ping", [], "print how long a request takes"),
+        ("drop", ["COLLECTION"], "remove a collection with all its documents"),
+        ("usage", [], "print how many collections, documents and bytes of texts the tenant has"),
+        ("ping", [], "print how long one request takes"),
     ):
         command = commands.add_parser(name, help=text)
         for word in words:
