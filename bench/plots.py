@@ -14,6 +14,8 @@ COLOURS = {"path_server": "#1f5fa8", "Redis": "#c2402f", "loop in C": "#8a8a8a",
            "python": "#8464a8"}
 MARKERS = {"path_server": "o", "Redis": "s", "loop in C": "^", "PostgreSQL": "D", "jq": "s", "gojq": "v", "sqlite3": "D", "python": "P"}
 MEBIBYTE = 1 << 20
+# pixels of a line of text
+LINE = 15
 FONTS = "'DejaVu Sans', Helvetica, Arial, sans-serif"
 plt.rcParams.update({"svg.fonttype": "none", "svg.hashsalt": "path_server", "font.family": "DejaVu Sans", "font.size": 10,
                      "axes.spines.top": False, "axes.spines.right": False, "axes.grid": True, "grid.color": "#dddddd", "axes.axisbelow": True,
@@ -38,14 +40,22 @@ def save(figure, folder, name):
 
 
 def label_ends(ax, ends):
-    """Names each line at its right end, those that are close to one another a line of text apart."""
-    at = ax.transData
-    places = sorted((at.transform((x, y))[1], x, y, name) for name, (x, y) in ends.items())
-    last = None
-    for pixels, x, y, name in places:
-        put = pixels if last is None else max(pixels, last + 13)
-        last = put
-        ax.annotate(name, (x, y), xytext=(7, (put - pixels) * 72 / ax.figure.dpi), textcoords="offset points", va="center", color=COLOURS[name])
+    """Names each line at its right end, those that are close to one another a line of text apart, around their middle."""
+    groups = []
+    for place in sorted((ax.transData.transform((x, y))[1], x, y, name) for name, (x, y) in ends.items()):
+        groups.append([place])
+        while len(groups) > 1 and lowest(groups[-1]) - lowest(groups[-2]) < LINE * len(groups[-2]):
+            last = groups.pop()
+            groups[-1] += last
+    for group in groups:
+        for at, (pixels, x, y, name) in enumerate(group):
+            shift = lowest(group) + LINE * at - pixels
+            ax.annotate(name, (x, y), xytext=(7, shift * 72 / ax.figure.dpi), textcoords="offset points", va="center", color=COLOURS[name])
+
+
+def lowest(group):
+    """Where the lowest name of a group stands."""
+    return sum(it[0] for it in group) / len(group) - LINE * (len(group) - 1) / 2
 
 
 def lines(ax, series, title, across, up, is_log_up=True):
@@ -56,7 +66,7 @@ def lines(ax, series, title, across, up, is_log_up=True):
     for name, points in series.items():
         points = [it for it in points if it[1] is not None]
         if points:
-            ax.plot(*zip(*points), color=COLOURS[name], marker=MARKERS[name], markersize=5, label=name)
+            ax.plot(*zip(*points), color=COLOURS[name], marker=MARKERS[name], markersize=5, label=name, zorder=3 if name == "path_server" else 2)
     ax.set_title(title, loc="left", fontsize=11)
     ax.set_xlabel(across)
     ax.set_ylabel(up)
@@ -111,7 +121,7 @@ def memory(it, folder):
         ax.bar_label(bars, [f"{value:.1f}" for value in values], fontsize=9, padding=1)
     ax.axhline(1, color="#222222", linewidth=1, linestyle="--", label="the texts alone")
     ax.set_xticks(range(len(rows)), [f"{row[1]:,} documents\nof {row[0]:,} bytes" for row in rows])
-    ax.set_ylabel("bytes of memory a byte of text")
+    ax.set_ylabel("bytes of memory for a byte of text")
     ax.grid(axis="x", visible=False)
     ax.legend(ncol=3, loc="upper center", bbox_to_anchor=(0.5, 1.16), fontsize=9)
     save(figure, folder, "memory")
