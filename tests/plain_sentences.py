@@ -1,7 +1,8 @@
 #!/usr/bin/env python3
 """Counts words: tests/plain_sentences.py [--split] [PAGE..] reports each sentence of the pages with more than 30 words, each cell of a table with
-more than 200 characters, and each table with more than five columns, as docs/STYLE.md asks. With --split it first makes several rows of one with
-such a cell, if the cell is a list whose items end with a semicolon.
+more than 200 characters, and each table with more than five columns, as docs/STYLE.md asks. So it does with the sentences of `--help` and of messages,
+the strings in the sources of the command lines. With --split it first makes several rows of one with such a cell, if the cell is a list whose items
+end with a semicolon.
 
 A sentence ends at a full stop, a question mark or an exclamation mark before a blank or the paragraph's end. Code between backquotes, a number or a
 path is one word. Blocks of code are left out, and so is docs/TRIED.md, whose notes are as they were taken.
@@ -14,6 +15,8 @@ from pages import pages, parts
 
 WORDS, CELL, COLUMNS = 30, 200, 5
 LEFT_OUT = ("docs/TRIED.md",)
+COMMAND_LINES = ("command_line", "client_commands")
+STRING = re.compile(r'"((?:[^"\\]|\\.)*)"')
 STARTS_ITEM = re.compile(r"(?:[-*]|\d+\.|#+|>) ")
 
 
@@ -85,10 +88,13 @@ def judge(report, name, text):
             for cell in found:
                 if len(shown(cell)) > CELL:
                     report.case(f"{name}: characters of a cell", cell[:100], f"at most {CELL}", len(shown(cell)))
-        for paragraph in paragraphs([line for line in lines if line not in of_table]):
-            for sentence in sentences(paragraph):
-                count = len(words(sentence))
-                report.case(f"{name}: words of a sentence", sentence, f"at most {WORDS}", f"at most {WORDS}" if count <= WORDS else count)
+        count_words(report, name, paragraphs([line for line in lines if line not in of_table]))
+
+
+def count_words(report, name, texts):
+    for sentence in (it for text in texts for it in sentences(text)):
+        count = len(words(sentence))
+        report.case(f"{name}: words of a sentence", sentence, f"at most {WORDS}", f"at most {WORDS}" if count <= WORDS else count)
 
 
 def main():
@@ -100,6 +106,10 @@ def main():
         if "--split" in sys.argv:
             page.write_text(split_rows(page.read_text(encoding="utf-8")), encoding="utf-8")
         judge(report, name, page.read_text(encoding="utf-8"))
+    for source in sorted(it for crate in COMMAND_LINES for it in TOP.glob(f"crates/{crate}/src/*.rt")):
+        name = str(source.relative_to(TOP))
+        if not given or name in given:
+            count_words(report, name, STRING.findall(source.read_text(encoding="utf-8")))
     report.close("sentences")
 
 
