@@ -299,11 +299,40 @@ def check_page(report, room):
                 script = block.replace("bin/path_client", PROGRAM)
                 ran = subprocess.run(["bash", "-c", script], stdout=subprocess.PIPE, stderr=subprocess.STDOUT, env=environment, cwd=room.folder, timeout=60)
                 report.case("lines of docs/CLIENTS.md", block, wanted, ran.stdout.decode())
-            elif block.startswith("for "):
+            elif block.startswith(("for ", "from ")):
+                names = {"client": client, "orders": [("a", "[1]")]}
                 with redirect_stdout(io.StringIO()) as printed:
-                    exec(block, {"client": client})
-                report.case("lines of Python of docs/CLIENTS.md", block, wanted, printed.getvalue())
+                    exec(block, names)
+                report.case("lines of Python of docs/CLIENTS.md", block, (wanted, [None] * block.startswith("from ")), (printed.getvalue(), names.get("results", [])))
+            elif block.startswith("const ") and shutil.which("node"):
+                orders = "import { connect, request } from 'path-client'; const client = await connect({ at: '127.0.0.1:7000', key: '%s' }); const orders = [['b', '[1]']];"
+                report.case("lines of Node of docs/CLIENTS.md", block, (0, "1\n", ""), run_node(room, f"{orders % KEY.hex()}\n{block}\nconsole.log(results.length); client.close();"))
         client.pipeline(Request.drop(name) for name in ("copy", "shop", "things"))
+    check_examples(report, room)
+
+
+def run_node(room, script):
+    """What a script for Node does, with this server and the client as it stands here."""
+    script = script.replace("'path-client'", f"'{(TOP / 'clients/node/index.js').as_uri()}'").replace("127.0.0.1:7000", room.address)
+    ran = subprocess.run(["node", "--input-type=module", "-e", script], capture_output=True, encoding="utf-8", timeout=60)
+    return ran.returncode, ran.stdout, ran.stderr
+
+
+def check_examples(report, room):
+    """The examples of the clients' own pages print what stands behind them."""
+    for name, start in (("python", "    import path_client"), ("node", "    import { connect")):
+        page = (TOP / f"clients/{name}/README.md").read_text(encoding="utf-8")
+        example, _, behind = page[page.index(start):].partition("\nprints `")
+        example, wanted = re.sub("(?m)^    ", "", example), behind[:behind.index("`.\n")] + "\n"
+        if name == "node":
+            if shutil.which("node"):
+                report.case("the example of clients/node/README.md", example, (0, wanted, ""), run_node(room, example))
+            continue
+        with redirect_stdout(io.StringIO()) as printed:
+            exec(example.replace("127.0.0.1:7000", room.address).replace('"acme.key"', repr(str(room.folder / "key"))), {})
+        report.case("the example of clients/python/README.md", example, wanted, printed.getvalue())
+    with connect(room.address, KEY) as client:
+        client.drop("shop")
 
 
 def load_once(report, room, path, wanted):
