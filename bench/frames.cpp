@@ -54,7 +54,7 @@ int main() {
   const size_t count = 1000000;
   Bytes small;
   for (size_t i = 0; i < count; i++) add_frame(small, 26);
-  std::printf("| small frames, pieces of | million a second | ns a frame | with its request read |\n|---|---|---|---|\n");
+  std::printf("| pieces of | million frames a second | ns a frame | ns with its request read |\n|---|---|---|---|\n");
   for (size_t piece : {65536, 1024, 30, 7, 1}) {
     double taken = seconds(small, piece, false, count);
     double read = seconds(small, piece, true, count);

@@ -93,7 +93,7 @@ int main() {
   const std::string at = name("c") + name("d");
   const std::string text = "{\"a\":[10,20],\"b\":\"tea\"}";
   const std::string put = frame(1, at + text);
-  std::puts("| request | frames of a piece | ns a frame | growths | bytes of its reply |\n|---|---|---|---|---|");
+  std::puts("| request | frames in a piece | ns a frame | allocations | bytes of its reply |\n|---|---|---|---|---|");
   for (size_t frames : {1, 1000}) {
     row("GET", put, frame(2, at), frames);
     row("QUERY `$.a[1]`", put, frame(5, name("c") + "$.a[1]"), frames);

@@ -186,34 +186,37 @@ def of_rows(rows):
 
 def index(it):
     (head, *rows), = it["tables"]
-    yield filled("The first step of reading, which finds the places of a text's tokens, beside the same step of simdjson. Gigabytes a second:")
+    yield filled("The first step of reading, which finds the places of a text's tokens, beside stage 1 of simdjson. Gigabytes a second, the best of 300 rounds:")
     yield table(["file", "path_server", "simdjson, SSE4.2", f"simdjson, {implementation(head[6])}", "ratio to SSE4.2"],
                 [[row[0], row[3], row[4], row[6], row[5]] for row in rows])
 
 
 def compiled(it):
     of_queries, of_numbers = it["tables"]
-    yield filled("Compiling a query, and evaluating it on a text of 1 MiB that is read already, apart from printing its hits:")
+    yield filled("The time to compile a query, and to evaluate it on a text that is read already, without paths and output. The text has 1 MiB, where no other is named.")
     yield table(*of_rows(of_queries))
-    yield "One comparison of two number texts:"
+    yield "The time to compare two numbers by their exact decimal values:"
     yield table(*of_rows(of_numbers))
 
 
 def store(it):
     of_commands, of_texts, of_documents = it["tables"]
-    yield filled("A tenant's commands on a collection of equal texts, apart from frames and sockets. A growth is one request for memory.")
+    yield filled("The time of a tenant's commands on a collection of equal texts, without frames and sockets, and how often each allocates memory.")
     yield table(*of_rows(of_commands))
-    yield "A put spends its time on reading the text:"
+    yield "Nearly all of the time of a put goes into reading the text:"
     yield table(*of_rows(of_texts))
+    yield "The memory that the process takes for one more document:"
     yield table(*of_rows(of_documents))
 
 
 def hub(it):
     of_requests, small, large = it["tables"]
-    yield filled("What a request costs from its frame to its reply, apart from sockets, for a tenant with one document of 23 bytes:")
+    yield filled("The time of a request from its frame to its reply, without sockets, for a tenant with one document of 23 bytes. The frames come alone, or a thousand "
+                 "in a piece.")
     yield table(*of_rows(of_requests))
-    yield "Frames alone:"
+    yield filled("The time to split a stream into its frames, which comes in pieces of one length. First a million frames of 30 bytes:")
     yield table(*of_rows(small))
+    yield "Then frames with long bodies:"
     yield table(*of_rows(large))
 
 
@@ -221,8 +224,9 @@ def hostile(it):
     rows = it["rows"]
     above = [row for row in rows if row[4]]
     dearest = sorted(rows, key=lambda row: row[2] / row[3], reverse=True)[:12]
-    yield filled(f"Texts of 1 MiB and queries of 4,096 bytes that were made to take long, with a stack of 256 KiB: {len(rows)} rows of `bench/hostile.py`. "
-                 f"The aim is 1 s of processor time, and 1.5 s for a charge of nearly 10,000,000 units. {len(above)} rows are above their aim. The dearest:")
+    yield filled(f"Texts of 1 MiB and queries of 4,096 bytes that were made to take long, with a stack of 256 KiB: {len(rows)} cases of `bench/hostile.py`. "
+                 "The aim is 1 s of processor time, or 1.5 s for a cost of nearly 10,000,000 units. A case is stopped after 5 s. "
+                 f"{len(above) or 'None'} of them missed the aim. The slowest:")
     yield table(["shape", "how it ended", "seconds", "aim"], [[name.replace("|", "\\|"), end, f"{taken:.2f}", aim] for name, end, taken, aim, _ in dearest])
 
 

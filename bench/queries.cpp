@@ -76,7 +76,7 @@ int main(int count, char **words) {
   }
   std::ifstream file(words[1], std::ios::binary);
   const std::string text{std::istreambuf_iterator<char>(file), std::istreambuf_iterator<char>()};
-  std::printf("| query | nodes | compile, us | select, us |\n|---|---|---|---|\n");
+  std::printf("| query | nodes selected | compile, µs | evaluate, µs |\n|---|---|---|---|\n");
   for (const char *query : {"$.a[1]", "$.items[?@.price<10&&@.stock>250]", "$.items[?@.name=='tea 17']", "$.items[?@.dim.w>@.dim.h].id", "$.items[?length(@.name)==6]",
                             "$.items[?count(@.tags[*])==2]", "$..rare", "$.items[*].tags[0]", "$.items[::-1].id"}) {
     row(std::string("`") + query + "`", text, query, 20);

@@ -140,9 +140,9 @@ int main() {
   while (many.size() + small.size() + 2 <= 1048576) many += "," + small;
   const std::string objects = many + "]";
 
-  std::printf("| command, on texts of 23 bytes | documents | time, us | growths |\n|---|---|---|---|\n");
+  std::printf("| command, on texts of 23 bytes | documents | time, µs | allocations |\n|---|---|---|---|\n");
   rows(small);
-  std::printf("\n| text | put into a new tenant, us | Document::read alone, us |\n|---|---|---|\n");
+  std::printf("\n| text | put into a new tenant, µs | `Document::read` alone, µs |\n|---|---|---|\n");
   for (const std::string *text : {&string, &objects}) {
     const char *name = text == &string ? "one string, 1 MiB" : "small objects, 1 MiB";
     double read = 1e9, put = 1e9;
@@ -152,7 +152,7 @@ int main() {
     }
     std::printf("| %s | %.0f | %.0f |\n", name, put * 1e6, read * 1e6);
   }
-  std::printf("\n| document | bytes of its text | bytes of memory that one more takes |\n|---|---|---|\n");
+  std::printf("\n| document | bytes of its text | bytes of memory for one more |\n|---|---|---|\n");
   memory("23 bytes", small, 500);
   memory("one string, 1 MiB", string, 8);
   memory("small objects, 1 MiB", objects, 8);
