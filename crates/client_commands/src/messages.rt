@@ -128,10 +128,7 @@ fn of_ends(failure: Failure) -> (&'static str, &'static str) {
             "the connection broke, but the request may have been carried out: ",
         ),
         Failure::NoReply => ("NoReply", "this is not the answer of a path_server: "),
-        Failure::NoRandom => (
-            "ReadFault",
-            "cannot read random bytes from /dev/urandom",
-        ),
+        Failure::NoRandom => ("ReadFault", "cannot read random bytes from /dev/urandom"),
         Failure::Read => ("ReadFault", "cannot read the input"),
         Failure::Write => ("WriteFault", "cannot write the output"),
         _ => ("NoMemory", "path_client ran out of memory"),

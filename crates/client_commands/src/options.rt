@@ -120,7 +120,12 @@ const VERBS: [(&str, Verb, &str, &[Word]); 12] = [
         "Removes a collection with all its documents",
         &[Word::Collection],
     ),
-    ("usage", Verb::Usage, "Prints how many collections, documents and bytes of texts the tenant has", &[]),
+    (
+        "usage",
+        Verb::Usage,
+        "Prints how many collections, documents and bytes of texts the tenant has",
+        &[],
+    ),
     (
         "load",
         Verb::Load,
@@ -174,9 +179,18 @@ fn name_option<'a>(alloc: Global) -> Arg<'a> {
         .action(ArgAction::Set)
 }
 
-// A word that has to be there.
-fn needed<'a>(alloc: Global, name: &'a str) -> Arg<'a> {
-    Arg::new(alloc, name).required(true).action(ArgAction::Set)
+// An argument that has to be there.
+fn needed<'a>(alloc: Global, name: &'a str, help: &'a str) -> Arg<'a> {
+    Arg::new(alloc, name)
+        .help(help)
+        .required(true)
+        .action(ArgAction::Set)
+}
+
+fn file_argument<'a>(alloc: Global) -> Arg<'a> {
+    Arg::new(alloc, "FILE")
+        .help("A file to read instead of standard input")
+        .action(ArgAction::Set)
 }
 
 fn arg<'a>(alloc: Global, word: Word) -> Arg<'a> {
@@ -195,10 +209,10 @@ fn arg<'a>(alloc: Global, word: Word) -> Arg<'a> {
         ),
         Word::Timeout => timeout_option(alloc),
         Word::Json => json_option(alloc),
-        Word::Collection => needed(alloc, "COLLECTION"),
-        Word::Document => needed(alloc, "DOCUMENT"),
-        Word::Query => needed(alloc, "QUERY"),
-        Word::File => Arg::new(alloc, "FILE").action(ArgAction::Set),
+        Word::Collection => needed(alloc, "COLLECTION", "The collection's name"),
+        Word::Document => needed(alloc, "DOCUMENT", "The document's name"),
+        Word::Query => needed(alloc, "QUERY", "A JSONPath query (RFC 9535)"),
+        Word::File => file_argument(alloc),
         Word::Name => name_option(alloc),
     }
 }

@@ -24,7 +24,10 @@ const STATUSES: [(&str, &str); 24] = [
         "NumberLimit",
         "a number has at most 256 bytes, and an exponent up to 999999999",
     ),
-    ("LoneSurrogate", "an escape has half of a surrogate pair alone"),
+    (
+        "LoneSurrogate",
+        "an escape has half of a surrogate pair alone",
+    ),
     ("DuplicateName", "an object has the same name twice"),
     (
         "TooManyCollections",
