@@ -153,7 +153,7 @@ def building(figures):
     crates = f"{built['crates']} crates" if built else "all crates"
     rows = [("both programs without a proof, as the first call makes them", first), (f"`bin/build`: {crates} proved, both programs compiled", built),
             ("`bin/check`: the whole gate", gate and {"wall": gate["wall"], "processor": sum(it[2] for it in gate["parts"])})]
-    yield filled("What a first call waits for, what goes on behind it, and the gate, from nothing. Processor minutes are those of all processors together.")
+    yield filled("How long a first call takes, the proof that goes on after it, and the gate. All start from nothing. Processor minutes are those of all processors together.")
     yield table(["what", "minutes", "processor minutes"], [[what, *((minutes(it["wall"]), minutes(it["processor"])) if it else (NONE, NONE))] for what, it in rows])
     if gate:
         yield "The parts of the gate:"
