@@ -66,7 +66,7 @@ def connections(it):
     yield "The times of these requests in microseconds: the median, and the time that 99 of 100 do not pass."
     yield table(["connections", "path_server, median", "path_server, 99 of 100", "Redis, median", "Redis, 99 of 100"], times)
     idle, announced = it["idle"].values()
-    yield filled(f"An idle connection takes {idle:.0f} bytes in the process, beside what the system keeps of it. One that announces the longest request and sends "
+    yield filled(f"An idle connection takes {idle:.0f} bytes in the process, apart from the memory of the system. One that announces the longest request and sends "
                  f"nothing takes {announced:.0f}.")
 
 
@@ -104,7 +104,7 @@ def queries(it):
 
 def by_documents(it):
     yield plot("memory", "Resident memory, by documents")
-    yield filled("How much the resident memory of the process grows by so many documents, a thousand a tenant. Redis keeps the same texts as strings, so it can return "
+    yield filled("How much the resident memory of the process grows with these documents, a thousand a tenant. Redis keeps the same texts as strings, so it can return "
                  "them and cannot query them.")
     yield table(["documents", "bytes of each", "path_server, MiB", "Redis, MiB", "path_server, bytes a document"],
                 [[f"{count:,}", f"{length:,}", rounded(ours / MEBIBYTE), rounded(theirs / MEBIBYTE) if theirs else NONE, f"{ours / count:,.0f}"]
@@ -131,7 +131,7 @@ def beside(it):
     for name, count, (_, median, late) in it["rows"]:
         by_name.setdefault(name, {})[count] = (median, late)
     yield plot("beside", "Times of a small request beside other tenants' work")
-    yield filled("What 1 and 100 connections wait for a small GET, while other connections do what the first column says. The query is "
+    yield filled("How long 1 and 100 connections wait for a small GET, while other connections do what the first column says. The query is "
                  "`$[?@.price<10&&@.stock>250].id` on 29,500 objects. In microseconds: the median, and the time that 99 of 100 do not pass.")
     yield table(["beside", "1: median", "1: 99 of 100", "100: median", "100: 99 of 100"],
                 [[name, *(rounded(them[count][at]) for count in (1, 100) for at in (0, 1))] for name, them in by_name.items()])
