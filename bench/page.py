@@ -119,7 +119,7 @@ def reading(it):
                  "and looks for no repeated name. " + of_files(row[0] for row in rows) + "Gigabytes a second, the best of 200 rounds:")
     yield table(["file", "path_server", "simdjson, SSE4.2", f"simdjson, {best}", "ratio to SSE4.2"],
                 [[f"{row[0]}, {it['bytes'][row[0]]:,} bytes", *row[1:]] for row in rows])
-    yield filled("path_server is built for SSE4.2. " + share("Python reads these files at {} gigabytes a second.", list(it["python"].values())))
+    yield filled("path_server is built for SSE4.2. " + share("Python's json reads at {} gigabytes a second.", list(it["python"].values())))
 
 
 def of_files(names):
@@ -181,7 +181,13 @@ def shapes(it):
 
 
 def of_rows(rows):
-    return rows[0], rows[1:]
+    """A printed table, with commas in its large numbers."""
+    return rows[0], [[with_commas(cell) for cell in row] for row in rows[1:]]
+
+
+def with_commas(cell):
+    parts = cell.split("`")
+    return "`".join(part if at % 2 else re.sub(r"(?<![.\w])\d{4,}\b", lambda it: f"{int(it[0]):,}", part) for at, part in enumerate(parts))
 
 
 def index(it):
