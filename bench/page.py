@@ -220,7 +220,7 @@ def hub(it):
     yield filled("The time of a request from its frame to its reply, without sockets, for a tenant with one document of 23 bytes. The frames come alone, or a thousand "
                  "in a piece.")
     yield table(*of_rows(of_requests))
-    yield filled("The time to split a stream into its frames, which comes in pieces of one length. First a million frames of 30 bytes:")
+    yield filled("The time to split a stream into its frames, if it comes in pieces of one length. First a million frames of 30 bytes:")
     yield table(*of_rows(small))
     yield "Then frames with long bodies:"
     yield table(*of_rows(large))
