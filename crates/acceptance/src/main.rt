@@ -7,6 +7,7 @@
 //! It ends with status 0 where all cases hold, and 1 where one does not.
 #![tactic(auto)]
 
+mod budgets;
 mod cache;
 mod calls;
 mod connections;
@@ -21,6 +22,7 @@ mod queries;
 mod session;
 mod streams;
 mod trial;
+mod turns;
 mod wires;
 
 use crate::trial::Trial;
@@ -84,5 +86,7 @@ fn try_all<R: Print + AllocGlobal>(rt: &R) -> Sum {
     sum.add(rt, &listeners::trials(alloc));
     sum.add(rt, &wires::trials(alloc));
     sum.add(rt, &calls::trials(alloc));
+    sum.add(rt, &budgets::trials(alloc));
+    sum.add(rt, &turns::trials(alloc));
     sum
 }
