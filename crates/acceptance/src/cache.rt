@@ -1,10 +1,28 @@
 //! The cache of compiled queries: what a look-up answers, and which texts are held.
 
+use crate::trial::Trial;
 use path_grammar::Selector;
 use path_types::{QueryFault, ValidQuery};
 use query_cache::Cache;
 use std::alloc::Global;
-use std::test::Fail;
+
+/// The trials.
+pub fn trials(alloc: Global) -> [(&'static str, Trial); 3] {
+    [
+        (
+            "answers_whatever_it_holds",
+            answers_whatever_it_holds(alloc),
+        ),
+        (
+            "drops_the_text_used_longest_ago",
+            drops_the_text_used_longest_ago(alloc),
+        ),
+        (
+            "refuses_a_long_text_before_it_is_compiled",
+            refuses_a_long_text_before_it_is_compiled(alloc),
+        ),
+    ]
+}
 
 /// The name that a query of one name selects.
 fn name_of(query: &ValidQuery) -> Option<char> {
@@ -31,34 +49,33 @@ fn refusal(cache: &mut Cache, alloc: Global, text: &[u8]) -> Option<QueryFault> 
     }
 }
 
-#[test]
-fn answers_whatever_it_holds(rt: HostRuntime) -> Result<(), Fail> {
-    let alloc = rt.alloc();
-    let mut cache = Cache::new(alloc, 1)?;
-    assert!(rt; asked(&mut cache, alloc, "$.a") == Some('a'));
-    assert!(rt; asked(&mut cache, alloc, "$.b") == Some('b'));
-    assert!(rt; asked(&mut cache, alloc, "$.a") == Some('a'));
-    assert!(rt; refusal(&mut cache, alloc, b"$[") == Some(QueryFault::NotWellFormed));
-    assert!(rt; refusal(&mut cache, alloc, b"$[") == Some(QueryFault::NotWellFormed));
-    assert!(rt; asked(&mut cache, alloc, "$.a") == Some('a'));
-    Ok(())
+fn answers_whatever_it_holds(alloc: Global) -> Trial {
+    let Ok(mut cache) = Cache::new(alloc, 1) else {
+        return Trial::unprepared();
+    };
+    Trial::of(&[
+        asked(&mut cache, alloc, "$.a") == Some('a'),
+        asked(&mut cache, alloc, "$.b") == Some('b'),
+        asked(&mut cache, alloc, "$.a") == Some('a'),
+        refusal(&mut cache, alloc, b"$[") == Some(QueryFault::NotWellFormed),
+        refusal(&mut cache, alloc, b"$[") == Some(QueryFault::NotWellFormed),
+        asked(&mut cache, alloc, "$.a") == Some('a'),
+    ])
 }
 
-#[test]
-fn drops_the_text_used_longest_ago(rt: HostRuntime) -> Result<(), Fail> {
-    let alloc = rt.alloc();
-    let mut cache = Cache::new(alloc, 2)?;
-    assert!(rt; asked(&mut cache, alloc, "$.a") == Some('a'));
-    assert!(rt; asked(&mut cache, alloc, "$.b") == Some('b'));
-    assert!(rt; asked(&mut cache, alloc, "$.a") == Some('a'));
-    assert!(rt; asked(&mut cache, alloc, "$.c") == Some('c'));
-    let held = [
+fn drops_the_text_used_longest_ago(alloc: Global) -> Trial {
+    let Ok(mut cache) = Cache::new(alloc, 2) else {
+        return Trial::unprepared();
+    };
+    Trial::of(&[
+        asked(&mut cache, alloc, "$.a") == Some('a'),
+        asked(&mut cache, alloc, "$.b") == Some('b'),
+        asked(&mut cache, alloc, "$.a") == Some('a'),
+        asked(&mut cache, alloc, "$.c") == Some('c'),
         cache.holds(b"$.a"),
-        cache.holds(b"$.b"),
+        !cache.holds(b"$.b"),
         cache.holds(b"$.c"),
-    ];
-    assert!(rt; held == [true, false, true]);
-    Ok(())
+    ])
 }
 
 /// Whether a text is admitted, and is held then.
@@ -69,10 +86,10 @@ fn admitted(cache: &mut Cache, alloc: Global, text: &[u8]) -> Result<bool, Query
     }
 }
 
-#[test]
-fn refuses_a_long_text_before_it_is_compiled(rt: HostRuntime) -> Result<(), Fail> {
-    let alloc = rt.alloc();
-    let mut cache = Cache::new(alloc, 1_024)?;
+fn refuses_a_long_text_before_it_is_compiled(alloc: Global) -> Trial {
+    let Ok(mut cache) = Cache::new(alloc, 1_024) else {
+        return Trial::unprepared();
+    };
     let mut text = [b'a'; 4_097];
     text[0] = b'$';
     text[1] = b'.';
@@ -80,8 +97,10 @@ fn refuses_a_long_text_before_it_is_compiled(rt: HostRuntime) -> Result<(), Fail
     for at in 2..2_048usize {
         text[2 * at] = b'.';
     }
-    assert!(rt; admitted(&mut cache, alloc, text.get(..4_096).unwrap_or_default()) == Ok(true));
-    assert!(rt; admitted(&mut cache, alloc, &text) == Err(QueryFault::QueryTooLong));
-    assert!(rt; !cache.holds(&text));
-    Ok(())
+    let longest = text.get(..4_096).unwrap_or_default();
+    Trial::of(&[
+        admitted(&mut cache, alloc, longest) == Ok(true),
+        admitted(&mut cache, alloc, &text) == Err(QueryFault::QueryTooLong),
+        !cache.holds(&text),
+    ])
 }

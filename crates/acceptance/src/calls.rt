@@ -2,6 +2,7 @@
 
 use crate::moved::{gave, took};
 use crate::session::{REPLIES, REQUESTS, front};
+use crate::trial::Trial;
 use path_hub::{Call, MemoryWire};
 use path_server::{CallFault, call_over};
 use std::alloc::Global;
@@ -19,6 +20,26 @@ const ANSWERS: &[u8] = b"\
 0000001a000000000200000001016400000006245b2761275d0000000131\n\
 0000000c00000000037b2261223a317d\n\
 000000110000000004000000010000000100000007\n";
+
+/// The trials.
+pub fn trials(alloc: Global) -> [(&'static str, Trial); 5] {
+    [
+        ("calls_nothing", calls_nothing(alloc)),
+        ("calls_one_line", calls_one_line(alloc)),
+        (
+            "sends_nothing_where_a_line_is_bad",
+            sends_nothing_where_a_line_is_bad(alloc),
+        ),
+        (
+            "keeps_the_lines_before_a_failure",
+            keeps_the_lines_before_a_failure(alloc),
+        ),
+        (
+            "an_early_end_is_a_read_fault",
+            an_early_end_is_a_read_fault(alloc),
+        ),
+    ]
+}
 
 /// What a call leaves: the lines that came, what was written and what was read.
 #[derive(Clone, Copy)]
@@ -54,25 +75,23 @@ fn called(
     }
 }
 
-#[test]
-fn calls_nothing(rt: HostRuntime) {
-    assert!(rt; called(rt.alloc(), b"", b"", &[], NOTHING) == Some(Ok(())));
+fn calls_nothing(alloc: Global) -> Trial {
+    Trial::of(&[called(alloc, b"", b"", &[], NOTHING) == Some(Ok(()))])
 }
 
 /// Digits in either case, a line without its end, and no byte beyond the reply.
-#[test]
-fn calls_one_line(rt: HostRuntime) {
+fn calls_one_line(alloc: Global) -> Trial {
     let line = b"00000020010000000100112233445566778899AABBCCDDEEFF016301647b2261223a317d";
     let left = Left {
         lines: b"000000050000000001\n",
         written: front(REQUESTS, 36),
         read: front(REPLIES, 9),
     };
-    assert!(rt; called(rt.alloc(), line, REPLIES, &[], left) == Some(Ok(())));
+    Trial::of(&[called(alloc, line, REPLIES, &[], left) == Some(Ok(()))])
 }
 
-#[test]
-fn sends_nothing_where_a_line_is_bad(rt: HostRuntime) {
+fn sends_nothing_where_a_line_is_bad(alloc: Global) -> Trial {
+    let mut trial = Trial::new();
     for (lines, number) in [
         ("00000005", 1),
         ("\n", 1),
@@ -84,9 +103,10 @@ fn sends_nothing_where_a_line_is_bad(rt: HostRuntime) {
         ("0000000100ff", 1),
         ("00000000\n00600001\n", 2),
     ] {
-        let ended = called(rt.alloc(), lines.as_bytes(), b"\0\0\0\0", &[], NOTHING);
-        assert!(rt; ended == Some(Err(CallFault::BadLine(number))), "{lines}");
+        let ended = called(alloc, lines.as_bytes(), b"\0\0\0\0", &[], NOTHING);
+        trial.case(ended == Some(Err(CallFault::BadLine(number))));
     }
+    trial
 }
 
 /// How a call ends whose wire fails once so many bytes have moved, one by one, and how many bytes of lines, of requests and of
@@ -110,8 +130,8 @@ fn broken_after(moved: usize) -> (Result<(), CallFault>, usize, usize, usize) {
 /// All bytes that move.
 const ALL: usize = 196;
 
-#[test]
-fn keeps_the_lines_before_a_failure(rt: HostRuntime) {
+fn keeps_the_lines_before_a_failure(alloc: Global) -> Trial {
+    let mut trial = Trial::new();
     let mut plan = [Call::Moves(1); ALL + 1];
     plan[ALL] = Call::Fails;
     for moved in 0..=ALL {
@@ -122,15 +142,13 @@ fn keeps_the_lines_before_a_failure(rt: HostRuntime) {
             read: front(REPLIES, read),
         };
         let last = plan.get(ALL - moved..).unwrap_or_default();
-        assert!(rt;
-            called(rt.alloc(), LINES, REPLIES, last, left) == Some(ended),
-            "{moved}"
-        );
+        trial.case(called(alloc, LINES, REPLIES, last, left) == Some(ended));
     }
+    trial
 }
 
-#[test]
-fn an_early_end_is_a_read_fault(rt: HostRuntime) {
+fn an_early_end_is_a_read_fault(alloc: Global) -> Trial {
+    let mut trial = Trial::new();
     for (length, lines, written) in [
         (0usize, 0usize, 36usize),
         (5, 0, 36),
@@ -148,7 +166,8 @@ fn an_early_end_is_a_read_fault(rt: HostRuntime) {
             written: front(REQUESTS, written),
             read: front(REPLIES, length),
         };
-        let ended = called(rt.alloc(), LINES, left.read, &[], left);
-        assert!(rt; ended == Some(Err(CallFault::ReadFault)), "{length}");
+        let ended = called(alloc, LINES, left.read, &[], left);
+        trial.case(ended == Some(Err(CallFault::ReadFault)));
     }
+    trial
 }

@@ -2,6 +2,7 @@
 
 use crate::moved::took;
 use crate::session::{KEY, REPLIES, REQUESTS, front};
+use crate::trial::Trial;
 use path_hub::{Call, ConnEnd, Hub, MemoryWire, serve_connection};
 use std::alloc::Global;
 
@@ -14,6 +15,26 @@ const GET: &[u8] =
     b"\0\0\0\x19\x02\0\0\0\x02\x00\x11\x22\x33\x44\x55\x66\x77\x88\x99\xaa\xbb\xcc\xdd\xee\xff\x01c\x01d";
 
 const GOT: &[u8] = b"\0\0\0\x06\0\0\0\0\x021";
+
+/// The trials.
+pub fn trials(alloc: Global) -> [(&'static str, Trial); 5] {
+    [
+        ("serves_wires", serves_wires(alloc)),
+        (
+            "keeps_a_put_whose_reply_was_not_written",
+            Trial::of(&[keeps_a_put_whose_reply_was_not_written(alloc)]),
+        ),
+        ("serves_every_prefix", serves_every_prefix(alloc)),
+        (
+            "answers_what_came_before_a_failed_read",
+            answers_what_came_before_a_failed_read(alloc),
+        ),
+        (
+            "writes_a_prefix_before_a_fault",
+            writes_a_prefix_before_a_fault(alloc),
+        ),
+    ]
+}
 
 /// How a connection with this input ends, whose calls go as planned, where a new hub serves it and these bytes are written; none
 /// where others are, or where the connection is left open.
@@ -30,15 +51,15 @@ fn served(alloc: Global, input: &[u8], plan: &[Call], written: &[u8]) -> Option<
     }
 }
 
-#[test]
-fn serves_wires(rt: HostRuntime) {
-    let alloc = rt.alloc();
+fn serves_wires(alloc: Global) -> Trial {
     let failing = served(alloc, PUT, &[Call::Fails], b"");
-    assert!(rt; failing == Some(ConnEnd::ReadFault));
     let cut = served(alloc, front(PUT, 10), &[], b"");
-    assert!(rt; cut == Some(ConnEnd::Done));
     let above = served(alloc, b"\0\x60\0\x01", &[], b"\0\0\0\x05\xff\0\0\0\0");
-    assert!(rt; above == Some(ConnEnd::FrameFault));
+    Trial::of(&[
+        failing == Some(ConnEnd::ReadFault),
+        cut == Some(ConnEnd::Done),
+        above == Some(ConnEnd::FrameFault),
+    ])
 }
 
 /// Whether the hub answers the get of the text on a new connection.
@@ -49,13 +70,7 @@ fn has_the_text(alloc: Global, hub: &mut Hub) -> bool {
         && out.as_slice() == GOT
 }
 
-#[test]
-fn keeps_a_put_whose_reply_was_not_written(rt: HostRuntime) {
-    let alloc = rt.alloc();
-    assert!(rt; is_kept(alloc));
-}
-
-fn is_kept(alloc: Global) -> bool {
+fn keeps_a_put_whose_reply_was_not_written(alloc: Global) -> bool {
     let plan = [Call::Moves(99), Call::Moves(3), Call::Fails];
     let (Ok(mut hub), Ok(mut wire)) = (Hub::new(alloc, &[KEY]), MemoryWire::new(alloc, PUT, &plan))
     else {
@@ -76,42 +91,41 @@ fn due(bytes: usize) -> usize {
     }
 }
 
-#[test]
-fn serves_every_prefix(rt: HostRuntime) {
-    let alloc = rt.alloc();
-    assert!(rt; (REQUESTS.len(), REPLIES.len()) == (120, 76));
+fn serves_every_prefix(alloc: Global) -> Trial {
+    let mut trial = Trial::of(&[(REQUESTS.len(), REPLIES.len()) == (120, 76)]);
     for k in 0..=120usize {
         let end = served(alloc, front(REQUESTS, k), &[], front(REPLIES, due(k)));
-        assert!(rt; end == Some(ConnEnd::Done), "{k}");
+        trial.case(end == Some(ConnEnd::Done));
     }
+    trial
 }
 
 /// The most calls of one byte each that a test plans.
 const MOST: usize = 196;
 
 /// Reads and writes of one byte, until the read fails that would bring one byte more.
-#[test]
-fn answers_what_came_before_a_failed_read(rt: HostRuntime) {
-    let alloc = rt.alloc();
+fn answers_what_came_before_a_failed_read(alloc: Global) -> Trial {
+    let mut trial = Trial::new();
     let mut plan = [Call::Moves(1); MOST + 1];
     plan[MOST] = Call::Fails;
     for k in 0..120usize {
         let calls = k.saturating_add(due(k));
         let last = plan.get(MOST.saturating_sub(calls)..).unwrap_or_default();
         let end = served(alloc, REQUESTS, last, front(REPLIES, due(k)));
-        assert!(rt; end == Some(ConnEnd::ReadFault), "{k}");
+        trial.case(end == Some(ConnEnd::ReadFault));
     }
+    trial
 }
 
 /// One read of all, and writes of one byte, of which one fails: those before it are written.
-#[test]
-fn writes_a_prefix_before_a_fault(rt: HostRuntime) {
-    let alloc = rt.alloc();
+fn writes_a_prefix_before_a_fault(alloc: Global) -> Trial {
+    let mut trial = Trial::new();
     for j in 0..76usize {
         let mut plan = [Call::Moves(1); 77];
         plan[0] = Call::Moves(999);
         plan[j + 1] = Call::Fails;
         let end = served(alloc, REQUESTS, &plan, front(REPLIES, j));
-        assert!(rt; end == Some(ConnEnd::WriteFault), "{j}");
+        trial.case(end == Some(ConnEnd::WriteFault));
     }
+    trial
 }

@@ -1,9 +1,31 @@
 //! Documents seen through every reader.
 
+use crate::trial::Trial;
 use json_tape::{Document, Kind, Lead, NodeId, Scalars, TextFault};
-use std::test::Fail;
+use std::alloc::Global;
 
 const SAMPLE: &[u8] = b"{\"a\":[1,{\"b\":\"\\u00e9\\ud83d\\ude00\"}],\"c\":-1.5e+3}";
+
+/// The trials.
+pub fn trials(alloc: Global) -> [(&'static str, Trial); 9] {
+    [
+        ("shows_values", shows_values(alloc)),
+        ("keeps_a_text_of_its_own", keeps_a_text_of_its_own(alloc)),
+        ("shows_what_stands_around", shows_what_stands_around(alloc)),
+        (
+            "entries_end_behind_their_parts",
+            entries_end_behind_their_parts(alloc),
+        ),
+        ("goes_over_children", goes_over_children(alloc)),
+        ("shows_names", shows_names(alloc)),
+        ("finds_members", finds_members(alloc)),
+        ("finds_members_near", finds_members_near(alloc)),
+        (
+            "finds_members_near_in_wide_objects",
+            finds_members_near_in_wide_objects(alloc),
+        ),
+    ]
+}
 
 /// Numbers of entries that stand around an entry.
 #[derive(Clone, Copy)]
@@ -49,50 +71,53 @@ fn stands(document: &Document, n: u32, around: Around) -> bool {
         && document.after(node) == around.after
 }
 
-#[test]
-fn shows_values(rt: HostRuntime) -> Result<(), Fail> {
-    let document = Document::read(rt.alloc(), SAMPLE)?;
-    assert!(rt; document.source() == SAMPLE);
-    assert!(rt; document.root() == NodeId(0));
-    assert!(rt; document.node_count() == 6);
+fn shows_values(alloc: Global) -> Trial {
+    let Ok(document) = Document::read(alloc, SAMPLE) else {
+        return Trial::unprepared();
+    };
     let array = b"[1,{\"b\":\"\\u00e9\\ud83d\\ude00\"}]";
     let inner = b"{\"b\":\"\\u00e9\\ud83d\\ude00\"}";
     let text = b"\"\\u00e9\\ud83d\\ude00\"";
-    assert!(rt; is(&document, 0, Kind::Object, SAMPLE, Some(2), Lead::Root));
-    assert!(rt; is(&document, 1, Kind::Array, array, Some(2), Lead::Name));
-    assert!(rt; is(&document, 2, Kind::Number, b"1", None, Lead::Index(0)));
-    assert!(rt; is(&document, 3, Kind::Object, inner, Some(1), Lead::Index(1)));
-    assert!(rt; is(&document, 4, Kind::Text, text, Some(2), Lead::Name));
-    assert!(rt; is(&document, 5, Kind::Number, b"-1.5e+3", None, Lead::Name));
-    Ok(())
+    Trial::of(&[
+        document.source() == SAMPLE,
+        document.root() == NodeId(0),
+        document.node_count() == 6,
+        is(&document, 0, Kind::Object, SAMPLE, Some(2), Lead::Root),
+        is(&document, 1, Kind::Array, array, Some(2), Lead::Name),
+        is(&document, 2, Kind::Number, b"1", None, Lead::Index(0)),
+        is(&document, 3, Kind::Object, inner, Some(1), Lead::Index(1)),
+        is(&document, 4, Kind::Text, text, Some(2), Lead::Name),
+        is(&document, 5, Kind::Number, b"-1.5e+3", None, Lead::Name),
+    ])
 }
 
-#[test]
-fn keeps_a_text_of_its_own(rt: HostRuntime) -> Result<(), Fail> {
-    let text = Vec::from_slice(rt.alloc(), SAMPLE)?;
-    let document = Document::read_owned(rt.alloc(), text)?;
-    assert!(rt; document.source() == SAMPLE);
-    assert!(rt; document.node_count() == 6);
-    let cut = Vec::from_slice(rt.alloc(), &SAMPLE[1..])?;
-    assert!(rt;
-        matches!(
-            Document::read_owned(rt.alloc(), cut),
-            Err(TextFault::NotJson)
-        )
-    );
-    let broken = Vec::from_slice(rt.alloc(), b"\"\xff\"")?;
-    assert!(rt;
-        matches!(
-            Document::read_owned(rt.alloc(), broken),
-            Err(TextFault::NotUtf8)
-        )
-    );
-    Ok(())
+/// A document of a text of its own, or why there is none.
+fn read_owned(alloc: Global, text: &[u8]) -> Result<Document, TextFault> {
+    match Vec::from_slice(alloc, text) {
+        Ok(text) => Document::read_owned(alloc, text),
+        Err(_) => Err(TextFault::Memory),
+    }
 }
 
-#[test]
-fn shows_what_stands_around(rt: HostRuntime) -> Result<(), Fail> {
-    let document = Document::read(rt.alloc(), SAMPLE)?;
+fn keeps_a_text_of_its_own(alloc: Global) -> Trial {
+    let Ok(document) = read_owned(alloc, SAMPLE) else {
+        return Trial::unprepared();
+    };
+    let cut = read_owned(alloc, &SAMPLE[1..]).err();
+    let broken = read_owned(alloc, b"\"\xff\"").err();
+    Trial::of(&[
+        document.source() == SAMPLE,
+        document.node_count() == 6,
+        matches!(cut, Some(TextFault::NotJson)),
+        matches!(broken, Some(TextFault::NotUtf8)),
+    ])
+}
+
+fn shows_what_stands_around(alloc: Global) -> Trial {
+    let Ok(document) = Document::read(alloc, SAMPLE) else {
+        return Trial::unprepared();
+    };
+    let mut trial = Trial::new();
     for (n, parent, first_child, next_sibling, after) in [
         (0u32, None, some(1), None, 6u32),
         (1, some(0), some(2), some(5), 5),
@@ -107,19 +132,30 @@ fn shows_what_stands_around(rt: HostRuntime) -> Result<(), Fail> {
             next_sibling,
             after,
         };
-        assert!(rt; stands(&document, n, around), "{n}");
+        trial.case(stands(&document, n, around));
     }
-    Ok(())
+    trial
 }
 
-#[test]
-fn entries_end_behind_their_parts(rt: HostRuntime) -> Result<(), Fail> {
-    let document = Document::read(rt.alloc(), b"[[],1]")?;
-    assert!(rt; document.node_count() == 3);
-    assert!(rt; document.after(NodeId(0)) == 3);
-    assert!(rt; document.after(NodeId(1)) == 2);
-    assert!(rt; document.after(NodeId(2)) == 3);
-    Ok(())
+/// The entry behind an entry and all in it.
+fn after(document: &Document, n: u32) -> Option<u32> {
+    if n < document.node_count() {
+        Some(document.after(NodeId(n)))
+    } else {
+        None
+    }
+}
+
+fn entries_end_behind_their_parts(alloc: Global) -> Trial {
+    let Ok(document) = Document::read(alloc, b"[[],1]") else {
+        return Trial::unprepared();
+    };
+    Trial::of(&[
+        document.node_count() == 3,
+        after(&document, 0) == Some(3),
+        after(&document, 1) == Some(2),
+        after(&document, 2) == Some(3),
+    ])
 }
 
 /// Whether an entry has these children.
@@ -137,16 +173,18 @@ fn has_children(document: &Document, n: u32, wanted: &[u32]) -> bool {
     left.is_empty()
 }
 
-#[test]
-fn goes_over_children(rt: HostRuntime) -> Result<(), Fail> {
-    let document = Document::read(rt.alloc(), b"[1,[2,[]],{\"a\":{},\"b\":3},4]")?;
-    assert!(rt; has_children(&document, 0, &[1, 2, 5, 8]));
-    assert!(rt; has_children(&document, 1, &[]));
-    assert!(rt; has_children(&document, 2, &[3, 4]));
-    assert!(rt; has_children(&document, 4, &[]));
-    assert!(rt; has_children(&document, 5, &[6, 7]));
-    assert!(rt; has_children(&document, 8, &[]));
-    Ok(())
+fn goes_over_children(alloc: Global) -> Trial {
+    let Ok(document) = Document::read(alloc, b"[1,[2,[]],{\"a\":{},\"b\":3},4]") else {
+        return Trial::unprepared();
+    };
+    Trial::of(&[
+        has_children(&document, 0, &[1, 2, 5, 8]),
+        has_children(&document, 1, &[]),
+        has_children(&document, 2, &[3, 4]),
+        has_children(&document, 4, &[]),
+        has_children(&document, 5, &[6, 7]),
+        has_children(&document, 8, &[]),
+    ])
 }
 
 /// Whether these are the characters that come.
@@ -180,19 +218,28 @@ fn is_nameless(document: &Document, n: u32) -> bool {
         && !document.name_is(NodeId(n), &['a'])
 }
 
-#[test]
-fn shows_names(rt: HostRuntime) -> Result<(), Fail> {
+/// Whether an entry is a string of these characters.
+fn spells(document: &Document, n: u32, wanted: &[char]) -> bool {
+    if n >= document.node_count() {
+        return false;
+    }
+    let node = NodeId(n);
+    document.kind(node) == Kind::Text && are(document.string_scalars(node), wanted)
+}
+
+fn shows_names(alloc: Global) -> Trial {
     let text = b"{\"\\u0061\xc3\xa9\":\"\\ud83d\\ude00\\n\",\"\":[0]}";
-    let document = Document::read(rt.alloc(), text)?;
-    assert!(rt; document.node_count() == 4);
-    assert!(rt; is_nameless(&document, 0));
-    assert!(rt; is_named(&document, 1, &['a', '\u{e9}']));
-    assert!(rt; is_named(&document, 2, &[]));
-    assert!(rt; is_nameless(&document, 3));
-    assert!(rt; document.kind(NodeId(1)) == Kind::Text);
-    let value = document.string_scalars(NodeId(1));
-    assert!(rt; are(value, &['\u{1f600}', '\n']));
-    Ok(())
+    let Ok(document) = Document::read(alloc, text) else {
+        return Trial::unprepared();
+    };
+    Trial::of(&[
+        document.node_count() == 4,
+        is_nameless(&document, 0),
+        is_named(&document, 1, &['a', '\u{e9}']),
+        is_named(&document, 2, &[]),
+        is_nameless(&document, 3),
+        spells(&document, 1, &['\u{1f600}', '\n']),
+    ])
 }
 
 /// The member of this name of an entry.
@@ -204,25 +251,28 @@ fn found(document: &Document, n: u32, name: &[char]) -> Option<NodeId> {
     }
 }
 
-#[test]
-fn finds_members(rt: HostRuntime) -> Result<(), Fail> {
+fn finds_members(alloc: Global) -> Trial {
     let text = b"{\"ab\":{\"b\":0},\"b\":[1],\"\":2,\"\\u0061\":3,\"a\xc3\xa9\":4,\"\\\\\":5}";
-    let document = Document::read(rt.alloc(), text)?;
-    assert!(rt; document.node_count() == 9);
-    assert!(rt; found(&document, 0, &['a', 'b']) == some(1));
-    assert!(rt; found(&document, 0, &['b']) == some(3));
-    assert!(rt; found(&document, 0, &[]) == some(5));
-    assert!(rt; found(&document, 0, &['a']) == some(6));
-    assert!(rt; found(&document, 0, &['a', '\u{e9}']) == some(7));
-    assert!(rt; found(&document, 0, &['\\']) == some(8));
-    assert!(rt; found(&document, 0, &['a', 'c']).is_none());
-    assert!(rt; found(&document, 0, &['a', 'b', 'c']).is_none());
-    assert!(rt; found(&document, 0, &['\u{e9}']).is_none());
-    assert!(rt; found(&document, 1, &['b']) == some(2));
-    for n in [2, 3, 4, 8] {
-        assert!(rt; found(&document, n, &['b']).is_none(), "{n}");
-    }
-    Ok(())
+    let Ok(document) = Document::read(alloc, text) else {
+        return Trial::unprepared();
+    };
+    Trial::of(&[
+        document.node_count() == 9,
+        found(&document, 0, &['a', 'b']) == some(1),
+        found(&document, 0, &['b']) == some(3),
+        found(&document, 0, &[]) == some(5),
+        found(&document, 0, &['a']) == some(6),
+        found(&document, 0, &['a', '\u{e9}']) == some(7),
+        found(&document, 0, &['\\']) == some(8),
+        found(&document, 0, &['a', 'c']).is_none(),
+        found(&document, 0, &['a', 'b', 'c']).is_none(),
+        found(&document, 0, &['\u{e9}']).is_none(),
+        found(&document, 1, &['b']) == some(2),
+        found(&document, 2, &['b']).is_none(),
+        found(&document, 3, &['b']).is_none(),
+        found(&document, 4, &['b']).is_none(),
+        found(&document, 8, &['b']).is_none(),
+    ])
 }
 
 /// The member of this name of an entry, looked for so many numbers behind it first.
@@ -234,67 +284,36 @@ fn found_near(document: &Document, n: u32, name: &[char], distance: u32) -> Opti
     }
 }
 
-#[test]
-fn finds_members_near(rt: HostRuntime) -> Result<(), Fail> {
+fn finds_members_near(alloc: Global) -> Trial {
     let text = b"{\"a\":{\"b\":0},\"b\":[1],\"\\u0063\":3}";
-    let document = Document::read(rt.alloc(), text)?;
-    assert!(rt; document.node_count() == 6);
+    let Ok(document) = Document::read(alloc, text) else {
+        return Trial::unprepared();
+    };
+    let mut trial = Trial::of(&[document.node_count() == 6]);
     for distance in [0, 1, 2, 3, 4, 5, 6, u32::MAX] {
-        assert!(rt;
-            found_near(&document, 0, &['a'], distance) == some(1),
-            "{distance}"
-        );
-        assert!(rt;
-            found_near(&document, 0, &['b'], distance) == some(3),
-            "{distance}"
-        );
-        assert!(rt;
-            found_near(&document, 0, &['c'], distance) == some(5),
-            "{distance}"
-        );
-        assert!(rt;
-            found_near(&document, 0, &['d'], distance).is_none(),
-            "{distance}"
-        );
-        assert!(rt;
-            found_near(&document, 1, &['b'], distance) == some(2),
-            "{distance}"
-        );
-        assert!(rt;
-            found_near(&document, 1, &['c'], distance).is_none(),
-            "{distance}"
-        );
-        assert!(rt;
-            found_near(&document, 3, &['b'], distance).is_none(),
-            "{distance}"
-        );
-        assert!(rt;
-            found_near(&document, 5, &['c'], distance).is_none(),
-            "{distance}"
-        );
+        trial.case(found_near(&document, 0, &['a'], distance) == some(1));
+        trial.case(found_near(&document, 0, &['b'], distance) == some(3));
+        trial.case(found_near(&document, 0, &['c'], distance) == some(5));
+        trial.case(found_near(&document, 0, &['d'], distance).is_none());
+        trial.case(found_near(&document, 1, &['b'], distance) == some(2));
+        trial.case(found_near(&document, 1, &['c'], distance).is_none());
+        trial.case(found_near(&document, 3, &['b'], distance).is_none());
+        trial.case(found_near(&document, 5, &['c'], distance).is_none());
     }
-    Ok(())
+    trial
 }
 
-#[test]
-fn finds_members_near_in_wide_objects(rt: HostRuntime) -> Result<(), Fail> {
+fn finds_members_near_in_wide_objects(alloc: Global) -> Trial {
     let text =
         b"{\"a\":0,\"b\":0,\"c\":0,\"d\":0,\"e\":0,\"f\":0,\"g\":0,\"h\":0,\"i\":0,\"j\":0,\"k\":0,\"l\":0,\"m\":0,\"n\":0,\"o\":0,\"p\":0,\"q\":0,\"r\":0}";
-    let document = Document::read(rt.alloc(), text)?;
-    assert!(rt; document.node_count() == 19);
+    let Ok(document) = Document::read(alloc, text) else {
+        return Trial::unprepared();
+    };
+    let mut trial = Trial::of(&[document.node_count() == 19]);
     for distance in [0, 1, 17, 18, 19] {
-        assert!(rt;
-            found_near(&document, 0, &['a'], distance) == some(1),
-            "{distance}"
-        );
-        assert!(rt;
-            found_near(&document, 0, &['r'], distance) == some(18),
-            "{distance}"
-        );
-        assert!(rt;
-            found_near(&document, 0, &['s'], distance).is_none(),
-            "{distance}"
-        );
+        trial.case(found_near(&document, 0, &['a'], distance) == some(1));
+        trial.case(found_near(&document, 0, &['r'], distance) == some(18));
+        trial.case(found_near(&document, 0, &['s'], distance).is_none());
     }
-    Ok(())
+    trial
 }

@@ -1,8 +1,25 @@
 //! Streams, requests and heads of replies as bytes, written out by hand from the tables of the protocol.
 
 use crate::session::{KEY, REQUESTS, front};
+use crate::trial::Trial;
 use std::alloc::Global;
 use wire_frames::{AcceptFault, Command, Framer, Next, RequestFault, read_request, reply_head};
+
+/// The trials.
+pub fn trials(alloc: Global) -> [(&'static str, Trial); 4] {
+    [
+        (
+            "closes_at_a_length_above_the_limit",
+            closes_at_a_length_above_the_limit(alloc),
+        ),
+        (
+            "takes_frames_byte_by_byte",
+            takes_frames_byte_by_byte(alloc),
+        ),
+        ("reads_requests", reads_requests()),
+        ("writes_heads_of_replies", writes_heads_of_replies()),
+    ]
+}
 
 /// Whether the next frame has this body.
 fn takes(framer: &mut Framer, wanted: &[u8]) -> bool {
@@ -36,11 +53,12 @@ fn closes(alloc: Global, cut: usize) -> bool {
         && is_over(&mut framer)
 }
 
-#[test]
-fn closes_at_a_length_above_the_limit(rt: HostRuntime) {
+fn closes_at_a_length_above_the_limit(alloc: Global) -> Trial {
+    let mut trial = Trial::new();
     for cut in 0..10usize {
-        assert!(rt; closes(rt.alloc(), cut), "cut at {cut}");
+        trial.case(closes(alloc, cut));
     }
+    trial
 }
 
 /// Whether the bodies of two frames come from the bytes one by one, and each at its last byte.
@@ -60,15 +78,13 @@ fn takes_bytes(alloc: Global) -> bool {
     is_as_wanted
 }
 
-#[test]
-fn takes_frames_byte_by_byte(rt: HostRuntime) {
-    assert!(rt; takes_bytes(rt.alloc()));
+fn takes_frames_byte_by_byte(alloc: Global) -> Trial {
+    Trial::of(&[takes_bytes(alloc)])
 }
 
-#[test]
-fn reads_requests(rt: HostRuntime) {
-    let body = REQUESTS.get(4..36).unwrap_or_default();
-    let is_put = match read_request(body) {
+/// Whether this body asks for the first of the four requests.
+fn is_put(body: &[u8]) -> bool {
+    match read_request(body) {
         Ok(request) => {
             let is_written = match request.command {
                 Command::Put {
@@ -81,13 +97,17 @@ fn reads_requests(rt: HostRuntime) {
             is_written && request.number == 1 && request.key == KEY
         }
         Err(_) => false,
-    };
-    assert!(rt; is_put);
-    let short = read_request(b"\x07\0\0\0\x09").err();
-    assert!(rt; matches!(short, Some(RequestFault::Short { number: 9 })));
+    }
 }
 
-#[test]
-fn writes_heads_of_replies(rt: HostRuntime) {
-    assert!(rt; reply_head(0, 2, 16) == *b"\0\0\0\x15\0\0\0\0\x02");
+fn reads_requests() -> Trial {
+    let short = read_request(b"\x07\0\0\0\x09").err();
+    Trial::of(&[
+        is_put(REQUESTS.get(4..36).unwrap_or_default()),
+        matches!(short, Some(RequestFault::Short { number: 9 })),
+    ])
+}
+
+fn writes_heads_of_replies() -> Trial {
+    Trial::of(&[reply_head(0, 2, 16) == *b"\0\0\0\x15\0\0\0\0\x02"])
 }

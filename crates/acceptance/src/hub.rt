@@ -1,6 +1,7 @@
 //! The hub and the tenants as calls.
 
 use crate::session::{KEY, OTHER_KEY, REPLIES, REQUESTS};
+use crate::trial::Trial;
 use path_hub::{ConnectFault, Event, Hub, HubFault, RunFault, TakeFault, run};
 use path_server::{ScriptFault, replay_script};
 use std::alloc::Global;
@@ -17,6 +18,30 @@ const GET: &[u8] =
     b"\0\0\0\x19\x02\0\0\0\x01\xff\xee\xdd\xcc\xbb\xaa\x99\x88\x77\x66\x55\x44\x33\x22\x11\x00\x01c\x01d";
 
 const GOT: &[u8] = b"\0\0\0\x08\0\0\0\0\x01[2]";
+
+/// The trials.
+pub fn trials(alloc: Global) -> [(&'static str, Trial); 6] {
+    [
+        (
+            "closes_one_connection_at_its_fault",
+            Trial::of(&[closes_one_connection_at_its_fault(alloc)]),
+        ),
+        (
+            "ends_a_connection_once",
+            Trial::of(&[ends_a_connection_once(alloc)]),
+        ),
+        (
+            "answers_one_frame_after_another",
+            Trial::of(&[answers_one_frame_after_another(alloc)]),
+        ),
+        ("refuses_keys", refuses_keys(alloc)),
+        ("refuses_keys_of_tenants", refuses_keys_of_tenants(alloc)),
+        (
+            "finds_tenants_by_their_keys",
+            Trial::of(&[finds_tenants_by_their_keys(alloc)]),
+        ),
+    ]
+}
 
 /// A hub with the open connections 1 and 2, of which 2 met a fault.
 fn hub_with_a_fault(alloc: Global) -> Option<Hub> {
@@ -42,7 +67,7 @@ fn refusal(hub: &mut Hub, alloc: Global, conn: u32) -> Option<HubFault> {
     hub.bytes(alloc, conn, b"\0", &mut out).err()
 }
 
-fn closes_one_alone(alloc: Global) -> bool {
+fn closes_one_connection_at_its_fault(alloc: Global) -> bool {
     let Some(mut hub) = hub_with_a_fault(alloc) else {
         return false;
     };
@@ -55,12 +80,7 @@ fn closes_one_alone(alloc: Global) -> bool {
         && answers(&mut hub, alloc, 1, GET, GOT)
 }
 
-#[test]
-fn closes_one_connection_at_its_fault(rt: HostRuntime) {
-    assert!(rt; closes_one_alone(rt.alloc()));
-}
-
-fn ends_once(alloc: Global) -> bool {
+fn ends_a_connection_once(alloc: Global) -> bool {
     let Some(mut hub) = hub_with_a_fault(alloc) else {
         return false;
     };
@@ -71,11 +91,6 @@ fn ends_once(alloc: Global) -> bool {
         && answers(&mut hub, alloc, 1, GET, GOT)
 }
 
-#[test]
-fn ends_a_connection_once(rt: HostRuntime) {
-    assert!(rt; ends_once(rt.alloc()));
-}
-
 /// Whether the next frame that waits on connection 1 gets the reply that ends there among the four, and no frame waits behind the last.
 fn answers_up_to(alloc: Global, hub: &mut Hub, out: &mut Vec<u8>, end: usize) -> bool {
     let Ok(is_answered) = hub.answer_next(alloc, 1, out) else {
@@ -84,7 +99,7 @@ fn answers_up_to(alloc: Global, hub: &mut Hub, out: &mut Vec<u8>, end: usize) ->
     is_answered && out.as_slice() == REPLIES.get(..end).unwrap_or_default()
 }
 
-fn answers_in_turn(alloc: Global) -> bool {
+fn answers_one_frame_after_another(alloc: Global) -> bool {
     let Ok(mut hub) = Hub::new(alloc, &[KEY]) else {
         return false;
     };
@@ -100,9 +115,9 @@ fn answers_in_turn(alloc: Global) -> bool {
         && out.len() == 76
 }
 
-#[test]
-fn answers_one_frame_after_another(rt: HostRuntime) {
-    assert!(rt; answers_in_turn(rt.alloc()));
+/// Why a hub of these keys is refused.
+fn refused_hub(alloc: Global, keys: &[[u8; 16]]) -> Option<TenantsFault> {
+    Hub::new(alloc, keys).err()
 }
 
 /// Why a run of these keys is refused that replies nothing.
@@ -123,16 +138,16 @@ fn refused_script(alloc: Global, keys: &[[u8; 16]]) -> Option<ScriptFault> {
     }
 }
 
-#[test]
-fn refuses_keys(rt: HostRuntime) {
-    let alloc = rt.alloc();
+fn refuses_keys(alloc: Global) -> Trial {
     let none = TenantsFault::NoKeys;
-    assert!(rt; Hub::new(alloc, &[]).err() == Some(none));
-    assert!(rt; refused_run(alloc, &[]) == Some(RunFault::Keys(none)));
-    assert!(rt; refused_script(alloc, &[]) == Some(ScriptFault::Keys(none)));
     let repeated = TenantsFault::RepeatedKey;
-    assert!(rt; Hub::new(alloc, &[KEY, KEY]).err() == Some(repeated));
-    assert!(rt; refused_run(alloc, &[KEY, KEY]) == Some(RunFault::Keys(repeated)));
+    Trial::of(&[
+        refused_hub(alloc, &[]) == Some(none),
+        refused_run(alloc, &[]) == Some(RunFault::Keys(none)),
+        refused_script(alloc, &[]) == Some(ScriptFault::Keys(none)),
+        refused_hub(alloc, &[KEY, KEY]) == Some(repeated),
+        refused_run(alloc, &[KEY, KEY]) == Some(RunFault::Keys(repeated)),
+    ])
 }
 
 /// Why keys are refused.
@@ -140,16 +155,16 @@ fn refused_keys(alloc: Global, keys: &[[u8; 16]]) -> Option<TenantsFault> {
     Tenants::new(alloc, keys).err()
 }
 
-#[test]
-fn refuses_keys_of_tenants(rt: HostRuntime) {
-    let alloc = rt.alloc();
-    assert!(rt; refused_keys(alloc, &[]) == Some(TenantsFault::NoKeys));
-    assert!(rt; refused_keys(alloc, &[KEY; 2]) == Some(TenantsFault::RepeatedKey));
-    assert!(rt; refused_keys(alloc, &[KEY; 256]) == Some(TenantsFault::RepeatedKey));
-    assert!(rt; refused_keys(alloc, &[KEY; 257]) == Some(TenantsFault::TooManyKeys));
+fn refuses_keys_of_tenants(alloc: Global) -> Trial {
+    Trial::of(&[
+        refused_keys(alloc, &[]) == Some(TenantsFault::NoKeys),
+        refused_keys(alloc, &[KEY; 2]) == Some(TenantsFault::RepeatedKey),
+        refused_keys(alloc, &[KEY; 256]) == Some(TenantsFault::RepeatedKey),
+        refused_keys(alloc, &[KEY; 257]) == Some(TenantsFault::TooManyKeys),
+    ])
 }
 
-fn keeps_tenants_apart(alloc: Global) -> bool {
+fn finds_tenants_by_their_keys(alloc: Global) -> bool {
     let (Some(c), Some(d)) = (CollName::read(b"c"), DocName::read(b"d")) else {
         return false;
     };
@@ -166,9 +181,4 @@ fn keeps_tenants_apart(alloc: Global) -> bool {
         && tenants.place_of(&KEY) == Some(0)
         && tenants.place_of(&OTHER_KEY) == Some(1)
         && tenants.place_of(&[0; 16]).is_none()
-}
-
-#[test]
-fn finds_tenants_by_their_keys(rt: HostRuntime) {
-    assert!(rt; keeps_tenants_apart(rt.alloc()));
 }

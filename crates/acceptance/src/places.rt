@@ -3,10 +3,30 @@
 ghost use Rattle.std.specs.Prelude.{◌≤◌, length};
 ghost use Rattle.json_tape.specs.Verdict.{text_limit};
 
+use crate::trial::Trial;
 use json_tape::build;
 use std::alloc::Global;
-use std::test::Fail;
 use structural_index::{Index, Looks, index, index_and_copy};
+
+// The trials.
+pub fn trials(alloc: Global) -> [(&'static str, Trial); 8] {
+    [
+        ("short_texts", short_texts(alloc)),
+        (
+            "blanks_before_a_block_edge",
+            blanks_before_a_block_edge(alloc),
+        ),
+        ("runs_over_blocks", runs_over_blocks(alloc)),
+        (
+            "escapes_over_a_block_edge",
+            escapes_over_a_block_edge(alloc),
+        ),
+        ("strings_of_whole_blocks", strings_of_whole_blocks(alloc)),
+        ("looks", looks()),
+        ("looks_are_few", looks_are_few(alloc)),
+        ("blanks_are_free", blanks_are_free(alloc)),
+    ]
+}
 
 // Whether the index of a text has these places, and no string is left open or has a control byte inside.
 fn has(alloc: Global, text: &[u8], places: &[u32]) -> bool
@@ -30,72 +50,70 @@ fn is_indexed(alloc: Global, text: &[u8], places: &[u32], flags: (bool, bool)) -
     tells(&found, places, flags) && tells(&beside, places, flags) && copy.as_slice() == text
 }
 
-#[test]
-fn short_texts(rt: HostRuntime) {
-    let alloc = rt.alloc();
-    assert!(rt; has(alloc, b"", &[]));
-    assert!(rt; has(alloc, b"   ", &[]));
-    assert!(rt; has(alloc, b"1 2", &[0, 2]));
-    assert!(rt; has(alloc, b"\"a\"b", &[0, 3]));
-    assert!(rt; has(alloc, b"[1,]", &[0, 1, 2, 3]));
-    assert!(rt; has(alloc, b"\\\"", &[0]));
-    assert!(rt; has(alloc, b"{\"a\": [1]}", &[0, 1, 4, 6, 7, 8, 9]));
-    assert!(rt; is_indexed(alloc, b"\"\\\"", &[0], (true, false)));
-    assert!(rt; is_indexed(alloc, b"\"\t\"", &[0], (false, true)));
+fn short_texts(alloc: Global) -> Trial {
+    Trial::of(&[
+        has(alloc, b"", &[]),
+        has(alloc, b"   ", &[]),
+        has(alloc, b"1 2", &[0, 2]),
+        has(alloc, b"\"a\"b", &[0, 3]),
+        has(alloc, b"[1,]", &[0, 1, 2, 3]),
+        has(alloc, b"\\\"", &[0]),
+        has(alloc, b"{\"a\": [1]}", &[0, 1, 4, 6, 7, 8, 9]),
+        is_indexed(alloc, b"\"\\\"", &[0], (true, false)),
+        is_indexed(alloc, b"\"\t\"", &[0], (false, true)),
+    ])
 }
 
-#[test]
-fn blanks_before_a_block_edge(rt: HostRuntime) {
-    let mut text = [b' '; 65];
-    text[64] = b'1';
-    assert!(rt; has(rt.alloc(), &text, &[64]));
-    text[63] = b'1';
-    text[64] = b'2';
-    assert!(rt; has(rt.alloc(), &text, &[63]));
+fn blanks_before_a_block_edge(alloc: Global) -> Trial {
+    let mut behind = [b' '; 65];
+    behind[64] = b'1';
+    let mut over = behind;
+    over[63] = b'1';
+    over[64] = b'2';
+    Trial::of(&[has(alloc, &behind, &[64]), has(alloc, &over, &[63])])
 }
 
-#[test]
-fn runs_over_blocks(rt: HostRuntime) {
+fn runs_over_blocks(alloc: Global) -> Trial {
     let mut even = [b'\\'; 132];
     even[0] = b'"';
     even[131] = b'"';
-    assert!(rt; has(rt.alloc(), &even, &[0]));
     let mut odd = [b'\\'; 133];
     odd[0] = b'"';
     odd[132] = b'"';
-    assert!(rt; is_indexed(rt.alloc(), &odd, &[0], (true, false)));
+    Trial::of(&[
+        has(alloc, &even, &[0]),
+        is_indexed(alloc, &odd, &[0], (true, false)),
+    ])
 }
 
-#[test]
-fn escapes_over_a_block_edge(rt: HostRuntime) {
-    let mut text = [b'a'; 66];
-    text[0] = b'"';
-    text[63] = b'\\';
-    text[64] = b'"';
-    text[65] = b'"';
-    assert!(rt; has(rt.alloc(), &text, &[0]));
-    text[64] = b'\\';
-    assert!(rt; has(rt.alloc(), &text, &[0]));
+fn escapes_over_a_block_edge(alloc: Global) -> Trial {
+    let mut quote = [b'a'; 66];
+    quote[0] = b'"';
+    quote[63] = b'\\';
+    quote[64] = b'"';
+    quote[65] = b'"';
+    let mut backslash = quote;
+    backslash[64] = b'\\';
+    Trial::of(&[has(alloc, &quote, &[0]), has(alloc, &backslash, &[0])])
 }
 
-#[test]
-fn strings_of_whole_blocks(rt: HostRuntime) {
-    let mut text = [b'a'; 128];
-    text[0] = b'"';
-    text[127] = b'"';
-    assert!(rt; has(rt.alloc(), &text, &[0]));
-    let mut text = [b'a'; 64];
-    text[0] = b'"';
-    text[63] = b'"';
-    assert!(rt; has(rt.alloc(), &text, &[0]));
+fn strings_of_whole_blocks(alloc: Global) -> Trial {
+    let mut two = [b'a'; 128];
+    two[0] = b'"';
+    two[127] = b'"';
+    let mut one = [b'a'; 64];
+    one[0] = b'"';
+    one[63] = b'"';
+    Trial::of(&[has(alloc, &two, &[0]), has(alloc, &one, &[0])])
 }
 
-#[test]
-fn looks(rt: HostRuntime) {
+fn looks() -> Trial {
     let mut looks = Looks::new(b"abc");
-    assert!(rt; looks.at(1) == b'b');
-    assert!(rt; looks.length() == 3);
-    assert!(rt; looks.looked() == 1);
+    Trial::of(&[
+        looks.at(1) == b'b',
+        looks.length() == 3,
+        looks.looked() == 1,
+    ])
 }
 
 // The number of places of a text, and of the looks that `build` takes where it accepts the text.
@@ -118,25 +136,33 @@ fn looked(alloc: Global, text: &str) -> Option<(usize, Option<u64>)>
     ))
 }
 
-#[test]
-fn looks_are_few(rt: HostRuntime) {
-    let alloc = rt.alloc();
-    assert!(rt; looked(alloc, "1 2") == Some((2, None)));
-    assert!(rt; looked(alloc, "[]") == Some((2, Some(2))));
+fn looks_are_few(alloc: Global) -> Trial {
     let found = looked(alloc, "{\"name\" :   [ 1.5 , true ,  \"a\\n\" ] }");
-    assert!(rt; matches!(found, Some((11, Some(0..=51)))));
+    Trial::of(&[
+        looked(alloc, "1 2") == Some((2, None)),
+        looked(alloc, "[]") == Some((2, Some(2))),
+        matches!(found, Some((11, Some(0..=51)))),
+    ])
 }
 
-#[test]
-fn blanks_are_free(rt: HostRuntime) -> Result<(), Fail> {
-    let mut text = [b' '; 1001];
-    text[1000] = b'1';
-    let one = str::from_utf8(&text).map_err(|_| "UTF-8")?;
-    assert!(rt; matches!(looked(rt.alloc(), one), Some((1, Some(0..=4)))));
+// The same of bytes, none where they are not UTF-8.
+fn looked_of(alloc: Global, bytes: &[u8]) -> Option<(usize, Option<u64>)>
+    requires { length bytes.now ≤ text_limit }
+{
+    match str::from_utf8(bytes) {
+        Ok(text) => looked(alloc, text),
+        Err(_) => None,
+    }
+}
+
+fn blanks_are_free(alloc: Global) -> Trial {
+    let mut one = [b' '; 1001];
+    one[1000] = b'1';
     let mut brackets = [b' '; 100_002];
     brackets[0] = b'[';
     brackets[100_001] = b']';
-    let array = str::from_utf8(&brackets).map_err(|_| "UTF-8")?;
-    assert!(rt; matches!(looked(rt.alloc(), array), Some((2, Some(0..=6)))));
-    Ok(())
+    Trial::of(&[
+        matches!(looked_of(alloc, &one), Some((1, Some(0..=4)))),
+        matches!(looked_of(alloc, &brackets), Some((2, Some(0..=6)))),
+    ])
 }

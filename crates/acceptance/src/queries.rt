@@ -1,19 +1,39 @@
 //! The trees of query texts, and the lengths of paths.
 
+use crate::trial::Trial;
 use json_tape::{Document, NodeId};
 use normal_paths::path_length;
 use path_grammar::{IntLit, Query, Selector, parse};
-use std::test::Fail;
+use std::alloc::Global;
 
-// Paths of names that are escaped, and their lengths.
-#[test]
-fn path_lengths(rt: HostRuntime) -> Result<(), Fail> {
+/// The trials.
+pub fn trials(alloc: Global) -> [(&'static str, Trial); 2] {
+    [
+        ("path_lengths", path_lengths(alloc)),
+        ("whole_query", whole_query(alloc)),
+    ]
+}
+
+/// The length of an entry's path.
+fn length_at(document: &Document, n: u32) -> Option<usize> {
+    if n < document.node_count() {
+        Some(path_length(document, NodeId(n)))
+    } else {
+        None
+    }
+}
+
+/// Paths of names that are escaped, and their lengths.
+fn path_lengths(alloc: Global) -> Trial {
     let text = r#"{"'":0,"\\":1,"\u000b":2,"\u0000":3,"\u007f":4,"\ud83d\ude00":5}"#;
-    let document = Document::read(rt.alloc(), text.as_bytes())?;
-    assert!(rt; document.node_count() == 7);
-    assert!(rt; path_length(&document, NodeId(1)) == 7);
-    assert!(rt; path_length(&document, NodeId(6)) == 9);
-    Ok(())
+    let Ok(document) = Document::read(alloc, text.as_bytes()) else {
+        return Trial::unprepared();
+    };
+    Trial::of(&[
+        document.node_count() == 7,
+        length_at(&document, 1) == Some(7),
+        length_at(&document, 6) == Some(9),
+    ])
 }
 
 // Whether the second of four segments is the index -10, and the third descends.
@@ -28,9 +48,9 @@ fn is_spelled(query: &Query) -> bool {
         )
 }
 
-#[test]
-fn whole_query(rt: HostRuntime) -> Result<(), Fail> {
-    let query = parse(rt.alloc(), "$.é1 [ -10 ]\t..*[*]".as_bytes())?;
-    assert!(rt; is_spelled(&query));
-    Ok(())
+fn whole_query(alloc: Global) -> Trial {
+    match parse(alloc, "$.é1 [ -10 ]\t..*[*]".as_bytes()) {
+        Ok(query) => Trial::of(&[is_spelled(&query)]),
+        Err(_) => Trial::unprepared(),
+    }
 }

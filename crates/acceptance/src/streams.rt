@@ -1,8 +1,24 @@
 //! Streams that are read to their end or fail before it, and streams that take bytes up to a fault.
 
+use crate::trial::Trial;
 use standard_streams::{ReadFault, WriteFault, read_past, write_whole};
 use std::alloc::Global;
 use std::io::{self, ErrorKind, Read, Write};
+
+/// The trials.
+pub fn trials(alloc: Global) -> [(&'static str, Trial); 3] {
+    [
+        (
+            "reads_one_byte_past_the_limit",
+            reads_one_byte_past_the_limit(alloc),
+        ),
+        (
+            "a_failed_read_is_not_the_end",
+            a_failed_read_is_not_the_end(alloc),
+        ),
+        ("a_failed_write_is_not_done", a_failed_write_is_not_done()),
+    ]
+}
 
 // A stream that gives its bytes one by one, and fails behind them with an error of this kind, where there is one.
 #[derive(Drop)]
@@ -63,13 +79,13 @@ fn reads(alloc: Global, limit: u32, wanted: &[u8]) -> bool {
     }
 }
 
-#[test]
-fn reads_one_byte_past_the_limit(rt: HostRuntime) {
-    let alloc = rt.alloc();
-    assert!(rt; reads(alloc, 0, b"1"));
-    assert!(rt; reads(alloc, 1, b"12"));
-    assert!(rt; reads(alloc, 2, b"123"));
-    assert!(rt; reads(alloc, 9, b"123"));
+fn reads_one_byte_past_the_limit(alloc: Global) -> Trial {
+    Trial::of(&[
+        reads(alloc, 0, b"1"),
+        reads(alloc, 1, b"12"),
+        reads(alloc, 2, b"123"),
+        reads(alloc, 9, b"123"),
+    ])
 }
 
 // Why a stream is not read that fails so behind its bytes.
@@ -81,11 +97,11 @@ fn refusal(alloc: Global, kind: ErrorKind) -> Option<ReadFault> {
     read_past(alloc, stream, 9).err()
 }
 
-#[test]
-fn a_failed_read_is_not_the_end(rt: HostRuntime) {
-    let alloc = rt.alloc();
-    assert!(rt; refusal(alloc, ErrorKind::ConnectionReset) == Some(ReadFault::Failed));
-    assert!(rt; refusal(alloc, ErrorKind::OutOfMemory) == Some(ReadFault::Memory));
+fn a_failed_read_is_not_the_end(alloc: Global) -> Trial {
+    Trial::of(&[
+        refusal(alloc, ErrorKind::ConnectionReset) == Some(ReadFault::Failed),
+        refusal(alloc, ErrorKind::OutOfMemory) == Some(ReadFault::Memory),
+    ])
 }
 
 // How three bytes are written where there is so much room, and how much of it is left.
@@ -94,10 +110,11 @@ fn written(room: usize) -> (Result<(), WriteFault>, usize) {
     (write_whole(&mut sink, b"abc"), sink.room)
 }
 
-#[test]
-fn a_failed_write_is_not_done(rt: HostRuntime) {
-    assert!(rt; written(4) == (Ok(()), 1));
-    assert!(rt; written(3) == (Ok(()), 0));
-    assert!(rt; written(2) == (Err(WriteFault), 0));
-    assert!(rt; written(0) == (Err(WriteFault), 0));
+fn a_failed_write_is_not_done() -> Trial {
+    Trial::of(&[
+        written(4) == (Ok(()), 1),
+        written(3) == (Ok(()), 0),
+        written(2) == (Err(WriteFault), 0),
+        written(0) == (Err(WriteFault), 0),
+    ])
 }

@@ -3,8 +3,23 @@
 ghost use Rattle.std.specs.Prelude.{None};
 
 use crate::session::KEY;
+use crate::trial::Trial;
 use path_hub::{ConnEnd, Hub, Wire, WireFault, serve_connection};
-use std::test::Fail;
+use std::alloc::Global;
+
+/// The trials.
+pub fn trials(alloc: Global) -> [(&'static str, Trial); 2] {
+    [
+        (
+            "stops_after_a_million_reads",
+            stops_after_a_million_reads(alloc),
+        ),
+        (
+            "writes_what_it_owes_before_it_reads",
+            writes_what_it_owes_before_it_reads(alloc),
+        ),
+    ]
+}
 
 /// Gives a byte 00 at each read, without end, and takes all that is written.
 #[derive(Drop)]
@@ -43,19 +58,20 @@ impl Wire for Zeros {
 }
 
 /// A million reads of a byte 00 are 250,000 requests without a body, each answered by nine bytes.
-#[test]
-fn stops_after_a_million_reads(rt: HostRuntime) -> Result<(), Fail> {
-    let alloc = rt.alloc();
-    let mut hub = Hub::new(alloc, &[KEY])?;
+fn stops_after_a_million_reads(alloc: Global) -> Trial {
+    let Ok(mut hub) = Hub::new(alloc, &[KEY]) else {
+        return Trial::unprepared();
+    };
     let mut wire = Zeros {
         failures: 0,
         reads: 0,
         taken: 0,
     };
     let end = serve_connection(alloc, &mut hub, 0, &mut wire);
-    assert!(rt; end == ConnEnd::TurnLimit);
-    assert!(rt; (wire.reads, wire.taken) == (1_000_000, 2_250_000));
-    Ok(())
+    Trial::of(&[
+        end == ConnEnd::TurnLimit,
+        (wire.reads, wire.taken) == (1_000_000, 2_250_000),
+    ])
 }
 
 /// Gives an empty request at each of four reads, and fails at a read that comes before the reply of nine bytes was written.
@@ -104,10 +120,10 @@ impl Wire for Owed {
     }
 }
 
-#[test]
-fn writes_what_it_owes_before_it_reads(rt: HostRuntime) -> Result<(), Fail> {
-    let alloc = rt.alloc();
-    let mut hub = Hub::new(alloc, &[KEY])?;
+fn writes_what_it_owes_before_it_reads(alloc: Global) -> Trial {
+    let Ok(mut hub) = Hub::new(alloc, &[KEY]) else {
+        return Trial::unprepared();
+    };
     let mut wire = Owed {
         failures: 0,
         reads: 0,
@@ -115,7 +131,5 @@ fn writes_what_it_owes_before_it_reads(rt: HostRuntime) -> Result<(), Fail> {
         owed: 0,
     };
     let end = serve_connection(alloc, &mut hub, 0, &mut wire);
-    assert!(rt; end == ConnEnd::Done);
-    assert!(rt; (wire.reads, wire.failures) == (4, 0));
-    Ok(())
+    Trial::of(&[end == ConnEnd::Done, (wire.reads, wire.failures) == (4, 0)])
 }

@@ -9,8 +9,6 @@ mod laws;
 mod owing;
 mod readiness;
 mod stage;
-#[cfg(test)]
-mod trials;
 mod turns;
 mod wire;
 

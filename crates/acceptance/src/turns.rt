@@ -1,9 +1,25 @@
 //! Turns over a wire in memory that gives and takes a few bytes at a time, and a core that answers each byte.
+
 ghost use Rattle.std.specs.Prelude.{None, false};
 
-use crate::{Core, Given, Outbox, Readiness, Step, Taken, Wire, turn};
-use std::alloc::Global;
-use std::test::Fail;
+use crate::trial::Trial;
+use outbox::{Core, Given, Outbox, Readiness, Step, Taken, Wire, turn};
+use std::alloc::{AllocError, Global};
+
+/// The trials.
+pub fn trials(alloc: Global) -> [(&'static str, Trial); 3] {
+    [
+        ("writes_each_reply_once", writes_each_reply_once(alloc)),
+        (
+            "writes_nothing_after_a_fault",
+            writes_nothing_after_a_fault(alloc),
+        ),
+        (
+            "writes_what_is_owed_at_a_declined_piece",
+            writes_what_is_owed_at_a_declined_piece(alloc),
+        ),
+    ]
+}
 
 /// Gives some bytes, at most so many at a time, and takes as few. Every other call would wait; writes from one on fail.
 #[derive(Drop)]
@@ -109,7 +125,7 @@ fn turns(
     most: usize,
     reply: &[u8],
     count: usize,
-) -> Result<Outbox, Fail> {
+) -> Result<Outbox, AllocError> {
     let mut outbox = Outbox::new(alloc);
     let mut core = Repeating {
         waiting: 0,
@@ -130,35 +146,27 @@ fn turns(
     Ok(outbox)
 }
 
-/// 30 bytes in pieces of 7, each answered by `ok`, go out 3 bytes at a time.
-#[test]
-fn writes_each_reply_once(rt: HostRuntime) -> Result<(), Fail> {
-    let mut wire = ShortWire::new(rt.alloc(), 30, 7, 1000);
-    let outbox = turns(rt.alloc(), &mut wire, 1000, b"ok", 100)?;
-    assert!(rt;
-        wire.written.as_slice()
-            == b"okokokokokokokokokokokokokokokokokokokokokokokokokokokokokok".as_slice()
-    );
-    assert!(rt; outbox.is_over());
-    Ok(())
+/// Whether 100 turns over a wire that gives 30 bytes, 7 at a time, bring these bytes and come to an end.
+fn writes(alloc: Global, sound_writes: usize, most: usize, reply: &[u8], wanted: &[u8]) -> bool {
+    let mut wire = ShortWire::new(alloc, 30, 7, sound_writes);
+    match turns(alloc, &mut wire, most, reply, 100) {
+        Ok(outbox) => wire.written.as_slice() == wanted && outbox.is_over(),
+        Err(_) => false,
+    }
+}
+
+/// 30 bytes in pieces of 7, each answered by `ok`, go out at most 7 bytes at a time.
+fn writes_each_reply_once(alloc: Global) -> Trial {
+    let wanted = b"okokokokokokokokokokokokokokokokokokokokokokokokokokokokokok";
+    Trial::of(&[writes(alloc, 1000, 1000, b"ok", wanted)])
 }
 
 /// The third write fails: 2 writes of at most 7 bytes went out, and nothing is owed.
-#[test]
-fn writes_nothing_after_a_fault(rt: HostRuntime) -> Result<(), Fail> {
-    let mut wire = ShortWire::new(rt.alloc(), 30, 7, 2);
-    let outbox = turns(rt.alloc(), &mut wire, 1000, b"abcdefgh", 100)?;
-    assert!(rt; wire.written.as_slice() == b"abcdefghabcdef".as_slice());
-    assert!(rt; outbox.is_over());
-    Ok(())
+fn writes_nothing_after_a_fault(alloc: Global) -> Trial {
+    Trial::of(&[writes(alloc, 2, 1000, b"abcdefgh", b"abcdefghabcdef")])
 }
 
 /// After 4 replies pieces are declined: what is owed is written, and then it is over.
-#[test]
-fn writes_what_is_owed_at_a_declined_piece(rt: HostRuntime) -> Result<(), Fail> {
-    let mut wire = ShortWire::new(rt.alloc(), 30, 7, 1000);
-    let outbox = turns(rt.alloc(), &mut wire, 4, b"ok", 100)?;
-    assert!(rt; wire.written.as_slice() == b"okokokok".as_slice());
-    assert!(rt; outbox.is_over());
-    Ok(())
+fn writes_what_is_owed_at_a_declined_piece(alloc: Global) -> Trial {
+    Trial::of(&[writes(alloc, 1000, 4, b"ok", b"okokokok")])
 }
