@@ -1,11 +1,12 @@
 /* Makes calls of the C library fail in the program that it is loaded into by LD_PRELOAD, and counts them, for
-   tests/refused_growths.py, tests/refused_client.py, tests/refused_listening.py and tests/refused_calls.py.
+   tests/refused_growths.py, tests/refused_client.py, tests/refused_listening.py, tests/refused_calls.py and tests/simulation.py.
 
    FAILING_KIND    memory (malloc, calloc, realloc), read (read, recv), write (write, writev, send), accept (accept4) or
                    poll (epoll_create1, epoll_ctl, epoll_wait)
    FAILING_AT      which call of that kind fails, from 1 on; 0 for none
-   FAILING_ON      1: those behind it fail too
-   FAILING_WITHIN  where it is given, calls for memory count only once so many writes were made, and before the next one
+   FAILING_ON      1: those behind it fail too; each: each further one of that distance fails too
+   FAILING_WITHIN  where it is given, calls for memory count only once so many writes were made, and before the next one; odd: only while the
+                   number of writes that were made is odd
    FAILING_COUNTS  a file of 40 bytes that holds how many calls of each kind there were so far, in this order
 
    Calls are counted from the program's own first one. Nothing is looked up by its name, which could itself take memory. */
@@ -36,7 +37,7 @@ static uint64_t *counts = own;
 static uint64_t at;
 static long within = -1;
 static enum kind failing = KINDS;
-static int goes_on, is_ready;
+static int goes_on, repeats, is_odd, is_ready;
 
 __attribute__((constructor)) static void start(void) {
     const char *kind = getenv("FAILING_KIND"), *number = getenv("FAILING_AT");
@@ -46,8 +47,11 @@ __attribute__((constructor)) static void start(void) {
             failing = k;
     at = number ? strtoull(number, NULL, 10) : 0;
     goes_on = on && *on == '1';
-    if (getenv("FAILING_WITHIN"))
-        within = atol(getenv("FAILING_WITHIN"));
+    repeats = on && !strcmp(on, "each");
+    if (getenv("FAILING_WITHIN")) {
+        is_odd = !strcmp(getenv("FAILING_WITHIN"), "odd");
+        within = is_odd ? -1 : atol(getenv("FAILING_WITHIN"));
+    }
     int fd = file ? open(file, O_RDWR) : -1;
     if (fd >= 0) {
         void *page = mmap(NULL, sizeof own, PROT_READ | PROT_WRITE, MAP_SHARED, fd, 0);
@@ -58,12 +62,17 @@ __attribute__((constructor)) static void start(void) {
     is_ready = 1;
 }
 
+/* Whether calls for memory count now. */
+static int is_within(void) {
+    return is_odd ? counts[WRITE] % 2 == 1 : within < 0 || counts[WRITE] == (uint64_t)within;
+}
+
 /* Counts a call; whether it is to fail. */
 static int fails(enum kind kind, int error) {
-    if (!is_ready || (kind == MEMORY && within >= 0 && counts[WRITE] != (uint64_t)within))
+    if (!is_ready || (kind == MEMORY && !is_within()))
         return 0;
     uint64_t place = ++counts[kind];
-    if (kind != failing || at == 0 || (goes_on ? place < at : place != at))
+    if (kind != failing || at == 0 || (repeats ? place % at != 0 : goes_on ? place < at : place != at))
         return 0;
     errno = error;
     return 1;
