@@ -1,0 +1,23 @@
+//! What a server tells whoever runs it: the requests of its administration address (RFC 9112), the replies, and metrics in the text format of
+//! Prometheus. Nothing here opens a socket or reads a clock.
+#![tactic(auto)]
+
+mod counted;
+mod families;
+mod heads;
+mod labels;
+mod laws;
+mod page;
+mod pieces;
+mod replies;
+mod routes;
+mod standing;
+
+pub use counted::{Event, Metrics, Served};
+pub use families::Family;
+pub use heads::{Reading, read_request};
+pub use laws::{counted_once, named_once};
+pub use page::{Gauges, Page};
+pub use replies::{Reply, append_reply};
+pub use routes::{Asked, Refusal};
+pub use standing::Standing;

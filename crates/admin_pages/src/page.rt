@@ -1,0 +1,262 @@
+//! The page of metrics, in the text format of Prometheus (version 0.0.4).
+ghost use Rattle.std.specs.Prelude.{◌≡◌, ◌++◌, slice_index, OnErr, OnOk};
+ghost use Rattle.admin_pages.specs.declared.families.Shape.TheVariants.{Tenants};
+ghost use Rattle.admin_pages.specs.Pages.{head, is_whole, label, left, moved, page, row, sample, start, suffix, time_value, total, value, value_end};
+
+use crate::counted::{Metrics, TENANTS};
+use crate::families::{Family, Shape, family_at, family_count, rows_of};
+use crate::labels::{bound_name, command_name, status_name};
+use crate::pieces::{append_all, append_number};
+use std::alloc::AllocError;
+
+/// What a server has at a moment. The lists have a number for each tenant.
+#[derive(Clone, Copy, Debug)]
+pub struct Gauges {
+    /// Seconds since the start.
+    pub uptime: u64,
+    /// Whether it was said that it is ready.
+    pub is_ready: bool,
+    /// Connections that are open.
+    pub open: u64,
+    /// The most connections that may be open.
+    pub open_limit: u64,
+    /// Whether the system had no descriptor or no memory for the last connection.
+    pub is_refused: bool,
+    /// Connections that wait for memory.
+    pub waiting: u64,
+    /// Bytes buffered for all connections.
+    pub buffered: u64,
+    /// The most bytes that are buffered.
+    pub limit: u64,
+    /// How many tenants there are.
+    pub tenants: usize,
+    /// Collections of each.
+    pub collections: [u64; TENANTS],
+    /// Documents of each.
+    pub documents: [u64; TENANTS],
+    /// Bytes of texts of each.
+    pub texts: [u64; TENANTS],
+}
+
+/// A page that is being written: what it tells, which does not change meanwhile, and the next line's metric and place.
+#[derive(Clone, Copy)]
+pub struct Page {
+    pub metrics: Metrics,
+    pub gauges: Gauges,
+    pub family: usize,
+    pub place: usize,
+}
+
+impl Page {
+    /// One of which nothing is written.
+    pub fn new(metrics: &Metrics, gauges: &Gauges) -> Page
+        ensures { left result ≡ page metrics.now gauges.now }
+    {
+        Page {
+            metrics: *metrics,
+            gauges: *gauges,
+            family: 0,
+            place: 0,
+        }
+    }
+
+    /// Whether all of it is written.
+    pub fn is_whole(&self) -> bool
+        ensures { result ≡ is_whole self.now }
+    {
+        self.family >= family_count()
+    }
+
+    /// Appends the next line, behind the two lines that begin a metric if it is the metric's first. Behind a metric's last one nothing is
+    /// appended, and the next metric comes.
+    ///
+    /// # Errors
+    ///
+    /// Where a growth was refused: the page goes on where it was, and the bytes behind those that were there are to be cut off.
+    #[tactic(auto, using(crate::proofs::Lines::row_left, crate::proofs::Lines::metric_left, crate::proofs::Lines::moved_row, crate::proofs::Lines::moved_metric, crate::proofs::Lines::moved_end))]
+    pub fn append_line(&mut self, out: &mut Vec<u8>) -> Result<(), AllocError>
+        ensures text { OnOk result (out.new.items ++ left self.new ≡ out.old.items ++ left self.old) }
+        ensures moved { OnOk result (self.new ≡ moved self.old) }
+        ensures unchanged { OnErr result (self.new ≡ self.old) }
+    {
+        let Some(family) = family_at(self.family) else {
+            return Ok(());
+        };
+        if self.place >= rows_of(family.shape(), self.gauges.tenants) {
+            self.family += 1;
+            self.place = 0;
+            return Ok(());
+        }
+        self.append_row(family, out)?;
+        self.place += 1;
+        Ok(())
+    }
+
+    #[tactic(auto, unfolding(crate::specs::Pages::row))]
+    fn append_row(&self, family: Family, out: &mut Vec<u8>) -> Result<(), AllocError>
+        ensures { OnOk result (out.new.items ≡ out.old.items ++ row self.now.metrics self.now.gauges family self.now.place) }
+    {
+        append_start(family, self.place, out)?;
+        let number = value(&self.metrics, &self.gauges, family, self.place);
+        append_sample(family, self.place, number, out)
+    }
+}
+
+// The head of a metric stands before its first sample.
+fn append_start(family: Family, place: usize, out: &mut Vec<u8>) -> Result<(), AllocError>
+    ensures { OnOk result (out.new.items ≡ out.old.items ++ start family place) }
+{
+    if place != 0 {
+        return Ok(());
+    }
+    append_head(family, out)
+}
+
+fn append_head(family: Family, out: &mut Vec<u8>) -> Result<(), AllocError>
+    ensures { OnOk result (out.new.items ≡ out.old.items ++ head family) }
+{
+    let (name, help) = (family.name().as_bytes(), family.help().as_bytes());
+    append_all(
+        &[
+            b"# HELP ",
+            name,
+            b" ",
+            help,
+            b"\n# TYPE ",
+            name,
+            b" ",
+            family.kind().as_bytes(),
+            b"\n",
+        ],
+        out,
+    )
+}
+
+#[tactic(auto, unfolding(crate::specs::Pages::sample))]
+fn append_sample(
+    family: Family,
+    place: usize,
+    number: u64,
+    out: &mut Vec<u8>,
+) -> Result<(), AllocError>
+    ensures { OnOk result (out.new.items ≡ out.old.items ++ sample family place number) }
+{
+    let shape = family.shape();
+    append_all(
+        &[family.name().as_bytes(), suffix(shape, place).as_bytes()],
+        out,
+    )?;
+    append_label(shape, place, out)?;
+    out.extend_from_slice(b" ")?;
+    append_number(number, out)?;
+    out.extend_from_slice(value_end(shape, place).as_bytes())
+}
+
+// What stands behind the name of a histogram.
+fn suffix(shape: Shape, place: usize) -> &'static str
+    ensures { result.now ≡ suffix shape place }
+{
+    match shape {
+        Shape::Times if place < 17 => "_bucket",
+        Shape::Times if place == 17 => "_sum",
+        Shape::Times => "_count",
+        _ => "",
+    }
+}
+
+// What stands behind a number: the sum of times is counted in microseconds, and told in seconds.
+fn value_end(shape: Shape, place: usize) -> &'static str
+    ensures { result.now ≡ value_end shape place }
+{
+    match shape {
+        Shape::Times if place == 17 => "e-6\n",
+        _ => "\n",
+    }
+}
+
+fn append_label(shape: Shape, place: usize, out: &mut Vec<u8>) -> Result<(), AllocError>
+    ensures { OnOk result (out.new.items ≡ out.old.items ++ label shape place) }
+{
+    match shape {
+        Shape::Cells => append_all(
+            &[
+                b"{command=\"",
+                command_name(place / 25).as_bytes(),
+                b"\",status=\"",
+                status_name(place % 25).as_bytes(),
+                b"\"}",
+            ],
+            out,
+        ),
+        Shape::Times if place < 17 => append_all(
+            &[b"{le=\"", bound_name(place).as_bytes(), b"\"}"],
+            out,
+        ),
+        Shape::Tenants => append_tenant(place, out),
+        _ => Ok(()),
+    }
+}
+
+fn append_tenant(place: usize, out: &mut Vec<u8>) -> Result<(), AllocError>
+    ensures { OnOk result (out.new.items ≡ out.old.items ++ label Tenants place) }
+{
+    out.extend_from_slice(b"{tenant=\"")?;
+    append_number(place as u64, out)?;
+    out.extend_from_slice(b"\"}")
+}
+
+// The number of a sample.
+fn value(metrics: &Metrics, gauges: &Gauges, family: Family, place: usize) -> u64
+    ensures { result ≡ value metrics.now gauges.now family place }
+{
+    match family {
+        Family::Uptime => gauges.uptime,
+        Family::Ready => u64::from(gauges.is_ready),
+        Family::Open => gauges.open,
+        Family::OpenLimit => gauges.open_limit,
+        Family::Refused => u64::from(gauges.is_refused),
+        Family::Waiting => gauges.waiting,
+        Family::Buffered => gauges.buffered,
+        Family::Limit => gauges.limit,
+        Family::Connections => metrics.connections,
+        Family::Read => metrics.read,
+        Family::Written => metrics.written,
+        Family::Dropped => metrics.dropped,
+        Family::Requests => number_at(&metrics.requests, place),
+        Family::Times => time_number(metrics, place),
+        Family::TenantRequests => number_at(&metrics.tenants, place),
+        Family::TenantCollections => number_at(&gauges.collections, place),
+        Family::TenantDocuments => number_at(&gauges.documents, place),
+        Family::TenantTexts => number_at(&gauges.texts, place),
+    }
+}
+
+fn number_at(numbers: &[u64], place: usize) -> u64
+    ensures { result ≡ slice_index numbers.now place }
+{
+    numbers.get(place).copied().unwrap_or(0)
+}
+
+// Requests that took at most a bound, then the microseconds of all, then how many there were.
+fn time_number(metrics: &Metrics, place: usize) -> u64
+    ensures { result ≡ time_value metrics.now place }
+{
+    if place < 17 {
+        total(&metrics.times[..place + 1])
+    } else if place == 17 {
+        metrics.micros
+    } else {
+        total(&metrics.times)
+    }
+}
+
+#[tactic(auto, using(crate::proofs::Lines::all_counted))]
+fn total(counts: &[u64]) -> u64
+    ensures { result ≡ total counts.now }
+{
+    let mut all = 0u64;
+    for count in counts {
+        all = all.saturating_add(*count);
+    }
+    all
+}
