@@ -1,7 +1,1 @@
-pub mod Counting
-pub mod Turning
-pub mod Looping
 pub mod Servers
-pub mod Sockets
-pub mod Opened
-pub mod Shares

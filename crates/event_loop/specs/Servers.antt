@@ -2,8 +2,8 @@
 use Rattle.std.specs.Prelude.{◌≡◌, ℕ, Bool, IsFalse, List, Option, None, slice_index_or}
 use Rattle.outbox.specs.Lines.{Line}
 use Rattle.path_hub.specs.HubState.{HubState}
-use Rattle.event_loop.specs.declared.limits.Limits.{Limits}
-use Rattle.event_loop.specs.Looping.{Lanes}
+use Rattle.connection_turns.specs.declared.limits.Limits.{Limits}
+use Rattle.open_connections.specs.Looping.{Lanes}
 
 -- whether it takes in connections, how many are open and were taken in, the bytes read and written, its limits, the hub, and by key what each connection that is served is owed
 pub record Serving : Type 0 where

@@ -1,6 +1,6 @@
 //! Why a server ends early.
 
-use crate::sockets::BindFault;
+use socket_poll::BindFault;
 use std::alloc::{AllocError, AllocFailed};
 use std::io::{self, ErrorKind};
 use thiserror::Error;

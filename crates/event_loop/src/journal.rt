@@ -1,30 +1,6 @@
 //! What a server tells while it runs.
 
-use crate::counts::Counts;
-use std::net::SocketAddr;
-
-/// How a connection ended.
-#[derive(Clone, Copy, Debug, PartialEq, Eq)]
-pub enum End {
-    /// The input ended, and what it asked for was answered.
-    Done,
-    /// A read failed.
-    ReadFault,
-    /// A write failed.
-    WriteFault,
-    /// A length was above the limit.
-    FrameFault,
-    /// A growth was refused.
-    Memory,
-    /// No byte moved for as long as the limit says.
-    Idle,
-    /// It held memory for which others waited, and no byte moved for as long as the limit says.
-    Stalled,
-    /// It held memory for which others waited for as long as the limit says.
-    Slow,
-    /// It was idle, and made room for a new one at the limit.
-    Displaced,
-}
+use connection_turns::{Counts, Ending};
 
 /// What a server did so far.
 #[derive(Clone, Copy, Debug)]
@@ -50,17 +26,6 @@ pub enum Held {
     Descriptors,
     /// Connections wait for memory.
     Memory,
-}
-
-/// A connection that ended.
-#[derive(Clone, Copy)]
-pub struct Ending {
-    /// Connections are numbered from 0 on, in the order in which they were taken in.
-    pub number: u64,
-    /// The address of its peer.
-    pub peer: SocketAddr,
-    /// How it ended.
-    pub how: End,
 }
 
 /// Something that is told what a server does. A call must not wait, since all connections would wait for it.

@@ -1,18 +1,16 @@
 //! The rounds of a loop: each waits for what is ready, takes connections in, and gives turns.
 ghost use Rattle.std.specs.Prelude.{◌≡◌, ℕ, None, IfOk, IsTrue};
-ghost use Rattle.slab.specs.Slab.{slab_len};
-ghost use Rattle.event_loop.specs.Looping.{Stays, DoesSome, DoesAtMost, HasTurn, LetGo};
-ghost use Rattle.event_loop.specs.Opened.{lanes_of};
+ghost use Rattle.open_connections.specs.Looping.{Stays, DoesSome, DoesAtMost, HasTurn, LetGo};
+ghost use Rattle.open_connections.specs.Opened.{lanes_of, connected_in};
 
-use crate::connection::Outcome;
 use crate::fault::LoopFault;
-use crate::journal::{End, Journal, Totals};
-use crate::limits::Limits;
-use crate::open::Open;
+use crate::journal::{Journal, Totals};
 use crate::seconds::Seconds;
-use crate::system::{Accepted, System, Time, Woken};
 use crate::told::{Holding, Told};
+use connection_turns::{End, Limits, Outcome};
+use open_connections::Open;
 use path_listen::HubCore;
+use socket_poll::{Accepted, System, Time, Woken};
 use std::alloc::Global;
 use std::net::SocketAddr;
 use std::time::Duration;
@@ -79,7 +77,7 @@ impl<S: System + Drop, T: Time + Drop> Rounds<S, T> {
         limits: Limits,
     ) -> Result<Rounds<S, T>, LoopFault>
         ensures listening { IfOk result (λ rounds. IsTrue rounds.acceptor.listens) }
-        ensures unconnected { IfOk result (λ rounds. slab_len rounds.opened.connections ≡ 0) }
+        ensures unconnected { IfOk result (λ rounds. connected_in rounds.opened ≡ 0) }
         ensures none_taken { IfOk result (λ rounds. rounds.acceptor.taken ≡ 0) }
         ensures limits { IfOk result (λ rounds. rounds.limits ≡ limits) }
         ensures hub { IfOk result (λ rounds. (lanes_of rounds.opened).hub ≡ core) }
@@ -104,7 +102,7 @@ impl<S: System + Drop, T: Time + Drop> Rounds<S, T> {
     /// What was done so far.
     pub fn totals(&self) -> Totals
         ensures connections { result.connections ≡ self.now.acceptor.taken }
-        ensures open_ones { result.connected ≡ slab_len self.now.opened.connections }
+        ensures open_ones { result.connected ≡ connected_in self.now.opened }
         ensures bytes_read { result.read ≡ self.now.opened.read }
         ensures bytes_written { result.written ≡ self.now.opened.written }
     {
@@ -112,7 +110,7 @@ impl<S: System + Drop, T: Time + Drop> Rounds<S, T> {
         Totals {
             connections: self.acceptor.taken,
             connected: self.opened.count(),
-            counts: *self.opened.counted().counts(),
+            counts: *self.opened.counts(),
             read,
             written,
         }

@@ -1,6 +1,6 @@
 //! The time since a server began, in seconds.
 
-use crate::system::Time;
+use socket_poll::Time;
 
 /// The seconds that a clock tells. Where it fails, none has passed since it was last read.
 #[derive(Drop)]

@@ -1,16 +1,15 @@
 //! A server of many connections.
 ghost use Rattle.std.specs.Prelude.{◌≡◌, ℕ, None, OnOk, IfOk, IsTrue};
 ghost use Rattle.event_loop.specs.Servers.{IsOver, lanes_in};
-ghost use Rattle.event_loop.specs.Looping.{DoesSome, AreServed};
+ghost use Rattle.open_connections.specs.Looping.{DoesSome, AreServed};
 
 use crate::fault::LoopFault;
 use crate::journal::{Journal, Totals};
-use crate::laws::loop_is_served;
-use crate::limits::Limits;
 use crate::rounds::Rounds;
-use crate::sockets::{Since, Sockets};
-use crate::system::{System, Time};
+use connection_turns::Limits;
+use open_connections::loop_is_served;
 use path_listen::HubCore;
+use socket_poll::{Since, Sockets, System, Time};
 use std::alloc::Global;
 use std::io::ErrorKind;
 use std::marker::Model;
@@ -25,13 +24,12 @@ pub struct Server<S: System + Drop, T: Time + Drop> {
 }
 
 impl<S: System + Drop, T: Time + Drop> Model for Server<S, T> {
-    ghost use Rattle.slab.specs.Slab.{slab_len};
     ghost use Rattle.event_loop.specs.Servers.{Serving};
-    ghost use Rattle.event_loop.specs.Opened.{listed};
+    ghost use Rattle.open_connections.specs.Opened.{listed, connected_in};
 
     ghost Value = { Serving };
 
-    ghost view = { λ s. record { listens = s.rounds.acceptor.listens; connected = slab_len s.rounds.opened.connections; taken = s.rounds.acceptor.taken; read = s.rounds.opened.read; written = s.rounds.opened.written; limits = s.rounds.limits; hub = s.rounds.opened.core; lines = listed s.rounds.opened.connections } };
+    ghost view = { λ s. record { listens = s.rounds.acceptor.listens; connected = connected_in s.rounds.opened; taken = s.rounds.acceptor.taken; read = s.rounds.opened.read; written = s.rounds.opened.written; limits = s.rounds.limits; hub = s.rounds.opened.core; lines = listed s.rounds.opened.connections } };
 }
 
 impl<'r, R: Net + Clock + AllocGlobal> Server<Sockets, Since<'r, R>> {

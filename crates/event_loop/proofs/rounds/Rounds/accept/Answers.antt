@@ -1,4 +1,4 @@
-use Rattle.event_loop.proofs.Looping.{no_step, some_then, stays}
+use Rattle.open_connections.proofs.Looping.{no_step, some_then, stays}
 use Rattle.event_loop.proofs.rounds.Rounds.accept.Goals as goal
 
 pub accepts-init : goal.accepts-init

@@ -1,4 +1,4 @@
-use Rattle.event_loop.proofs.Looping.{some_then}
+use Rattle.open_connections.proofs.Looping.{some_then}
 use Rattle.event_loop.proofs.rounds.Rounds.admit.Goals as goal
 
 pub returns : goal.returns

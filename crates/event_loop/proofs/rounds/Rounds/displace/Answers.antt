@@ -1,5 +1,5 @@
-use Rattle.event_loop.specs.Looping.{LetGo}
-use Rattle.event_loop.proofs.Looping.{at_most_some, no_step, stays}
+use Rattle.open_connections.specs.Looping.{LetGo}
+use Rattle.open_connections.proofs.Looping.{at_most_some, no_step, stays}
 use Rattle.event_loop.proofs.rounds.Rounds.displace.Goals as goal
 
 pub returns-in-Idle : goal.returns-in-Idle

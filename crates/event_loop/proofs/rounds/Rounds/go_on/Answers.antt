@@ -1,6 +1,6 @@
 use Rattle.std.proofs.Common.{inr}
-use Rattle.event_loop.specs.Looping.{LetGo}
-use Rattle.event_loop.proofs.Looping.{stays_then, then_at_most}
+use Rattle.open_connections.specs.Looping.{LetGo}
+use Rattle.open_connections.proofs.Looping.{stays_then, then_at_most}
 use Rattle.event_loop.proofs.rounds.Rounds.go_on.Goals as goal
 
 pub returns-in_ok-schedule-in-Ok : goal.returns-in_ok-schedule-in-Ok

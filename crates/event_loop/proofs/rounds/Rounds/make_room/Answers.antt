@@ -1,4 +1,4 @@
-use Rattle.event_loop.proofs.Looping.{no_step, some_then}
+use Rattle.open_connections.proofs.Looping.{no_step, some_then}
 use Rattle.event_loop.proofs.rounds.Rounds.make_room.Goals as goal
 
 pub returns : goal.returns

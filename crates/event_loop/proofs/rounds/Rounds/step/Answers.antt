@@ -1,4 +1,4 @@
-use Rattle.event_loop.proofs.Looping.{no_step, some_then, stays_then}
+use Rattle.open_connections.proofs.Looping.{no_step, some_then, stays_then}
 use Rattle.event_loop.proofs.rounds.Rounds.step.Goals as goal
 
 pub returns-in_err-wait : goal.returns-in_err-wait

@@ -1,4 +1,4 @@
-use Rattle.event_loop.proofs.Looping.{no_step, some_then, stays}
+use Rattle.open_connections.proofs.Looping.{no_step, some_then, stays}
 use Rattle.event_loop.proofs.rounds.Rounds.take_turns.Goals as goal
 
 pub turns-init : goal.turns-init

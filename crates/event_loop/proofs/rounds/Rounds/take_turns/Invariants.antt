@@ -1,5 +1,5 @@
-use Rattle.event_loop.specs.Looping.{DoesSome}
-use Rattle.event_loop.specs.Opened.{lanes_of}
+use Rattle.open_connections.specs.Looping.{DoesSome}
+use Rattle.open_connections.specs.Opened.{lanes_of}
 use Rattle.event_loop.proofs.rounds.Rounds.take_turns.Given as goal
 
 -- what was done so far

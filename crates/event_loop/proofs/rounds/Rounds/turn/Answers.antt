@@ -1,5 +1,5 @@
-use Rattle.event_loop.specs.Looping.{HasTurn}
-use Rattle.event_loop.proofs.Looping.{at_most_then}
+use Rattle.open_connections.specs.Looping.{HasTurn}
+use Rattle.open_connections.proofs.Looping.{at_most_then}
 use Rattle.event_loop.proofs.rounds.Rounds.turn.Goals as goal
 
 pub returns : goal.returns

@@ -1,5 +1,5 @@
 use Rattle.std.proofs.Common.{◌∙◌}
-use Rattle.event_loop.proofs.Steps.{listed_at}
+use Rattle.open_connections.proofs.Steps.{listed_at}
 use Rattle.event_loop.proofs.server.Server.over.Goals as goal
 
 pub returns-clause-none : goal.returns-clause-none

@@ -1,4 +1,4 @@
-use Rattle.event_loop.specs.Looping.{DoesSome}
+use Rattle.open_connections.specs.Looping.{DoesSome}
 use Rattle.event_loop.specs.Servers.{lanes_in}
 use Rattle.event_loop.proofs.server.Server.run.Given as goal
 

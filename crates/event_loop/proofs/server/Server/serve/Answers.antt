@@ -1,4 +1,4 @@
-use Rattle.event_loop.proofs.Looping.{are_served}
+use Rattle.open_connections.proofs.Looping.{are_served}
 use Rattle.event_loop.proofs.server.Server.serve.Goals as goal
 
 pub returns-clause-served : goal.returns-clause-served

@@ -1,5 +1,5 @@
-use Rattle.event_loop.proofs.Looping.{no_step, some_then}
-use Rattle.event_loop.proofs.Steps.{seen, shown}
+use Rattle.open_connections.proofs.Looping.{no_step, some_then}
+use Rattle.open_connections.proofs.Steps.{seen, shown}
 use Rattle.event_loop.proofs.server.Server.step.Goals as goal
 
 pub returns : goal.returns

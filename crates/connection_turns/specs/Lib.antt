@@ -1,0 +1,4 @@
+pub mod Counting
+pub mod Turning
+pub mod Sockets
+pub mod Owed

@@ -1,0 +1,384 @@
+//! One connection and what is known of it.
+ghost use Rattle.std.specs.Prelude.{◌≡◌, ◌<◌, ◌≤◌, length, Some, None};
+ghost use Rattle.outbox.specs.Lines.{fresh};
+ghost use Rattle.connection_turns.specs.Owed.{line_of};
+ghost use Rattle.connection_turns.specs.Turning.{TakesTurn};
+
+use crate::claim::{Claim, Purpose};
+use crate::counted::Counted;
+use crate::ending::End;
+use crate::limits::Limits;
+use crate::socket::{Fate, Socket};
+use outbox::{Core, Outbox, Readiness, feed, turn};
+use socket_poll::{Peer, Report, Time};
+use std::alloc::Global;
+use std::io::{ErrorKind, Read};
+use std::net::SocketAddr;
+
+/// The longest frame that is read, and the longest reply that is given, with no share of the budget; also the most bytes of a read, and those
+/// owed from which on nothing is answered, where there is none.
+pub const ALLOWANCE: usize = 16_384;
+
+/// The seconds for which what a peer still sends is read and thrown away, so that the last replies reach it.
+const LINGER: u64 = 2;
+
+/// What is done with a connection.
+#[derive(Clone, Copy)]
+pub enum Phase {
+    /// It is served.
+    Served,
+    /// Its last replies were written; what comes is thrown away.
+    Lingering,
+}
+
+/// What comes of a turn.
+#[derive(Clone, Copy)]
+pub enum Outcome {
+    /// The connection is open.
+    Open,
+    /// It is served no further, and ended so.
+    Over(End),
+    /// It is to be closed, or is closed already.
+    Closed,
+}
+
+/// What a turn does.
+#[derive(Clone, Copy, PartialEq, Eq)]
+pub enum Plan {
+    /// It writes what is owed.
+    Write,
+    /// It reads a piece.
+    Read,
+    /// It answers one request, and writes.
+    Answer,
+    /// It reads a piece, answers as many requests as there is time for, and writes.
+    All,
+}
+
+/// One connection.
+#[derive(Drop)]
+pub struct Connection<S: Peer> {
+    /// Connections are numbered from 0 on, in the order in which they were taken in.
+    pub number: u64,
+    /// The address of its peer.
+    pub peer: SocketAddr,
+    /// The second in which a byte last moved, or in which it was served no further.
+    pub moved: u64,
+    /// Its share of the budgets.
+    pub claim: Option<Claim>,
+    /// What its peer is owed.
+    pub outbox: Outbox,
+    socket: Socket<S>,
+    /// What may be done at it without a wait.
+    pub ready: Readiness,
+    /// What is done with it.
+    pub phase: Phase,
+    // Its last answer was given.
+    has_faulted: bool,
+    /// It is among those that get a turn.
+    pub is_due: bool,
+    /// A frame came in part, or is not answered.
+    pub has_part: bool,
+}
+
+impl<S: Peer> Connection<S> {
+    /// One that was just taken in.
+    pub fn new(alloc: Global, number: u64, peer: SocketAddr, stream: S, now: u64) -> Connection<S>
+        ensures { line_of result ≡ Some fresh }
+    {
+        Connection {
+            number,
+            peer,
+            moved: now,
+            claim: None,
+            outbox: Outbox::new(alloc),
+            socket: Socket::new(stream),
+            ready: Readiness {
+                readable: false,
+                writable: false,
+                waiting: false,
+            },
+            phase: Phase::Served,
+            has_faulted: false,
+            is_due: false,
+            has_part: false,
+        }
+    }
+
+    /// Notes what was reported. It stays known until a call says that it would wait.
+    pub fn note(&mut self, report: Report)
+        ensures { line_of self.new ≡ line_of self.old }
+    {
+        self.socket.report(report.is_ending);
+        self.ready.readable = self.ready.readable || report.is_readable;
+        self.ready.writable = self.ready.writable || report.is_writable;
+    }
+
+    /// The share with this ticket is granted.
+    pub fn hold(&mut self, ticket: u64, now: u64)
+        ensures { line_of self.new ≡ line_of self.old }
+    {
+        self.moved = now;
+        self.claim = granted(self.claim, ticket, now);
+    }
+
+    /// What its next turn does: all where there is room for any reply and its peer takes what it is owed, and else one thing after the other.
+    pub fn plan(&self, has_room: bool) -> Plan {
+        match &self.claim {
+            Some(claim) => self.plan_with(claim),
+            None => {
+                if has_room && self.outbox.owed().len() < ALLOWANCE {
+                    Plan::All
+                } else {
+                    self.plan_without()
+                }
+            }
+        }
+    }
+
+    fn plan_with(&self, claim: &Claim) -> Plan {
+        if !claim.is_granted || self.can_write() {
+            return Plan::Write;
+        }
+        match claim.purpose {
+            Purpose::Frame => self.read_or_answer(),
+            Purpose::Reply => Plan::Answer,
+            Purpose::Written => Plan::Write,
+        }
+    }
+
+    fn plan_without(&self) -> Plan {
+        if self.can_write() || self.outbox.owed().len() >= ALLOWANCE {
+            Plan::Write
+        } else {
+            self.read_or_answer()
+        }
+    }
+
+    fn read_or_answer(&self) -> Plan {
+        if self.ready.waiting {
+            Plan::Answer
+        } else {
+            Plan::Read
+        }
+    }
+
+    /// One turn by this plan, which reads so many bytes at most, and how many bytes were read and written.
+    pub fn turn<C: Core, T: Time + Drop>(
+        &mut self,
+        core: &mut Counted<C, T>,
+        conn: u32,
+        buffer: &mut [u8],
+        most: usize,
+        plan: Plan,
+    ) -> (u64, u64)
+        requires some { 0 < most }
+        requires within { most ≤ length buffer.old }
+        ensures turn { TakesTurn (C.takes conn) (C.answers conn) self.old.outbox core.old self.new.outbox core.new }
+        ensures phase { self.new.phase ≡ self.old.phase }
+    {
+        self.socket.begin();
+        core.begin(plan == Plan::Answer);
+        match plan {
+            Plan::Read => self.read(core, conn, &mut buffer[..most]),
+            Plan::Write => self.write(core, conn, &mut buffer[..most]),
+            Plan::Answer | Plan::All => self.serve(core, conn, &mut buffer[..most]),
+        }
+        self.has_faulted = self.has_faulted || core.has_faulted();
+        if self.socket.is_drained() {
+            self.ready.readable = false;
+        }
+        self.socket.moved()
+    }
+
+    // Reads a piece, answers and writes.
+    fn serve<C: Core, T: Time + Drop>(
+        &mut self,
+        core: &mut Counted<C, T>,
+        conn: u32,
+        buffer: &mut [u8],
+    )
+        requires { 0 < length buffer.old }
+        ensures turn { TakesTurn (C.takes conn) (C.answers conn) self.old.outbox core.old self.new.outbox core.new }
+        ensures phase { self.new.phase ≡ self.old.phase }
+    {
+        turn(
+            &mut self.outbox,
+            &mut self.socket,
+            core,
+            conn,
+            buffer,
+            &mut self.ready,
+        );
+    }
+
+    // Reads a piece.
+    fn read<C: Core, T: Time + Drop>(
+        &mut self,
+        core: &mut Counted<C, T>,
+        conn: u32,
+        buffer: &mut [u8],
+    )
+        requires { 0 < length buffer.old }
+        ensures turn { TakesTurn (C.takes conn) (C.answers conn) self.old.outbox core.old self.new.outbox core.new }
+        ensures phase { self.new.phase ≡ self.old.phase }
+    {
+        feed(
+            &mut self.outbox,
+            &mut self.socket,
+            core,
+            conn,
+            buffer,
+            &mut self.ready,
+        );
+    }
+
+    // Writes, as a turn in which nothing may be read or answered.
+    fn write<C: Core, T: Time + Drop>(
+        &mut self,
+        core: &mut Counted<C, T>,
+        conn: u32,
+        buffer: &mut [u8],
+    )
+        requires { 0 < length buffer.old }
+        ensures turn { TakesTurn (C.takes conn) (C.answers conn) self.old.outbox core.old self.new.outbox core.new }
+        ensures phase { self.new.phase ≡ self.old.phase }
+    {
+        let (readable, waiting) = (self.ready.readable, self.ready.waiting);
+        self.ready.readable = false;
+        self.ready.waiting = false;
+        turn(
+            &mut self.outbox,
+            &mut self.socket,
+            core,
+            conn,
+            buffer,
+            &mut self.ready,
+        );
+        self.ready.readable = readable;
+        self.ready.waiting = waiting;
+    }
+
+    // Whether there is something to write, and room for it.
+    fn can_write(&self) -> bool {
+        self.ready.writable && self.outbox.owes()
+    }
+
+    /// Whether a turn does something.
+    pub fn can_go_on(&self, has_room: bool) -> bool {
+        if let Phase::Lingering = self.phase {
+            return self.ready.readable;
+        }
+        match self.plan(has_room) {
+            Plan::Write => self.can_write(),
+            Plan::Read => self.ready.readable && self.outbox.reads(),
+            Plan::Answer => self.ready.waiting && self.outbox.reads(),
+            Plan::All => self.ready.can_go_on(&self.outbox),
+        }
+    }
+
+    // How it ended, where it is over.
+    fn end(&self) -> Option<End> {
+        if !self.outbox.is_over() {
+            return None;
+        }
+        match self.socket.fate {
+            Fate::Unread => Some(End::ReadFault),
+            Fate::Unwritten => Some(End::WriteFault),
+            Fate::Ended => Some(End::Done),
+            Fate::Lives if self.has_faulted => Some(End::FrameFault),
+            Fate::Lives => Some(End::Memory),
+        }
+    }
+
+    /// What comes of a turn at it.
+    pub fn outcome(&self) -> Outcome {
+        match self.end() {
+            Some(how) => Outcome::Over(how),
+            None => Outcome::Open,
+        }
+    }
+
+    /// Serves it no further. The writing side ends, so that what was written arrives although bytes are unread.
+    pub fn linger(&mut self, now: u64)
+        ensures { line_of self.new ≡ None }
+    {
+        self.socket.stream.end_writing();
+        self.claim = None;
+        self.moved = now;
+        self.phase = Phase::Lingering;
+    }
+
+    /// Whether it lingers no longer in this second.
+    pub fn has_lingered(&self, now: u64) -> bool {
+        now.saturating_sub(self.moved) >= LINGER
+    }
+
+    /// Reads once and throws away what comes. Whether more may come.
+    pub fn drain(&mut self, buffer: &mut [u8]) -> bool
+        ensures { line_of self.new ≡ line_of self.old }
+    {
+        match self.socket.stream.read(buffer) {
+            Ok(0) => false,
+            Ok(_) => true,
+            Err(error) if error.kind() == ErrorKind::WouldBlock => {
+                self.ready.readable = false;
+                true
+            }
+            Err(_) => false,
+        }
+    }
+
+    /// Whether it has been idle for so long that it makes room for another one: `spare` seconds where it owes nothing and has nothing in part,
+    /// and else `frame_time` seconds. One that waits for memory, or is to have a turn, is not idle.
+    pub fn is_spare(&self, now: u64, limits: &Limits) -> bool {
+        let seconds = if self.has_part || self.claim.is_some() || self.outbox.owes() {
+            limits.frame_time
+        } else {
+            limits.spare
+        };
+        !self.is_due
+            && !self.waits_for_memory()
+            && matches!(self.phase, Phase::Served)
+            && now.saturating_sub(self.moved) >= seconds
+    }
+
+    // Whether its share is not granted yet.
+    fn waits_for_memory(&self) -> bool {
+        match &self.claim {
+            Some(claim) => !claim.is_granted,
+            None => false,
+        }
+    }
+
+    /// How its time is up in this second, where it is; others may wait for what it holds. One that is to have a turn is not quiet.
+    pub fn expiry(&self, now: u64, limits: &Limits, is_waited_for: bool) -> Option<End> {
+        let quiet = now.saturating_sub(self.moved);
+        match &self.claim {
+            Some(claim) if !claim.is_granted => return None,
+            Some(_) if is_waited_for && !self.is_due && quiet > limits.stall => {
+                return Some(End::Stalled);
+            }
+            Some(claim) if is_waited_for && now.saturating_sub(claim.since) > limits.frame_time => {
+                return Some(End::Slow);
+            }
+            _ => {}
+        }
+        match limits.idle {
+            Some(seconds) if !self.is_due && quiet > seconds => Some(End::Idle),
+            _ => None,
+        }
+    }
+}
+
+// A share that is granted, where it has this ticket.
+fn granted(claim: Option<Claim>, ticket: u64, now: u64) -> Option<Claim> {
+    match claim {
+        Some(claim) if claim.ticket == ticket => Some(Claim {
+            is_granted: true,
+            since: now,
+            ..claim
+        }),
+        _ => claim,
+    }
+}

@@ -1,0 +1,118 @@
+//! A core whose answers are counted, and the time that they take.
+ghost use Rattle.std.specs.Prelude.{◌≡◌};
+
+use crate::counts::Counts;
+use outbox::{Core, Step};
+use socket_poll::Time;
+use std::marker::Model;
+use std::time::Duration;
+
+/// The milliseconds after which a turn ends, with the request that it is at.
+const SPAN: u64 = 1;
+
+/// A core that counts what another one answers, and rests once a turn took long. Its value is that core's.
+#[derive(Drop)]
+pub struct Counted<C: Core, T: Time + Drop> {
+    /// That core.
+    pub core: C,
+    time: T,
+    counts: Counts,
+    // The last answer of this turn was given: a framing fault.
+    has_faulted: bool,
+    // When this turn began, where the clock tells it.
+    began: Option<Duration>,
+    // This turn answers one request.
+    is_single: bool,
+    // How many it answered.
+    answered: u32,
+}
+
+impl<C: Core, T: Time + Drop> Model for Counted<C, T> {
+    ghost Value = { C };
+
+    ghost view = { λ counted. counted.core };
+}
+
+impl<C: Core, T: Time + Drop> Counted<C, T> {
+    /// Over this core. Nothing is counted yet.
+    pub fn new(time: T, core: C) -> Counted<C, T>
+        ensures { result ≡ core }
+    {
+        Counted {
+            core,
+            time,
+            counts: Counts::new(),
+            has_faulted: false,
+            began: None,
+            is_single: false,
+            answered: 0,
+        }
+    }
+
+    /// The core itself, to look at.
+    pub fn inner(&self) -> &C
+        ensures { result.now ≡ self.now }
+    {
+        &self.core
+    }
+
+    /// What was counted.
+    pub fn counts(&self) -> &Counts {
+        &self.counts
+    }
+
+    /// A turn begins, which answers one request or as many as there is time for.
+    pub(crate) fn begin(&mut self, is_single: bool)
+        ensures { self.new ≡ self.old }
+    {
+        self.has_faulted = false;
+        self.began = self.time.now();
+        self.is_single = is_single;
+        self.answered = 0;
+    }
+
+    /// How many requests were answered in this turn.
+    pub fn answered(&self) -> u32 {
+        self.answered
+    }
+
+    /// Whether the last answer was given in this turn.
+    pub(crate) fn has_faulted(&self) -> bool {
+        self.has_faulted
+    }
+}
+
+impl<C: Core, T: Time + Drop> Core for Counted<C, T> {
+    ghost takes = { C.takes };
+
+    ghost answers = { C.answers };
+
+    ghost idle = { C.idle };
+
+    ghost over = { C.over };
+
+    fn take(&mut self, conn: u32, piece: &[u8]) -> bool {
+        self.core.take(conn, piece)
+    }
+
+    fn answer_next(&mut self, conn: u32, out: &mut Vec<u8>) -> Step {
+        let before = out.len();
+        let step = self.core.answer_next(conn, out);
+        if matches!(step, Step::Replied | Step::Last) {
+            self.counts.count(out.get(before..).unwrap_or_default());
+            self.answered = self.answered.saturating_add(1);
+        }
+        self.has_faulted = self.has_faulted || matches!(step, Step::Last);
+        step
+    }
+
+    fn rests(&self) -> bool {
+        if self.is_single {
+            return true;
+        }
+        match (self.began, self.time.now()) {
+            (Some(began), Some(now)) => { now.saturating_sub(began) >= Duration::from_millis(SPAN) }
+            _ => false,
+        }
+    }
+}

@@ -1,8 +1,0 @@
-use Rattle.event_loop.proofs.Shares.{released}
-use Rattle.event_loop.proofs.claim.Budgets.release.Goals as goal
-
-pub returns-in-Tenants : goal.returns-in-Tenants
-returns-in-Tenants c = rw c.in-Tenants.is (released _ _ _ c.release.ensures)
-
-pub returns-in-Strangers : goal.returns-in-Strangers
-returns-in-Strangers c = rw c.in-Strangers.is (released _ _ _ c.release-in-Strangers.ensures)

@@ -1,8 +1,0 @@
-use Rattle.std.proofs.Common.{sym}
-use Rattle.event_loop.proofs.Steps.{gone_steps, written}
-use Rattle.event_loop.proofs.open.Open.end.Goals as goal
-
-pub returns-clause-lanes : goal.returns-clause-lanes
-returns-clause-lanes g c =
-    gone_steps _ _ c.args.self.now.connections _ c.args.key c.in_ok-conn.conn _ c.in_ok-conn.ensures
-    (written c.args.self.now.connections c.args.key c.in_ok-connection.connection.now c.linger.new.self (sym c.in_ok-connection.ensures.value)) c.linger.ensures c.disconnect.ensures

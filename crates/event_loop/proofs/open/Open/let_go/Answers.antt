@@ -1,6 +1,0 @@
-use Rattle.std.proofs.Common.{refl}
-use Rattle.event_loop.proofs.Steps.{gone_steps}
-use Rattle.event_loop.proofs.open.Open.let_go.Goals as goal
-
-pub returns-clause-lanes : goal.returns-clause-lanes
-returns-clause-lanes g c = gone_steps _ _ _ _ c.args.key c.in_ok-conn.conn _ c.in_ok-conn.ensures c.in_ok-connection.ensures.updates refl c.disconnect.ensures

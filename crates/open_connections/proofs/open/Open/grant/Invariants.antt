@@ -1,0 +1,11 @@
+use Rattle.open_connections.specs.Looping.{Stays}
+use Rattle.open_connections.specs.Opened.{lanes_of}
+use Rattle.open_connections.specs.Shares.{StayFree}
+use Rattle.open_connections.proofs.open.Open.grant.Given as goal
+
+-- nothing that is served has changed so far, and no ticket came
+abbrev pub invariant-shares : goal.invariant-shares
+invariant-shares g l = record {
+  lanes : Stays (lanes_of l.initial.self) (lanes_of l.self);
+  free : StayFree l.initial.self.budgets l.self.budgets;
+}

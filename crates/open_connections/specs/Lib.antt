@@ -1,0 +1,3 @@
+pub mod Looping
+pub mod Opened
+pub mod Shares

@@ -1,0 +1,110 @@
+//! What a connection needs of the budgets before its next step, and what it gives back behind a turn.
+ghost use Rattle.std.specs.Prelude.{◌<◌, ◌≤◌};
+
+use crate::open::PIECE;
+use connection_turns::{ALLOWANCE, Claim, Connection, Plan, Pool, Purpose};
+use path_listen::HubCore;
+use socket_poll::Peer;
+
+/// The bytes owed up to which a connection wants no share.
+const OWED: usize = 2 * ALLOWANCE;
+
+/// Whether a reply of so many bytes may be given with this share, or with none.
+pub(crate) fn covers(claim: Option<Claim>, reply: usize) -> bool {
+    match claim {
+        Some(claim) => claim.covers(reply),
+        None => reply <= ALLOWANCE,
+    }
+}
+
+/// The most bytes that a turn reads: what is left of a frame that there is room for, and else what each may have.
+pub(crate) fn piece_of<S: Peer>(
+    connection: &Connection<S>,
+    plan: Plan,
+    core: &HubCore,
+    conn: u32,
+) -> usize
+    ensures some { 0 < result }
+    ensures within { result ≤ 65536 }
+{
+    if plan == Plan::Read && connection.claim.is_some() {
+        match core.part(conn) {
+            Some(part) => part.left.min(PIECE).max(1),
+            None => ALLOWANCE,
+        }
+    } else {
+        ALLOWANCE
+    }
+}
+
+/// What becomes of a share after a turn.
+pub(crate) enum After {
+    /// It is kept whole.
+    Kept,
+    /// What is owed of it is kept until it is written.
+    Written,
+    /// All of it is given back.
+    Released,
+}
+
+/// What becomes of a share, with so many bytes owed.
+pub(crate) fn left_of(claim: &Claim, owed: usize, has_answered: bool) -> After {
+    if !claim.is_granted {
+        return After::Kept;
+    }
+    match claim.purpose {
+        Purpose::Frame => {
+            if has_answered {
+                After::Released
+            } else {
+                After::Kept
+            }
+        }
+        Purpose::Reply => {
+            if !has_answered {
+                After::Kept
+            } else if owed <= OWED {
+                After::Released
+            } else {
+                After::Written
+            }
+        }
+        Purpose::Written => {
+            if owed == 0 {
+                After::Released
+            } else {
+                After::Kept
+            }
+        }
+    }
+}
+
+/// What a connection without a share needs beside a reply.
+pub(crate) fn need<S: Peer>(
+    connection: &Connection<S>,
+    core: &HubCore,
+    conn: u32,
+) -> Option<(Pool, Purpose, usize)> {
+    let owed = connection.outbox.owed().len();
+    if owed > OWED {
+        Some((Pool::Tenants, Purpose::Written, owed))
+    } else if connection.has_part && !connection.ready.waiting && connection.outbox.reads() {
+        need_of_frame(core, conn)
+    } else {
+        None
+    }
+}
+
+// The share of a frame that came in part.
+fn need_of_frame(core: &HubCore, conn: u32) -> Option<(Pool, Purpose, usize)> {
+    let part = core.part(conn)?;
+    if part.length <= ALLOWANCE {
+        return None;
+    }
+    let pool = if part.is_known {
+        Pool::Tenants
+    } else {
+        Pool::Strangers
+    };
+    Some((pool, Purpose::Frame, part.length))
+}

@@ -1,0 +1,593 @@
+//! The connections that are open, the hub that answers them, and the memory that they share.
+ghost use Rattle.std.specs.Prelude.{◌≡◌, ◌<◌, ◌≤◌, ◌^◌, ℕ, None, IfOk, MatchOption};
+ghost use Rattle.slab.specs.Slab.{slab_len};
+ghost use Rattle.open_connections.specs.Looping.{Stays, Does, DoesAtMost, TakenIn, HasTurn, LetGo};
+ghost use Rattle.std.specs.Bool.{MatchBool};
+ghost use Rattle.path_listen.specs.Answering.{Opens, Closes};
+ghost use Rattle.connection_turns.specs.Owed.{line_of};
+ghost use Rattle.open_connections.specs.Opened.{lanes_of};
+ghost use Rattle.open_connections.specs.Shares.{StayFree, IsGivenBack, claim_at};
+
+use crate::budgets::Budgets;
+use crate::needs::{After, covers, left_of, need, piece_of};
+use connection_turns::{
+    Claim, Connection, Counted, Counts, End, Ending, Limits, Outcome, Phase, Plan, Pool, Purpose,
+};
+use memory_budget::Answer;
+use outbox::CAP;
+use path_listen::{HubCore, MOST_REPLY};
+use slab::Slab;
+use socket_poll::{Peer, Report, Time};
+use std::alloc::{AllocError, Global};
+use std::mem;
+use std::net::SocketAddr;
+
+/// The most bytes that one turn reads.
+pub(crate) const PIECE: usize = 65_536;
+
+/// The room in which a turn may answer whatever waits: it answers while less than the cap is owed.
+const ROOM: usize = CAP + MOST_REPLY;
+
+/// The connections that are open.
+#[derive(Drop)]
+pub struct Open<S: Peer, T: Time + Drop> {
+    alloc: Global,
+    connections: Slab<Connection<S>>,
+    core: Counted<HubCore, T>,
+    budgets: Budgets,
+    buffer: Box<[u8; PIECE]>,
+    // No key was above it.
+    bound: usize,
+    // The connections that get a turn, and room for the next ones.
+    due: Vec<usize>,
+    next_due: Vec<usize>,
+    // Those that are idle, the longest last, each with the second in which a byte last moved on it, and when they were looked for.
+    idle: Vec<(u64, usize)>,
+    looked: Option<u64>,
+    // The bytes that were read and written.
+    read: u64,
+    written: u64,
+}
+
+impl<S: Peer, T: Time + Drop> Open<S, T> {
+    /// None is open.
+    pub fn new(
+        alloc: Global,
+        time: T,
+        core: HubCore,
+        memory: usize,
+    ) -> Result<Open<S, T>, AllocError>
+        ensures empty { IfOk result (λ opened. slab_len opened.connections ≡ 0) }
+        ensures unread { IfOk result (λ opened. opened.read ≡ 0) }
+        ensures unwritten { IfOk result (λ opened. opened.written ≡ 0) }
+        ensures hub { IfOk result (λ opened. (lanes_of opened).hub ≡ core) }
+        ensures none { IfOk result (λ opened. (q : ℕ) → (lanes_of opened).lines q ≡ None) }
+    {
+        let buffer = match Box::new(alloc, [0; PIECE]) {
+            Ok(buffer) => buffer,
+            Err(_) => return Err(AllocError),
+        };
+        Ok(Open {
+            alloc,
+            connections: Slab::new(alloc),
+            core: Counted::new(time, core),
+            budgets: Budgets::new(alloc, memory),
+            buffer,
+            bound: 0,
+            due: Vec::new(alloc),
+            next_due: Vec::new(alloc),
+            idle: Vec::new(alloc),
+            looked: None,
+            read: 0,
+            written: 0,
+        })
+    }
+
+    /// How many are open.
+    pub fn count(&self) -> usize
+        ensures { result ≡ slab_len self.now.connections }
+    {
+        self.connections.len()
+    }
+
+    /// No key was so large.
+    pub fn bound(&self) -> usize {
+        self.bound
+    }
+
+    /// What was answered.
+    pub fn counts(&self) -> &Counts {
+        self.core.counts()
+    }
+
+    /// The bytes that were read and written.
+    pub fn bytes(&self) -> (u64, u64)
+        ensures read { result.0 ≡ self.now.read }
+        ensures written { result.1 ≡ self.now.written }
+    {
+        (self.read, self.written)
+    }
+
+    /// Whether a connection can go on.
+    pub fn has_due(&self) -> bool {
+        !self.due.is_empty()
+    }
+
+    /// Whether connections wait for memory.
+    pub fn is_short(&self) -> bool {
+        self.budgets.is_waited_for(Pool::Tenants) || self.budgets.is_waited_for(Pool::Strangers)
+    }
+
+    /// The key that the next connection gets, and whether there is room for it.
+    pub fn vacant(&mut self) -> Option<usize>
+        ensures { Stays (lanes_of self.old) (lanes_of self.new) }
+    {
+        let room = self.count().saturating_add(1);
+        let has_room = self.due.reserve(room).is_ok()
+            && self.next_due.reserve(room).is_ok()
+            && self.connections.reserve(1).is_ok();
+        if has_room {
+            Some(self.connections.vacant_key())
+        } else {
+            None
+        }
+    }
+
+    /// Takes a connection in under a key, which is the next one. `false` where it is not, or a growth is refused.
+    pub fn take_in(
+        &mut self,
+        key: usize,
+        number: u64,
+        peer: SocketAddr,
+        stream: S,
+        now: u64,
+    ) -> bool
+        ensures { MatchBool result (Does (TakenIn key) (lanes_of self.old) (lanes_of self.new)) (Stays (lanes_of self.old) (lanes_of self.new)) }
+    {
+        let Some(conn) = conn_of(key) else {
+            return false;
+        };
+        if self.connections.vacant_key() != key || self.connections.reserve(1).is_err() {
+            return false;
+        }
+        if !connect(&mut self.core, conn) {
+            return false;
+        }
+        let connection = Connection::new(self.alloc, number, peer, stream, now);
+        self.connections.insert_reserved(connection);
+        self.bound = self.bound.max(key.saturating_add(1));
+        true
+    }
+
+    /// Notes a report, and that the connection gets a turn.
+    pub fn note(&mut self, report: Report) -> Result<(), AllocError>
+        ensures { Stays (lanes_of self.old) (lanes_of self.new) }
+    {
+        if let Some(connection) = self.connections.get_mut(report.key) {
+            connection.note(report);
+        }
+        self.schedule(report.key)
+    }
+
+    /// The keys of those that get a turn now. They come back by [`Open::give_back`].
+    pub fn take_due(&mut self) -> Vec<usize>
+        ensures { Stays (lanes_of self.old) (lanes_of self.new) }
+    {
+        let next = mem::replace(&mut self.next_due, Vec::new(self.alloc));
+        mem::replace(&mut self.due, next)
+    }
+
+    /// The list that the keys were in.
+    pub fn give_back(&mut self, mut keys: Vec<usize>)
+        ensures { Stays (lanes_of self.old) (lanes_of self.new) }
+    {
+        keys.clear();
+        self.next_due = keys;
+    }
+
+    // Whether there is room for the reply to the first request that waits; where it takes a share, that is asked for. The reply's length is
+    // looked at right before it is given, since other requests may change it.
+    fn may_answer(&mut self, key: usize, now: u64) -> Result<bool, AllocError>
+        ensures { Stays (lanes_of self.old) (lanes_of self.new) }
+    {
+        let Some(conn) = conn_of(key) else {
+            return Ok(false);
+        };
+        let most = self.core.inner().most_reply(conn);
+        let Some(connection) = self.connections.get_mut(key) else {
+            return Ok(false);
+        };
+        let claim = connection.claim;
+        if covers(claim, most) {
+            return Ok(true);
+        }
+        connection.claim = None;
+        self.give_up(claim, now)?;
+        self.claim(key, Pool::Tenants, Purpose::Reply, most, now)
+    }
+
+    /// One turn for a connection, and whether bytes moved.
+    pub fn turn(&mut self, key: usize, now: u64) -> (Outcome, bool)
+        ensures { DoesAtMost (HasTurn key) (lanes_of self.old) (lanes_of self.new) }
+    {
+        match self.prepare(key, now) {
+            Ok(plan) => self.work(key, plan),
+            Err(outcome) => (outcome, false),
+        }
+    }
+
+    // What the turn of a connection does, which is due no more; an error is what comes of one that does nothing.
+    fn prepare(&mut self, key: usize, now: u64) -> Result<Plan, Outcome>
+        ensures { Stays (lanes_of self.old) (lanes_of self.new) }
+    {
+        let Some(plan) = self.plan(key) else {
+            return Err(Outcome::Closed);
+        };
+        if plan != Plan::Answer {
+            return Ok(plan);
+        }
+        match self.may_answer(key, now) {
+            Ok(true) => Ok(plan),
+            Ok(false) => Err(Outcome::Open),
+            Err(_) => Err(Outcome::Over(End::Memory)),
+        }
+    }
+
+    // What a connection's turn would do. It is due no more.
+    fn plan(&mut self, key: usize) -> Option<Plan>
+        ensures { Stays (lanes_of self.old) (lanes_of self.new) }
+    {
+        let has_room = self.budgets.has_room(ROOM);
+        let connection = self.connections.get_mut(key)?;
+        connection.is_due = false;
+        Some(connection.plan(has_room))
+    }
+
+    // One turn by a plan.
+    fn work(&mut self, key: usize, plan: Plan) -> (Outcome, bool)
+        ensures { DoesAtMost (HasTurn key) (lanes_of self.old) (lanes_of self.new) }
+    {
+        let Some(conn) = conn_of(key) else {
+            return (Outcome::Closed, false);
+        };
+        let Some(connection) = self.connections.get_mut(key) else {
+            return (Outcome::Closed, false);
+        };
+        match connection.phase {
+            Phase::Lingering => (drained(connection, &mut *self.buffer), false),
+            Phase::Served => {
+                let most = piece_of(connection, plan, self.core.inner(), conn);
+                let (read, written) = connection.turn(
+                    &mut self.core,
+                    conn,
+                    &mut *self.buffer,
+                    most,
+                    plan,
+                );
+                self.read = self.read.saturating_add(read);
+                self.written = self.written.saturating_add(written);
+                (connection.outcome(), has_moved(read, written))
+            }
+        }
+    }
+
+    /// Notes the second in which bytes moved.
+    pub fn mark(&mut self, key: usize, now: u64)
+        ensures { Stays (lanes_of self.old) (lanes_of self.new) }
+    {
+        if let Some(connection) = self.connections.get_mut(key) {
+            connection.moved = now;
+        }
+    }
+
+    /// After a turn: what is done with is given back, and what the next step needs is asked for.
+    pub fn settle(&mut self, key: usize, now: u64) -> Result<(), AllocError>
+        ensures { Stays (lanes_of self.old) (lanes_of self.new) }
+    {
+        let Some(conn) = conn_of(key) else {
+            return Ok(());
+        };
+        let waiting = self.core.inner().waiting(conn);
+        let Some(connection) = self.connections.get_mut(key) else {
+            return Ok(());
+        };
+        connection.has_part = waiting > 0;
+        match connection.claim {
+            Some(claim) => self.settle_claim(key, &claim, now),
+            None => self.ask(key, conn, now),
+        }
+    }
+
+    // Gives back what is done with of a share.
+    fn settle_claim(&mut self, key: usize, claim: &Claim, now: u64) -> Result<(), AllocError>
+        ensures { Stays (lanes_of self.old) (lanes_of self.new) }
+    {
+        let Some(connection) = self.connections.get_mut(key) else {
+            return Ok(());
+        };
+        let owed = connection.outbox.owed().len();
+        let has_answered = self.core.answered() > 0;
+        match left_of(claim, owed, has_answered) {
+            After::Kept => Ok(()),
+            After::Written => {
+                connection.claim = Some(Claim {
+                    purpose: Purpose::Written,
+                    ..*claim
+                });
+                self.budgets.shrink(claim, owed);
+                self.grant(now)
+            }
+            After::Released => {
+                connection.claim = None;
+                self.budgets.release(claim);
+                self.grant(now)
+            }
+        }
+    }
+
+    // Asks for what the next step needs, where that is above what each may have.
+    fn ask(&mut self, key: usize, conn: u32, now: u64) -> Result<(), AllocError>
+        ensures { Stays (lanes_of self.old) (lanes_of self.new) }
+    {
+        let Some(connection) = self.connections.get(key) else {
+            return Ok(());
+        };
+        match need(connection, self.core.inner(), conn) {
+            Some((pool, purpose, bytes)) => {
+                self.claim(key, pool, purpose, bytes, now)?;
+                Ok(())
+            }
+            None => Ok(()),
+        }
+    }
+
+    // Asks for a share, and tells whether it is granted.
+    fn claim(
+        &mut self,
+        key: usize,
+        pool: Pool,
+        purpose: Purpose,
+        bytes: usize,
+        now: u64,
+    ) -> Result<bool, AllocError>
+        ensures { Stays (lanes_of self.old) (lanes_of self.new) }
+    {
+        let (ticket, is_granted) = match self.budgets.ask(pool, key, bytes)? {
+            Answer::Granted(ticket) => (ticket, true),
+            Answer::Waits(ticket) => (ticket, false),
+        };
+        if let Some(connection) = self.connections.get_mut(key) {
+            connection.claim = Some(Claim {
+                pool,
+                ticket,
+                purpose,
+                bytes,
+                is_granted,
+                since: now,
+            });
+        }
+        Ok(is_granted)
+    }
+
+    // Grants what there is room for, in order.
+    fn grant(&mut self, now: u64) -> Result<(), AllocError>
+        ensures lanes { Stays (lanes_of self.old) (lanes_of self.new) }
+        ensures free { StayFree self.old.budgets self.new.budgets }
+    {
+        'shares: for _ in 0..u64::MAX {
+            let Some(share) = self.budgets.next() else {
+                return Ok(());
+            };
+            self.wake(share.owner, share.ticket, now)?;
+        }
+        Ok(())
+    }
+
+    // A connection holds its share now.
+    fn wake(&mut self, key: usize, ticket: u64, now: u64) -> Result<(), AllocError>
+        ensures lanes { Stays (lanes_of self.old) (lanes_of self.new) }
+        ensures budgets { self.new.budgets ≡ self.old.budgets }
+    {
+        if let Some(connection) = self.connections.get_mut(key) {
+            connection.hold(ticket, now);
+        }
+        self.schedule(key)
+    }
+
+    /// A connection that can go on gets a further turn.
+    pub fn schedule(&mut self, key: usize) -> Result<(), AllocError>
+        ensures lanes { Stays (lanes_of self.old) (lanes_of self.new) }
+        ensures budgets { self.new.budgets ≡ self.old.budgets }
+    {
+        let has_room = self.budgets.has_room(ROOM);
+        let Some(connection) = self.connections.get_mut(key) else {
+            return Ok(());
+        };
+        if connection.is_due || !connection.can_go_on(has_room) {
+            return Ok(());
+        }
+        connection.is_due = true;
+        self.due.extend_from_slice(&[key])
+    }
+
+    /// A connection that ended, as a journal is told of it.
+    pub fn ending(&self, key: usize, how: End) -> Option<Ending> {
+        let connection = self.connections.get(key)?;
+        Some(Ending {
+            number: connection.number,
+            peer: connection.peer,
+            how,
+        })
+    }
+
+    /// Ends a connection's session, and reads what still comes for a little while.
+    pub fn linger(&mut self, key: usize, now: u64) -> Result<(), AllocError>
+        ensures lanes { DoesAtMost (LetGo key) (lanes_of self.old) (lanes_of self.new) }
+        ensures share { key < 2 ^ 32 → IsGivenBack (claim_at self.old.connections key) self.new.budgets }
+    {
+        let claim = self.end(key, now);
+        self.give_up(claim, now)?;
+        self.schedule(key)
+    }
+
+    // Ends a connection's session, and hands out its share.
+    fn end(&mut self, key: usize, now: u64) -> Option<Claim>
+        ensures lanes { DoesAtMost (LetGo key) (lanes_of self.old) (lanes_of self.new) }
+        ensures claim { key < 2 ^ 32 → result ≡ claim_at self.old.connections key }
+    {
+        let conn = conn_of(key)?;
+        let connection = self.connections.get_mut(key)?;
+        let claim = connection.claim;
+        connection.linger(now);
+        disconnect(&mut self.core, conn);
+        claim
+    }
+
+    /// Closes a connection.
+    pub fn close(&mut self, key: usize, now: u64) -> Result<(), AllocError>
+        ensures lanes { DoesAtMost (LetGo key) (lanes_of self.old) (lanes_of self.new) }
+        ensures share { key < 2 ^ 32 → IsGivenBack (claim_at self.old.connections key) self.new.budgets }
+    {
+        let claim = self.let_go(key);
+        self.give_up(claim, now)
+    }
+
+    // Takes a connection off, and hands out its share.
+    fn let_go(&mut self, key: usize) -> Option<Claim>
+        ensures lanes { DoesAtMost (LetGo key) (lanes_of self.old) (lanes_of self.new) }
+        ensures claim { key < 2 ^ 32 → result ≡ claim_at self.old.connections key }
+    {
+        let conn = conn_of(key)?;
+        let connection = self.connections.try_remove(key)?;
+        disconnect(&mut self.core, conn);
+        connection.claim
+    }
+
+    // Gives a share back that a connection had.
+    fn give_up(&mut self, claim: Option<Claim>, now: u64) -> Result<(), AllocError>
+        ensures lanes { Stays (lanes_of self.old) (lanes_of self.new) }
+        ensures given { IsGivenBack claim self.new.budgets }
+    {
+        match claim {
+            Some(claim) => {
+                self.budgets.release(&claim);
+                self.grant(now)
+            }
+            None => Ok(()),
+        }
+    }
+
+    /// How a connection's time is up, where it is.
+    pub fn expiry(&self, key: usize, now: u64, limits: &Limits) -> Outcome {
+        let Some(connection) = self.connections.get(key) else {
+            return Outcome::Open;
+        };
+        match connection.phase {
+            Phase::Lingering => {
+                if connection.has_lingered(now) {
+                    Outcome::Closed
+                } else {
+                    Outcome::Open
+                }
+            }
+            Phase::Served => {
+                let is_waited_for = match &connection.claim {
+                    Some(claim) => self.budgets.is_waited_for(claim.pool),
+                    None => false,
+                };
+                match connection.expiry(now, limits, is_waited_for) {
+                    Some(how) => Outcome::Over(how),
+                    None => Outcome::Open,
+                }
+            }
+        }
+    }
+
+    /// The connection that has been idle longest, for so many seconds at least. They are looked for once a second.
+    pub fn spare(&mut self, now: u64, limits: &Limits) -> Option<usize>
+        ensures { Stays (lanes_of self.old) (lanes_of self.new) }
+    {
+        match self.next_spare(now, limits) {
+            Some(key) => Some(key),
+            None => {
+                if self.looked == Some(now) {
+                    return None;
+                }
+                self.looked = Some(now);
+                self.look_for_spare(now, limits);
+                self.next_spare(now, limits)
+            }
+        }
+    }
+
+    // The next of those that were found and are still idle.
+    fn next_spare(&mut self, now: u64, limits: &Limits) -> Option<usize>
+        ensures { Stays (lanes_of self.old) (lanes_of self.new) }
+    {
+        'found: for _ in 0..self.idle.len() {
+            let (moved, key) = self.idle.pop()?;
+            if let Some(connection) = self.connections.get(key) {
+                if connection.moved == moved && connection.is_spare(now, limits) {
+                    return Some(key);
+                }
+            }
+        }
+        None
+    }
+
+    // Finds those that are idle. Where there is no memory for the list, there is none.
+    fn look_for_spare(&mut self, now: u64, limits: &Limits)
+        ensures { Stays (lanes_of self.old) (lanes_of self.new) }
+    {
+        self.idle.clear();
+        let count = self.count();
+        if self.idle.reserve(count).is_err() {
+            return;
+        }
+        'keys: for key in 0..self.bound {
+            if let Some(connection) = self.connections.get(key) {
+                if connection.is_spare(now, limits) {
+                    let _ = self.idle.push((connection.moved, key));
+                }
+            }
+        }
+        self.idle.sort_unstable();
+        self.idle.reverse();
+    }
+}
+
+// Opens a connection's session, and tells whether that was not refused.
+fn connect<T: Time + Drop>(counted: &mut Counted<HubCore, T>, conn: u32) -> bool
+    ensures { MatchBool result (Opens conn counted.old counted.new) (counted.new ≡ counted.old) }
+{
+    counted.core.connect(conn).is_ok()
+}
+
+// Ends a connection's session.
+fn disconnect<T: Time + Drop>(counted: &mut Counted<HubCore, T>, conn: u32)
+    ensures { Closes conn counted.old counted.new }
+{
+    counted.core.disconnect(conn);
+}
+
+// The number that the hub knows a connection by.
+fn conn_of(key: usize) -> Option<u32>
+    ensures { MatchOption result (2 ^ 32 ≤ key) (λ conn. conn ≡ key) }
+{
+    u32::try_from(key).ok()
+}
+
+fn has_moved(read: u64, written: u64) -> bool {
+    read > 0 || written > 0
+}
+
+// Reads once what still comes on a connection that is served no further.
+fn drained<S: Peer>(connection: &mut Connection<S>, buffer: &mut [u8]) -> Outcome
+    ensures { line_of connection.new ≡ line_of connection.old }
+{
+    if connection.drain(buffer) {
+        Outcome::Open
+    } else {
+        Outcome::Closed
+    }
+}
