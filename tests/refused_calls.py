@@ -42,6 +42,7 @@ NO_HITS = reply(0, 2, number(0))
 PUT_LINE, PUT_REFUSED_LINE = b"1 000000050000000001\n", b"1 000000051500000001\n"
 LISTED = number(4) + named(b"B") + named(b"a") + named(b"a.1") + named(b"b")
 HITS = number(2) + hit(b"d", b"$[0]", b'"s"') * 2
+HITS_OF_TWO = number(4) + hit(b"d", b"$[0]", b'"s"') * 2 + hit(b"e", b"$[0]", b"1") * 2
 GET = reply(0, 3, b'{"a":1}')
 COUNTS = number(1) + number(1) + number(3)
 LATER_COUNTS = number(1) + number(2) + number(14)
@@ -100,6 +101,7 @@ ROWS = {
     "put_new": Row(LATER_COUNTS + b'{"q":[1,2]}', ("Exists", LATER_COUNTS + b'{"q":[1,2]}'), ("NoMemory", COUNTS)),
     "list": appended(LISTED, "NoMemory"),
     "query": appended(HITS, "NoMemory"),
+    "query_steps": appended(HITS_OF_TWO, "NoMemory"),
     "framer_new": Row(bytes([0])),
     "accept": Row(b"ab", refused=("Memory", b"")),
     "next_frame": Row(b"ab", b"cde", ("AllocError", b"")),

@@ -1,11 +1,11 @@
 //! The calls of the cache, of a tenant and of all tenants.
 
 use crate::telling::{begins, ends, tell, tell_end, tell_fault, unprepared};
-use path_types::compile;
+use path_types::{ValidQuery, compile};
 use query_cache::Cache;
 use std::alloc::{AllocError, Global};
 use std::io;
-use tenant_store::{CollName, DocName, Queries, StoreFault, Tenant, Tenants};
+use tenant_store::{CollName, DocName, Progress, Queries, QueryTask, StoreFault, Tenant, Tenants};
 
 /// The keys of two tenants.
 pub const KEYS: [[u8; 16]; 2] = [
@@ -29,6 +29,7 @@ pub fn make<R: Print + AllocGlobal>(rt: &R, name: &str) -> io::Result<bool> {
         "put_new" => put_twice(rt, true)?,
         "list" => list_twice(rt)?,
         "query" => query_twice(rt)?,
+        "query_steps" => step_twice(rt)?,
         _ => return Ok(false),
     }
     Ok(true)
@@ -184,4 +185,56 @@ fn query_twice<R: Print + AllocGlobal>(rt: &R) -> io::Result<()> {
         tell_end(rt, came, out.as_slice());
     }
     Ok(())
+}
+
+// The hits of two documents, behind what stood there.
+fn step_twice<R: Print + AllocGlobal>(rt: &R) -> io::Result<()> {
+    let (Some(c), Some(d), Some(e)) = (
+        CollName::read(b"c"),
+        DocName::read(b"d"),
+        DocName::read(b"e"),
+    ) else {
+        return unprepared(rt);
+    };
+    let Ok(query) = compile(rt.alloc(), b"$[0,0]") else {
+        return unprepared(rt);
+    };
+    let mut tenant = Tenant::new(rt.alloc());
+    if tenant.put(rt.alloc(), c, d, b"[\"s\"]").is_err()
+        || tenant.put(rt.alloc(), c, e, b"[1,2]").is_err()
+    {
+        return unprepared(rt);
+    }
+    let mut out = Vec::from_slice(rt.alloc(), b"p")?;
+    for _ in 0..2 {
+        begins(rt);
+        let came = query_in_steps(&tenant, rt.alloc(), &query, c, &mut out);
+        ends(rt);
+        match came {
+            Ok(true) => tell(rt, "Ok", out.as_slice()),
+            Ok(false) => tell(rt, "other steps", out.as_slice()),
+            Err(fault) => tell_fault(rt, &fault, out.as_slice()),
+        }
+    }
+    Ok(())
+}
+
+// A query in a step for each of two documents, which are charged 2 units each. Whether it came so.
+fn query_in_steps(
+    tenant: &Tenant,
+    alloc: Global,
+    query: &ValidQuery,
+    collection: CollName<'_>,
+    out: &mut Vec<u8>,
+) -> Result<bool, StoreFault> {
+    match QueryTask::begin(tenant, alloc, query, collection, 0, out)? {
+        Progress::Complete { .. } => Ok(false),
+        Progress::Paused(task) => {
+            let left = task.work_left();
+            match task.step(tenant, alloc, query, collection, 0, out)? {
+                Progress::Complete { charge } => Ok(left == 1 && charge == 4),
+                Progress::Paused(_) => Ok(false),
+            }
+        }
+    }
 }

@@ -5,7 +5,11 @@ use Rattle.std.specs.declared.alloc.Global.{Global}
 use Rattle.json_tape.specs.Document.{Doc, tree_of}
 use Rattle.tenant_store.specs.Payloads.{Text}
 
+-- a document, read
+abbrev pub text_read : (name : List ℕ) → Doc → Text
+text_read name d = record { name = name; tree = tree_of d }
+
 -- the documents, read
 abbrev pub texts_read : List (Vec ℕ Global × Doc) → List Text
 texts_read [] = []
-texts_read (e ∷ es) = record { name = e.0.items; tree = tree_of e.1 } ∷ texts_read es
+texts_read (e ∷ es) = text_read e.0.items e.1 ∷ texts_read es

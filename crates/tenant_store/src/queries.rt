@@ -1,20 +1,18 @@
 //! Queries of a tenant's collections.
 
-ghost use Rattle.std.specs.Prelude.{◌≡◌, ◌+◌, ◌≤◌, ◌++◌, IfErr, OnOk, OnErr, [], length, vec_len};
+ghost use Rattle.std.specs.Prelude.{◌≡◌, ◌+◌, ◌≤◌, IfErr, OnOk, OnErr, length, vec_len};
 ghost use Rattle.std.specs.Vec.{vec_capacity};
 ghost use Rattle.path_grammar.specs.View.{query_view};
 ghost use Rattle.store_names.specs.Lengths.{payload_limit};
-ghost use Rattle.tenant_map.specs.Kept.{AreKept, texts};
 ghost use Rattle.tenant_map.specs.Maps.{documents_of};
 ghost use Rattle.tenant_store.specs.Payloads.{AnswersQuery, RefusesQuery, IsFaultOfQuery};
 
-use crate::hits::append_hits;
-use json_tape::Document;
+use crate::tasks::QueryTask;
 use path_types::ValidQuery;
 use std::alloc::Global;
-use std::collections::BTreeMap;
 use store_names::CollName;
-use tenant_map::{StoreFault, Tenant, big_endian};
+use tape_select::BUDGET;
+use tenant_map::{StoreFault, Tenant};
 
 /// Queries of a [`Tenant`], whose other commands know nothing of them.
 pub trait Queries {
@@ -48,40 +46,9 @@ impl Queries for Tenant {
         ensures same_length { OnErr result (vec_len out.new ≡ vec_len out.old) }
         ensures capacity { vec_capacity out.old ≤ vec_capacity out.new }
     {
-        match self.documents(collection) {
-            Some(documents) => query_documents(alloc, query, documents, out),
-            None => query_nothing(query, out),
+        match QueryTask::begin(self, alloc, query, collection, BUDGET, out) {
+            Ok(_) => Ok(()),
+            Err(fault) => Err(fault),
         }
     }
-}
-
-// Appends the payload of a query on documents, in key order. A refusal leaves the vector unchanged.
-fn query_documents(
-    alloc: Global,
-    query: &ValidQuery,
-    documents: &BTreeMap<Vec<u8>, Document>,
-    out: &mut Vec<u8>,
-) -> Result<(), StoreFault>
-    requires { AreKept documents.now.entries }
-    ensures answered { OnOk result (AnswersQuery (query_view query.now) (texts documents.now.entries) out.old.items out.new.items) }
-    ensures short { OnOk result (length out.new.items ≤ length out.old.items + payload_limit) }
-    ensures refused { IfErr result (RefusesQuery (query_view query.now) (texts documents.now.entries)) }
-    ensures named { IfErr result IsFaultOfQuery }
-    ensures unchanged { OnErr result (out.new.items ≡ out.old.items) }
-    ensures capacity { vec_capacity out.old ≤ vec_capacity out.new }
-{
-    append_hits(alloc, query, documents, out)
-}
-
-// The payload of a query on no document.
-fn query_nothing(query: &ValidQuery, out: &mut Vec<u8>) -> Result<(), StoreFault>
-    ensures answered { OnOk result (AnswersQuery (query_view query.now) [] out.old.items out.new.items) }
-    ensures short { OnOk result (length out.new.items ≤ length out.old.items + payload_limit) }
-    ensures refused { IfErr result (RefusesQuery (query_view query.now) []) }
-    ensures named { IfErr result IsFaultOfQuery }
-    ensures unchanged { OnErr result (out.new.items ≡ out.old.items) }
-    ensures capacity { vec_capacity out.old ≤ vec_capacity out.new }
-{
-    out.extend_from_slice(&big_endian(0))?;
-    Ok(())
 }
