@@ -1,12 +1,15 @@
-use Rattle.std.proofs.Common.{◌∙◌, ◌+◌, None, Some, sym, ap, subst, arith}
-use Rattle.std.specs.Prelude.{Ok}
-use Rattle.json_tape.specs.Walked.{IsListed, at}
+use Rattle.std.proofs.Common.{◌≡◌, ◌∙◌, ◌+◌, not, eqb, sym, ap, subst, arith}
+use Rattle.std.specs.Prelude.{ℕ, Option, Result, Ok}
+use Rattle.json_tape.specs.declared.tape.BuildFault.{BuildFault}
+use Rattle.json_tape.specs.Walked.{IsListed, Grown, at, width, shape_of}
 use Rattle.json_tape.specs.Placing.{HoldSlashes}
 use Rattle.json_tape.specs.Told.{AreTold}
 use Rattle.json_tape.proofs.Listed.{near, number_below}
 use Rattle.json_tape.proofs.Onward.{entered_none, entered_some, may_grow, child_grown, next_may_grow, grown_ended, child_fault, few_halts, walked_small, walked_onward, small_state, if_ok}
 use Rattle.json_tape.proofs.Going.{halts_more}
 use Rattle.json_tape.proofs.NamesSteps.{where_some}
+use Rattle.json_tape.proofs.second_stage.run.Given.{Over}
+use Rattle.json_tape.proofs.second_stage.run.Goals.{After-child}
 use Rattle.json_tape.proofs.second_stage.run.Goals as goal
 
 pub returns-in-Ok-None-clause-arrives : goal.returns-in-Ok-None-clause-arrives
@@ -65,25 +68,20 @@ returns-in-Err-child-clause-arrives g c =
     child_fault c.args.looks.now.0 c.args.places.now c.requires.listed c.loop-k.looks.0 (at c.args.spot c.args.builder.now c.args.looks.now.1 c.args.may_exceed.now) c.loop-k.k c.loop-k.looks.1 c.child.new.looks.1 c.loop-k.may_exceed c.child.new.may_exceed _ _ c.loop-k.builder c.child.new.builder c.child.result c.in-Err-child.fault
     c.requires.level c.loop-k.invariant.same c.loop-k.invariant.grows c.in-Err-child.is c.child.ensures.grown
 
+-- what a child shows, by what it gave
+grown : (g : Over) (c : After-child g) (n : ℕ) (r : Result (Option ℕ) BuildFault) → c.child.result ≡ r → n ≡ c.loop-k.k + width (shape_of (not (eqb g.row.OBJECT 0)))
+    → Grown c.args.looks.now.0 c.args.places.now (at c.args.spot c.args.builder.now c.args.looks.now.1 c.args.may_exceed.now) (shape_of (not (eqb g.row.OBJECT 0))) n r c.child.new.builder c.child.new.looks.1 c.child.new.may_exceed
+grown g c n r is size =
+    child_grown c.args.looks.now.0 c.args.places.now c.requires.listed c.loop-k.looks.0 _ c.loop-k.k n c.loop-k.looks.1 c.child.new.looks.1 c.loop-k.may_exceed c.child.new.may_exceed _ _ c.loop-k.builder c.child.new.builder c.child.result r
+    c.requires.level c.loop-k.invariant.same c.loop-k.invariant.grows is size c.child.ensures.grown
+
 pub returns-in-Ok-None-child-clause-arrives : goal.returns-in-Ok-None-child-clause-arrives
 returns-in-Ok-None-child-clause-arrives g c =
-    let bytes = c.args.looks.now.0 in
-    let items = c.args.places.now in
-    let k = c.loop-k.k in
-    let a = at c.args.spot c.args.builder.now c.args.looks.now.1 c.args.may_exceed.now in
-    let n = k + c.width-in-Ok-None-child.result in
-    let size = ap (λ x. k + x) c.width-in-Ok-None-child.ensures.value in
-    (child_grown bytes items c.requires.listed c.loop-k.looks.0 a k n c.loop-k.looks.1 c.child.new.looks.1 c.loop-k.may_exceed c.child.new.may_exceed _ _ c.loop-k.builder c.child.new.builder c.child.result (Ok None) c.requires.level c.loop-k.invariant.same c.loop-k.invariant.grows (c.in-Ok-None-child.is ∙ ap Ok c.in-Ok-None-child.field-0-is) size c.child.ensures.grown).0
+    (grown g (goal.at.returns-in-Ok-None-child-clause-arrives g c).After-child _ _ (c.in-Ok-None-child.is ∙ ap Ok c.in-Ok-None-child.field-0-is) (ap (λ x. c.loop-k.k + x) c.width-in-Ok-None-child.ensures.value)).0
 
 pub returns-in-Ok-None-child-clause-opened : goal.returns-in-Ok-None-child-clause-opened
 returns-in-Ok-None-child-clause-opened g c = λ first.
-    let bytes = c.args.looks.now.0 in
-    let items = c.args.places.now in
-    let k = c.loop-k.k in
-    let a = at c.args.spot c.args.builder.now c.args.looks.now.1 c.args.may_exceed.now in
-    let n = k + c.width-in-Ok-None-child.result in
-    let size = ap (λ x. k + x) c.width-in-Ok-None-child.ensures.value in
-    (child_grown bytes items c.requires.listed c.loop-k.looks.0 a k n c.loop-k.looks.1 c.child.new.looks.1 c.loop-k.may_exceed c.child.new.may_exceed _ _ c.loop-k.builder c.child.new.builder c.child.result (Ok None) c.requires.level c.loop-k.invariant.same c.loop-k.invariant.grows (c.in-Ok-None-child.is ∙ ap Ok c.in-Ok-None-child.field-0-is) size c.child.ensures.grown).1
+    (grown g (goal.at.returns-in-Ok-None-child-clause-opened g c).After-child _ _ (c.in-Ok-None-child.is ∙ ap Ok c.in-Ok-None-child.field-0-is) (ap (λ x. c.loop-k.k + x) c.width-in-Ok-None-child.ensures.value)).1
 
 pub returns-in-Ok-None-child-clause-further : goal.returns-in-Ok-None-child-clause-further
 returns-in-Ok-None-child-clause-further g c =
@@ -96,20 +94,15 @@ returns-in-Ok-None-child-clause-further g c =
 
 pub loop-k-preserved : goal.loop-k-preserved
 loop-k-preserved g c =
-    let bytes = c.args.looks.now.0 in
-    let items = c.args.places.now in
-    let k = c.loop-k.k in
-    let a = at c.args.spot c.args.builder.now c.args.looks.now.1 c.args.may_exceed.now in
-    let n = k + c.width-in-Ok-Some-eq44.result in
-    let size = ap (λ x. k + x) c.width-in-Ok-Some-eq44.ensures.value in
+    let n = c.loop-k.k + c.width-in-Ok-Some-eq44.result in
     let same = c.width-in-Ok-Some-eq44.ensures.value ∙ sym c.width.ensures.value in
     let test = c.loop-k-test.true in
-    let found = child_grown bytes items c.requires.listed c.loop-k.looks.0 a k n c.loop-k.looks.1 c.child.new.looks.1 c.loop-k.may_exceed c.child.new.may_exceed _ _ c.loop-k.builder c.child.new.builder c.child.result (Ok (Some c.in-Ok-Some-eq44.field-0-0)) c.requires.level c.loop-k.invariant.same c.loop-k.invariant.grows (c.in-Ok-Some-eq44.is ∙ ap Ok c.in-Ok-Some-eq44.field-0-is) size c.child.ensures.grown in
+    let found = grown g (goal.at.loop-k-preserved g c).After-child n _ (c.in-Ok-Some-eq44.is ∙ ap Ok c.in-Ok-Some-eq44.field-0-is) (ap (λ x. c.loop-k.k + x) c.width-in-Ok-Some-eq44.ensures.value) in
     record {
       same = c.in-Ok-Some-eq44.ensures.same ∙ c.loop-k.invariant.same;
       slashes = subst (λ b. HoldSlashes b c.child.new.slashes) c.loop-k.invariant.same c.in-Ok-Some-eq44.ensures.slashes;
       level = found.1 ∙ sym c.requires.level;
-      grows = next_may_grow bytes items c.requires.listed a n _ c.child.new.looks.1 c.child.new.may_exceed _ _ c.child.new.builder c.in-Ok-Some-eq44.field-0-0 c.requires.level (let t = c.in-Ok-Some-eq44.field-0-0-test in omega (arith, t)) (omega arith) found;
+      grows = next_may_grow _ _ c.requires.listed _ n _ c.child.new.looks.1 c.child.new.may_exceed _ _ c.child.new.builder c.in-Ok-Some-eq44.field-0-0 c.requires.level (let t = c.in-Ok-Some-eq44.field-0-0-test in omega (arith, t)) (omega arith) found;
       to = omega (arith, same, test);
       told = subst (λ b. AreTold b c.child.new.builder c.child.new.met) c.loop-k.invariant.same c.in-Ok-Some-eq44.ensures.told;
       seated = where_some _ c.in-Ok-Some-eq44.field-0 c.in-Ok-Some-eq44.field-0-0 c.in-Ok-Some-eq44.field-0-is c.in-Ok-Some-eq44.ensures.seated;
@@ -123,24 +116,13 @@ ended-requires-clause-near g c =
 
 pub ended-requires-clause-level : goal.ended-requires-clause-level
 ended-requires-clause-level g c =
-    let bytes = c.args.looks.now.0 in
-    let items = c.args.places.now in
-    let k = c.loop-k.k in
-    let a = at c.args.spot c.args.builder.now c.args.looks.now.1 c.args.may_exceed.now in
-    let n = k + c.width-in-Ok-Some-child.result in
-    let size = ap (λ x. k + x) c.width-in-Ok-Some-child.ensures.value in
-    (child_grown bytes items c.requires.listed c.loop-k.looks.0 a k n c.loop-k.looks.1 c.child.new.looks.1 c.loop-k.may_exceed c.child.new.may_exceed _ _ c.loop-k.builder c.child.new.builder c.child.result (Ok (Some c.in-Ok-Some-child.sign)) c.requires.level c.loop-k.invariant.same c.loop-k.invariant.grows (c.in-Ok-Some-child.is ∙ ap Ok c.in-Ok-Some-child.field-0-is) size c.child.ensures.grown).1
+    (grown g (goal.at.ended-requires-clause-level g c).After-child _ _ (c.in-Ok-Some-child.is ∙ ap Ok c.in-Ok-Some-child.field-0-is) (ap (λ x. c.loop-k.k + x) c.width-in-Ok-Some-child.ensures.value)).1
 
 pub returns-in-Ok-Some-child-clause-arrives : goal.returns-in-Ok-Some-child-clause-arrives
 returns-in-Ok-Some-child-clause-arrives g c =
-    let bytes = c.args.looks.now.0 in
-    let items = c.args.places.now in
-    let k = c.loop-k.k in
-    let a = at c.args.spot c.args.builder.now c.args.looks.now.1 c.args.may_exceed.now in
-    let n = k + c.width-in-Ok-Some-child.result in
-    let size = ap (λ x. k + x) c.width-in-Ok-Some-child.ensures.value in
-    let found = child_grown bytes items c.requires.listed c.loop-k.looks.0 a k n c.loop-k.looks.1 c.child.new.looks.1 c.loop-k.may_exceed c.child.new.may_exceed _ _ c.loop-k.builder c.child.new.builder c.child.result (Ok (Some c.in-Ok-Some-child.sign)) c.requires.level c.loop-k.invariant.same c.loop-k.invariant.grows (c.in-Ok-Some-child.is ∙ ap Ok c.in-Ok-Some-child.field-0-is) size c.child.ensures.grown in
-    grown_ended bytes items c.requires.listed a n c.child.new.looks.1 c.child.new.may_exceed _ c.child.new.builder c.ended.new.builder c.in-Ok-Some-child.sign c.ended.result found (c.ended.ensures.arrives bytes c.child.new.looks.1 c.child.new.may_exceed c.requires.listed)
+    let n = c.loop-k.k + c.width-in-Ok-Some-child.result in
+    let found = grown g (goal.at.returns-in-Ok-Some-child-clause-arrives g c).After-child n _ (c.in-Ok-Some-child.is ∙ ap Ok c.in-Ok-Some-child.field-0-is) (ap (λ x. c.loop-k.k + x) c.width-in-Ok-Some-child.ensures.value) in
+    grown_ended _ _ c.requires.listed _ n c.child.new.looks.1 c.child.new.may_exceed _ c.child.new.builder c.ended.new.builder c.in-Ok-Some-child.sign c.ended.result found (c.ended.ensures.arrives _ c.child.new.looks.1 c.child.new.may_exceed c.requires.listed)
 
 pub returns-in-Ok-Some-child-clause-further : goal.returns-in-Ok-Some-child-clause-further
 returns-in-Ok-Some-child-clause-further g c =

@@ -7,38 +7,35 @@ use Rattle.json_tape.proofs.NamesSteps.{leaf_signed, open_told, by_none}
 use Rattle.json_tape.proofs.second_stage.valued.Goals as goal
 
 pub value-requires-clause-in_text : goal.value-requires-clause-in_text
-value-requires-clause-in_text g c = let l = c.requires.inside in in_text c.args.looks.now.0 c.args.places.now c.requires.listed c.args.k (omega (arith, l))
+value-requires-clause-in_text g c = in_text c.args.looks.now.0 c.args.places.now c.requires.listed c.args.k (omega (arith, c.requires.inside))
 
 pub value-requires-clause-near : goal.value-requires-clause-near
 value-requires-clause-near g c = let l = in_text c.args.looks.now.0 c.args.places.now c.requires.listed (c.args.k + 1) c.requires.inside in omega (arith, l)
 
 pub value-requires-clause-closes : goal.value-requires-clause-closes
 value-requires-clause-closes g c =
-    let l = c.requires.inside in
-    closes_before c.args.looks.now.0 c.args.places.now c.requires.listed c.args.k _ (omega (arith, l)) (next_is c.args.looks.now.0 c.args.places.now c.requires.listed (c.args.k + 1) 0 l)
+    closes_before c.args.looks.now.0 c.args.places.now c.requires.listed c.args.k _ (omega (arith, c.requires.inside)) (next_is c.args.looks.now.0 c.args.places.now c.requires.listed (c.args.k + 1) 0 c.requires.inside)
 
 pub value-requires-clause-no_blank : goal.value-requires-clause-no_blank
-value-requires-clause-no_blank g c = let l = c.requires.inside in no_blank c.args.looks.now.0 c.args.places.now c.requires.listed c.args.k (omega (arith, l))
+value-requires-clause-no_blank g c = no_blank c.args.looks.now.0 c.args.places.now c.requires.listed c.args.k (omega (arith, c.requires.inside))
 
 pub open-requires-clause-small : goal.open-requires-clause-small
-open-requires-clause-small g c = let l = c.requires.inside in small_enough c.args.looks.now.0 c.args.places.now c.requires.listed c.args.k _ (omega (arith, l)) c.requires.small
+open-requires-clause-small g c = small_enough c.args.looks.now.0 c.args.places.now c.requires.listed c.args.k _ (omega (arith, c.requires.inside)) c.requires.small
 
 pub open-requires-clause-near : goal.open-requires-clause-near
-open-requires-clause-near g c = let l = c.requires.inside in near c.args.looks.now.0 c.args.places.now c.requires.listed c.args.k (omega (arith, l))
+open-requires-clause-near g c = near c.args.looks.now.0 c.args.places.now c.requires.listed c.args.k (omega (arith, c.requires.inside))
 
 pub returns-in-None-clause-grown : goal.returns-in-None-clause-grown
 returns-in-None-clause-grown g c = λ w asks.
-    let l = c.requires.inside in
-    no_value_halts c.args.looks.now.0 c.args.places.now c.requires.listed c.args.k c.args.looks.now.1 c.args.may_exceed.now c.args.builder.now w c.args.name (omega (arith, l)) asks c.in-None.ensures.value
+    no_value_halts c.args.looks.now.0 c.args.places.now c.requires.listed c.args.k c.args.looks.now.1 c.args.may_exceed.now c.args.builder.now w c.args.name (omega (arith, c.requires.inside)) asks c.in-None.ensures.value
 
 pub returns-in-Some-Opens-clause-grown : goal.returns-in-Some-Opens-clause-grown
 returns-in-Some-Opens-clause-grown g c = λ w asks.
     let bytes = c.args.looks.now.0 in
     let items = c.args.places.now in
-    let l = c.requires.inside in
     let value = c.in-Some-Opens.ensures in
     opened_grown bytes items c.requires.listed c.args.k c.args.looks.now.1 c.value.new.looks.1 c.args.may_exceed.now c.value.new.may_exceed _ c.in-Some-Opens.shape c.args.builder.now c.open.new.self w c.args.name c.in-Some-Opens.field-0 c.open.result c.nothing_more.result
-    (omega (arith, l)) asks c.in-Some-Opens.field-0-is value.value value.marked value.looked c.open.ensures c.nothing_more.ensures
+    (omega (arith, c.requires.inside)) asks c.in-Some-Opens.field-0-is value.value value.marked value.looked c.open.ensures c.nothing_more.ensures
 
 pub at-sign-requires : goal.at-sign-requires
 at-sign-requires g c =
@@ -47,7 +44,7 @@ at-sign-requires g c =
     omega (arith, same, l)
 
 pub leaf-requires-clause-small : goal.leaf-requires-clause-small
-leaf-requires-clause-small g c = let l = c.requires.inside in small_enough c.args.looks.now.0 c.args.places.now c.requires.listed c.args.k _ (omega (arith, l)) c.requires.small
+leaf-requires-clause-small g c = small_enough c.args.looks.now.0 c.args.places.now c.requires.listed c.args.k _ (omega (arith, c.requires.inside)) c.requires.small
 
 pub returns-in-Some-Text-clause-grown : goal.returns-in-Some-Text-clause-grown
 returns-in-Some-Text-clause-grown g c = λ w asks.
@@ -68,7 +65,7 @@ at-sign-requires-in-Some-Number g c =
     omega (arith, same, l)
 
 pub leaf-requires-in-Some-Number-clause-small : goal.leaf-requires-in-Some-Number-clause-small
-leaf-requires-in-Some-Number-clause-small g c = let l = c.requires.inside in small_enough c.args.looks.now.0 c.args.places.now c.requires.listed c.args.k _ (omega (arith, l)) c.requires.small
+leaf-requires-in-Some-Number-clause-small g c = small_enough c.args.looks.now.0 c.args.places.now c.requires.listed c.args.k _ (omega (arith, c.requires.inside)) c.requires.small
 
 pub returns-in-Some-Number-clause-grown : goal.returns-in-Some-Number-clause-grown
 returns-in-Some-Number-clause-grown g c = λ w asks.
@@ -89,7 +86,7 @@ at-sign-requires-in-Some-Word g c =
     omega (arith, same, l)
 
 pub leaf-requires-in-Some-Word-clause-small : goal.leaf-requires-in-Some-Word-clause-small
-leaf-requires-in-Some-Word-clause-small g c = let l = c.requires.inside in small_enough c.args.looks.now.0 c.args.places.now c.requires.listed c.args.k _ (omega (arith, l)) c.requires.small
+leaf-requires-in-Some-Word-clause-small g c = small_enough c.args.looks.now.0 c.args.places.now c.requires.listed c.args.k _ (omega (arith, c.requires.inside)) c.requires.small
 
 pub returns-in-Some-Word-clause-grown : goal.returns-in-Some-Word-clause-grown
 returns-in-Some-Word-clause-grown g c = λ w asks.
