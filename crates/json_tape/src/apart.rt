@@ -37,8 +37,8 @@ pub struct Owner {
     pub table: usize,
 }
 
-/// The names that were met: for each stamp and depth the last byte of the number of the object that had it last, and the objects that
-/// are to be looked at more closely, since names of theirs may mean the same, or they are wide.
+/// The names so far. For each stamp and depth it has the last byte of the number of the object that had the stamp last. It also has the
+/// objects to check for repeated names: those where a stamp came twice, and those with many members.
 #[derive(Drop)]
 pub struct NamesMet {
     pub owners: [u8; MARKS],

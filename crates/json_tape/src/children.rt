@@ -1,4 +1,4 @@
-//! The children of a value, one after the other.
+//! The children of a value.
 
 ghost use Rattle.std.specs.Prelude.{◌≡◌, ◌<◌};
 ghost use Rattle.std.specs.List.{All};
@@ -10,7 +10,7 @@ use crate::document::Document;
 use crate::tape::NodeId;
 use std::marker::Model;
 
-/// The elements of an array or the values of an object's members, in document order; nothing of any other value.
+/// The elements of an array or the values of an object's members, in the order of the text. Other values have none.
 #[derive(Drop)]
 pub struct Children<'a> {
     document: &'a Document,

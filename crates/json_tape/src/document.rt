@@ -1,4 +1,4 @@
-//! A text that was read, and the readers of its values.
+//! A text that was read, and the methods on its values.
 
 ghost use Rattle.std.specs.Prelude.{false, IfSome, ◌≡◌, ◌∷◌, [], ℕ, List, ◌^◌, ◌<◌, ◌≤◌, ◌+◌, ◌-◌, ◌↔◌, length, MatchResult, MatchOption, IsUtf8, IsTrue, slice_index_or};
 ghost use Rattle.std.specs.List.{Contains, All};
@@ -34,7 +34,7 @@ use structural_index::{Index, Looks, index, index_and_copy};
 /// The most bytes of a text.
 pub const TEXT_LIMIT: usize = 4_194_304;
 
-/// A text within the limits, with an entry for each of its values. Nothing changes it.
+/// An immutable JSON text within the limits, with an entry for each value.
 #[derive(Drop)]
 pub struct Document {
     text: String,
@@ -109,13 +109,21 @@ fn read_indexed(alloc: Global, text: &str, index: &Index) -> Result<Parts, TextF
 }
 
 impl Document {
-    /// Reads a text (RFC 8259).
+    /// Reads a JSON text (RFC 8259).
     ///
-    /// Errors, the first that applies in this order, wherever in the text it shows: `TooLong` above [`TEXT_LIMIT`] bytes;
-    /// `NotUtf8`; `NotJson`, where the grammar has no tree for the bytes; `TooDeep` above [`crate::DEPTH_LIMIT`] containers in one another;
-    /// `NumberLimit`, where a number has more than 256 bytes or an exponent above 999,999,999; `LoneSurrogate`, where a
-    /// string or a name spells a surrogate without its partner; `DuplicateName`, where two names of one object mean the
-    /// same. `Memory` where a growth was refused, which comes after the first two were looked for.
+    /// # Errors
+    ///
+    /// The first that applies in this order, wherever in the text it is:
+    ///
+    /// - `TooLong`: more than [`TEXT_LIMIT`] bytes.
+    /// - `NotUtf8`: not UTF-8.
+    /// - `NotJson`: not a text of the grammar.
+    /// - `TooDeep`: more than [`crate::DEPTH_LIMIT`] levels of arrays and objects.
+    /// - `NumberLimit`: a number of more than 256 bytes, or with an exponent above 999,999,999.
+    /// - `LoneSurrogate`: half of a surrogate pair alone in a string or a name.
+    /// - `DuplicateName`: two names of one object that mean the same.
+    ///
+    /// `Memory` if an allocation failed, which comes after the first two.
     pub fn read(alloc: Global, text: &[u8]) -> Result<Document, TextFault>
         ensures { MatchResult result (λ d. (d.text ≡ text.now) × IsAccepted text.now (tree_of d)) (λ f. Explains text.now f) }
     {
@@ -137,8 +145,7 @@ impl Document {
         }
     }
 
-    /// Reads a text that is in a list of its own, which becomes the document's. What is refused, and in which order, is as [`Document::read`]
-    /// has it.
+    /// Reads a text without copying it: the document takes over the vector. The errors are those of [`Document::read`].
     pub fn read_owned(alloc: Global, text: Vec<u8>) -> Result<Document, TextFault>
         ensures { MatchResult result (λ d. (d.text ≡ text.items) × IsAccepted text.items (tree_of d)) (λ f. Explains text.items f) }
     {
@@ -169,7 +176,7 @@ impl Document {
         self.text.as_bytes()
     }
 
-    /// How many values the text has. Their numbers are those below it.
+    /// The number of values in the text. They are numbered from 0.
     pub fn node_count(&self) -> u32
         ensures value { result ≡ count self.now }
         ensures size { result ≡ size (tree_of self.now) }
@@ -179,7 +186,7 @@ impl Document {
         self.tape.len()
     }
 
-    /// The value that holds all others.
+    /// The value of the whole text.
     pub fn root(&self) -> NodeId
         ensures first { result.0 ≡ 0 }
         ensures inside { result.0 < count self.now }
@@ -233,7 +240,7 @@ impl Document {
         })
     }
 
-    /// What the value is.
+    /// The kind of the value.
     pub fn kind(&self, n: NodeId) -> Kind
         requires { n.0 < count self.now }
         ensures { result ≡ kind_of (node_at self.now n.0).tree }
@@ -241,7 +248,7 @@ impl Document {
         self.entry(n).kind
     }
 
-    /// The source bytes of the value, without blanks around it.
+    /// The bytes of the value as they stand in the text, without the blanks around it.
     pub fn text(&self, n: NodeId) -> &[u8]
         requires { n.0 < count self.now }
         ensures value { result.now ≡ (source_of (node_at self.now n.0).tree).bytes }
@@ -280,7 +287,7 @@ impl Document {
         count_of(self.string_scalars(n))
     }
 
-    /// The elements of an array or the values of an object's members, in document order; nothing of any other value.
+    /// The elements of an array or the values of an object's members, in the order of the text. Other values have none.
     #[inline(always)]
     pub fn children(&self, n: NodeId) -> Children<'_>
         requires { n.0 < count self.now }
@@ -303,7 +310,7 @@ impl Document {
         }
     }
 
-    /// The next element or member's value of the same container.
+    /// The next element or member value of the same container.
     pub fn next_sibling(&self, n: NodeId) -> Option<NodeId>
         requires { n.0 < count self.now }
         ensures nodes { following self.now result ≡ later self.now n.0 }
@@ -318,7 +325,7 @@ impl Document {
         }
     }
 
-    /// The number of the first value past this one and all that is in it.
+    /// The number of the first value after this one and all values inside it.
     pub fn after(&self, n: NodeId) -> u32
         requires { n.0 < count self.now }
         ensures nodes { seen self.now (counting n.0 (result - n.0)) ≡ visit (node_at self.now n.0) }
@@ -328,7 +335,7 @@ impl Document {
         self.end_of(n)
     }
 
-    /// What leads to the value from the one that it lies in.
+    /// The step that leads to the value from its parent.
     pub fn lead(&self, n: NodeId) -> Lead
         requires { n.0 < count self.now }
         ensures { LeadIs result (node_at self.now n.0) }
@@ -341,7 +348,7 @@ impl Document {
         }
     }
 
-    /// The value that it lies in; `None` for the root.
+    /// The array or object that contains the value; `None` for the root.
     pub fn parent(&self, n: NodeId) -> Option<NodeId>
         requires { n.0 < count self.now }
         ensures node { ParentIs self.now result (node_at self.now n.0) }
@@ -356,7 +363,7 @@ impl Document {
         }
     }
 
-    /// Whether the value is a member's.
+    /// Whether the value is that of an object's member.
     pub fn has_name(&self, n: NodeId) -> bool
         requires { n.0 < count self.now }
         ensures { IsTrue result ↔ HasName (node_at self.now n.0) }
@@ -367,7 +374,7 @@ impl Document {
         }
     }
 
-    /// Whether the value is a member's whose name means these scalar values.
+    /// Whether the value is that of a member with this name, given as scalar values.
     pub fn name_is(&self, n: NodeId, name: &[char]) -> bool
         requires { n.0 < count self.now }
         ensures { result ≡ is_named name.now (node_at self.now n.0) }
@@ -379,8 +386,8 @@ impl Document {
         }
     }
 
-    /// The value of the object's member whose name means these scalar values; `None` where there is none or the value is
-    /// no object.
+    /// The value of the object's member with this name, given as scalar values. `None` if there is none, or the value is not an
+    /// object.
     #[inline(always)]
     pub fn member(&self, n: NodeId, name: &[char]) -> Option<NodeId>
         requires { n.0 < count self.now }
@@ -402,8 +409,8 @@ impl Document {
         }
     }
 
-    /// The same as [`Document::member`], where the value so many numbers behind the object is tried first: objects that are
-    /// made alike have a name at one distance.
+    /// The same as [`Document::member`], but tries first the value at this distance from the object. Objects of the same shape have a
+    /// name at the same distance.
     #[inline(always)]
     pub fn member_near(&self, n: NodeId, name: &[char], distance: u32) -> Option<NodeId>
         requires { n.0 < count self.now }
@@ -517,8 +524,8 @@ impl Document {
         }
     }
 
-    /// The value of the object's member that has the name of this member of another object; `None` where there is none or
-    /// the value is no object.
+    /// The value of the object's member with the same name as this member of another object. `None` if there is none, or the value
+    /// is not an object.
     pub fn twin(&self, n: NodeId, other: &Document, m: NodeId) -> Option<NodeId>
         requires inside { n.0 < count self.now }
         requires member { m.0 < count other.now }
@@ -544,7 +551,7 @@ impl Document {
         unquoted(&self.text, name)
     }
 
-    /// The scalar values that the name of a member means.
+    /// The name of a member, as scalar values.
     pub fn name_scalars(&self, n: NodeId) -> Scalars<'_>
         requires inside { n.0 < count self.now }
         requires named { HasName (node_at self.now n.0) }
@@ -554,7 +561,7 @@ impl Document {
         Scalars::new(self.name_inside(n))
     }
 
-    /// The scalar values that a string means.
+    /// The value of a string, as scalar values.
     pub fn string_scalars(&self, n: NodeId) -> Scalars<'_>
         requires inside { n.0 < count self.now }
         requires string { kind_of (node_at self.now n.0).tree ≡ Kind.Text }

@@ -12,22 +12,22 @@ ghost use Rattle.json_tape.specs.Counting.{PlacesAreTokens, SourceBytesAreTheTre
 
 use crate::document::Document;
 
-/// A text spells one tree at most (RFC 8259, section 2), so a document stands for every tree of its text.
+/// A text has at most one tree (RFC 8259, section 2), so a document stands for every tree of its text.
 pub fn one_tree()
     ensures { (text : List ℕ) (s t : Tree) → IsText text s → IsText text t → s ≡ t }
 {}
 
-/// What characters mean is what the function `meaning` gives (RFC 8259, section 7), so they mean one thing at most.
+/// Characters mean what the function `meaning` returns (RFC 8259, section 7), so they have at most one meaning.
 pub fn one_meaning()
     ensures { (characters : List Spelt) (scalars : List ℕ) → Means characters scalars → meaning characters ≡ scalars }
 {}
 
-/// Where no surrogate is lone, characters mean what the function `meaning` gives.
+/// Without a lone surrogate, characters mean what the function `meaning` returns.
 pub fn meant()
     ensures { (characters : List Spelt) → (HasLone characters → ⊥) → Means characters (meaning characters) }
 {}
 
-/// A text is within its limit, and the steps that lead to a node of it take no more bytes than it has.
+/// A text is within its limit, and the steps that lead to a node have no more bytes than the text.
 pub fn ways_are_short(doc: &Document)
     ensures way { (n : ℕ) → n < count doc.now → way_size (node_at doc.now n).way_up ≤ length doc.now.text }
     ensures text { length doc.now.text ≤ text_limit }
@@ -45,8 +45,8 @@ pub fn places_are_tokens()
     ensures { PlacesAreTokens }
 {}
 
-/// The bytes of a JSON text that are in no whitespace and in no structural character outside strings are the
-/// source bytes of the names, strings, numbers and words of its tree.
+/// The names, strings, numbers and words of a text's tree have the same bytes as the text without its whitespace and without the structural
+/// characters outside strings.
 pub fn source_bytes_are_the_trees()
     ensures { SourceBytesAreTheTrees }
 {}

@@ -1,15 +1,14 @@
 //! JSON texts (RFC 8259) as tapes.
 //!
-//! `Document::read` accepts exactly the texts within the limits in which no string or name spells a lone surrogate and no
-//! object has two names that mean the same. It keeps their bytes, and has one entry for each value: 16 bytes, and 12 more for an
-//! array or an object. The readers of `Document` tell each value's kind, bytes, length, children and name, each in constant time but
-//! for those that go over the characters of a string or a name, for `length` of a long string, which looks it up by halving, and for
-//! `member`, `member_near` and `twin`, which halve in an object of more than 16 members and go over those of another.
+//! `Document::read` accepts exactly the texts within the limits that have no lone surrogate and no object with a repeated name. It keeps
+//! the text, and one entry for each value: 16 bytes, and 12 more for an array or an object. The methods of `Document` return each
+//! value's kind, bytes, length, children and name. Most take constant time. Those that read a string or a name take time linear in its
+//! length, except that `length` finds the length of a long string by binary search. `member`, `member_near` and `twin` use binary search
+//! in an object of more than 16 members, and go over the members of a smaller one.
 //!
-//! The places where a text's structure shows are found first (`structural_index`), then walked once, a token at each, and the entries
-//! are then judged. Open containers stand in a list, so that depth costs no stack. Nothing is parsed into numbers or strings: those are
-//! cut from the text where they are asked for. The names of an object are told apart by hashes of what they mean, and compared by what
-//! they mean where a hash comes again.
+//! Reading has three steps. The index finds the places of all tokens (`structural_index`). One walk over the places makes the entries.
+//! Then the entries are checked. Open containers stand in a list, so that depth needs no stack. Numbers and strings are not converted:
+//! they are read from the text when they are asked for. Repeated names are found by hashes, and compared if two hashes are equal.
 #![tactic(auto)]
 
 mod apart;

@@ -1,6 +1,6 @@
 //! Builds the tape of a text from the places of its index (Langdale and Lemire, "Parsing Gigabytes of JSON per Second", section 3.2).
-//! What may come next is known by where in the code the walk stands, so that only that is looked for: a child, which is a name, a colon
-//! and a value in an object, and behind it the comma or the end.
+//! The position in the code is the state of the walk, so that it looks only for what may come next. That is a child (in an object a name, a
+//! colon and a value), and after it the comma or the end.
 
 ghost use Rattle.std.specs.Prelude.{◌≡◌, ◌≢◌, ◌+◌, ◌-◌, ◌^◌, ◌<◌, ◌≤◌, ℕ, List, Bool, None, length, get_or, IfOk, OnOk, IfSome, IsUtf8, IsErrOf, IsTrue, true, false};
 ghost use Rattle.structural_index.specs.Answer.{IsIndexOf};
@@ -534,9 +534,8 @@ fn whole(
     first_spot(put(builder, Level::Root, None, i, lexed), lexed)
 }
 
-/// What a walk found: the tape, how many containers lie in one another at most, whether a number may be beyond the limits, and the most
-/// bytes of a value that is a string. `asked` has the numbers of the objects that are to be looked at more closely, in no order; in all
-/// others names were told apart.
+/// The result of a walk: the tape, its depth, whether a number may be beyond the limits, and the most bytes of a string value. `asked` has
+/// the numbers of the objects that may have a repeated name, in no order; all others have none.
 #[derive(Drop)]
 pub struct Reading {
     pub tape: Tape,
@@ -603,9 +602,11 @@ pub fn walk(alloc: Global, index: &Index, looks: &mut Looks<'_>) -> Result<Readi
     })
 }
 
-/// Builds the tape of the text that is looked at, from the places of its index.
+/// Builds the tape of a text from the places of its index.
 ///
-/// Errors: `NotJson` where the grammar has no tree for the bytes; `Memory` where a growth was refused.
+/// # Errors
+///
+/// `NotJson` if the bytes are not a text of the grammar; `Memory` if an allocation failed.
 pub fn build(alloc: Global, index: &Index, looks: &mut Looks<'_>) -> Result<Tape, BuildFault>
     requires short { length looks.old.0 ≤ text_limit }
     requires utf8 { IsUtf8 looks.old.0 }

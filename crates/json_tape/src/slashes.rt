@@ -8,8 +8,7 @@ ghost use Rattle.json_tape.specs.Placing.{HoldSlashes};
 /// How many bytes a block has.
 pub const BLOCK: usize = 64;
 
-/// A gap, from one place to before another, in which no backslash of a text stands, and the number of the first block behind it of
-/// those in which backslashes stand.
+/// A gap in a text without a backslash, from one place to before another, and the number of the first block with a backslash after it.
 #[derive(Clone, Copy)]
 pub struct Slashes<'a> {
     from: usize,

@@ -2,7 +2,7 @@
 
 use thiserror::Error;
 
-/// What a value is.
+/// The kind of a value.
 #[derive(Clone, Copy, Debug, PartialEq, Eq)]
 pub enum Kind {
     Null,
@@ -53,14 +53,14 @@ pub struct Seat {
 #[derive(Clone, Copy, Debug, Default, PartialEq, Eq)]
 pub struct NodeId(pub u32);
 
-/// What leads to a value from the one that it lies in.
+/// The step that leads to a value from its parent.
 #[derive(Clone, Copy, Debug, PartialEq, Eq)]
 pub enum Lead {
-    /// Nothing: the value is the whole text's.
+    /// None: it is the value of the whole text.
     Root,
     /// The index of an element, counted from 0.
     Index(u32),
-    /// The name of a member, which `Document::name_scalars` gives.
+    /// The name of a member, which `Document::name_scalars` returns.
     Name,
 }
 
@@ -104,7 +104,7 @@ pub struct Open {
     pub children: u32,
 }
 
-/// Why a text is refused. A text that shows several gets the first in this order, wherever they stand in it.
+/// Why a text is refused: the first that applies in this order, wherever in the text it is.
 #[derive(Clone, Copy, Debug, PartialEq, Eq, Error)]
 pub enum TextFault {
     #[error("the text is longer than the limit")]
