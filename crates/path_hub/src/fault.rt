@@ -5,10 +5,10 @@ use thiserror::Error;
 /// Why a connection is not opened.
 #[derive(Clone, Copy, Debug, Drop, PartialEq, Eq, Error)]
 pub enum ConnectFault {
-    /// It is open.
+    /// The connection is open already.
     #[error("the connection is open")]
     Taken,
-    /// A growth was refused.
+    /// An allocation failed.
     #[error("a growth was refused")]
     Memory,
 }
@@ -22,12 +22,12 @@ pub enum TakeFault {
     /// A framing fault came before.
     #[error("a framing fault came before")]
     Closed,
-    /// A growth was refused.
+    /// An allocation failed.
     #[error("a growth was refused")]
     Memory,
 }
 
-/// Why a piece is not answered whole.
+/// Why the requests of a piece are not all answered.
 #[derive(Clone, Copy, Debug, Drop, PartialEq, Eq, Error)]
 pub enum HubFault {
     /// The connection is not open.
@@ -36,7 +36,7 @@ pub enum HubFault {
     /// A framing fault came before.
     #[error("a framing fault came before")]
     Closed,
-    /// A growth was refused. Where the piece was taken, frames may wait for the next call.
+    /// An allocation failed. If the piece was taken, frames may wait for the next call.
     #[error("a growth was refused")]
     Memory { taken: bool },
 }
@@ -44,10 +44,10 @@ pub enum HubFault {
 /// Why a run ends early.
 #[derive(Clone, Copy, Debug, Drop, PartialEq, Eq, Error)]
 pub enum RunFault {
-    /// The keys are refused, never for want of memory.
+    /// The keys are refused, but not because an allocation failed.
     #[error("the keys are refused: {0}")]
     Keys(TenantsFault),
-    /// A growth was refused.
+    /// An allocation failed.
     #[error("a growth was refused")]
     Memory,
 }

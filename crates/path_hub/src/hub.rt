@@ -20,7 +20,7 @@ use std::marker::Model;
 use tenant_store::{Tenants, TenantsFault};
 use wire_frames::{AcceptFault, Framer, splits_from_the_front};
 
-/// The most compiled queries that a hub keeps, for all its tenants.
+/// The most compiled queries that a hub keeps for all its tenants.
 const CACHED_QUERIES: usize = 64;
 
 /// The sessions of all connections, and all tenants.
@@ -40,11 +40,11 @@ impl Model for Hub {
 }
 
 impl Hub {
-    /// A hub with no session, and a tenant with no text for each key.
+    /// A hub without sessions, with an empty tenant for each key.
     ///
     /// # Errors
     ///
-    /// Those of [`Tenants::new`], in its order: no keys, too many, one that comes twice. `Memory` where a growth was refused.
+    /// Those of [`Tenants::new`], in its order: no keys, too many, one key twice. `Memory` if an allocation failed.
     pub fn new(alloc: Global, keys: &[[u8; 16]]) -> Result<Hub, TenantsFault>
         ensures accepted { IfOk result (λ hub. AcceptsKeys keys.now hub.tenants) }
         ensures unconnected { IfOk result (λ hub. hub.sessions ≡ []) }
@@ -62,7 +62,7 @@ impl Hub {
         })
     }
 
-    /// Whether the connection has a session, which a framing fault does not end.
+    /// Whether the connection has a session. A framing fault does not end it.
     pub fn is_connected(&self, conn: u32) -> bool
         ensures { result ≡ is_some (session conn self.now.sessions) }
     {
@@ -79,8 +79,8 @@ impl Hub {
         }
     }
 
-    /// How many bytes came on the connection and are not answered: those of whole frames, and what came of the next one. None where it has
-    /// no session.
+    /// The number of bytes that came on the connection and are not answered: those of whole frames and of the next frame's part. 0 if it
+    /// has no session.
     pub fn waiting(&self, conn: u32) -> usize
         ensures { result ≡ option_map_or (λ f. length f.waiting) (session conn self.now.sessions) 0 }
     {
@@ -90,7 +90,7 @@ impl Hub {
         }
     }
 
-    /// The bytes that came on the connection and are not answered. None where it has no session.
+    /// The bytes that came on the connection and are not answered. None if it has no session.
     pub fn waiting_bytes(&self, conn: u32) -> &[u8]
         ensures { result.now ≡ option_map_or (λ f. f.waiting) (session conn self.now.sessions) [] }
     {
@@ -123,7 +123,7 @@ impl Hub {
         }
     }
 
-    /// Ends a session, and tells whether it was there.
+    /// Ends a session, and returns whether there was one.
     pub fn disconnect(&mut self, conn: u32) -> bool
         ensures was { result ≡ is_some (session conn self.old.sessions) }
         ensures sets { Sets conn None self.old.sessions self.new.sessions }
@@ -132,25 +132,24 @@ impl Hub {
         self.sessions.remove(&conn).is_some()
     }
 
-    /// Takes a piece of a connection's stream, and answers nothing yet: [`Hub::answer_next`] does.
+    /// Takes a piece of a connection's stream. [`Hub::answer_next`] answers the requests in it.
     ///
     /// # Errors
     ///
-    /// `NoConnection` where the connection has no session, `Closed` where a framing fault came before, `Memory` where a growth
-    /// was refused, as an empty piece never asks. All change nothing.
+    /// `NoConnection` if the connection has no session, `Closed` after a framing fault, `Memory` if an allocation failed; an empty piece
+    /// makes none. Errors change nothing.
     pub fn take(&mut self, conn: u32, piece: &[u8]) -> Result<(), TakeFault>
         ensures { Takes conn piece.now self.old result self.new }
     {
         take_at(&mut self.sessions, conn, piece)
     }
 
-    /// Answers the first frame, or the framing fault, that waits on a connection, and appends its reply. `false` where none is
-    /// whole, and where the connection has no session; nothing changes then.
+    /// Answers the first whole frame, or the framing fault, that waits on a connection, and appends its reply. `false` if none waits, or
+    /// the connection has no session; then nothing changes.
     ///
     /// # Errors
     ///
-    /// Where room for a short reply was refused, which is asked for only where a frame or a fault waits. Nothing changes, and it goes on
-    /// waiting.
+    /// If the allocation for a short reply failed. It is made only for a frame or a fault that waits, which then waits on; nothing changes.
     pub fn answer_next(
         &mut self,
         alloc: Global,
@@ -174,13 +173,13 @@ impl Hub {
         )
     }
 
-    /// Takes a piece of a connection's stream and appends the replies to what is whole then, in order.
+    /// Takes a piece of a connection's stream, and appends the replies to all frames that are now whole, in order.
     ///
     /// # Errors
     ///
-    /// `NoConnection` where the connection has no session, `Closed` where a framing fault came before. `Memory` where a growth
-    /// was refused: where the piece was not taken, nothing changes; where it was, the first frames are answered, in
-    /// order, and the others, of which there is one at least, wait for the next call, which may bring an empty piece.
+    /// `NoConnection` if the connection has no session, `Closed` after a framing fault. `Memory` if an allocation failed. If the piece was not
+    /// taken, nothing changes. If it was, the first frames are answered in order. At least one other waits for the next call, which may
+    /// bring an empty piece.
     pub fn bytes(
         &mut self,
         alloc: Global,
@@ -206,7 +205,7 @@ impl Hub {
         }
     }
 
-    /// Applies one event. One that the hub refuses for another cause than memory is passed over.
+    /// Applies one event. An event that the hub refuses is skipped, unless an allocation failed.
     fn apply(
         &mut self,
         alloc: Global,
@@ -312,14 +311,14 @@ fn feed(
 
 /// Applies events to a new hub, and appends a reply for each frame and fault, in the order in which they become whole.
 ///
-/// However the connections' bytes are cut and interleaved, and whatever other tenants send, a tenant's replies are byte for
-/// byte those that its own requests get from a plain map of its texts, those that memory ran out for aside: such a request has
-/// changed nothing. An event that the hub refuses for another cause than memory is passed over.
+/// A tenant's replies are byte for byte those that its own requests get from a plain map of its texts. How the connections' bytes are cut
+/// and interleaved, and what other tenants send, makes no difference. Replies `NoMemory` are left out: such a request has changed
+/// nothing. An event that the hub refuses is skipped, unless an allocation failed.
 ///
 /// # Errors
 ///
-/// `Keys` where [`Hub::new`] refuses the keys, and then there is no reply. `Memory` where a growth was refused that is not
-/// answered by a reply; the replies to a prefix of the frames are appended.
+/// `Keys` if [`Hub::new`] refuses the keys; then there is no reply. `Memory` if an allocation failed that no reply reports; then the
+/// replies to the first frames are appended.
 pub fn run(
     alloc: Global,
     keys: &[[u8; 16]],

@@ -9,7 +9,7 @@ use path_grammar::queries_have_one_tree;
 use tenant_store::laws::{puts_answer_once, queries_answer_once};
 use wire_frames::splits_from_the_front;
 
-/// A tenant's requests have one list of replies: two runs with equal own requests give equal own replies.
+/// A tenant's requests have one list of replies: if its requests are equal in two runs, so are its replies.
 pub fn told_once()
     ensures { (m : Map) (bodies first second : List (List ℕ)) → Alone m bodies first → Alone m bodies second → first ≡ second }
 {
@@ -18,13 +18,13 @@ pub fn told_once()
     queries_have_one_tree();
 }
 
-/// A tenant's replies, those that memory ran out for aside, are those that its own requests get from its map, from whatever tenants
-/// and in whatever order the items are answered.
+/// A tenant's replies, without those for which memory ran out, are those that its own requests get from its map. The tenants at the start
+/// and the order of the answers do not matter.
 pub fn runs_apart()
     ensures { RunsApart }
 {}
 
-/// However pieces are taken and frames answered in turns, those answered are the first of the connection's stream.
+/// In whatever order pieces are taken and frames answered, the frames answered are the first of the connection's stream.
 pub fn sessions_stand_in_streams()
     ensures { Standing }
 {
@@ -36,7 +36,7 @@ pub fn served_bytes()
     ensures { ServedBytes }
 {}
 
-/// However a wire cuts its reads and writes, equal bytes get equal bytes, where memory does not run out.
+/// However a wire cuts its reads and writes, equal bytes get equal replies, unless memory runs out.
 pub fn cuts_do_not_matter()
     ensures { ServedOnce }
 {

@@ -1,4 +1,4 @@
-//! Many connections and tenants, one request at a time.
+//! A server in memory: the sessions of many connections, all tenants, and one request at a time. [`run`] has the main theorem.
 #![tactic(auto)]
 
 mod event;

@@ -16,13 +16,12 @@ const LONGEST_PIECE: usize = 65_536;
 /// The most reads that give bytes.
 const MOST_TURNS: u32 = 1_000_000;
 
-/// Serves a connection until its input ends or a fault comes, and leaves the connection free. The replies to each piece are written
-/// before the next is read.
+/// Serves a connection until its input ends or a fault comes, and closes its session. The replies to each piece are written before the
+/// next is read.
 ///
-/// It ends with `Done` at the end of input, `FrameFault` once the reply to a framing fault is written, `TurnLimit` after 1,000,000 reads
-/// that gave bytes, all replies written; with `ReadFault` or `WriteFault` where the wire's read or write failed, and never otherwise;
-/// with `Memory` where a growth was refused. The wire's count of failures has room for one more, and its count of reads for
-/// 1,000,000 more.
+/// The result is `Done` at the end of the input, `FrameFault` once the reply to a framing fault is written, and `TurnLimit` after
+/// 1,000,000 reads that gave bytes. All replies are then written. It is `ReadFault` or `WriteFault` only if a read or write of the
+/// wire failed, and `Memory` if an allocation failed. The wire must be able to count one more failure and 1,000,000 more reads.
 pub fn serve_connection<W: Wire>(alloc: Global, hub: &mut Hub, conn: u32, wire: &mut W) -> ConnEnd
     requires free { session conn hub.old.sessions ≡ None }
     requires failures { (W.meaning wire.old).failures < 2 ^ 64 - 1 }
