@@ -1,4 +1,4 @@
-//! The hub as what answers the requests of many connections.
+//! The hub as the core of turns.
 ghost use Rattle.std.specs.Prelude.{◌≡◌, ◌↔◌, [], OnOk, OnErr, IsErrOf, IsSome, is_some, length, MatchOption};
 ghost use Rattle.std.specs.Option.{option_map_or};
 ghost use Rattle.path_hub.specs.Sessions.{session};
@@ -11,7 +11,7 @@ use path_hub::{ConnectFault, Hub};
 use std::alloc::Global;
 use std::marker::Model;
 
-/// A hub that answers one request at a time, in turns with other connections' requests. Its value is the hub's.
+/// A hub that answers one request at a time, as [`outbox::turn`] needs it. Its value is the hub's.
 #[derive(Drop)]
 pub struct HubCore {
     hub: Hub,
@@ -27,7 +27,7 @@ impl Model for HubCore {
 }
 
 impl HubCore {
-    /// Over this hub.
+    /// The core of this hub.
     pub fn new(alloc: Global, hub: Hub) -> HubCore
         ensures { result ≡ hub }
     {
@@ -38,7 +38,7 @@ impl HubCore {
     ///
     /// # Errors
     ///
-    /// `Taken` where it has one, `Memory` where a growth was refused. Both change nothing.
+    /// `Taken` if it has one, `Memory` if an allocation failed. Both change nothing.
     pub fn connect(&mut self, conn: u32) -> Result<(), ConnectFault>
         ensures ok { OnOk result (Opens conn self.old self.new) }
         ensures taken { IsErrOf result ConnectFault.Taken ↔ IsSome (session conn self.old.sessions) }
@@ -47,7 +47,7 @@ impl HubCore {
         self.hub.connect(self.alloc, conn)
     }
 
-    /// Ends a connection's session, and tells whether it was there. What waited on it is gone.
+    /// Ends a connection's session with all that waits on it, and returns whether there was one.
     pub fn disconnect(&mut self, conn: u32) -> bool
         ensures was { result ≡ is_some (session conn self.old.sessions) }
         ensures closes { Closes conn self.old self.new }
@@ -55,22 +55,22 @@ impl HubCore {
         self.hub.disconnect(conn)
     }
 
-    /// How many bytes came on a connection and are not answered.
+    /// The number of bytes that came on a connection and are not answered.
     pub fn waiting(&self, conn: u32) -> usize
         ensures { result ≡ option_map_or (λ f. length f.waiting) (session conn self.now.sessions) 0 }
     {
         self.hub.waiting(conn)
     }
 
-    /// The frame that waits on a connection in part, where its key is there: what is still to come, and whether a tenant has the key.
+    /// The part of a frame that waits on a connection, if its key is there: what is still to come, and whether a tenant has the key.
     pub fn part(&self, conn: u32) -> Option<Part>
         ensures { let waiting = option_map_or (λ f. f.waiting) (session conn self.now.sessions) [] in MatchOption result (IsNoPart waiting) (IsPart self.now.tenants waiting) }
     {
         part_of(self.hub.tenants(), self.hub.waiting_bytes(conn))
     }
 
-    /// The most bytes of the reply to the first request that waits on a connection: of a text its own length, of a list and of hits the
-    /// most that there may be.
+    /// The most bytes of the reply to the first request that waits on a connection. For a text it is the exact length, for a list or hits
+    /// the greatest length.
     pub fn most_reply(&self, conn: u32) -> usize {
         most_of(self.hub.tenants(), self.hub.waiting_bytes(conn))
     }

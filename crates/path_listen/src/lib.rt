@@ -1,7 +1,7 @@
-//! Many connections at once over one hub: what answers a turn's requests, and what any order of turns comes to.
+//! Turns of many connections over one hub.
 //!
-//! [`HubCore`] is the hub as `outbox::turn` asks it: a piece is taken, and then one request is answered after the other.
-//! [`turns_are_served`] joins the contract of a turn with the hub's.
+//! [`HubCore`] is the hub as `outbox::turn` needs it: it takes a piece, and then answers one request after the other.
+//! [`turns_are_served`] joins the contract of a turn with that of the hub.
 #![tactic(auto)]
 
 mod hub_core;
