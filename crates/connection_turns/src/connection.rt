@@ -15,8 +15,8 @@ use std::alloc::Global;
 use std::io::{ErrorKind, Read};
 use std::net::SocketAddr;
 
-/// The longest frame that is read, and the longest reply that is given, with no share of the budget; also the most bytes of a read, and those
-/// owed from which on nothing is answered, where there is none.
+/// The longest frame and the longest reply of a connection without a share of the budget. Such a connection also reads at most as many bytes at a
+/// time, and nothing of it is answered while it is owed as many.
 pub const ALLOWANCE: usize = 16_384;
 
 /// The seconds for which what a peer still sends is read and thrown away, so that the last replies reach it.

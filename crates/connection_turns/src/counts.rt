@@ -5,7 +5,7 @@ ghost use Rattle.connection_turns.specs.Counting.{with_reply};
 /// The place of the status in a reply, behind its length.
 const STATUS: usize = 4;
 
-/// How many requests were answered. A count stays at its greatest number.
+/// How many requests were answered. A count stops at its greatest number.
 #[derive(Clone, Copy, Debug)]
 pub struct Counts {
     /// All of them.

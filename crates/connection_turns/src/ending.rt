@@ -5,30 +5,30 @@ use std::net::SocketAddr;
 /// How a connection ended.
 #[derive(Clone, Copy, Debug, PartialEq, Eq)]
 pub enum End {
-    /// The input ended, and what it asked for was answered.
+    /// The input ended, and all its requests were answered.
     Done,
     /// A read failed.
     ReadFault,
     /// A write failed.
     WriteFault,
-    /// A length was above the limit.
+    /// The length of a frame was above the limit.
     FrameFault,
-    /// A growth was refused.
+    /// An allocation failed.
     Memory,
-    /// No byte moved for as long as the limit says.
+    /// No byte moved for longer than the limit.
     Idle,
-    /// It held memory for which others waited, and no byte moved for as long as the limit says.
+    /// It held memory that others waited for, and no byte moved for longer than the limit.
     Stalled,
-    /// It held memory for which others waited for as long as the limit says.
+    /// It held memory that others waited for, for longer than the limit.
     Slow,
-    /// It was idle, and made room for a new one at the limit.
+    /// It was idle, and made room for a new one at the limit on connections.
     Displaced,
 }
 
 /// A connection that ended.
 #[derive(Clone, Copy)]
 pub struct Ending {
-    /// Connections are numbered from 0 on, in the order in which they were taken in.
+    /// Its number: connections are numbered from 0, in the order in which they were accepted.
     pub number: u64,
     /// The address of its peer.
     pub peer: SocketAddr,

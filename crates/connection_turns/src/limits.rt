@@ -3,17 +3,17 @@
 /// The limits of a server.
 #[derive(Clone, Copy, Debug, PartialEq, Eq)]
 pub struct Limits {
-    /// The most connections that are open at once; further ones wait to be accepted, or take the place of one that is idle.
+    /// The most connections open at once. Further ones wait to be accepted, or replace an idle one.
     pub connections: usize,
-    /// The most bytes of frames that are read and replies that are owed, where they are longer than what each connection may hold at any
-    /// time; at least a longest request and a longest reply.
+    /// The most bytes buffered for long frames and long replies, in addition to what each connection may always buffer. At least a longest
+    /// request and a longest reply.
     pub memory: usize,
-    /// The seconds after which a connection on which no byte moved is closed.
+    /// The seconds after which an idle connection is closed.
     pub idle: Option<u64>,
-    /// The seconds after which one that holds memory for which others wait, and on which no byte moved, is closed.
+    /// The seconds after which an idle connection is closed while it holds memory that others wait for.
     pub stall: u64,
-    /// The seconds after which one that holds memory for which others wait is closed, whatever moved.
+    /// The seconds after which a connection that holds memory is closed while others wait for it.
     pub frame_time: u64,
-    /// The seconds for which a connection must have been idle to make room for a new one at the limit.
+    /// The seconds that a connection must have been idle to make room for a new one at the limit.
     pub spare: u64,
 }

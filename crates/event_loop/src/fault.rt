@@ -8,10 +8,10 @@ use thiserror::Error;
 /// Why a server ends early.
 #[derive(Clone, Copy, Debug, PartialEq, Eq, Error)]
 pub enum LoopFault {
-    /// The address could not be bound, or the system did not say what is ready, for this reason of the system.
+    /// The address could not be bound, or the system did not say what is ready, for this reason.
     #[error("NetFault")]
     Net(ErrorKind),
-    /// A growth was refused.
+    /// An allocation failed.
     #[error("NoMemory")]
     Memory,
 }

@@ -1,15 +1,15 @@
-//! What a server tells while it runs.
+//! What a server reports while it runs.
 
 use connection_turns::{Counts, Ending};
 
-/// What a server did so far.
+/// The totals of a server.
 #[derive(Clone, Copy, Debug)]
 pub struct Totals {
-    /// Connections that were taken in.
+    /// Connections that were accepted.
     pub connections: u64,
     /// Connections that are open.
     pub connected: usize,
-    /// What was asked and answered.
+    /// Requests that were answered.
     pub counts: Counts,
     /// Bytes read.
     pub read: u64,
@@ -17,18 +17,18 @@ pub struct Totals {
     pub written: u64,
 }
 
-/// A limit that holds somebody back.
+/// A limit because of which clients wait.
 #[derive(Clone, Copy, Debug, PartialEq, Eq)]
 pub enum Held {
-    /// As many connections are open as may be, and more ask.
+    /// As many connections are open as are allowed, and more ask.
     Connections,
-    /// The system has no descriptor or no memory for a connection that asks.
+    /// The system has no descriptor or memory for a connection that asks.
     Descriptors,
     /// Connections wait for memory.
     Memory,
 }
 
-/// Something that is told what a server does. A call must not wait, since all connections would wait for it.
+/// Gets the reports of a server. A call must not wait, since all connections would wait for it.
 pub trait Journal {
     /// A connection ended.
     fn ended(&mut self, ending: &Ending);
@@ -36,9 +36,9 @@ pub trait Journal {
     /// A minute passed.
     fn counted(&mut self, totals: &Totals);
 
-    /// A limit holds somebody back, first or still after a minute.
+    /// Clients wait because of a limit: reported at once, and then each minute.
     fn held(&mut self, limit: Held, totals: &Totals);
 
-    /// A second passed: what could not be told before may be told now.
+    /// A second passed.
     fn ticked(&mut self);
 }

@@ -1,6 +1,6 @@
-//! A server of many connections in one thread: it waits until some are ready, takes in new ones, and gives each that can go on one turn.
+//! A server of many connections in one thread. It waits until some are ready, accepts new ones, and gives a turn to each that can make progress.
 //!
-//! [`Server`] goes round over a system and a clock (`socket_poll`). What is open and has turns stands in `open_connections`.
+//! [`Server`] goes round over a system and a clock (`socket_poll`). The open connections and their turns are in `open_connections`.
 #![tactic(auto)]
 
 mod fault;

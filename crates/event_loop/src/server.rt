@@ -16,8 +16,8 @@ use std::marker::Model;
 use std::net::{Net, SocketAddr};
 use std::time::Clock;
 
-/// A server of many connections. Its value is whether it listens, how many connections are open and were taken in, the bytes that were read
-/// and written, its limits, and the hub with what each connection that is served is owed.
+/// A server of many connections. Its value has whether it listens, its limits, and the hub with the bytes that each served connection is owed. It
+/// also has how many connections are open and were accepted, and how many bytes were read and written.
 #[derive(Drop)]
 pub struct Server<S: System + Drop, T: Time + Drop> {
     rounds: Rounds<S, T>,
@@ -37,7 +37,7 @@ impl<'r, R: Net + Clock + AllocGlobal> Server<Sockets, Since<'r, R>> {
     ///
     /// # Errors
     ///
-    /// `Net` where it can't be bound, `Memory` where a growth was refused.
+    /// `Net` if it cannot be bound, `Memory` if an allocation failed.
     pub fn bind(
         rt: &'r R,
         addr: SocketAddr,
@@ -58,11 +58,11 @@ impl<'r, R: Net + Clock + AllocGlobal> Server<Sockets, Since<'r, R>> {
 }
 
 impl<S: System + Drop, T: Time + Drop> Server<S, T> {
-    /// Over this system and a clock, once for the seconds and once for what a turn takes.
+    /// A server over this system and two clocks: one counts the seconds, and one the time of a turn.
     ///
     /// # Errors
     ///
-    /// `Memory` where a growth was refused.
+    /// `Memory` if an allocation failed.
     pub fn over(
         alloc: Global,
         system: S,
@@ -86,7 +86,7 @@ impl<S: System + Drop, T: Time + Drop> Server<S, T> {
     ///
     /// # Errors
     ///
-    /// `Net` where the system does not tell it, or the server has stopped listening.
+    /// `Net` if the system does not tell it, or the server has stopped listening.
     pub fn local_addr(&self) -> Result<SocketAddr, LoopFault>
         ensures listening { OnOk result (IsTrue self.now.listens) }
     {
@@ -101,7 +101,7 @@ impl<S: System + Drop, T: Time + Drop> Server<S, T> {
         &mut self.rounds.system
     }
 
-    /// What it did so far.
+    /// What it has done so far.
     pub fn totals(&self) -> Totals
         ensures connections { result.connections ≡ self.now.taken }
         ensures open_ones { result.connected ≡ self.now.connected }
@@ -111,12 +111,12 @@ impl<S: System + Drop, T: Time + Drop> Server<S, T> {
         self.rounds.totals()
     }
 
-    /// Serves until standard input is closed, and then each open connection to its end. The journal is told of each connection that
-    /// ended, and each minute of what was done.
+    /// Serves until standard input is closed, and then each open connection to its end. It reports each end of a connection to the journal, and
+    /// the totals each minute.
     ///
     /// # Errors
     ///
-    /// `Net` where the system does not say what is ready, `Memory` where a growth was refused that no connection asked for.
+    /// `Net` if the system does not say what is ready, `Memory` if an allocation failed that was not for one connection.
     pub fn serve<J: Journal>(&mut self, journal: &mut J) -> Result<(), LoopFault>
         ensures over { OnOk result (IsOver self.new) }
         ensures served { AreServed (lanes_in self.old) (lanes_in self.new) }
@@ -139,14 +139,14 @@ impl<S: System + Drop, T: Time + Drop> Server<S, T> {
         Err(LoopFault::Net(ErrorKind::Other))
     }
 
-    /// Whether it takes in no connection any more, and none is open.
+    /// Whether it accepts no more connections, and none is open.
     pub fn is_over(&self) -> bool
         ensures { IsTrue result → IsOver self.now }
     {
         !self.rounds.acceptor.listens && self.rounds.opened.count() == 0
     }
 
-    /// One round: waits for what is ready, takes in those that wait, and gives each that can go on a turn.
+    /// One round: waits until something is ready, accepts connections, and gives a turn to each that can make progress.
     ///
     /// # Errors
     ///

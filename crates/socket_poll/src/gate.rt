@@ -6,7 +6,7 @@ use std::alloc::{AllocError, Global};
 use std::net::Net;
 use std::time::Duration;
 
-/// Tells whether a descriptor takes a short write at once, at most a page: a pipe, a socket or a terminal that nobody reads takes none.
+/// Says whether a write of at most a page to a descriptor would not wait. It waits for a pipe, a socket or a terminal that nobody reads.
 #[derive(Drop)]
 pub struct Gate {
     descriptor: i32,
@@ -16,11 +16,11 @@ pub struct Gate {
 }
 
 impl Gate {
-    /// The gate of a descriptor. Where the system doesn't watch it, it is always open.
+    /// The gate of a descriptor. It is always open if the system cannot watch the descriptor.
     ///
     /// # Errors
     ///
-    /// Where a growth was refused.
+    /// If an allocation failed.
     pub fn new<R: Net>(rt: &R, alloc: Global, descriptor: i32) -> Result<Gate, AllocError> {
         let events = Events::with_capacity(alloc, 1)?;
         Ok(Gate {
@@ -30,7 +30,7 @@ impl Gate {
         })
     }
 
-    /// Whether a short write would not wait. It asks the system anew each time.
+    /// Whether a short write would not wait, as the system says now.
     pub fn is_open(&mut self) -> bool {
         let Some(poll) = &mut self.poll else {
             return true;

@@ -33,7 +33,7 @@ pub struct Sockets {
     reports: Vec<Report>,
 }
 
-/// Why sockets can't be had.
+/// Why an address could not be bound.
 #[derive(Clone, Copy, Debug, PartialEq, Eq)]
 pub enum BindFault {
     /// The system's reason.
@@ -59,7 +59,7 @@ impl Sockets {
     ///
     /// # Errors
     ///
-    /// `Net` where it can't be bound, `Memory` where a growth was refused.
+    /// `Net` if it cannot be bound, `Memory` if an allocation failed.
     pub fn bind<R: Net>(rt: &R, alloc: Global, addr: SocketAddr) -> Result<Sockets, BindFault> {
         let events = Events::with_capacity(alloc, EVENTS)?;
         let reports = Vec::with_capacity(alloc, EVENTS)?;

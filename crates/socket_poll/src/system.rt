@@ -1,4 +1,4 @@
-//! What a loop asks of the system: what is ready, who connects, and what the time is.
+//! What a loop needs of the operating system: what is ready, who connects, and the time.
 
 use std::io::{ErrorKind, Read, Write};
 use std::net::SocketAddr;
@@ -6,33 +6,33 @@ use std::time::Duration;
 
 /// A stream that never waits.
 pub trait Peer: Read + Write + Drop {
-    /// Ends the writing side, so that what was written arrives although bytes are unread.
+    /// Ends the writing side, so that the bytes written arrive although some are unread.
     fn end_writing(&mut self);
 }
 
-/// What was reported of a connection.
+/// A report on a connection.
 #[derive(Clone, Copy, Debug, PartialEq, Eq)]
 pub struct Report {
     /// The key that it is watched under.
     pub key: usize,
-    /// It may give bytes.
+    /// A read may give bytes.
     pub is_readable: bool,
-    /// It may take bytes.
+    /// A write may take bytes.
     pub is_writable: bool,
     /// Its peer ended, or a fault came.
     pub is_ending: bool,
 }
 
-/// What came of a wait, beside the reports.
+/// The result of a wait, beside the reports.
 #[derive(Clone, Copy, Debug, PartialEq, Eq)]
 pub struct Woken {
     /// A connection may wait to be accepted.
     pub is_asked: bool,
-    /// The server is to take in no more.
+    /// The server should accept no more connections.
     pub is_closed: bool,
 }
 
-/// What came of an accept.
+/// The result of an accept.
 #[derive(Drop)]
 pub enum Accepted<S: Drop> {
     /// A stream that never waits, and the address of its peer.
@@ -41,28 +41,28 @@ pub enum Accepted<S: Drop> {
     Blocked,
     /// The peer of one that waited is gone.
     Aborted,
-    /// The system has no descriptor or no memory for it.
+    /// The system has no descriptor or memory for it.
     Refused,
 }
 
-/// The system, as a loop asks it.
+/// The operating system of a loop.
 pub trait System {
     /// A connection's stream.
     type Stream: Peer;
 
-    /// Waits until something is ready, so long at most. An error is the system's reason.
+    /// Waits until something is ready, for at most this time. An error is the system's reason.
     fn wait(&mut self, most: Duration) -> Result<Woken, ErrorKind>;
 
-    /// The report of the last wait with this number; they are numbered from 0.
+    /// The report of the last wait with this number, from 0.
     fn report(&self, number: usize) -> Option<Report>;
 
     /// Accepts a connection.
     fn accept(&mut self) -> Accepted<Self::Stream>;
 
-    /// Has what is ready of a stream reported under this key. `false` where that is refused.
+    /// Has a stream reported under this key when it is ready. `false` if the system refuses.
     fn watch(&mut self, stream: &mut Self::Stream, key: usize) -> bool;
 
-    /// Accepts none any more.
+    /// Stops listening.
     fn close(&mut self);
 
     /// The address that connections come to. An error is the system's reason.
@@ -71,6 +71,6 @@ pub trait System {
 
 /// A clock.
 pub trait Time {
-    /// The time since some moment before, where the clock tells it.
+    /// The time since some fixed moment, if the clock works.
     fn now(&self) -> Option<Duration>;
 }
