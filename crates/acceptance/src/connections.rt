@@ -36,8 +36,8 @@ pub fn trials(alloc: Global) -> [(&'static str, Trial); 5] {
     ]
 }
 
-/// How a connection with this input ends, whose calls go as planned, where a new hub serves it and these bytes are written; none
-/// where others are, or where the connection is left open.
+/// How a connection with this input and plan of calls ends, if a new hub serves it and writes exactly these bytes. `None` if it writes
+/// others, or leaves the connection open.
 fn served(alloc: Global, input: &[u8], plan: &[Call], written: &[u8]) -> Option<ConnEnd> {
     let (Ok(mut hub), Ok(mut wire)) = (Hub::new(alloc, &[KEY]), MemoryWire::new(alloc, input, plan))
     else {

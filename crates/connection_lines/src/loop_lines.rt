@@ -36,9 +36,9 @@ const STATUSES: [&str; 24] = [
 /// The most lines that are printed in a second.
 const MOST_LINES: u32 = 100;
 
-/// Prints a line for each connection that did not end by the end of its input, and one with counts each minute where that is asked for,
-/// each behind its time. It never waits: a line for which standard error has no room, and one above the most of a second, is dropped and
-/// counted, and the count is told once there is room.
+/// Prints a line for each connection that ended abnormally, and a line of counts each minute if asked for. Each line begins with its time. It
+/// never waits: it drops lines for which standard error has no room, and those above the most in a second. Once there is room, it prints how
+/// many it dropped.
 #[derive(Drop)]
 pub struct LoopLines<'a, R: Eprint + Clock> {
     rt: &'a R,

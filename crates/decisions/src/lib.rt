@@ -1,8 +1,8 @@
 //! Conditions that compare one side with literals, decided beforehand for each place of its value among the literals.
 //!
-//! A [`Test`] is such a condition: `||`, `&&` and `!` over comparisons (RFC 9535, section 2.3.5). A [`Decision`] of it has its literals in
-//! order, and its truth for each kind of value at each place: below the first literal, at it, between it and the next.
-//! [`Decision::holds`] finds the place by halving, and looks the truth up, whatever the number of comparisons.
+//! A [`Test`] is such a condition: `||`, `&&` and `!` over comparisons (RFC 9535, section 2.3.5). Its [`Decision`] has the literals in order,
+//! and the truth for each kind of value at each place among them. Places are below the first literal, at it, between it and the next, and so on.
+//! [`Decision::holds`] finds the place by binary search and looks the truth up, whatever the number of comparisons.
 #![tactic(auto)]
 
 mod counting;

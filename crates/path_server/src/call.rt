@@ -52,8 +52,8 @@ fn exchange_all<W: Wire>(
 /// beyond that reply is taken off the wire before.
 ///
 /// Refused are, in this order and before anything is sent, more than [`SCRIPT_LIMIT`] bytes (TooLong) and a line that spells no
-/// request (BadLine). ReadFault comes where a read failed, where the input ended before a reply was whole, and after a length above
-/// [`tenant_store::LONGEST_REPLY`]; WriteFault where a write failed; Memory if an allocation failed. The lines of the replies that were read stay, at
+/// request (BadLine). ReadFault comes if a read failed, if the input ended before a reply was whole, or after a length above
+/// [`tenant_store::LONGEST_REPLY`]. WriteFault comes if a write failed, and Memory if an allocation failed. The lines of the replies that were read stay, at
 /// Memory perhaps without the last. The wire's count of failures has room for one more.
 pub fn call_over<W: Wire>(
     alloc: Global,

@@ -22,8 +22,8 @@ pub struct Found {
     pub nodes: Vec<NodeId>,
 }
 
-/// Finds the nodes that a query selects from a document whose text is accepted, or why the query is refused: what
-/// [`crate::query_text`] refuses once it has read its text, in its order.
+/// Finds the nodes that a query selects from a document whose text is accepted, or why the query is refused. The refusals are those of
+/// [`crate::query_text`] after it has read its text, in the same order.
 pub fn find(alloc: Global, query: &[u8], document: Document) -> Result<Found, QueryTextFault>
     requires accepted { IsAccepted document.text (tree_of document) }
     ensures answered { IfOk result (λ found. Answers query.now document.text [] (lines_of (map hit_of (nodes_of found.document found.nodes.items)))) }

@@ -1,5 +1,5 @@
-//! What the program's subcommands do: a query on a single text, a script of events replayed on a server of tenants, and requests
-//! called over a wire; from bytes to bytes, and from a reader to a writer.
+//! What the program's subcommands do: a query on one text, a script of events on a server in memory, and requests over a wire. Each works from
+//! bytes to bytes, and from a reader to a writer.
 #![tactic(auto)]
 
 mod call;

@@ -97,8 +97,8 @@ fn write_replies(alloc: Global, replies: &[Reply], out: &mut Vec<u8>) -> Result<
     written
 }
 
-/// Runs the events of a script on a new hub with a tenant for each key, and appends a line for each reply: the connection's
-/// number, a space, the frame's bytes in lower-case hexadecimal digits, and a line feed.
+/// Runs the events of a script on a new hub with a tenant for each key, and appends a line for each reply. A line is the connection's number,
+/// a space, the frame in lower-case hexadecimal digits, and a line feed.
 ///
 /// A line of the script is a connection's number in decimal, a space, and `open`, `close` or the hexadecimal digits of a piece.
 /// Each ends in a line feed, which the last may lack. Refused are, in this order: more than [`SCRIPT_LIMIT`] bytes (TooLong); a

@@ -25,8 +25,8 @@ pub enum ReplayStreamFault {
 
 /// Reads a script to its end, at most one byte past [`SCRIPT_LIMIT`], and writes what [`replay_script`] appends for it.
 ///
-/// A script that is not read (Read) or refused (Refused, by what [`replay_script`] refuses) writes nothing; Write comes where the
-/// lines are not written whole, and then a front of them is written and no other byte.
+/// If the script cannot be read (Read), or [`replay_script`] refuses it (Refused), nothing is written. If the lines cannot all be written
+/// (Write), a prefix of them is written and no other byte.
 pub fn replay_stream<R: Read + Drop, W: Write>(
     alloc: Global,
     keys: &[[u8; 16]],

@@ -26,12 +26,11 @@ pub enum QueryStreamFault {
     Write(WriteFault),
 }
 
-/// Reads a text to its end, at most one byte past [`json_tape::TEXT_LIMIT`], and writes what [`crate::query_text`] appends for it,
-/// in pieces of some 65,536 bytes, so that no more of it is held than a piece and a path.
+/// Reads a text to its end, at most one byte past [`json_tape::TEXT_LIMIT`], and writes what [`crate::query_text`] appends for it. It writes in
+/// pieces of some 65,536 bytes, so that it holds at most a piece and a path.
 ///
-/// A text that is not read (Read) or refused (Refused, by what [`crate::query_text`] refuses) writes nothing. Once lines are
-/// written, a refused growth (Refused, with Memory) or a writer that does not take them (Write) breaks them off: a front of them
-/// is written.
+/// If the text cannot be read (Read), or [`crate::query_text`] refuses it (Refused), nothing is written. Once lines are being written, a failed
+/// allocation (Refused, with Memory) or a failed write (Write) breaks them off: a prefix of them is written.
 pub fn query_stream<R: Read + Drop, W: Write>(
     alloc: Global,
     query: &[u8],

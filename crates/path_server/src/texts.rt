@@ -11,13 +11,14 @@ use crate::lines::write_lines;
 use json_tape::Document;
 use std::alloc::Global;
 
-/// Appends a line for each node that a query selects from a text, in the query's order: the normalized path (RFC 9535,
-/// section 2.7), a tab, the source bytes of the value and a line feed.
+/// Appends a line for each node that a query selects from a text, in the query's order. A line is the normalized path (RFC 9535, section 2.7), a
+/// tab, the value as it stands in the text, and a line feed. The path of each hit, as a query on this text, selects this hit alone.
 ///
-/// Refused is, in this order, what the text's verdict refuses (TooLong to DuplicateName), then what the query's does
-/// (QueryTooLong, NotWellFormed, NotValid), then Costly, where the charge is above
-/// [`tape_select::BUDGET`]. Memory comes if an allocation failed, and never for a text that is too long or not UTF-8. A refusal leaves the vector unchanged. The path of each hit,
-/// asked as a query on this text, has this hit alone.
+/// # Errors
+///
+/// In this order: those of the text (TooLong to DuplicateName), those of the query (QueryTooLong, NotWellFormed, NotValid), and Costly if its
+/// charge is above [`tape_select::BUDGET`]. Memory if an allocation failed, but never for a text that is too long or not UTF-8. After an error
+/// the vector is unchanged.
 pub fn query_text(
     alloc: Global,
     query: &[u8],

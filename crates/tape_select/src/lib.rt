@@ -1,9 +1,8 @@
 //! Evaluation of a query over the tape of a text (RFC 9535, sections 2.3 to 2.5), with an exact charge.
 //!
-//! [`Plan`] is a valid query made ready: the kind of each part is decided, the names and indexes that a query in a filter begins
-//! with are told apart, names and literals stand ready to be compared, and each such query that begins at `$` has a slot of its
-//! own, so that what was found for it can be kept. [`Plan::select`] gives the nodes and the charge, or refuses a charge above the units; [`select`] makes the plan
-//! too.
+//! A [`Plan`] is a valid query, prepared for evaluation. The kind of each part is decided, and names and literals are ready to be compared. A
+//! query in a filter is split into the names and indexes that it begins with, and the rest. If it begins at `$`, it has a slot in which its
+//! result is kept. [`Plan::select`] returns the nodes and the charge, or refuses a charge above the units. [`select`] makes the plan too.
 #![tactic(auto)]
 
 mod answers;

@@ -263,8 +263,8 @@ pub fn equal_contents(doc: &Document, a: Content<'_>, b: Content<'_>) -> bool
 
 /// Whether two values of a document are equal.
 ///
-/// Numbers are equal where their decimal values are, strings where their scalar values are, arrays element by element, and
-/// objects where they have as many members and each has one of its name and of an equal value in the other. Values of
+/// Numbers are equal if their decimal values are, strings if their scalar values are, and arrays if their elements are. Objects are equal if
+/// they have equally many members, and each member has one of the same name with an equal value in the other object. Values of
 /// different kinds are not equal.
 ///
 /// No memory is taken, and no deeper calls are made than the values are deep. The time is linear in the bytes of the two

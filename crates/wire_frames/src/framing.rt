@@ -140,8 +140,8 @@ impl Framer {
 
     /// Takes the first frame off the bytes that wait, or closes at a fault.
     ///
-    /// Bytes that go on waiting get a block of their own once no fewer were taken off before them, so what is kept is in
-    /// proportion to what waits, and nothing where nothing waits. Where that growth is refused, they stay where they are.
+    /// The bytes that still wait are moved to a new block once at least as many were taken off before them. So the memory kept is proportional
+    /// to the bytes that wait, and there is none if none waits. If that allocation fails, they stay where they are.
     pub fn pass(&mut self)
         ensures { self.new ≡ framing_after self.old }
     {

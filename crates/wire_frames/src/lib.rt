@@ -1,8 +1,8 @@
 //! Frames of a connection's stream, requests and replies.
 //!
 //! A [`Framer`] takes a stream apart into whole frames, however it is cut into pieces: [`cuts_do_not_matter`] says so of
-//! every stream. [`read_request`] reads a frame's body, [`write_reply`] writes a reply. A body is lent where it lies; what
-//! waits behind it is moved to a block of its own once no fewer bytes were taken off before it, so that a stream costs its length.
+//! every stream. [`read_request`] reads a frame's body, [`write_reply`] writes a reply. A body is lent without a copy. The bytes after it are
+//! moved only once at least as many were taken off before them, so that the time is linear in the stream.
 #![tactic(auto)]
 
 mod framing;
