@@ -1,7 +1,7 @@
 #!/usr/bin/env python3
 """Counts words: tests/plain_sentences.py [--split] [PAGE..] reports each sentence of the pages with more than 30 words, each cell of a table with
-more than 200 characters, and each table with more than five columns, as docs/STYLE.md asks. So it does with the sentences of `--help` and of messages,
-the strings in the sources of the command lines. With --split it first makes several rows of one with such a cell, if the cell is a list whose items
+more than 200 characters, and each table with more than five columns, as docs/STYLE.md asks. So it does with the sentences of doc comments, and with those of
+`--help` and of messages, the strings in the sources of the command lines. With --split it first makes several rows of one with such a cell, if the cell is a list whose items
 end with a semicolon.
 
 A sentence ends at a full stop, a question mark or an exclamation mark before a blank or the paragraph's end. Code between backquotes, a number or a
@@ -17,6 +17,7 @@ WORDS, CELL, COLUMNS = 30, 200, 5
 LEFT_OUT = ("docs/TRIED.md",)
 COMMAND_LINES = ("command_line", "client_commands")
 STRING = re.compile(r'"((?:[^"\\]|\\.)*)"')
+COMMENT = re.compile(r"\s*//[/!] ?(.*)")
 STARTS_ITEM = re.compile(r"(?:[-*]|\d+\.|#+|>) ")
 
 
@@ -91,6 +92,12 @@ def judge(report, name, text):
         count_words(report, name, paragraphs([line for line in lines if line not in of_table]))
 
 
+def doc_comments(source):
+    """The doc comments of a source, as pages."""
+    found = [COMMENT.fullmatch(line) for line in source.splitlines()]
+    return "\n".join(it[1].strip() if it else "" for it in found)
+
+
 def count_words(report, name, texts):
     for sentence in (it for text in texts for it in sentences(text)):
         count = len(words(sentence))
@@ -106,10 +113,13 @@ def main():
         if "--split" in sys.argv:
             page.write_text(split_rows(page.read_text(encoding="utf-8")), encoding="utf-8")
         judge(report, name, page.read_text(encoding="utf-8"))
-    for source in sorted(it for crate in COMMAND_LINES for it in TOP.glob(f"crates/{crate}/src/*.rt")):
-        name = str(source.relative_to(TOP))
-        if not given or name in given:
-            count_words(report, name, STRING.findall(source.read_text(encoding="utf-8")))
+    for source in sorted(TOP.glob("crates/*/src/*.rt")):
+        name, text = str(source.relative_to(TOP)), source.read_text(encoding="utf-8")
+        if given and name not in given:
+            continue
+        judge(report, name, doc_comments(text))
+        if source.parent.parent.name in COMMAND_LINES:
+            count_words(report, name, STRING.findall(text))
     report.close("sentences")
 
 

@@ -2,7 +2,7 @@
 //!
 //! It shows what no table can: cases of one line, as a text and its verdict, stand in the tables of `case_tables`, and requests with their
 //! replies in `tests/exchanges.txt`. As a program it is proved once, and run as two compilers build it. A crate with tests would be proved
-//! once more for them, and each assertion is an end at which all owned values are let go: so a trial counts its cases and goes on.
+//! once more for them. Each assertion would be an exit at which all owned values are dropped, so a trial counts its cases and goes on.
 //!
 //! It ends with status 0 where all cases hold, and 1 where one does not.
 #![tactic(auto)]

@@ -59,8 +59,8 @@ impl Reply {
     }
 }
 
-/// Appends a whole reply with this body: a status line, the fields Content-Type, Content-Length and Connection, and for a method that is not
-/// allowed the ones that are (RFC 9110, section 15.5.6).
+/// Appends a whole reply with this body: a status line, and the fields Content-Type, Content-Length and Connection. If the method is not allowed, it
+/// lists those that are (RFC 9110, section 15.5.6).
 ///
 /// # Errors
 ///

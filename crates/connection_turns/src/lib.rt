@@ -1,7 +1,7 @@
 //! One of many connections: its stream as a wire, what it holds of the memory that all share, and its turns.
 //!
-//! A turn ([`outbox::turn`]) makes at most three calls of the system and answers at most 64 requests, fewer where they take more than a
-//! millisecond, so that no connection keeps the others waiting for long. What is reported of a connection is kept until a call says that it would wait.
+//! A turn ([`outbox::turn`]) makes at most three system calls and answers at most 64 requests. It ends early once a millisecond has passed,
+//! so that no connection keeps the others waiting for long. A report of readiness is kept until a call would wait.
 #![tactic(auto)]
 
 mod claim;

@@ -2,10 +2,14 @@
 //!
 //! Peers put, get, remove, list and query texts of a few bytes up to some hundred thousand, at the least limit on memory or a little above it. What they
 //! send is cut anywhere, and they take what they get a few bytes at a time. Some stop in a request, send a byte at a time, take nothing, flood, send
-//! a length above the limit, or have no tenant's key; all end or reset their connections at times and open new ones. The system refuses to accept at times, and
-//! the clock leaps. With SCARCE, a number that is not 0, the server is refused growths between an odd line of standard output and the next one, by
-//! whoever runs the program: a request may then be answered NoMemory, or its connection end. Each reply is compared with the peer's own record of its texts. A peer that goes on is answered within so many rounds, and its
-//! connection is not closed. All of it follows from the seed. What came of it is told on standard error, and the exit status is 0 where all went well.
+//! a length above the limit, or have no tenant's key. All end or reset their connections at times and open new ones. The system refuses to accept at
+//! times, and the clock leaps.
+//!
+//! With SCARCE, a number that is not 0, whoever runs the program refuses allocations of the server between an odd line of standard output and the next
+//! one. A request may then be answered NoMemory, or its connection end.
+//!
+//! Each reply is compared with the peer's own record of its texts. A peer that goes on is answered within so many rounds, and its connection is not
+//! closed. All of it follows from the seed. The outcome is on standard error, and the exit status is 0 if all went well.
 #![tactic(auto)]
 
 mod world;
