@@ -18,12 +18,6 @@ quote_step text m k h = ap (string_end m k) (drop_more text k 0 h)
 pub quote_over : (text : List ℕ) (m : Mode) (k : ℕ) → length text ≤ k → string_end m k (drop k text) ≡ None
 quote_over text m k h = ap (string_end m k) (drop_all k text h)
 
--- a byte behind which a character is over
-pub quote_on : (text : List ℕ) (m : Mode) (k start b : ℕ) → k < length text → b ≡ get_or text k 0 → turn m b ≡ Go Between
-    → string_end m k (drop k text) ≡ string_end Between start (drop start text) → string_end Between (k + 1) (drop (k + 1) text) ≡ string_end Between start (drop start text)
-quote_on text m k start b h e t p =
-    sym (quote_step text m k h ∙ ap (λ x. next_of x (k + 1) (λ n. string_end n (k + 1) (drop (k + 1) text))) (ap (turn m) (sym e) ∙ t)) ∙ p
-
 pub atom_step : (text : List ℕ) (k : ℕ) → k < length text
     → atom_end k (drop k text) ≡ cond (is_atom (get_or text k 0)) (atom_end (k + 1) (drop (k + 1) text)) k
 atom_step text k h = ap (atom_end k) (drop_more text k 0 h)

@@ -1,10 +1,10 @@
 // Strings: runs of bytes that stand for themselves, and what is between them byte by byte.
 
-ghost use Rattle.std.specs.Prelude.{IsTrue, ◌≡◌, false, ◌+◌, ◌<◌, ◌≤◌, length, drop, IfSome};
+ghost use Rattle.std.specs.Prelude.{IsTrue, ◌≡◌, false, ◌+◌, ◌<◌, ◌≤◌, length, drop, slice_index, IfSome};
 ghost use Rattle.json_tape.specs.Scanning.{turn as turn_of, is_short as short, is_hex as hex, string_end};
 ghost use Rattle.json_tape.specs.Surrogates.{number_of_hex, past_char, past_unit, past_byte, standing, lone_from, lone};
 
-use structural_index::{Looks, slashless_run};
+use structural_index::{Looks, Stopped, slashless_run};
 
 /// Where a scan of a string stands: between characters, behind a backslash, or before a hexadecimal digit after which this many must come.
 #[derive(Clone, Copy)]
@@ -88,6 +88,44 @@ fn next_turn(mode: Mode, b: u8) -> Turn
 // How many bytes are looked at in one load.
 const LANES: usize = 16;
 
+// The byte that decides what comes next, where a scan of a string stands so at this place: bytes between characters that stand for themselves
+// are passed.
+#[inline(always)]
+fn next_byte(looks: &mut Looks<'_>, mode: Mode, k: usize) -> Stopped
+    requires { k < length looks.old.0 }
+    ensures lower_bound { k ≤ result.at }
+    ensures upper_bound { result.at < length looks.old.0 }
+    ensures value { result.byte ≡ slice_index looks.old.0 result.at }
+    ensures passed { string_end mode result.at (drop result.at looks.old.0) ≡ string_end mode k (drop k looks.old.0) }
+    ensures same { looks.new.0 ≡ looks.old.0 }
+    ensures looked { looks.new.1 + k ≤ looks.old.1 + (result.at + 1) }
+{
+    match mode {
+        Mode::Between => looks.pass_unstopped(k),
+        Mode::Escape | Mode::Hex(_) => Stopped {
+            at: k,
+            byte: looks.at(k),
+        },
+    }
+}
+
+// The same where the text may end here.
+#[inline(always)]
+fn byte_behind(looks: &mut Looks<'_>, mode: Mode, k: usize) -> Stopped
+    requires { k ≤ length looks.old.0 }
+    ensures lower_bound { k ≤ result.at }
+    ensures upper_bound { result.at ≤ length looks.old.0 }
+    ensures value { result.at < length looks.old.0 → result.byte ≡ slice_index looks.old.0 result.at }
+    ensures passed { string_end mode result.at (drop result.at looks.old.0) ≡ string_end mode k (drop k looks.old.0) }
+    ensures same { looks.new.0 ≡ looks.old.0 }
+    ensures looked { looks.new.1 + k ≤ looks.old.1 + (result.at + 1) }
+{
+    if k >= looks.length() {
+        return Stopped { at: k, byte: 0 };
+    }
+    next_byte(looks, mode, k)
+}
+
 /// The place past the quote that closes a string whose characters begin here, each byte looked at once.
 #[inline(always)]
 #[tactic(auto, using(crate::proofs::Steps::quote_step, crate::proofs::Steps::quote_over))]
@@ -99,18 +137,18 @@ pub fn quote_past(looks: &mut Looks<'_>, start: usize) -> Option<usize>
     ensures looked { IfSome result (λ end. looks.new.1 + start ≤ looks.old.1 + end) }
 {
     let mut mode = Mode::Between;
-    let mut k = looks.pass_unstopped(start);
-    while k < looks.length() {
-        match next_turn(mode, looks.at(k)) {
-            Turn::Stop => return Some(k + 1),
+    let mut next = byte_behind(looks, Mode::Between, start);
+    while next.at < looks.length() {
+        match next_turn(mode, next.byte) {
+            Turn::Stop => return Some(next.at + 1),
             Turn::Fail => return None,
             Turn::Go(Mode::Between) => {
                 mode = Mode::Between;
-                k = looks.pass_unstopped(k + 1);
+                next = byte_behind(looks, Mode::Between, next.at + 1);
             }
-            Turn::Go(next) => {
-                mode = next;
-                k += 1;
+            Turn::Go(other) => {
+                mode = other;
+                next = byte_behind(looks, other, next.at + 1);
             }
         }
     }
