@@ -109,6 +109,23 @@ fn next_byte(looks: &mut Looks<'_>, mode: Mode, k: usize) -> Stopped
     }
 }
 
+// The same where the text may end here.
+#[inline(always)]
+fn byte_behind(looks: &mut Looks<'_>, mode: Mode, k: usize) -> Stopped
+    requires { k ≤ length looks.old.0 }
+    ensures lower_bound { k ≤ result.at }
+    ensures upper_bound { result.at ≤ length looks.old.0 }
+    ensures value { result.at < length looks.old.0 → result.byte ≡ slice_index looks.old.0 result.at }
+    ensures passed { string_end mode result.at (drop result.at looks.old.0) ≡ string_end mode k (drop k looks.old.0) }
+    ensures same { looks.new.0 ≡ looks.old.0 }
+    ensures looked { looks.new.1 + k ≤ looks.old.1 + (result.at + 1) }
+{
+    if k >= looks.length() {
+        return Stopped { at: k, byte: 0 };
+    }
+    next_byte(looks, mode, k)
+}
+
 /// The place past the quote that closes a string whose characters begin here, each byte looked at once.
 #[inline(always)]
 #[tactic(auto, using(crate::proofs::Steps::quote_step, crate::proofs::Steps::quote_over))]
@@ -120,15 +137,18 @@ pub fn quote_past(looks: &mut Looks<'_>, start: usize) -> Option<usize>
     ensures looked { IfSome result (λ end. looks.new.1 + start ≤ looks.old.1 + end) }
 {
     let mut mode = Mode::Between;
-    let mut k = start;
-    while k < looks.length() {
-        let next = next_byte(looks, mode, k);
+    let mut next = byte_behind(looks, Mode::Between, start);
+    while next.at < looks.length() {
         match next_turn(mode, next.byte) {
             Turn::Stop => return Some(next.at + 1),
             Turn::Fail => return None,
+            Turn::Go(Mode::Between) => {
+                mode = Mode::Between;
+                next = byte_behind(looks, Mode::Between, next.at + 1);
+            }
             Turn::Go(other) => {
                 mode = other;
-                k = next.at + 1;
+                next = byte_behind(looks, other, next.at + 1);
             }
         }
     }
