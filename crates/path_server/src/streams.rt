@@ -31,7 +31,7 @@ pub enum QueryStreamFault {
 ///
 /// A text that is not read (Read) or refused (Refused, by what [`crate::query_text`] refuses) writes nothing. Once lines are
 /// written, a refused growth (Refused, with Memory) or a writer that does not take them (Write) breaks them off: a front of them
-/// is written.
+/// is written, and not all.
 pub fn query_stream<R: Read + Drop, W: Write>(
     alloc: Global,
     query: &[u8],
