@@ -1,5 +1,5 @@
 -- An event on a connection.
-use Rattle.std.proofs.Common.{◌≡◌, ℕ, Bool, true, false, List, [], ◌∷◌, ◌++◌, map, sym, ap, ◌∙◌, subst, refl, Option, Some, None, cond, eqb, arith}
+use Rattle.std.proofs.Common.{◌≡◌, ℕ, Bool, true, false, List, [], ◌∷◌, ◌++◌, map, sym, ap, ◌∙◌, subst, refl, Option, Some, None, cond, eqb, arith, ◌<◌, ◌≢◌, length, inl, inr}
 use Rattle.std.proofs.lemmas.List.{append-nil, map-append}
 use Rattle.std.proofs.lemmas.Bool.{false≢true}
 use Rattle.std.proofs.lemmas.Bool.Decides.{nat_tests}
@@ -15,10 +15,11 @@ use Rattle.path_hub.specs.declared.event.Reply.{Reply}
 use Rattle.tenant_map.specs.Tenancy.{Tenancy}
 use Rattle.path_hub.specs.Items.{Streams, items_of, opened}
 use Rattle.path_hub.specs.Runs.{Run}
-use Rattle.path_hub.specs.Pending.{IsSound, pending, item, told, AnswersSome}
+use Rattle.path_hub.specs.Pending.{IsSound, IsDue, pending, item, told, AnswersSome}
 use Rattle.path_hub.specs.HubState.{HubState, state}
-use Rattle.path_hub.specs.declared.event.Event.TheVariants.{Connect}
-use Rattle.path_hub.specs.Sessions.{Applies, Sessions, session, Settled, AgreeAt, Agree, Replies, Feeds, FeedsSome, Sets, opened_session}
+use Rattle.path_hub.specs.declared.event.Event.TheVariants.{Connect, Bytes}
+use Rattle.path_hub.specs.Sessions.{Applies, AppliesSome, PieceWants, Sessions, session, Settled, AgreeAt, Agree, Replies, Feeds, FeedsSome, Sets, opened_session}
+use Rattle.path_hub.proofs.Loop.{pending_due}
 use Rattle.path_hub.proofs.Settling.{new_closed, settled_closed, pending_piece, settled_piece}
 
 pub same_test : (c q : ℕ) → is_at (nat_cmp c) q ≡ eqb q c
@@ -66,16 +67,26 @@ feeds_open laws c p ss ss' os os' out out' f g f' h k w sets n none s a =
       record { replies = n.replies; out = n.out; run = subst (λ xs. Run os xs (map told n.replies) os') (sym is) n.run },
     )
 
+-- what is due is among what is pending
+some_items : (c : ℕ) (bs : List (Option (List ℕ))) → bs ≢ [] → map (item c) bs ≢ []
+some_items c [] n = absurd (n refl)
+some_items c (b ∷ bs) n = λ e. absurd cc
+
 pub feeds_some : (laws : Splitting) (c : ℕ) (p : List ℕ) (ss : Sessions) (os os' : Tenancy) (out out' : List Reply) (f g f' : Framing) → session c ss ≡ Some f → f.closed ≡ false → g ≡ with_piece f p
-    → AnswersSome c g os out f' os' out' → FeedsSome c p ss os out os' out'
-feeds_some laws c p ss os os' out out' f g f' h k w n s a =
+    → AnswersSome c g os out f' os' out' → IsDue f' → FeedsSome c p ss os out os' out'
+feeds_some laws c p ss os os' out out' f g f' h k w n due s a =
     let z = settled_at s ss c f (s c) refl a h in
     record {
       first = map (item c) n.done;
       others = map (item c) (pending f');
       items_are = items_pending laws c p s z.0 f g z.1 z.2 k w ∙ ap (map (item c)) n.pending_is ∙ map-append (item c) n.done (pending f');
       told_first = record { replies = n.replies; out = n.out; run = n.run };
+      wanted = inl (some_items c (pending f') (pending_due laws f' due));
     }
+
+-- a piece that is not taken
+pub feeds_none : (c : ℕ) (p : List ℕ) (ss : Sessions) (os : Tenancy) (out : List Reply) → 0 < length p → FeedsSome c p ss os out os out
+feeds_none c p ss os out some s a = record { first = []; others = items_of c (s c) p; items_are = refl; told_first = no_replies os out; wanted = inr (refl, some) }
 
 -- the empty stream holds nothing
 pub empty_split : (laws : Splitting) → split [] ≡ record { frames = []; rest = [] }
@@ -102,6 +113,17 @@ set_value_same {K} {X} test (e ∷ es) v h =
       | true ↦ λ (i : Some e.1 ≡ Some v). let w : e.1 ≡ v = cc in ap (λ (x : X). (e.0, x) ∷ es) (sym w)
       | false ↦ λ i. ap (λ xs. e ∷ xs) (set_value_same test es v i)
     ] h
+
+-- a connection that is free has no stream
+free_at : (x : Option (List ℕ)) (v : Option Framing) → AgreeAt x v → v ≡ None → x ≡ None
+free_at None v a e = refl
+free_at (Some x) None a e = absurd a
+free_at (Some x) (Some f) a e = absurd cc
+
+pub connects_some : (e : Event) (conn : ℕ) (ss : Sessions) (os : Tenancy) (out : List Reply) (h : HubState) → e ≡ Connect conn → state ss os ≡ h → session conn ss ≡ None → AppliesSome e h.sessions h.tenants out os out
+connects_some e conn ss os out h i v free = subst (λ (x : Event). AppliesSome x h.sessions h.tenants out os out) (sym i)
+    (subst (λ (x : HubState). AppliesSome (Connect conn) x.sessions x.tenants out os out) v
+    (λ s a. record { first = []; others = []; items_are = refl; told_first = no_replies os out; wanted = free_at (s conn) (session conn ss) (a.at conn) free }))
 
 -- a connection is opened where it was free
 pub connects : (laws : Splitting) (e : Event) (conn : ℕ) (ss ss' : Sessions) (os : Tenancy) (out : List Reply) (h : HubState) → e ≡ Connect conn → state ss os ≡ h → Sets conn (opened_session (session conn ss)) ss ss' → Applies e h.sessions h.tenants out ss' os out

@@ -1,7 +1,7 @@
 -- Answering what is pending, one step after another.
-use Rattle.std.proofs.Common.{◌≡◌, ◌⊎◌, ℕ, ◌<◌, ◌+◌, Bool, true, false, List, [], ◌∷◌, ◌++◌, length, map, sym, ap, ◌∙◌, subst, refl, Option, Some, None, cond, inl, inr, arith}
+use Rattle.std.proofs.Common.{◌≡◌, ◌≢◌, ◌⊎◌, ℕ, ◌<◌, ◌+◌, Bool, true, false, List, [], ◌∷◌, ◌++◌, length, map, sym, ap, ◌∙◌, subst, refl, Option, Some, None, cond, inl, inr, arith}
 use Rattle.std.proofs.lemmas.List.{append-nil, append_assoc, map_push, flat_map_more}
-use Rattle.wire_frames.specs.Frames.{Whole, Wait, Fault, front, Split, split, rest, is_fault}
+use Rattle.wire_frames.specs.Frames.{Front, Whole, Wait, Fault, front, Split, split, rest, is_fault}
 use Rattle.wire_frames.specs.Splitting.{Splitting}
 use Rattle.wire_frames.specs.Framing.{Framing}
 use Rattle.tenant_map.specs.Tenancy.{Tenancy}
@@ -9,7 +9,7 @@ use Rattle.path_hub.specs.declared.event.Reply.{Reply}
 use Rattle.path_hub.specs.Runs.{StepItem, Run}
 use Rattle.path_hub.proofs.Alone.{run-append}
 use Rattle.path_hub.specs.Into.{AnswersInto, sent}
-use Rattle.path_hub.specs.Pending.{bodies_in, pending, IsSound, Takes, Answered, IsIdle, item, told, AnswersSome}
+use Rattle.path_hub.specs.Pending.{bodies_in, pending, IsDue, IsSound, Takes, Answered, IsIdle, item, told, AnswersSome}
 
 bodies_by : Split → List (Option (List ℕ))
 bodies_by s = map Some s.frames ++ cond (is_fault (front s.rest)) (None ∷ []) []
@@ -49,6 +49,18 @@ pending_wait laws f h false e = pending_open f e ∙ bodies_wait laws f.waiting 
 pub pending_idle : (laws : Splitting) (f : Framing) → (f.closed ≡ true) ⊎ (front f.waiting ≡ Wait) → pending f ≡ []
 pending_idle laws f (inl c) = pending_closed f c
 pending_idle laws f (inr w) = pending_wait laws f w f.closed refl
+
+cons_some : (b : Option (List ℕ)) (bs : List (Option (List ℕ))) → (b ∷ bs) ≢ []
+cons_some b bs = λ e. absurd cc
+
+pending_front : (laws : Splitting) (f : Framing) (x : Front) → f.closed ≡ false → front f.waiting ≡ x → x ≢ Wait → pending f ≢ []
+pending_front laws f (Whole b v) o e n = λ none. cons_some (Some b) (bodies_in v) (sym (pending_open f o ∙ bodies_whole laws f.waiting b v e) ∙ none)
+pending_front laws f Wait o e n = absurd (n refl)
+pending_front laws f Fault o e n = λ none. cons_some None [] (sym (pending_open f o ∙ bodies_fault laws f.waiting e) ∙ none)
+
+-- what is due is pending
+pub pending_due : (laws : Splitting) (f : Framing) → IsDue f → pending f ≢ []
+pending_due laws f d = pending_front laws f (front f.waiting) d.open' refl d.some
 
 pub rest_takes : (laws : Splitting) (f : Framing) (body : Option (List ℕ)) (f' : Framing) → Takes f body f' → rest f'.waiting ≡ rest f.waiting
 rest_takes laws f (Some b) f' t = sym (ap (λ (s : Split). s.rest) (laws.whole f.waiting b f'.waiting t.2))

@@ -11,7 +11,7 @@ use Rattle.path_hub.specs.Tenants.{fresh}
 use Rattle.path_hub.proofs.Keys.{map_of-fresh}
 use Rattle.path_hub.specs.Pending.{told}
 use Rattle.path_hub.specs.Sessions.{Sessions, session, Agree, AgreeAt, Replies, Applies, AppliesSome}
-use Rattle.path_hub.specs.Headline.{Replied, RepliedToSome}
+use Rattle.path_hub.specs.Headline.{Replied, StopsAt}
 
 items-append : (s : Streams) (es fs : List Event) → items_from s (es ++ fs) ≡ items_from s es ++ items_from (streams_after s es) fs
 items-append s [] fs = refl
@@ -63,21 +63,18 @@ replied keys os os' is out out' e r =
 pub so_far_all : (keys : List (List ℕ)) (events : List Event) (i : ℕ) (os os' : Tenancy) (out out' : List Reply) (ss : Sessions) → length events ≤ i → os ≡ fresh keys → IsSoFar events i os out ss os' out' → Replied keys (items events) out out'
 so_far_all keys events i os os' out out' ss l e f = replied keys os os' (items events) out out' e (subst (λ es. Replies os out (items_from no_streams es) os' out') (take_all i events l) f.told_so_far)
 
--- a prefix of the items
-pub some_of : (keys : List (List ℕ)) (events : List Event) (i : ℕ) (event : Event) (os mid os' : Tenancy) (out out' out'' : List Reply) (ss : Sessions) → i < length events → event ≡ get_or events i event → os ≡ fresh keys → IsSoFar events i os out ss mid out' → AppliesSome event ss mid out' os' out'' → RepliedToSome keys (items events) out out''
-some_of keys events i event os mid os' out out' out'' ss l e h f a =
-    let s = streams_after no_streams (take i events) in
-    let next = a s f.agree in
-    let done = items_from no_streams (take i events) in
-    let later = items_from (after_event event s) (drop (i + 1) events) in
-    let parts : events ≡ take i events ++ (event ∷ drop (i + 1) events) = sym (take-append-drop i events) ∙ ap (λ x. take i events ++ x) (drop_more events i event l ∙ ap (λ x. x ∷ drop (i + 1) events) (sym e)) in
+-- up to an event that wants memory
+pub stops_at : (keys : List (List ℕ)) (events : List Event) (i : ℕ) (event : Event) (os mid os' : Tenancy) (out out' out'' : List Reply) (ss : Sessions) → i < length events → event ≡ get_or events i event → os ≡ fresh keys → IsSoFar events i os out ss mid out' → AppliesSome event ss mid out' os' out'' → StopsAt keys events out out''
+stops_at keys events i event os mid os' out out' out'' ss l e h f a =
+    let next = a (streams_after no_streams (take i events)) f.agree in
     record {
-      first = done ++ next.first;
-      others = next.others ++ later;
-      items_are = ap items parts ∙ items-append no_streams (take i events) (event ∷ drop (i + 1) events) ∙ ap (λ is. done ++ (is ++ later)) next.items_are
-          ∙ ap (λ is. done ++ is) (append_assoc next.first next.others later) ∙ sym (append_assoc done next.first (next.others ++ later));
-      told_first = replied keys os os' (done ++ next.first) out out'' h (replies-append os out done next.first mid out' os' out'' f.told_so_far next.told_first);
+      done = take i events;
+      event = event;
+      later = drop (i + 1) events;
+      events_are = sym (take-append-drop i events) ∙ ap (λ x. take i events ++ x) (drop_more events i event l ∙ ap (λ x. x ∷ drop (i + 1) events) (sym e));
+      first = next.first;
+      others = next.others;
+      items_are = next.items_are;
+      told_first = replied keys os os' (items (take i events) ++ next.first) out out'' h (replies-append os out (items (take i events)) next.first mid out' os' out'' f.told_so_far next.told_first);
+      wanted = next.wanted;
     }
-
-pub all_of : (keys : List (List ℕ)) (events : List Event) (out out' : List Reply) → Replied keys (items events) out out' → RepliedToSome keys (items events) out out'
-all_of keys events out out' r = record { first = items events; others = []; items_are = sym (append-nil (items events)); told_first = r }

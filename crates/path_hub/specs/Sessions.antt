@@ -1,5 +1,5 @@
 -- What a hub keeps of each connection, against the connection's whole stream: this project's own.
-use Rattle.std.specs.Prelude.{◌≡◌, ℕ, List, ◌++◌, map, Option, Some, None, false, ◌==◌, if◌then◌else◌}
+use Rattle.std.specs.Prelude.{◌≡◌, ◌≢◌, ◌⊎◌, ℕ, ◌<◌, List, [], ◌++◌, length, map, Option, Some, None, false, ◌==◌, if◌then◌else◌}
 use Rattle.std.specs.Option.{option_map}
 use Rattle.std.specs.Ordering.{nat_cmp}
 use Rattle.std.specs.Map.{lookup}
@@ -8,6 +8,7 @@ use Rattle.wire_frames.specs.Frames.{rest, is_broken}
 use Rattle.wire_frames.specs.Framing.{Framing, fresh}
 use Rattle.tenant_map.specs.Tenancy.{Tenancy}
 use Rattle.path_hub.specs.declared.event.Event.{Event}
+use Rattle.path_hub.specs.declared.event.Event.TheVariants.{Connect, Bytes, Disconnect}
 use Rattle.path_hub.specs.declared.event.Reply.{Reply}
 use Rattle.path_hub.specs.Items.{Item, Streams, after_event, items_at, items_of}
 use Rattle.path_hub.specs.Runs.{Run}
@@ -40,19 +41,29 @@ pub record Replies (os : Tenancy) (before : List Reply) (items : List Item) (os'
   pub out : after ≡ before ++ replies
   pub run : Run os items (map told replies) os'
 
--- replies to the first of these items
-pub record RepliesToSome (os : Tenancy) (before : List Reply) (items : List Item) (os' : Tenancy) (after : List Reply) : Type 0 where
+-- Memory may be wanted for a session that is opened, for a piece that has bytes, before any reply to it, and for what waits to be answered.
+abbrev pub PieceWants : List ℕ → (first others : List Item) → Type 0
+PieceWants piece first others = (others ≢ []) ⊎ ((first ≡ []) × (0 < length piece))
+
+abbrev pub EventWants : Event → Streams → (first others : List Item) → Type 0
+EventWants (Connect c) s first others = s c ≡ None
+EventWants (Bytes c piece) s first others = PieceWants piece.items first others
+EventWants (Disconnect c) s first others = ⊥
+
+-- replies to the first of these items, where this holds of them and the others
+pub record RepliesToSome (os : Tenancy) (before : List Reply) (items : List Item) (wants : List Item → List Item → Type 0) (os' : Tenancy) (after : List Reply) : Type 0 where
   pub first : List Item
   pub others : List Item
   pub items_are : items ≡ first ++ others
   pub told_first : Replies os before first os' after
+  pub wanted : wants first others
 
 -- an event is applied
 abbrev pub Applies : Event → Sessions → Tenancy → List Reply → Sessions → Tenancy → List Reply → Type 0
 Applies event ss os before ss' os' after = (s : Streams) → Agree s ss → Agree (after_event event s) ss' × Replies os before (items_at event s) os' after
 
 abbrev pub AppliesSome : Event → Sessions → Tenancy → List Reply → Tenancy → List Reply → Type 0
-AppliesSome event ss os before os' after = (s : Streams) → Agree s ss → RepliesToSome os before (items_at event s) os' after
+AppliesSome event ss os before os' after = (s : Streams) → Agree s ss → RepliesToSome os before (items_at event s) (EventWants event s) os' after
 
 -- after a piece of a connection
 abbrev pub after_piece : ℕ → List ℕ → Streams → Streams
@@ -62,7 +73,7 @@ abbrev pub Feeds : ℕ → List ℕ → Sessions → Tenancy → List Reply → 
 Feeds conn piece ss os before ss' os' after = (s : Streams) → Agree s ss → Agree (after_piece conn piece s) ss' × Replies os before (items_of conn (s conn) piece) os' after
 
 abbrev pub FeedsSome : ℕ → List ℕ → Sessions → Tenancy → List Reply → Tenancy → List Reply → Type 0
-FeedsSome conn piece ss os before os' after = (s : Streams) → Agree s ss → RepliesToSome os before (items_of conn (s conn) piece) os' after
+FeedsSome conn piece ss os before os' after = (s : Streams) → Agree s ss → RepliesToSome os before (items_of conn (s conn) piece) (PieceWants piece) os' after
 
 -- a session is set, and the others stay
 abbrev pub Sets : ℕ → Option Framing → Sessions → Sessions → Type 0

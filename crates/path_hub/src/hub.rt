@@ -7,7 +7,6 @@ ghost use Rattle.tenant_map.specs.Tenancy.{Tenancy, AcceptsKeys, RefusesKeys};
 ghost use Rattle.path_hub.specs.Sessions.{session, Sets, opened_session, Feeds, FeedsSome, Applies, AppliesSome};
 ghost use Rattle.path_hub.specs.Into.{Bytes, Takes, AnswersOne, AnswersNone, HasDue};
 ghost use Rattle.path_hub.specs.HubState.{state};
-ghost use Rattle.path_hub.specs.Items.{items};
 ghost use Rattle.path_hub.specs.Headline.{Runs};
 
 use crate::event::{Event, Reply};
@@ -213,7 +212,7 @@ impl Hub {
         out: &mut Vec<Reply>,
     ) -> Result<(), AllocError>
         ensures ok { OnOk result (Applies event.now self.old.sessions self.old.tenants out.old.items self.new.sessions self.new.tenants out.new.items) }
-        ensures some { AppliesSome event.now self.old.sessions self.old.tenants out.old.items self.new.tenants out.new.items }
+        ensures some { OnErr result (AppliesSome event.now self.old.sessions self.old.tenants out.old.items self.new.tenants out.new.items) }
     {
         splits_from_the_front();
         match event {
@@ -276,6 +275,7 @@ fn answer_at(
 fn open(sessions: &mut BTreeMap<u32, Framer>, alloc: Global, conn: u32) -> Result<(), AllocError>
     ensures ok { OnOk result (Sets conn (opened_session (session conn sessions.old.entries)) sessions.old.entries sessions.new.entries) }
     ensures err { OnErr result (sessions.new.entries ≡ sessions.old.entries) }
+    ensures free { OnErr result (session conn sessions.old.entries ≡ None) }
 {
     if sessions.contains_key(&conn) {
         return Ok(());
@@ -296,7 +296,7 @@ fn feed(
     out: &mut Vec<Reply>,
 ) -> Result<(), AllocError>
     ensures ok { OnOk result (Feeds conn piece.now sessions.old.entries tenants.old out.old.items sessions.new.entries tenants.new out.new.items) }
-    ensures some { FeedsSome conn piece.now sessions.old.entries tenants.old out.old.items tenants.new out.new.items }
+    ensures some { OnErr result (FeedsSome conn piece.now sessions.old.entries tenants.old out.old.items tenants.new out.new.items) }
 {
     splits_from_the_front();
     match sessions.get_mut(&conn) {
@@ -317,15 +317,16 @@ fn feed(
 ///
 /// # Errors
 ///
-/// `Keys` if [`Hub::new`] refuses the keys; then there is no reply. `Memory` if an allocation failed that no reply reports; then the
-/// replies to the first frames are appended.
+/// `Keys` if [`Hub::new`] refuses the keys; then there is no reply. `Memory` if an allocation failed that no reply reports: for the keys, to
+/// open a session, for a piece that has bytes, or for a frame or fault that waits. Then the replies to all earlier events are appended, and
+/// those to the first frames of that one.
 pub fn run(
     alloc: Global,
     keys: &[[u8; 16]],
     events: &[Event],
     out: &mut Vec<Reply>,
 ) -> Result<(), RunFault>
-    ensures { Runs keys.now (items events.now) out.old.items result out.new.items }
+    ensures { Runs keys.now events.now out.old.items result out.new.items }
 {
     let mut hub = match Hub::new(alloc, keys) {
         Ok(hub) => hub,

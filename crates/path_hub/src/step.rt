@@ -1,5 +1,5 @@
 //! One step of a connection: a frame or a fault is taken and answered.
-ghost use Rattle.std.specs.Prelude.{◌≡◌, IfOk, OnOk, OnErr, []};
+ghost use Rattle.std.specs.Prelude.{◌≡◌, IfOk, OnOk, OnErr, [], IsTrue, false};
 ghost use Rattle.std.specs.Bool.{MatchBool};
 ghost use Rattle.path_hub.specs.Pending.{Answered, IsIdle, IsDue, AnswersSome, pending};
 
@@ -52,8 +52,23 @@ pub fn answer_next(
     }
 }
 
+// Whether a whole frame or a fault waits.
+fn is_due(framer: &Framer) -> bool
+    ensures due { IsTrue result → IsDue framer.now }
+    ensures none { result ≡ false → pending framer.now ≡ [] }
+{
+    splits_from_the_front();
+    if framer.is_closed() {
+        return false;
+    }
+    match framer.front() {
+        Front::Wait => false,
+        Front::Fault | Front::Frame(_) => true,
+    }
+}
+
 /// Answers all that is whole on a connection, a reply for each frame and for a fault. Where memory runs out some of it
-/// is answered.
+/// is answered, and more waits.
 pub fn answer_all(
     conn: u32,
     framer: &mut Framer,
@@ -64,9 +79,13 @@ pub fn answer_all(
 ) -> Result<(), AllocError>
     ensures some { AnswersSome conn framer.old tenants.old out.old.items framer.new tenants.new out.new.items }
     ensures all { OnOk result (pending framer.new ≡ []) }
+    ensures due { OnErr result (IsDue framer.new) }
 {
     splits_from_the_front();
     'frames: loop {
+        if !is_due(framer) {
+            return Ok(());
+        }
         out.reserve(1)?;
         let mut frame = Vec::new(alloc);
         if !answer_next(framer, tenants, cache, alloc, &mut frame)? {

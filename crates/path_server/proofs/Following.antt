@@ -1,9 +1,10 @@
 -- Keys that were read, and the rest of the text behind them.
-use Rattle.std.proofs.Common.{◌≡◌, ℕ, ◌<◌, ◌≤◌, ◌+◌, ◌-◌, List, [], ◌∷◌, ◌++◌, length, take, drop, slice_index, refl, sym, ap, arith}
-use Rattle.std.proofs.Math.Seq.{take-append_seam, take-length, drop-append-add, get_or-append_seam, split_at}
-use Rattle.std.proofs.lemmas.List.{append_assoc, length-append, length-drop}
+use Rattle.std.proofs.Common.{◌≡◌, ℕ, ◌<◌, ◌≤◌, ◌+◌, ◌-◌, List, [], ◌∷◌, ◌++◌, length, take, drop, slice_index, refl, ap, arith}
+use Rattle.std.proofs.Math.Seq.{take-append_seam, drop-append-add, get_or-append_seam, split_at}
+use Rattle.std.proofs.lemmas.List.{append_assoc, length-append}
 use Rattle.hex.proofs.HexLemmas.{IsOk-decode_sized}
 use Rattle.path_server.specs.Keys.{SpellsKey, SpellsKeys}
+use Rattle.path_server.proofs.Splits.{take_rest}
 
 -- keys that the rest spells go on what was read, and the rest spells some where the text does
 pub record Follows (text : List ℕ) (read : List (List ℕ)) (rest : List ℕ) : Type 0 where
@@ -57,12 +58,9 @@ joined rest key (next ∷ keys) long spelled comma more =
     let split : rest ≡ take 32 rest ++ 44 ∷ drop 33 rest = rw comma at (split_at {A = ℕ} rest 32 0 long) in
     (take 32 rest, drop 33 rest, split, spelled, more)
 
-take_all : (n : ℕ) (xs : List ℕ) → take (length xs - n) (drop n xs) ≡ drop n xs
-take_all n xs = rw (sym (length-drop n xs)) (take-length (drop n xs))
-
 pub follows_next : (text : List ℕ) (read : List (List ℕ)) (rest key : List ℕ) → Follows text read rest → 32 < length rest → SpellsKey (take 32 rest) key → slice_index rest 32 ≡ 44
     → Follows text (read ++ key ∷ []) (take (length rest - 33) (drop 33 rest))
-follows_next text read rest key f long spelled comma = rw (take_all 33 rest) (record {
+follows_next text read rest key f long spelled comma = rw (take_rest 33 rest) (record {
   forth = λ keys more. rw (append_assoc read (key ∷ []) keys) (f.forth (key ∷ keys) (joined rest key keys long spelled comma more));
   back = λ keys all. let (others, more) = f.back keys all in let it = front rest others long more in (it.others, it.others_spelled);
 })

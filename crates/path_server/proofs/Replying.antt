@@ -10,7 +10,7 @@ use Rattle.path_server.specs.Calls.{HoldsNoReply, IsReadFault}
 use Rattle.path_server.specs.Exchanges.{EndsReply, EndsExchange, Exchanges, IsCutShort, IsReply, ReadsBytes, ReadsReply, SpellsLength}
 use Rattle.path_server.specs.declared.call_fault.CallFault.{CallFault}
 use Rattle.path_server.specs.declared.call_fault.CallFault.TheVariants.{TooLong, BadLine, ReadFault, WriteFault, Memory}
-use Rattle.path_server.proofs.Moves.{joined_more, moved_none, moved_trans}
+use Rattle.path_hub.proofs.Traffic.{joined-append, moved_none, moved_trans}
 use Rattle.path_server.proofs.Framed.{above_limit, is_reply, not_whole, reply_or_none}
 
 -- so many of the bytes came, and stand behind what stood there
@@ -32,7 +32,7 @@ pub record OneMore (count : ℕ) (m : Meaning) (piece : List ℕ) (left : ℕ) (
   pub failures : k.failures ≡ m.failures
 
 push_joined : (cs : List (List ℕ)) (c : List ℕ) → joined (cs ++ c ∷ []) ≡ joined cs ++ c
-push_joined cs c = joined_more cs (c ∷ []) ∙ ap (λ s. joined cs ++ s) (append-nil c)
+push_joined cs c = joined-append cs (c ∷ []) ∙ ap (λ s. joined cs ++ s) (append-nil c)
 
 push_length : (cs : List (List ℕ)) (c : List ℕ) → length (joined (cs ++ c ∷ [])) ≡ length (joined cs) + length c
 push_length cs c = ap length (push_joined cs c) ∙ length-append (joined cs) c
@@ -45,9 +45,9 @@ one_more count m n k old new left piece h r = record {
   failures = r.failures ∙ h.failures;
 }
 
-read_more : (count : ℕ) (m n k : Meaning) (old mid new : List ℕ) (left : ℕ) (piece : List ℕ) → HasRead count m old left n mid → Reads n piece k → length piece ≤ left → new ≡ mid ++ piece → HasRead count m old (left - length piece) k new
+read_in-append : (count : ℕ) (m n k : Meaning) (old mid new : List ℕ) (left : ℕ) (piece : List ℕ) → HasRead count m old left n mid → Reads n piece k → length piece ≤ left → new ≡ mid ++ piece → HasRead count m old (left - length piece) k new
 unfolding one_more
-read_more count m n k old mid new left piece h r few same =
+read_in-append count m n k old mid new left piece h r few same =
     let o = one_more count m n k old mid left piece h r in
     let total = o.total in
     record {
@@ -63,7 +63,7 @@ pub read_piece : (count : ℕ) (m n k : Meaning) (old mid new : List ℕ) (left 
 read_piece count m n k old mid new left j into rest h r few within same =
     let long : length (take j into) ≡ j = omega (arith, length-take j into, within) in
     let front : take j (into ++ rest) ≡ take j into = take-append-le j into rest within in
-    subst (λ x. HasRead count m old (left - x) k new) long (read_more count m n k old mid new left (take j into) h r (omega (arith, long, few)) (same ∙ ap (λ x. mid ++ x) front))
+    subst (λ x. HasRead count m old (left - x) k new) long (read_in-append count m n k old mid new left (take j into) h r (omega (arith, long, few)) (same ∙ ap (λ x. mid ++ x) front))
 
 pub read_all : (count : ℕ) (m n : Meaning) (old new : List ℕ) (left : ℕ) → HasRead count m old left n new → left ≤ 0 → ReadsBytes count m old (Ok tt) n new
 read_all count m n old new left h none = let total = h.total in record { chunks = h.chunks; told = h.told; ends = (omega (arith, total, none), h.new_is, h.failures) }
@@ -145,7 +145,7 @@ behind len m n k head part cs r s told part_is =
     record {
       chunks = r.chunks ++ cs;
       told = subst (λ ms. Moved m.traffic ms k.traffic) (sym (map-append Gave r.chunks cs)) (moved_trans m.traffic n.traffic k.traffic (map Gave r.chunks) (map Gave cs) r.told told);
-      came = joined_more r.chunks cs ∙ ap (λ x. x ++ joined cs) (sym r.ends.1) ∙ ap (λ x. head ++ x) part_is;
+      came = joined-append r.chunks cs ∙ ap (λ x. x ++ joined cs) (sym r.ends.1) ∙ ap (λ x. head ++ x) part_is;
       spells = spells_more head part len s four;
       long = omega (arith, length-append head part, four);
     }

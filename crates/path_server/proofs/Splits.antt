@@ -28,7 +28,7 @@ lacks_before mark (c ∷ text) (suc k) none = (
   lacks_before mark text k (λ i low high. none (suc i) (omega arith) (omega arith)),
 )
 
-take_rest : (n : ℕ) (xs : List ℕ) → take (length xs - n) (drop n xs) ≡ drop n xs
+pub take_rest : (n : ℕ) (xs : List ℕ) → take (length xs - n) (drop n xs) ≡ drop n xs
 take_rest n xs = rw (sym (length-drop n xs)) (take-length (drop n xs))
 
 pub lacks_all : (mark : ℕ) (text : List ℕ) → Nowhere (Passes (is_byte mark) text) 0 (length text) → Lacks mark text

@@ -6,9 +6,9 @@ use Rattle.json_tape.specs.Document.{Doc, node_at}
 use Rattle.json_tape.specs.declared.tape.NodeId.{NodeId}
 use Rattle.tape_select.specs.Nodelists.{nodes_of}
 use Rattle.tenant_store.specs.Hits.{hit_of}
-use Rattle.standard_streams.specs.Fronts.{WritesBut, WritesFront}
+use Rattle.standard_streams.specs.Fronts.{StopsShort, WritesBut}
 use Rattle.path_server.specs.Lines.{line_of, lines_of}
-use Rattle.path_server.proofs.Breaking.{next_front, next_written}
+use Rattle.path_server.proofs.Breaking.{next_stops, next_written}
 
 abbrev lines_at : Doc → List NodeId → List ℕ
 lines_at d ids = lines_of (map hit_of (nodes_of d ids))
@@ -21,11 +21,11 @@ lines_from d ids i other inside =
     let next : i + 1 ≡ suc i = omega arith in
     rw next (ap (λ rest. lines_of (map hit_of (nodes_of d rest))) (drop-cons ids i other inside))
 
-pub next_breaks : (d : Doc) (ids : List NodeId) (i : ℕ) (other : NodeId) (held all : List ℕ) (old mid new : Option (List ℕ)) → i < length ids
-    → WritesBut (held ++ lines_of (map hit_of (nodes_of d (drop i ids)))) all old mid → WritesFront (held ++ line_of (hit_of (node_at d (get_or ids i other).0))) mid new
-    → WritesFront all old new
-next_breaks d ids i other held all old mid new inside w v =
-    next_front held (line_at d (get_or ids i other)) (lines_at d (drop (i + 1) ids)) all old mid new (rw (lines_from d ids i other inside) at w) v
+pub next_stops_short : (d : Doc) (ids : List NodeId) (i : ℕ) (other : NodeId) (held all : List ℕ) (old mid new : Option (List ℕ)) → i < length ids
+    → WritesBut (held ++ lines_of (map hit_of (nodes_of d (drop i ids)))) all old mid → StopsShort (held ++ line_of (hit_of (node_at d (get_or ids i other).0))) mid new
+    → StopsShort all old new
+next_stops_short d ids i other held all old mid new inside w v =
+    next_stops held (line_at d (get_or ids i other)) (lines_at d (drop (i + 1) ids)) all old mid new (rw (lines_from d ids i other inside) at w) v
 
 pub next_is_written : (d : Doc) (ids : List NodeId) (i : ℕ) (other : NodeId) (held left all : List ℕ) (old mid new : Option (List ℕ)) → i < length ids
     → WritesBut (held ++ lines_of (map hit_of (nodes_of d (drop i ids)))) all old mid → WritesBut left (held ++ line_of (hit_of (node_at d (get_or ids i other).0))) mid new

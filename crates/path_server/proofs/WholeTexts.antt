@@ -1,11 +1,11 @@
 -- A text that is cut one byte past the limit on texts is refused as the whole text is, or it is the whole text.
-use Rattle.std.proofs.Common.{◌≡◌, ℕ, ◌+◌, ◌<◌, min, List, [], length, take, arith, Option, None, Some, refl}
+use Rattle.std.proofs.Common.{◌≡◌, ℕ, ◌+◌, ◌<◌, min, List, [], length, take, arith, Option, None, Some}
 use Rattle.std.specs.Prelude.{IfSome}
-use Rattle.std.specs.Io.KnownBytes.{Keeps, Appends}
+use Rattle.std.specs.Io.KnownBytes.{Appends}
 use Rattle.std.proofs.lemmas.List.{length-take, take_all}
 use Rattle.json_tape.specs.Verdict.{text_limit, IsRefused}
 use Rattle.json_tape.specs.declared.tape.TextFault.TheVariants as text
-use Rattle.standard_streams.specs.Fronts.{WritesFront}
+use Rattle.standard_streams.specs.Fronts.{StopsShort}
 use Rattle.path_server.specs.QueryText.{Refuses, Answers}
 use Rattle.path_server.specs.QueryStream.{AnswersStream, BreaksOff}
 use Rattle.path_server.proofs.Refusals.{memory_wanted}
@@ -49,14 +49,10 @@ pub answered_whole : (query cut lines : List ℕ) (left old new : Option (List �
 answered_whole query cut lines None old new e a w = tt
 answered_whole query cut lines (Some document) old new e a w = (lines, answers_whole query document [] lines (rw e at a), w)
 
-pub breaks_whole : (query cut lines : List ℕ) (left old new : Option (List ℕ)) → IfSome left (λ document. cut ≡ take (text_limit + 1) document) → Answers query cut [] lines → WritesFront lines old new → BreaksOff query left old new
+pub breaks_whole : (query cut lines : List ℕ) (left old new : Option (List ℕ)) → IfSome left (λ document. cut ≡ take (text_limit + 1) document) → Answers query cut [] lines → StopsShort lines old new → BreaksOff query left old new
 breaks_whole query cut lines None old new e a w = tt
 breaks_whole query cut lines (Some document) old new e a w = (lines, answers_whole query document [] lines (rw e at a), w)
 
 -- memory may be wanted with the lines of a text that is accepted
 pub lines_want : (query cut lines : List ℕ) (left : Option (List ℕ)) → IfSome left (λ document. cut ≡ take (text_limit + 1) document) → Answers query cut [] lines → IfSome left (λ document. Refuses query document Memory)
 lines_want query cut lines left e a = refused_whole query cut left Memory e (memory_wanted query cut a.tree a.accepted)
-
-pub keeps_same : (known : Option (List ℕ)) → Keeps known known
-keeps_same None = tt
-keeps_same (Some xs) = refl

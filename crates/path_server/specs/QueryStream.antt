@@ -2,7 +2,7 @@
 use Rattle.std.specs.Prelude.{◌≡◌, ◌⊎◌, ℕ, List, [], IfSome}
 use Rattle.std.specs.Io.KnownBytes.{Keeps, Appends}
 use Rattle.std.specs.declared.option.Option.{Option}
-use Rattle.standard_streams.specs.Fronts.{WritesFront}
+use Rattle.standard_streams.specs.Fronts.{StopsShort}
 use Rattle.path_server.specs.QueryText.{Refuses, Answers}
 use Rattle.path_server.specs.declared.fault.QueryTextFault.TheVariants.{Memory}
 use Rattle.path_server.specs.declared.streams.QueryStreamFault.{QueryStreamFault}
@@ -12,9 +12,9 @@ use Rattle.path_server.specs.declared.streams.QueryStreamFault.TheVariants.{Read
 abbrev pub AnswersStream : (query : List ℕ) → (left old new : Option (List ℕ)) → Type 0
 AnswersStream query left old new = IfSome left (λ document. (lines : List ℕ) × Answers query document [] lines × Appends old new lines)
 
--- the lines of the hits in the reader's text, where that is known, are broken off: a front of them is written
+-- the lines of the hits in the reader's text, where that is known, are broken off: a front of them is written, and there is more of them
 abbrev pub BreaksOff : (query : List ℕ) → (left old new : Option (List ℕ)) → Type 0
-BreaksOff query left old new = IfSome left (λ document. (lines : List ℕ) × Answers query document [] lines × WritesFront lines old new)
+BreaksOff query left old new = IfSome left (λ document. (lines : List ℕ) × Answers query document [] lines × StopsShort lines old new)
 
 -- a refusal is one of the reader's text, and nothing is written before the text is read and answered; after that memory or the writer breaks the lines off
 abbrev pub FailsStream : (query : List ℕ) → (left old new : Option (List ℕ)) → QueryStreamFault → Type 0

@@ -5,7 +5,6 @@ use Rattle.path_hub.specs.declared.event.Event.{Event}
 use Rattle.path_hub.specs.declared.event.Reply.{Reply}
 use Rattle.path_hub.specs.declared.fault.RunFault.{RunFault}
 use Rattle.path_hub.specs.declared.fault.RunFault.TheVariants as run
-use Rattle.path_hub.specs.Items.{items}
 use Rattle.path_hub.specs.Headline.{AreRefused, Runs}
 use Rattle.path_server.specs.TextLines.{IsFirstBad, lines_in, text_limit}
 use Rattle.path_server.specs.FrameLines.{frame_line}
@@ -28,7 +27,7 @@ pub record Replays (keys : List (List ℕ)) (script old new : List ℕ) : Type 0
   pub events : List Event
   pub spelled : SpellsEvents script events
   pub replies : List Reply
-  pub runs : Runs keys (items events) [] (Ok tt) replies
+  pub runs : Runs keys events [] (Ok tt) replies
   pub appended : new ≡ old ++ reply_lines replies
 
 -- why a script is refused: the first refusal that applies, in the order of the cases; want of memory is met only within the limit

@@ -1,12 +1,12 @@
 //! The lines of hits, written in pieces.
 
-ghost use Rattle.std.specs.Prelude.{◌≡◌, ◌<◌, ◌++◌, [], OnErr, OnOk, length, map};
+ghost use Rattle.std.specs.Prelude.{◌≡◌, ◌≢◌, ◌<◌, ◌++◌, ℕ, List, [], OnErr, OnOk, length, map};
 ghost use Rattle.std.specs.List.{All};
 ghost use Rattle.std.specs.Io.KnownBytes.{Appends};
 ghost use Rattle.json_tape.specs.Document.{count, node_at};
 ghost use Rattle.tape_select.specs.Nodelists.{nodes_of};
 ghost use Rattle.tenant_store.specs.Hits.{hit_of};
-ghost use Rattle.standard_streams.specs.Fronts.{StopsShort, WritesBut, WritesFront};
+ghost use Rattle.standard_streams.specs.Fronts.{StopsShort, WritesBut};
 ghost use Rattle.path_server.specs.Lines.{line_of, lines_of};
 
 use crate::lines::write_head;
@@ -19,7 +19,7 @@ use std::io::Write;
 const PIECE: usize = 65_536;
 
 /// Why lines are broken off.
-#[derive(Clone, Copy, Debug, PartialEq, Eq)]
+#[derive(Clone, Copy)]
 pub enum PieceFault {
     /// A growth was refused.
     Memory,
@@ -50,11 +50,12 @@ fn write_held<W: Write>(held: &mut Vec<u8>, writer: &mut W) -> Result<(), WriteF
     Ok(())
 }
 
-// Holds bytes behind those that are held, or writes all of them where they make a piece.
+// Holds bytes behind those that are held, or writes all of them where they make a piece. A fault leaves some of these and of what was to
+// follow unwritten.
 fn add<W: Write>(bytes: &[u8], held: &mut Vec<u8>, writer: &mut W) -> Result<(), PieceFault>
     ensures written { OnOk result (WritesBut held.new.items (held.old.items ++ bytes.now) (W.contents writer.old) (W.contents writer.new)) }
     ensures short { OnOk result (length held.new.items < 65536) }
-    ensures front { OnErr result (WritesFront (held.old.items ++ bytes.now) (W.contents writer.old) (W.contents writer.new)) }
+    ensures front { OnErr result ((more : List ℕ) → bytes.now ++ more ≢ [] → StopsShort (held.old.items ++ (bytes.now ++ more)) (W.contents writer.old) (W.contents writer.new)) }
 {
     if bytes.len() >= PIECE {
         write_held(held, writer)?;
@@ -79,7 +80,7 @@ fn add_line<W: Write>(
     requires { node.0 < count document.now }
     ensures written { OnOk result (WritesBut held.new.items (held.old.items ++ line_of (hit_of (node_at document.now node.0))) (W.contents writer.old) (W.contents writer.new)) }
     ensures short { OnOk result (length held.new.items < 65536) }
-    ensures front { OnErr result (WritesFront (held.old.items ++ line_of (hit_of (node_at document.now node.0))) (W.contents writer.old) (W.contents writer.new)) }
+    ensures front { OnErr result (StopsShort (held.old.items ++ line_of (hit_of (node_at document.now node.0))) (W.contents writer.old) (W.contents writer.new)) }
 {
     write_head(alloc, document, node, held)?;
     add(document.text(node), held, writer)?;
@@ -89,7 +90,7 @@ fn add_line<W: Write>(
 /// Writes the lines of nodes, in order and in pieces of some 65,536 bytes.
 ///
 /// No more is held of them than a piece and a path; a value of a piece's length or more is written as it stands in the text.
-/// Memory comes where a growth is refused, Write where the writer does not take a piece: a front of the lines is written then.
+/// Memory comes where a growth is refused, Write where the writer does not take a piece: a front of the lines is written then, and not all.
 pub fn write_pieces<W: Write>(
     alloc: Global,
     document: &Document,
@@ -98,7 +99,7 @@ pub fn write_pieces<W: Write>(
 ) -> Result<(), PieceFault>
     requires { All (λ node. node.0 < count document.now) nodes.now }
     ensures written { OnOk result (Appends (W.contents writer.old) (W.contents writer.new) (lines_of (map hit_of (nodes_of document.now nodes.now)))) }
-    ensures front { OnErr result (WritesFront (lines_of (map hit_of (nodes_of document.now nodes.now))) (W.contents writer.old) (W.contents writer.new)) }
+    ensures front { OnErr result (StopsShort (lines_of (map hit_of (nodes_of document.now nodes.now))) (W.contents writer.old) (W.contents writer.new)) }
 {
     let mut held = Vec::new(alloc);
     for node in nodes {

@@ -13,7 +13,7 @@ use wire_frames::LONGEST_BODY;
 pub const LENGTH_BYTES: usize = 4;
 
 /// A whole request frame.
-#[derive(Debug, Drop)]
+#[derive(Drop)]
 pub struct Request {
     pub frame: Vec<u8>,
 }

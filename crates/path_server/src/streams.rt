@@ -30,7 +30,7 @@ pub enum QueryStreamFault {
 /// pieces of some 65,536 bytes, so that it holds at most a piece and a path.
 ///
 /// If the text cannot be read (Read), or [`crate::query_text`] refuses it (Refused), nothing is written. Once lines are being written, a failed
-/// allocation (Refused, with Memory) or a failed write (Write) breaks them off: a prefix of them is written.
+/// allocation (Refused, with Memory) or a failed write (Write) breaks them off: a prefix of them is written, and not all.
 pub fn query_stream<R: Read + Drop, W: Write>(
     alloc: Global,
     query: &[u8],

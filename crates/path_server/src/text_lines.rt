@@ -9,7 +9,7 @@ use memchr::memchr;
 use std::alloc::{AllocError, AllocFailed, Global};
 
 /// What is wrong with the lines of a text.
-#[derive(Clone, Copy, Debug, Drop, PartialEq, Eq)]
+#[derive(Clone, Copy, Drop)]
 pub enum LinesFault {
     /// The line with this number, counted from 1, spells nothing.
     BadLine(u64),

@@ -1,5 +1,5 @@
 -- What is read as a request was written as one.
-use Rattle.std.specs.Prelude.{◌≡◌, ◌↔◌, ◌⊎◌, ℕ, ◌<◌, ◌≤◌, List, [], ◌∷◌, ◌++◌, length, take, drop, nat_lt, get_or, Bool, true, false, Option, Some, None, option_and_then, refl}
+use Rattle.std.specs.Prelude.{◌≡◌, ◌↔◌, Result, Ok, Err, IfOk, ◌⊎◌, ℕ, ◌<◌, ◌≤◌, List, [], ◌∷◌, ◌++◌, length, take, drop, nat_lt, get_or, Bool, true, false, Option, Some, None, option_and_then, refl}
 use Rattle.std.specs.List.{All}
 use Rattle.std.specs.Int.{w32, from_be_bytes, to_be_bytes}
 use Rattle.std.proofs.Common.{sym, ap, ◌∙◌, subst, arith, inl, inr, cond, eqb, append-nil, length-take, length-drop}
@@ -11,6 +11,9 @@ use Rattle.store_names.specs.Names.{is_collection_name, is_document_name}
 use Rattle.wire_frames.specs.Frames.{IsByte}
 use Rattle.wire_frames.specs.Requests.{Asked, Put, Get, Remove, ListNames, Query, DropCollection, Usage, PutNew, Reading, Short, BadCommand, BadFields, Asks, reading, with_fields, is_known, command_of, number_of, key_of, fields_of, prefixed, name_at, place_at, whole_place_at, whole_collection_at, asked_at}
 use Rattle.wire_frames.specs.Encoding.{command_byte, name_field, fields, IsNamed}
+use Rattle.wire_frames.specs.Readings.{asked_of, reading_of}
+use Rattle.wire_frames.specs.declared.requests.Request.{Request}
+use Rattle.wire_frames.specs.declared.requests.RequestFault.{RequestFault}
 use Rattle.wire_frames.specs.Written.{IsWritten, Spells, ReadsOnlyWritten}
 use Rattle.wire_frames.proofs.OneSplit.{head_bytes, read_fits}
 use Rattle.wire_frames.proofs.ReadBack.{asked_back}
@@ -259,3 +262,8 @@ only_written = record {
   requests = λ body number key asked bytes e. body_from body number key asked bytes (asks_from body number key asked e);
   bad_fields = λ body long known. bad_fields body long known;
 }
+
+-- a body that is read as this request is written so
+pub read_is_written : (r : Result Request RequestFault) (body : List ℕ) → reading_of r ≡ reading body → All IsByte body → IfOk r (λ request. IsWritten request.number request.key (asked_of request.command) body)
+read_is_written (Ok request) body e bytes = only_written.requests body request.number request.key (asked_of request.command) bytes (sym e)
+read_is_written (Err fault) body e bytes = tt

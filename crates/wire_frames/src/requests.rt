@@ -1,9 +1,12 @@
 //! What the body of a request frame asks.
-ghost use Rattle.std.specs.Prelude.{◌≡◌, ◌==◌, is_some, length};
+ghost use Rattle.std.specs.Prelude.{◌≡◌, ◌==◌, is_some, length, IfOk};
+ghost use Rattle.std.specs.List.{All};
 ghost use Rattle.std.specs.Option.{option_map};
 ghost use Rattle.store_names.specs.Names.{is_collection_name, is_document_name};
 ghost use Rattle.wire_frames.specs.Requests.{reading, asked_at, is_known, place_at, whole_place_at, whole_collection_at, name_at, prefixed};
-ghost use Rattle.wire_frames.specs.Readings.{reading_of, asked_by, place_of};
+ghost use Rattle.wire_frames.specs.Frames.{IsByte};
+ghost use Rattle.wire_frames.specs.Readings.{reading_of, asked_by, asked_of, place_of};
+ghost use Rattle.wire_frames.specs.Written.{IsWritten};
 
 use store_names::{CollName, DocName};
 use thiserror::Error;
@@ -101,8 +104,15 @@ pub enum RequestFault {
 /// # Errors
 ///
 /// The first [`RequestFault`] that applies.
-#[tactic(auto, unfolding(crate::specs::Requests::reading))]
 pub fn read_request(body: &[u8]) -> Result<Request<'_>, RequestFault>
+    ensures value { reading_of result ≡ reading body.now }
+    ensures written { All IsByte body.now → IfOk result (λ request. IsWritten request.number request.key (asked_of request.command) body.now) }
+{
+    read(body)
+}
+
+#[tactic(auto, unfolding(crate::specs::Requests::reading))]
+fn read(body: &[u8]) -> Result<Request<'_>, RequestFault>
     ensures { reading_of result ≡ reading body.now }
 {
     if body.len() < KEY_AT {

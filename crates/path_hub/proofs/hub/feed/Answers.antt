@@ -1,9 +1,9 @@
 use Rattle.std.proofs.Common.{◌≡◌, Bool, true, false, Some, Err, sym, ap, subst, refl}
 use Rattle.std.specs.Option.{is_some}
-use Rattle.std.proofs.lemmas.Result.{on_ok_weaker}
+use Rattle.std.proofs.lemmas.Result.{on_err_weaker, on_ok_weaker}
 use Rattle.wire_frames.specs.Framing.{Framing}
 use Rattle.path_hub.specs.Sessions.{session, Sets}
-use Rattle.path_hub.proofs.Feeding.{feeds_closed, feeds_open, feeds_some}
+use Rattle.path_hub.proofs.Feeding.{feeds_closed, feeds_none, feeds_open, feeds_some}
 use Rattle.path_hub.proofs.hub.feed.Goals as goal
 
 not_closed : (b : Bool) → (b ≡ true → ⊥) → b ≡ false
@@ -29,5 +29,8 @@ pub returns-in-Ok-clause-some : goal.returns-in-Ok-clause-some
 returns-in-Ok-clause-some c =
     let h : session c.args.conn c.args.sessions.now.entries ≡ Some c.in-Some.framer.now = sym c.in-Some.ensures.value in
     let open' : c.in-Some.framer.now.closed ≡ false = not_closed c.in-Some.framer.now.closed (λ e. let bad = c.in-Ok.ensures.closed.1 e in absurd (cc)) in
-    feeds_some c.splits_from_the_front.ensures c.args.conn c.args.piece.now c.args.sessions.now.entries c.args.tenants.now c.answer_all.new.tenants c.args.out.now.items c.answer_all.new.out.items
-    c.in-Some.framer.now c.accept.new.self c.answer_all.new.framer h open' c.in-Ok.ensures.accepted c.answer_all.ensures.some
+    on_err_weaker c.answer_all.result (feeds_some c.splits_from_the_front.ensures c.args.conn c.args.piece.now c.args.sessions.now.entries c.args.tenants.now c.answer_all.new.tenants c.args.out.now.items c.answer_all.new.out.items
+    c.in-Some.framer.now c.accept.new.self c.answer_all.new.framer h open' c.in-Ok.ensures.accepted c.answer_all.ensures.some) c.answer_all.ensures.due
+
+pub returns-in-Err-Memory-clause-some : goal.returns-in-Err-Memory-clause-some
+returns-in-Err-Memory-clause-some c = feeds_none c.args.conn c.args.piece.now c.args.sessions.now.entries c.args.tenants.now c.args.out.now.items (c.in-Err-Memory.ensures.grown (ap (λ e. Err e) c.in-Err-Memory.field-0-is))

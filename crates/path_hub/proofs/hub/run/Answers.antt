@@ -1,7 +1,7 @@
 use Rattle.std.proofs.Common.{refl, subst, inl, inr, ℕ, List}
 use Rattle.tenant_map.specs.Tenancy.{Tenancy, AcceptsKeys, RefusesKeys}
 use Rattle.path_hub.specs.Tenants.{fresh}
-use Rattle.path_hub.proofs.Running.{so_far_more, so_far_all, some_of}
+use Rattle.path_hub.proofs.Running.{so_far_more, so_far_all, stops_at}
 use Rattle.path_hub.proofs.hub.run.Goals as goal
 
 accepted : (keys : List (List ℕ)) (t : Tenancy) → AcceptsKeys keys t → AcceptsKeys keys (fresh keys)
@@ -13,7 +13,7 @@ returns-in-Err-Memory c = inl (subst (λ e. RefusesKeys c.args.keys.now e) c.in-
 pub returns-in-Err-apply : goal.returns-in-Err-apply
 returns-in-Err-apply c = inr (
   accepted c.args.keys.now c.in-Ok.hub.tenants c.in-Ok.ensures.accepted,
-  some_of c.args.keys.now c.args.events.now c.loop-event.event-index c.event-item.result (fresh c.args.keys.now) c.loop-event.hub.tenants c.apply.new.self.tenants c.args.out.now.items c.loop-event.out.items c.apply.new.out.items c.loop-event.hub.sessions
+  stops_at c.args.keys.now c.args.events.now c.loop-event.event-index c.event-item.result (fresh c.args.keys.now) c.loop-event.hub.tenants c.apply.new.self.tenants c.args.out.now.items c.loop-event.out.items c.apply.new.out.items c.loop-event.hub.sessions
       c.loop-event-test.true c.event-item.is refl c.loop-event.invariant c.in-Err-apply.ensures.some,
 )
 

@@ -6,9 +6,9 @@ use Rattle.path_hub.proofs.replies.serve_body.Goals as goal
 
 pub returns-in-None : goal.returns-in-None
 returns-in-None c =
-    let s = shape_at c.args.body.now (Asks c.in-Ok.request.number c.in-Ok.request.key (asked_of c.in-Ok.request.command)) c.in-Ok.ensures in
+    let s = shape_at c.args.body.now (Asks c.in-Ok.request.number c.in-Ok.request.key (asked_of c.in-Ok.request.command)) c.in-Ok.ensures.value in
     serves_none c.args.tenants.now c.args.body.now c.args.out.now.items _ c.in-Ok.request.number c.in-Ok.request.key c.write_small.ensures s.0 s.1 s.2 (sym c.in-None.ensures.place)
 
 pub returns-in-Some : goal.returns-in-Some
 returns-in-Some c =
-    serves_command c.args.tenants.now c.args.body.now c.args.out.now.items _ c.in-Ok.request.number c.in-Some.place c.in-Ok.request.key (asked_of c.in-Ok.request.command) c.tenant_mut-map.result.now c.answer_command.new.map c.in-Ok.ensures (sym c.in-Some.ensures.place) c.tenant_mut-map.ensures.value c.answer_command.ensures
+    serves_command c.args.tenants.now c.args.body.now c.args.out.now.items _ c.in-Ok.request.number c.in-Some.place c.in-Ok.request.key (asked_of c.in-Ok.request.command) c.tenant_mut-map.result.now c.answer_command.new.map c.in-Ok.ensures.value (sym c.in-Some.ensures.place) c.tenant_mut-map.ensures.value c.answer_command.ensures

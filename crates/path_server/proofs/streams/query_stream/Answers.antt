@@ -1,17 +1,18 @@
 use Rattle.std.proofs.Common.{inl, inr, refl}
+use Rattle.std.proofs.KnownBytes.{Keeps-refl}
 use Rattle.path_server.proofs.Refusals.{text_refuses}
-use Rattle.path_server.proofs.WholeTexts.{refused_whole, answered_whole, breaks_whole, keeps_same, lines_want}
+use Rattle.path_server.proofs.WholeTexts.{refused_whole, answered_whole, breaks_whole, lines_want}
 use Rattle.path_server.proofs.streams.query_stream.Goals as goal
 
 pub returns-in-Err-read_owned-clause-failed : goal.returns-in-Err-read_owned-clause-failed
 returns-in-Err-read_owned-clause-failed g c =
     let refused = text_refuses c.args.query.now c.in-Ok.text.items c.in-Err-read_owned.fault c.in-Err-read_owned.ensures in
-    (refused_whole c.args.query.now c.in-Ok.text.items _ c.into.result c.in-Ok.ensures.read (rw c.into.ensures refused), inl (keeps_same _))
+    (refused_whole c.args.query.now c.in-Ok.text.items _ c.into.result c.in-Ok.ensures.read (rw c.into.ensures refused), inl (Keeps-refl _))
 
 pub returns-in-Err-find-clause-failed : goal.returns-in-Err-find-clause-failed
 returns-in-Err-find-clause-failed g c =
     let refused = rw c.in-Ok-read_owned.ensures.0 at c.in-Err-find.ensures.refused in
-    (refused_whole c.args.query.now c.in-Ok.text.items _ c.in-Err-find.fault c.in-Ok.ensures.read refused, inl (keeps_same _))
+    (refused_whole c.args.query.now c.in-Ok.text.items _ c.in-Err-find.fault c.in-Ok.ensures.read refused, inl (Keeps-refl _))
 
 pub returns-in-Ok-write_pieces-clause-answered : goal.returns-in-Ok-write_pieces-clause-answered
 returns-in-Ok-write_pieces-clause-answered g c =
