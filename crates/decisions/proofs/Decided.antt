@@ -18,6 +18,7 @@ use Rattle.decisions.specs.Order.{kind, value_cmp}
 use Rattle.decisions.specs.Places.{place, HasTie, from_place, AreCells, Decides}
 use Rattle.decisions.specs.Truth.{truth, truth_by, versus, literals}
 use Rattle.decisions.specs.Views.{constant_value}
+use Rattle.decisions.specs.declared.relation.Relation.{Relation}
 use Rattle.decisions.specs.declared.test.Constant.{Constant}
 use Rattle.decisions.proofs.Alike.{alike}
 
@@ -37,10 +38,10 @@ module _ (law : TellsByPlaces) where
   stands : (vs : List (Option Value)) (v : Option Value) (l : Literal) → Contains vs (Some (literal_value l)) → from_place vs (kind v) (place value_cmp vs v) l ≡ versus v l
   stands vs v l c = ap (λ o. if nat_eq (kind v) (kind (Some (literal_value l))) then Some o else None) (law.values vs v (Some (literal_value l)) (tie vs (Some (literal_value l)) c))
 
-  pub looked_up : (xs : List Constant) (ts : List (Vec Bool Global)) (e : Tested) (v : Option Value) (cells : Vec Bool Global) (k p : ℕ) (r : Bool)
-      → Decides (map constant_value xs) (map (λ (t : Vec Bool Global). t.items) ts) e → k ≡ kind v → p ≡ place value_cmp (map constant_value xs) v → p ≤ 2 * length xs
-      → cells ≡ get_or ts k cells → r ≡ get_or cells.items p r → r ≡ truth v e
-  looked_up xs ts e v cells k p r d same at within is found =
+  pub looked_up : (xs : List Constant) (ts : List (Vec Bool Global)) (m : Relation) (e : Tested) (v : Option Value) (cells : Vec Bool Global) (k p : ℕ) (r : Bool)
+      → Decides (map constant_value xs) (map (λ (t : Vec Bool Global). t.items) ts) m e → k ≡ kind v → p ≡ place value_cmp (map constant_value xs) v → p ≤ 2 * length xs
+      → cells ≡ get_or ts k cells → r ≡ get_or cells.items p r → r ≡ truth v m e
+  looked_up xs ts m e v cells k p r d same at within is found =
       let vs = map constant_value xs in
       let many = length-map ts (λ (t : Vec Bool Global). t.items) in
       let few = kinds_below v in
@@ -53,7 +54,7 @@ module _ (law : TellsByPlaces) where
       let below : p < length cells.items = omega arith in
       let right = (d.right k there).right p (subst (λ ys. p < length ys) row below) in
       found ∙ get_or_default cells.items p r false below ∙ ap (λ ys. get_or ys p false) row ∙ right
-      ∙ alike (from_place vs k p) (versus v) e (λ m c. ap (λ j. from_place vs j p m) same ∙ ap (λ q. from_place vs (kind v) q m) at ∙ stands vs v m (All-contains (λ y. Contains vs (Some (literal_value y))) (literals e) m d.known c))
+      ∙ alike (from_place vs k p) (versus v) m e (λ l c. ap (λ j. from_place vs j p l) same ∙ ap (λ q. from_place vs (kind v) q l) at ∙ stands vs v l (All-contains (λ y. Contains vs (Some (literal_value y))) (literals e) l d.known c))
 
 -- from vectors to lists
 module _ (P : ℕ → List Bool → Type 0) where
@@ -64,13 +65,13 @@ module _ (P : ℕ → List Bool → Type 0) where
       let inside : k < length (t ∷ ts) = omega arith in
       subst (P k) (sym (get_or-map (λ (u : Vec Bool Global). u.items) (t ∷ ts) k t [] inside)) (h k t inside)
 
-pub decides : (xs ys : List Constant) (ts : List (Vec Bool Global)) (e : Tested) → ys ≡ xs → All (λ l. Contains (map constant_value xs) (Some (literal_value l))) (literals e) → length ts ≡ 7
-    → ((k : ℕ) (d : Vec Bool Global) → k < length ts → AreCells (length ys) (get_or ts k d).items (λ p. truth_by (from_place (map constant_value ys) k p) e))
-    → Decides (map constant_value xs) (map (λ (t : Vec Bool Global). t.items) ts) e
-decides xs ys ts e same known kinds right = record {
+pub decides : (xs ys : List Constant) (ts : List (Vec Bool Global)) (m : Relation) (e : Tested) → ys ≡ xs → All (λ l. Contains (map constant_value xs) (Some (literal_value l))) (literals e) → length ts ≡ 7
+    → ((k : ℕ) (d : Vec Bool Global) → k < length ts → AreCells (length ys) (get_or ts k d).items (λ p. truth_by (from_place (map constant_value ys) k p) m e))
+    → Decides (map constant_value xs) (map (λ (t : Vec Bool Global). t.items) ts) m e
+decides xs ys ts m e same known kinds right = record {
   known = known;
   kinds = length-map ts (λ (t : Vec Bool Global). t.items) ∙ kinds;
-  right = lists_right (λ k cells. AreCells (length (map constant_value xs)) cells (λ p. truth_by (from_place (map constant_value xs) k p) e)) ts
-      (λ k d l. subst (λ zs. AreCells (length (map constant_value xs)) (get_or ts k d).items (λ p. truth_by (from_place (map constant_value zs) k p) e)) same
-      (subst (λ n. AreCells n (get_or ts k d).items (λ p. truth_by (from_place (map constant_value ys) k p) e)) (ap length same ∙ sym (length-map xs constant_value)) (right k d l)));
+  right = lists_right (λ k cells. AreCells (length (map constant_value xs)) cells (λ p. truth_by (from_place (map constant_value xs) k p) m e)) ts
+      (λ k d l. subst (λ zs. AreCells (length (map constant_value xs)) (get_or ts k d).items (λ p. truth_by (from_place (map constant_value zs) k p) m e)) same
+      (subst (λ n. AreCells n (get_or ts k d).items (λ p. truth_by (from_place (map constant_value ys) k p) m e)) (ap length same ∙ sym (length-map xs constant_value)) (right k d l)));
 }

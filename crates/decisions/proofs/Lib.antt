@@ -4,4 +4,5 @@ pub mod Counts
 pub mod Decided
 pub mod Orders
 pub mod Exprs
+pub mod Itself
 pub mod Sorting

@@ -72,13 +72,13 @@ pub ruleset comparing = (numbers_order, texts_order, null_order, boolean_order)
 
 -- ---- Strings
 
-same_letters : (x y : List ℕ) → bytes_eq x y ≡ is_eq (slice_cmp nat_cmp x y)
+pub same_letters : (x y : List ℕ) → bytes_eq x y ≡ is_eq (slice_cmp nat_cmp x y)
 same_letters x y = lists_ties nat_cmp (λ a b. both a b) x y
   where
     both : (a b : ℕ) → nat_eq a b ≡ is_eq (nat_cmp a b)
     both a b = grind (arith, common_steps)
 
-less_letters : (x y : List ℕ) → less_scalars x y ≡ is_lt (slice_cmp nat_cmp x y)
+pub less_letters : (x y : List ℕ) → less_scalars x y ≡ is_lt (slice_cmp nat_cmp x y)
 less_letters [] [] = refl
 less_letters (x ∷ xs) [] = refl
 less_letters [] (y ∷ ys) = refl

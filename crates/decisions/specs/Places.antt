@@ -9,6 +9,7 @@ use Rattle.tape_values.specs.Comparison.{Value, literal_value}
 use Rattle.decisions.specs.Order.{kind, value_cmp}
 use Rattle.decisions.specs.Tree.{Tested}
 use Rattle.decisions.specs.Truth.{truth_by, literals}
+use Rattle.decisions.specs.declared.relation.Relation.{Relation}
 
 -- how many of xs are below v, and how many are at most v, together: odd at one of several different ones, even between two
 abbrev pub place : {K : Type 0} → (K → K → Ordering) → List K → K → ℕ
@@ -27,8 +28,8 @@ pub record AreCells (count : ℕ) (cells : List Bool) (f : ℕ → Bool) : Type 
   pub sized : length cells ≡ 2 * count + 1
   pub right : (p : ℕ) → p < length cells → slice_index_or cells p false ≡ f p
 
--- the literals of a condition are among the values, and the tables have its truth for each kind and place
-pub record Decides (vs : List (Option Value)) (tables : List (List Bool)) (t : Tested) : Type 0 where
+-- The literals of a condition are among the values, and the tables have its truth for each kind and place, where `@` compares so with `$`.
+pub record Decides (vs : List (Option Value)) (tables : List (List Bool)) (r : Relation) (t : Tested) : Type 0 where
   pub known : All (λ l. Contains vs (Some (literal_value l))) (literals t)
   pub kinds : length tables ≡ 7
-  pub right : (k : ℕ) → k < length tables → AreCells (length vs) (slice_index_or tables k []) (λ p. truth_by (from_place vs k p) t)
+  pub right : (k : ℕ) → k < length tables → AreCells (length vs) (slice_index_or tables k []) (λ p. truth_by (from_place vs k p) r t)

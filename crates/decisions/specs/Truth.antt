@@ -1,14 +1,16 @@
 -- What a condition says of its side's value, by how that compares with each literal.
-use Rattle.std.specs.Prelude.{Bool, true, false, ◌&&◌, ◌||◌, List, [], ◌∷◌, ◌++◌, Option, Some, None, nat_eq, if◌then◌else◌}
+use Rattle.std.specs.Prelude.{◌≡◌, Bool, true, false, ◌&&◌, ◌||◌, List, [], ◌∷◌, ◌++◌, Option, Some, None, nat_eq, if◌then◌else◌}
 use Rattle.std.specs.Prelude.{not as opposite}
 use Rattle.std.specs.Ordering.{is_eq, is_ne, is_lt, is_le, is_gt, is_ge, ordering_reverse}
 use Rattle.std.specs.declared.cmp.Ordering.{Ordering}
+use Rattle.std.specs.declared.cmp.Ordering.TheVariants.{Equal}
 use Rattle.path_grammar.specs.Tree.{Literal}
 use Rattle.path_grammar.specs.declared.ast.Op.{Op}
 use Rattle.path_grammar.specs.declared.ast.Op.TheVariants.{Eq, Ne, Le, Ge, Lt, Gt}
-use Rattle.tape_values.specs.Comparison.{Value, literal_value, compared}
+use Rattle.tape_values.specs.Comparison.{Value, literal_value, equal_results, less_results, compared}
 use Rattle.decisions.specs.Order.{kind, value_cmp}
-use Rattle.decisions.specs.Tree.{Tested, Tests, any, each, negated, value, against, two, present, no_tests, tested}
+use Rattle.decisions.specs.Tree.{Tested, Tests, any, each, negated, value, against, two, present, itself, rooted, no_tests, tested}
+use Rattle.decisions.specs.declared.relation.Relation.{Relation}
 
 -- whether a comparison holds, by how its left side compares with its right one
 abbrev pub told : Op → Ordering → Bool
@@ -37,8 +39,29 @@ abbrev pub turned : Option Ordering → Option Ordering
 turned None = None
 turned (Some o) = Some (ordering_reverse o)
 
--- `f` says how the value compares with a literal, and None where it is of another kind
-module _ (f : Literal → Option Ordering) where
+-- whether a comparison holds, by whether its sides are equal, either way round, the left one is less, and the right one
+abbrev pub told_of : (equal back less greater : Bool) → Op → Bool
+told_of equal back less greater Eq = equal
+told_of equal back less greater Ne = opposite equal
+told_of equal back less greater Lt = less
+told_of equal back less greater Gt = greater
+told_of equal back less greater Le = less || equal
+told_of equal back less greater Ge = greater || back
+
+-- whether a comparison of `@` with `$` holds, or of `$` with `@`
+abbrev pub related : Relation → (turned : Bool) → Op → Bool
+related r false op = told_of r.is_equal r.is_equal_back r.is_less r.is_greater op
+related r true op = told_of r.is_equal_back r.is_equal r.is_greater r.is_less op
+
+-- these two values compare so
+pub record IsRelated (r : Relation) (v w : Option Value) : Type 0 where
+  pub equal : r.is_equal ≡ equal_results v w
+  pub back : r.is_equal_back ≡ equal_results w v
+  pub less : r.is_less ≡ less_results v w
+  pub greater : r.is_greater ≡ less_results w v
+
+-- `f` says how the value compares with a literal, and None where it is of another kind; `r` says how `@` compares with `$`
+module _ (f : Literal → Option Ordering) (r : Relation) where
   abbrev mutual
     -- whether a condition holds; `@` and `$` are always there
     pub truth_by : Tested → Bool
@@ -49,6 +72,8 @@ module _ (f : Literal → Option Ordering) where
     truth_by (against l op) = told_by op (turned (f l))
     truth_by (two l op m) = compared op (Some (literal_value l)) (Some (literal_value m))
     truth_by (present from_root) = true
+    truth_by (itself from_root op) = told op Equal
+    truth_by (rooted turned op) = related r turned op
 
     pub some_true : Tests → Bool
     some_true no_tests = false
@@ -63,8 +88,8 @@ abbrev pub versus : Option Value → Literal → Option Ordering
 versus v l = if nat_eq (kind v) (kind (Some (literal_value l))) then Some (value_cmp v (Some (literal_value l))) else None
 
 -- whether a condition holds where its side has this value
-abbrev pub truth : Option Value → Tested → Bool
-truth v t = truth_by (versus v) t
+abbrev pub truth : Option Value → Relation → Tested → Bool
+truth v r t = truth_by (versus v) r t
 
 abbrev mutual
   -- the literals that stand against the side
@@ -76,6 +101,8 @@ abbrev mutual
   literals (against l op) = l ∷ []
   literals (two l op m) = []
   literals (present from_root) = []
+  literals (itself from_root op) = []
+  literals (rooted turned op) = []
 
   pub all_literals : Tests → List Literal
   all_literals no_tests = []

@@ -2,16 +2,18 @@
 
 ghost use Rattle.std.specs.Prelude.{◌≡◌, IfOk};
 ghost use Rattle.tape_values.specs.Sides.{side_value, IsSide};
-ghost use Rattle.decisions.specs.Tree.{uses};
+ghost use Rattle.decisions.specs.Tree.{uses, meets_root};
 ghost use Rattle.decisions.specs.Truth.{truth};
 ghost use Rattle.decisions.specs.Views.{test_view};
 
-use crate::counting::uses_of;
+use crate::counting::{meets_root, uses_of};
 use crate::gathering::literals_of;
 use crate::laws::tells_by_places;
 use crate::order::side_kind;
 use crate::places::side_place;
+use crate::relation::Relation;
 use crate::tables::tables;
+use crate::telling::holds;
 use crate::test::{Constant, Test};
 use json_tape::Document;
 use std::alloc::{AllocError, Global};
@@ -23,8 +25,11 @@ use tape_values::Side;
 pub struct Decision {
     test: Test,
     literals: Vec<Constant>,
+    /// Where `@` compares so with `$`.
+    relation: Relation,
     tables: Vec<Vec<bool>>,
     count: u32,
+    is_rooted: bool,
 }
 
 impl Model for Decision {
@@ -35,7 +40,7 @@ impl Model for Decision {
     ghost use Rattle.decisions.specs.declared.test.Test.{Test};
     ghost use Rattle.decisions.specs.Order.{value_cmp};
     ghost use Rattle.decisions.specs.Places.{Decides};
-    ghost use Rattle.decisions.specs.Tree.{uses};
+    ghost use Rattle.decisions.specs.Tree.{uses, meets_root};
     ghost use Rattle.decisions.specs.Views.{constant_value, test_view};
 
     ghost Value = { Test };
@@ -44,7 +49,7 @@ impl Model for Decision {
 
     ghost view = { λ d. d.test };
 
-    ghost invariant = { λ d. IsSortedByKey constant_value value_cmp d.literals.items × Decides (map constant_value d.literals.items) (map (λ t. t.items) d.tables.items) (test_view d.test) × (d.count ≡ uses (test_view d.test)) };
+    ghost invariant = { λ d. IsSortedByKey constant_value value_cmp d.literals.items × Decides (map constant_value d.literals.items) (map (λ t. t.items) d.tables.items) d.relation (test_view d.test) × (d.count ≡ uses (test_view d.test)) × (d.is_rooted ≡ meets_root (test_view d.test)) };
 }
 
 impl Decision {
@@ -56,12 +61,16 @@ impl Decision {
             return Err(AllocError);
         };
         let literals = literals_of(alloc, &test)?;
-        let tables = tables(alloc, &literals, &test)?;
+        let relation = Relation::apart();
+        let is_rooted = meets_root(&test);
+        let tables = tables(alloc, &literals, relation, &test)?;
         Ok(Decision {
             test,
             literals,
+            relation,
             tables,
             count,
+            is_rooted,
         })
     }
 
@@ -72,12 +81,22 @@ impl Decision {
         self.count
     }
 
-    /// Whether the condition holds where its side has a value.
-    pub fn holds<'a>(&'a self, doc: &'a Document, side: &Side<'a>) -> bool
+    /// Whether it compares `@` with `$`.
+    pub fn is_rooted(&self) -> bool
+        ensures { result ≡ meets_root (test_view self.now) }
+    {
+        self.is_rooted
+    }
+
+    /// Whether the condition holds where its side has a value, and `@` compares so with `$`: at once where these are apart.
+    pub fn holds<'a>(&'a self, doc: &'a Document, side: &Side<'a>, relation: Relation) -> bool
         requires { IsSide doc.now side.now }
-        ensures { result ≡ truth (side_value doc.now side.now) (test_view self.now) }
+        ensures { result ≡ truth (side_value doc.now side.now) relation (test_view self.now) }
     {
         tells_by_places();
+        if !relation.is(self.relation) {
+            return holds(&self.test, doc, side, relation);
+        }
         let cells = &self.tables[side_kind(doc, side)];
         cells[side_place(doc, &self.literals, side)]
     }

@@ -42,7 +42,7 @@ fn gather(alloc: Global, test: &Test, found: &mut Vec<Constant>) -> Result<(), A
             found.push(copied)?;
             Ok(())
         }
-        Test::Literals(..) | Test::Present(_) => Ok(()),
+        Test::Literals(..) | Test::Present(_) | Test::Itself(..) | Test::Rooted(..) => Ok(()),
     }
 }
 

@@ -12,10 +12,15 @@ mod laws;
 mod order;
 mod places;
 mod reading;
+mod relation;
+mod runs;
 mod tables;
+mod telling;
 mod test;
 
 pub use decision::Decision;
 pub use laws::{tells_as_compared, tells_by_places};
-pub use reading::{decide, side_in};
+pub use reading::{decide, decide_list, side_in, side_in_any};
+pub use relation::Relation;
+pub use runs::{has_run, run_end};
 pub use test::{Constant, Test};

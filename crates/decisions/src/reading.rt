@@ -3,14 +3,16 @@
 ghost use Rattle.std.specs.Prelude.{◌≡◌, map, IsTrue, IfOk, IfSome};
 ghost use Rattle.path_grammar.specs.Tree as tree;
 ghost use Rattle.path_grammar.specs.Tree.{exprs_of};
-ghost use Rattle.path_grammar.specs.View.{literal_view, comparable_view, call_view, expr_view, nested_view};
+ghost use Rattle.path_grammar.specs.View.{literal_view, comparable_view, call_view, expr_view, nested_view, segment_view};
 ghost use Rattle.path_types.specs.Validity.{is_literal, is_valid_expr, are_valid_exprs, is_valid_comparable};
-ghost use Rattle.decisions.specs.Tree.{expr_of, exprs_of_tests, tests_of};
+ghost use Rattle.decisions.specs.Tree.{expr_of, exprs_of_tests, tests_of, listed};
 ghost use Rattle.decisions.specs.Views.{constant_view, test_view};
 
 use crate::decision::Decision;
 use crate::test::{Constant, Test};
-use path_grammar::{Argument, Call, Comparable, Expr, Literal, Op, SubQuery};
+use path_grammar::{
+    Argument, Call, Comparable, Expr, IntLit, Literal, Op, Segment, Selector, SubQuery,
+};
 use std::alloc::{AllocError, Global};
 
 fn constant(alloc: Global, written: &Literal) -> Result<Constant, AllocError>
@@ -26,11 +28,49 @@ fn constant(alloc: Global, written: &Literal) -> Result<Constant, AllocError>
     Ok(Constant { literal })
 }
 
-// Whether two queries are known to be one: `@`, or `$`, by itself.
+fn are_one_index(a: IntLit, b: IntLit) -> bool
+    ensures { IsTrue result → a ≡ b }
+{
+    match (a, b) {
+        (IntLit::Within(x), IntLit::Within(y)) => x == y,
+        (IntLit::Beyond, IntLit::Beyond) => true,
+        _ => false,
+    }
+}
+
+// Whether two segments are one name, or one index.
+fn are_one_segment(a: &Segment, b: &Segment) -> bool
+    ensures { IsTrue result → segment_view a.now ≡ segment_view b.now }
+{
+    if a.descend || b.descend {
+        return false;
+    }
+    match (a.selectors.as_slice(), b.selectors.as_slice()) {
+        ([Selector::Name(x)], [Selector::Name(y)]) => x.as_slice() == y.as_slice(),
+        ([Selector::Index(i)], [Selector::Index(j)]) => are_one_index(*i, *j),
+        _ => false,
+    }
+}
+
+fn are_one_path(a: &[Segment], b: &[Segment]) -> bool
+    ensures { IsTrue result → map segment_view a.now ≡ map segment_view b.now }
+{
+    if a.len() != b.len() {
+        return false;
+    }
+    for i in 0..a.len() {
+        if !are_one_segment(&a[i], &b[i]) {
+            return false;
+        }
+    }
+    true
+}
+
+// Whether two queries are known to be one, of names and indexes.
 fn are_one_query(a: &SubQuery, b: &SubQuery) -> bool
     ensures { IsTrue result → nested_view a.now ≡ nested_view b.now }
 {
-    a.from_root == b.from_root && a.segments.is_empty() && b.segments.is_empty()
+    a.from_root == b.from_root && are_one_path(&a.segments, &b.segments)
 }
 
 // Whether two calls are known to be one.
@@ -47,7 +87,7 @@ fn are_one_call(a: &Call, b: &Call) -> bool
 }
 
 // Whether two sides are known to be one, which is no literal.
-fn are_one_side(a: &Comparable, b: &Comparable) -> bool
+pub fn are_one_side(a: &Comparable, b: &Comparable) -> bool
     ensures { IsTrue result → comparable_view a.now ≡ comparable_view b.now }
 {
     match a {
@@ -91,7 +131,35 @@ fn against(
     }
 }
 
-// What is no literal against a literal.
+// `@` or `$` with one of these.
+fn pair(side: &Comparable, left: &SubQuery, op: Op, right: &SubQuery) -> Option<Test>
+    ensures { IfSome result (λ test. expr_of (comparable_view side.now) (test_view test) ≡ tree.compare (tree.single (nested_view left.now)) op (tree.single (nested_view right.now))) }
+{
+    let _ = side;
+    if !left.segments.is_empty() || !right.segments.is_empty() {
+        return None;
+    }
+    if left.from_root == right.from_root {
+        Some(Test::Itself(left.from_root, op))
+    } else {
+        Some(Test::Rooted(left.from_root, op))
+    }
+}
+
+// Two sides that are no literals.
+fn sides(side: &Comparable, left: &Comparable, op: Op, right: &Comparable) -> Option<Test>
+    ensures { IfSome result (λ test. expr_of (comparable_view side.now) (test_view test) ≡ tree.compare (comparable_view left.now) op (comparable_view right.now)) }
+{
+    match left {
+        Comparable::Lit(_) | Comparable::Func(_) => None,
+        Comparable::Single(x) => match right {
+            Comparable::Lit(_) | Comparable::Func(_) => None,
+            Comparable::Single(y) => pair(side, x, op, y),
+        },
+    }
+}
+
+// What is no literal against a literal, or another.
 fn value(
     alloc: Global,
     side: &Comparable,
@@ -103,7 +171,7 @@ fn value(
     ensures { IfOk result (λ made. IfSome made (λ test. expr_of (comparable_view side.now) (test_view test) ≡ tree.compare (comparable_view left.now) op (comparable_view right.now))) }
 {
     match right {
-        Comparable::Single(_) | Comparable::Func(_) => Ok(None),
+        Comparable::Single(_) | Comparable::Func(_) => Ok(sides(side, left, op, right)),
         Comparable::Lit(literal) => {
             if !are_one_side(side, left) {
                 return Ok(None);
@@ -183,7 +251,7 @@ fn read_all(
 }
 
 // So many comparisons are made one by one.
-const FEW: usize = 3;
+pub const FEW: usize = 3;
 
 // How many comparisons there are.
 #[cycle(sizes)]
@@ -192,7 +260,8 @@ fn size(test: &Test) -> usize {
         Test::Any(operands) => size_of_all(operands),
         Test::Each(operands) => size_of_all(operands),
         Test::Not(operand) => size(operand),
-        Test::Value(..) | Test::Against(..) | Test::Literals(..) | Test::Present(_) => 1,
+        Test::Value(..) | Test::Against(..) | Test::Literals(..) => 1,
+        Test::Present(_) | Test::Itself(..) | Test::Rooted(..) => 1,
     }
 }
 
@@ -205,6 +274,16 @@ fn size_of_all(operands: &[Test]) -> usize {
     sum
 }
 
+// The decision of a condition that is large enough.
+fn decision_of(alloc: Global, test: Test) -> Result<Option<Decision>, AllocError>
+    ensures { IfOk result (λ made. IfSome made (λ decision. decision ≡ test)) }
+{
+    if size(&test) <= FEW {
+        return Ok(None);
+    }
+    Ok(Some(Decision::new(alloc, test)?))
+}
+
 /// The decision of a condition on this side, if the expression is one, of more than three comparisons. `AllocError` where a growth was
 /// refused.
 pub fn decide(alloc: Global, side: &Comparable, expr: &Expr) -> Result<Option<Decision>, AllocError>
@@ -213,36 +292,45 @@ pub fn decide(alloc: Global, side: &Comparable, expr: &Expr) -> Result<Option<De
 {
     match read(alloc, expr, side)? {
         None => Ok(None),
-        Some(test) => {
-            if size(&test) <= FEW {
-                return Ok(None);
+        Some(test) => decision_of(alloc, test),
+    }
+}
+
+/// The same of operands with `||` between them, or with `&&`.
+pub fn decide_list(
+    alloc: Global,
+    side: &Comparable,
+    is_any: bool,
+    operands: &[Expr],
+) -> Result<Option<Decision>, AllocError>
+    requires valid { IsTrue (are_valid_exprs (exprs_of (map expr_view operands.now))) }
+    ensures { IfOk result (λ made. IfSome made (λ decision. expr_of (comparable_view side.now) (test_view decision) ≡ listed is_any (exprs_of (map expr_view operands.now)))) }
+{
+    match read_all(alloc, operands, side)? {
+        None => Ok(None),
+        Some(tests) => {
+            if is_any {
+                decision_of(alloc, Test::Any(tests))
+            } else {
+                decision_of(alloc, Test::Each(tests))
             }
-            Ok(Some(Decision::new(alloc, test)?))
         }
     }
 }
 
-// The first of two sides that is no literal.
-fn side_of_two<'a>(left: &'a Comparable, right: &'a Comparable) -> Option<&'a Comparable>
-    requires left { IsTrue (is_valid_comparable (comparable_view left.now)) }
-    requires right { IsTrue (is_valid_comparable (comparable_view right.now)) }
-    ensures { IfSome result (λ side. IsTrue (is_valid_comparable (comparable_view side.now))) }
-{
-    match left {
-        Comparable::Single(_) | Comparable::Func(_) => Some(left),
-        Comparable::Lit(_) => match right {
-            Comparable::Single(_) | Comparable::Func(_) => Some(right),
-            Comparable::Lit(_) => None,
-        },
+// The side that stands against a literal.
+fn side_of_two<'a>(left: &'a Comparable, right: &'a Comparable) -> Option<&'a Comparable> {
+    match (left, right) {
+        (Comparable::Lit(_), Comparable::Lit(_)) => None,
+        (Comparable::Lit(_), _) => Some(right),
+        (_, Comparable::Lit(_)) => Some(left),
+        _ => None,
     }
 }
 
-/// The first side in an expression that is no literal.
+/// The first side in an expression that stands against a literal.
 #[cycle(sides)]
-pub fn side_in(expr: &Expr) -> Option<&Comparable>
-    requires { IsTrue (is_valid_expr (expr_view expr.now)) }
-    ensures { IfSome result (λ side. IsTrue (is_valid_comparable (comparable_view side.now))) }
-{
+pub fn side_in(expr: &Expr) -> Option<&Comparable> {
     match expr {
         Expr::Any(operands) => side_in_any(operands),
         Expr::Each(operands) => side_in_any(operands),
@@ -252,11 +340,9 @@ pub fn side_in(expr: &Expr) -> Option<&Comparable>
     }
 }
 
+/// The first side in expressions that stands against a literal.
 #[cycle(sides)]
-fn side_in_any(operands: &[Expr]) -> Option<&Comparable>
-    requires { IsTrue (are_valid_exprs (exprs_of (map expr_view operands.now))) }
-    ensures { IfSome result (λ side. IsTrue (is_valid_comparable (comparable_view side.now))) }
-{
+pub fn side_in_any(operands: &[Expr]) -> Option<&Comparable> {
     for operand in operands {
         if let Some(side) = side_in(operand) {
             return Some(side);

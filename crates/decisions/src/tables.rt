@@ -14,13 +14,14 @@ ghost use Rattle.decisions.specs.Views.{constant_view, constant_value, test_view
 use crate::laws::tells_as_compared;
 use crate::order::{KINDS, compare_literals, literal_kind};
 use crate::places::literal_place;
+use crate::relation::Relation;
 use crate::test::{Constant, Test};
 use path_grammar::Op;
 use std::alloc::{AllocError, Global};
 use std::cmp::Ordering;
 
 // Whether a comparison holds, by how its sides compare.
-fn tells(op: Op, order: Ordering) -> bool
+pub fn tells(op: Op, order: Ordering) -> bool
     ensures { result ≡ told op order }
 {
     match op {
@@ -55,7 +56,7 @@ fn turn_about(op: Op) -> Op
 }
 
 // Whether a comparison of two literals holds.
-fn compare_two(left: &Constant, op: Op, right: &Constant) -> bool
+pub fn compare_two(left: &Constant, op: Op, right: &Constant) -> bool
     ensures { result ≡ compared op (constant_value left.now) (constant_value right.now) }
 {
     tells_as_compared();
@@ -150,16 +151,17 @@ fn table(
     alloc: Global,
     literals: &[Constant],
     kind: usize,
+    relation: Relation,
     test: &Test,
 ) -> Result<Vec<bool>, AllocError>
     requires { IsSortedByKey constant_value value_cmp literals.now }
-    ensures { IfOk result (λ cells. AreCells (length literals.now) cells.items (λ p. truth_by (from_place (map constant_value literals.now) kind p) (test_view test.now))) }
+    ensures { IfOk result (λ cells. AreCells (length literals.now) cells.items (λ p. truth_by (from_place (map constant_value literals.now) kind p) relation (test_view test.now))) }
 {
     match test {
-        Test::Any(operands) => some_table(alloc, literals, kind, operands),
-        Test::Each(operands) => all_table(alloc, literals, kind, operands),
+        Test::Any(operands) => some_table(alloc, literals, kind, relation, operands),
+        Test::Each(operands) => all_table(alloc, literals, kind, relation, operands),
         Test::Not(operand) => {
-            let mut cells = table(alloc, literals, kind, operand)?;
+            let mut cells = table(alloc, literals, kind, relation, operand)?;
             turn(&mut cells);
             Ok(cells)
         }
@@ -170,6 +172,8 @@ fn table(
             all_cells(alloc, literals, truth)
         }
         Test::Present(_) => all_cells(alloc, literals, true),
+        Test::Itself(_, op) => all_cells(alloc, literals, tells(*op, Ordering::Equal)),
+        Test::Rooted(turned, op) => all_cells(alloc, literals, relation.tells(*turned, *op)),
     }
 }
 
@@ -179,14 +183,15 @@ fn some_table(
     alloc: Global,
     literals: &[Constant],
     kind: usize,
+    relation: Relation,
     operands: &[Test],
 ) -> Result<Vec<bool>, AllocError>
     requires { IsSortedByKey constant_value value_cmp literals.now }
-    ensures { IfOk result (λ cells. AreCells (length literals.now) cells.items (λ p. some_true (from_place (map constant_value literals.now) kind p) (tests_of (map test_view operands.now)))) }
+    ensures { IfOk result (λ cells. AreCells (length literals.now) cells.items (λ p. some_true (from_place (map constant_value literals.now) kind p) relation (tests_of (map test_view operands.now)))) }
 {
     let mut cells = all_cells(alloc, literals, false)?;
     for operand in operands {
-        let part = table(alloc, literals, kind, operand)?;
+        let part = table(alloc, literals, kind, relation, operand)?;
         join(&mut cells, &part);
     }
     Ok(cells)
@@ -198,14 +203,15 @@ fn all_table(
     alloc: Global,
     literals: &[Constant],
     kind: usize,
+    relation: Relation,
     operands: &[Test],
 ) -> Result<Vec<bool>, AllocError>
     requires { IsSortedByKey constant_value value_cmp literals.now }
-    ensures { IfOk result (λ cells. AreCells (length literals.now) cells.items (λ p. all_true (from_place (map constant_value literals.now) kind p) (tests_of (map test_view operands.now)))) }
+    ensures { IfOk result (λ cells. AreCells (length literals.now) cells.items (λ p. all_true (from_place (map constant_value literals.now) kind p) relation (tests_of (map test_view operands.now)))) }
 {
     let mut cells = all_cells(alloc, literals, true)?;
     for operand in operands {
-        let part = table(alloc, literals, kind, operand)?;
+        let part = table(alloc, literals, kind, relation, operand)?;
         meet(&mut cells, &part);
     }
     Ok(cells)
@@ -215,15 +221,16 @@ fn all_table(
 pub fn tables(
     alloc: Global,
     literals: &[Constant],
+    relation: Relation,
     test: &Test,
 ) -> Result<Vec<Vec<bool>>, AllocError>
     requires { IsSortedByKey constant_value value_cmp literals.now }
     ensures kinds { IfOk result (λ tables. length tables.items ≡ 7) }
-    ensures right { IfOk result (λ tables. (k : ℕ) (d : _) → k < length tables.items → AreCells (length literals.now) (slice_index_or tables.items k d).items (λ p. truth_by (from_place (map constant_value literals.now) k p) (test_view test.now))) }
+    ensures right { IfOk result (λ tables. (k : ℕ) (d : _) → k < length tables.items → AreCells (length literals.now) (slice_index_or tables.items k d).items (λ p. truth_by (from_place (map constant_value literals.now) k p) relation (test_view test.now))) }
 {
     let mut made = Vec::new(alloc);
     for kind in 0..KINDS {
-        let cells = table(alloc, literals, kind, test)?;
+        let cells = table(alloc, literals, kind, relation, test)?;
         made.push(cells)?;
     }
     Ok(made)

@@ -27,4 +27,8 @@ pub enum Test {
     Literals(Constant, Op, Constant),
     /// `@`, or `$`, by itself, which there always is.
     Present(bool),
+    /// `@`, or `$`, with itself.
+    Itself(bool, Op),
+    /// `@` with `$`, or the other way round where the flag says so.
+    Rooted(bool, Op),
 }

@@ -14,3 +14,4 @@ pub mod Slots
 pub mod Filtering
 pub mod Naming
 pub mod Deciding
+pub mod Joining

@@ -3,7 +3,7 @@ use Rattle.std.specs.Prelude.{ℕ, ◌+◌, List, [], ◌∷◌, ◌++◌, map, 
 use Rattle.path_grammar.specs.Tree as tree
 use Rattle.path_grammar.specs.Tree.{OneSegment, Segments, segments_of, selectors_of, exprs_of}
 use Rattle.path_grammar.specs.View.{literal_view}
-use Rattle.decisions.specs.Tree.{expr_of}
+use Rattle.decisions.specs.Tree.{expr_of, listed}
 use Rattle.decisions.specs.Views.{test_view}
 use Rattle.tape_select.specs.declared.plan.Condition.TheOpen.{Condition-F, Operand-F, Selection-F, Nested-F, Stage-F}
 use Rattle.tape_select.specs.declared.plan.Condition.{Condition, fold-Condition}
@@ -59,6 +59,28 @@ link_view l = record { descend = false; selectors = tree.selector (link_selector
 abbrev pub links_view : List Link → Segments
 links_view ls = segments_of (map link_view ls)
 
+-- ---- Lists of operands in parts
+
+-- the operands that an expression has as such a list, or itself alone
+abbrev pub operands_of : (is_any : Bool) → tree.Expr → tree.Exprs
+operands_of true (tree.any es) = es
+operands_of false (tree.any es) = tree.expr (tree.any es) tree.no_exprs
+operands_of true (tree.each es) = tree.expr (tree.each es) tree.no_exprs
+operands_of false (tree.each es) = es
+operands_of is_any (tree.not e) = tree.expr (tree.not e) tree.no_exprs
+operands_of is_any (tree.compare a op b) = tree.expr (tree.compare a op b) tree.no_exprs
+operands_of is_any (tree.test q) = tree.expr (tree.test q) tree.no_exprs
+operands_of is_any (tree.test_call c) = tree.expr (tree.test_call c) tree.no_exprs
+
+abbrev pub append_exprs : tree.Exprs → tree.Exprs → tree.Exprs
+append_exprs tree.no_exprs others = others
+append_exprs (tree.expr e es) others = tree.expr e (append_exprs es others)
+
+-- the operands of all parts
+abbrev pub joined : (is_any : Bool) → List tree.Expr → tree.Exprs
+joined is_any [] = tree.no_exprs
+joined is_any (e ∷ es) = append_exprs (operands_of is_any e) (joined is_any es)
+
 -- ---- The levels
 
 -- a side of a comparison as an argument
@@ -82,6 +104,7 @@ module _ where
   condition_step (Condition-F.Compare a op b) = record { tree = tree.compare a.tree op b.tree; claims = both a.claims b.claims }
   condition_step (Condition-F.Exists q) = record { tree = tree.test q.tree; claims = q.claims }
   condition_step (Condition-F.Decided a b) = record { tree = expr_of a.tree (test_view b.value); claims = a.claims }
+  condition_step (Condition-F.Joined is_any v) = record { tree = listed is_any (joined is_any (map tree_in v.items)); claims = all_claims v.items }
 
   abbrev pub operand_step : Layer Operand-F → With tree.Comparable
   operand_step (Operand-F.Constant l) = record { tree = tree.lit (constant_view l); claims = no_claims }

@@ -4,14 +4,14 @@ ghost use Rattle.std.specs.Prelude.{◌≡◌, ◌<◌, ◌+◌, ◌*◌, ◌∷
 ghost use Rattle.json_tape.specs.Document.{count, node_at};
 ghost use Rattle.json_tape.specs.Nodes.{children, visit};
 ghost use Rattle.path_grammar.specs.Tree.{exprs_of, selectors_of};
-ghost use Rattle.decisions.specs.Tree.{expr_of};
+ghost use Rattle.decisions.specs.Tree.{expr_of, listed};
 ghost use Rattle.decisions.specs.Views.{test_view};
 ghost use Rattle.tape_select.specs.Evaluation.{evaluated, selected, selected_by, holds, some_hold, all_hold, result as side_result};
 ghost use Rattle.tape_select.specs.Nodelists.{nodes_of};
 ghost use Rattle.tape_select.specs.Charge.{total_of, charge_from, charge_expr, charge_exprs, charge_side};
 ghost use Rattle.tape_select.specs.Extra.{extra_in, extra_by, nodes_from, charge_at, nodes_after, charge_after};
 ghost use Rattle.tape_select.specs.Paying.{Inside, Pays, Adds, Finds, FindsList};
-ghost use Rattle.tape_select.specs.Planned.{trees, query_of, path_of, claims_of, all_claims, look, condition_view, operand_view, selection_view, nested_view, stage_view};
+ghost use Rattle.tape_select.specs.Planned.{trees, joined, query_of, path_of, claims_of, all_claims, look, condition_view, operand_view, selection_view, nested_view, stage_view};
 ghost use Rattle.tape_select.specs.Slots.{AreClaimed};
 ghost use Rattle.tape_select.specs.Memo.{FindsNodes, FindsFor, FindsSide, Keeps};
 
@@ -20,7 +20,7 @@ use crate::descendants::{children_below, named};
 use crate::fault::SelectFault;
 use crate::nodes::{child_total, lone, push, push_some, wild};
 use crate::plan::{Condition, Link, Nested, Operand, Parts, Selection, Stage};
-use crate::sides::{compare, compare_length, length_of, side_found};
+use crate::sides::{compare, compare_length, length_of, related, side_found};
 use crate::slices::sliced;
 use crate::state::{Found, State, found_by_links, found_in, keep, recall};
 use crate::steps::{is_wild, lone_link, only_link, stepped};
@@ -121,7 +121,32 @@ fn holds_by_kind(
         Condition::Decided(operand, decision) => {
             decided(doc, plan, operand, decision, child, state)
         }
+        Condition::Joined(is_any, parts) => joined_hold(doc, plan, *is_any, parts, child, state),
     }
+}
+
+// Whether one of the operands of all parts holds, or each.
+#[cycle(evaluation)]
+#[inline(never)]
+#[tactic(auto, using(crate::proofs::Joining::joining))]
+fn joined_hold(
+    doc: &Document,
+    plan: &Parts,
+    is_any: bool,
+    parts: &[Condition],
+    child: NodeId,
+    state: &mut State,
+) -> Result<bool, SelectFault>
+    requires inside { child.0 < count doc.now }
+    requires claimed { AreClaimed (claims_of plan.now.stages.items) (all_claims (map condition_view parts.now)) }
+    requires kept { Keeps doc.now (claims_of plan.now.stages.items) state.old }
+    ensures found { Finds result (holds (node_at doc.now 0) (listed is_any (joined is_any (trees (map condition_view parts.now)))) (node_at doc.now child.0)) (charge_expr (node_at doc.now 0) (listed is_any (joined is_any (trees (map condition_view parts.now)))) (node_at doc.now child.0)) state.old.meter.left state.new.meter.left }
+    ensures kept { Keeps doc.now (claims_of plan.now.stages.items) state.new }
+{
+    if is_any {
+        return some_hold(doc, plan, parts, child, state);
+    }
+    all_hold(doc, plan, parts, child, state)
 }
 
 // Whether a decided condition holds. Its side is evaluated once, and charged as often as it is written.
@@ -142,16 +167,17 @@ fn decided(
     ensures kept { Keeps doc.now (claims_of plan.now.stages.items) state.new }
 {
     tells_as_compared();
+    let relation = related(doc, decision, child, &mut state.answers);
     let times = decision.uses();
     if times == 0 {
         let nothing = Side::Nothing;
-        return Ok(decision.holds(doc, &nothing));
+        return Ok(decision.holds(doc, &nothing, relation));
     }
     let before = state.meter.left;
     let side = side_of(doc, plan, operand, child, state)?;
     let once = before - state.meter.left;
     state.meter.spend_each(u64::from(times - 1), once)?;
-    Ok(decision.holds(doc, &side))
+    Ok(decision.holds(doc, &side, relation))
 }
 
 // Pays what a condition is charged that cannot change the answer: without a look at the child where that is the same for all.

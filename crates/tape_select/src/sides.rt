@@ -1,16 +1,20 @@
 //! The sides of a comparison, found and compared.
 
-ghost use Rattle.std.specs.Prelude.{◌≡◌, ◌<◌, Some, None, option_map};
+ghost use Rattle.std.specs.Prelude.{◌≡◌, ◌<◌, Some, None, option_map, IsTrue};
 ghost use Rattle.json_tape.specs.Document.{count, node_at, IsIn};
 ghost use Rattle.path_grammar.specs.View.{literal_view};
 ghost use Rattle.tape_values.specs.Comparison.{Value, compared, value_of, literal_value};
 ghost use Rattle.tape_values.specs.Functions.{length_value, whole_number};
 ghost use Rattle.tape_values.specs.Sides.{side_value, IsSide};
+ghost use Rattle.decisions.specs.Tree.{meets_root};
+ghost use Rattle.decisions.specs.Truth.{IsRelated};
+ghost use Rattle.decisions.specs.Views.{test_view};
 ghost use Rattle.tape_select.specs.Answered.{AreRight};
 ghost use Rattle.tape_select.specs.Memo.{value_found};
 
 use crate::answers::{Answer, compare_once, make_room};
 use crate::plan::Constant;
+use decisions::{Decision, Relation};
 use json_tape::{Document, Kind, NodeId};
 use path_grammar::{Literal, Op};
 use tape_values::{Side, compare_sides, compare_whole};
@@ -169,5 +173,43 @@ pub fn compare(
         (Side::Nothing, Side::Node(_) | Side::Literal(_) | Side::Whole(_)) => one_missing(op),
         (Side::Node(_) | Side::Literal(_) | Side::Whole(_), Side::Nothing) => one_missing(op),
         _ => compare_sides(doc, op, left, right),
+    }
+}
+
+// How the values of a node and the root compare.
+#[inline(never)]
+fn relation(doc: &Document, child: NodeId, answers: &mut Vec<Option<Answer>>) -> Relation
+    requires inside { child.0 < count doc.now }
+    requires before { AreRight doc.now answers.old.items }
+    ensures related { IsRelated result (Some (value_of (node_at doc.now child.0).tree)) (Some (value_of (node_at doc.now 0).tree)) }
+    ensures after { AreRight doc.now answers.new.items }
+{
+    let node = Side::Node(child);
+    let root = Side::Node(doc.root());
+    Relation {
+        is_equal: compare(doc, Op::Eq, &node, &root, answers),
+        is_equal_back: compare(doc, Op::Eq, &root, &node, answers),
+        is_less: compare(doc, Op::Lt, &node, &root, answers),
+        is_greater: compare(doc, Op::Lt, &root, &node, answers),
+    }
+}
+
+/// How the values of a node and the root compare, where a condition asks.
+#[inline(always)]
+pub fn related(
+    doc: &Document,
+    decision: &Decision,
+    child: NodeId,
+    answers: &mut Vec<Option<Answer>>,
+) -> Relation
+    requires inside { child.0 < count doc.now }
+    requires before { AreRight doc.now answers.old.items }
+    ensures related { IsTrue (meets_root (test_view decision.now)) → IsRelated result (Some (value_of (node_at doc.now child.0).tree)) (Some (value_of (node_at doc.now 0).tree)) }
+    ensures after { AreRight doc.now answers.new.items }
+{
+    if decision.is_rooted() {
+        relation(doc, child, answers)
+    } else {
+        Relation::apart()
     }
 }

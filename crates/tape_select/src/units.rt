@@ -4,10 +4,10 @@ ghost use Rattle.std.specs.Prelude.{◌≡◌, ◌∷◌, [], map, IfSome};
 ghost use Rattle.json_tape.specs.Document.{node_at};
 ghost use Rattle.json_tape.specs.Nodes.{Node};
 ghost use Rattle.path_grammar.specs.Tree.{exprs_of};
-ghost use Rattle.decisions.specs.Tree.{expr_of};
+ghost use Rattle.decisions.specs.Tree.{expr_of, listed};
 ghost use Rattle.decisions.specs.Views.{test_view};
 ghost use Rattle.tape_select.specs.Charge.{charge_from, charge_nested, charge_side, charge_expr, charge_exprs};
-ghost use Rattle.tape_select.specs.Planned.{trees, links_view, condition_view, nested_view, operand_view};
+ghost use Rattle.tape_select.specs.Planned.{trees, joined, links_view, condition_view, nested_view, operand_view};
 
 use crate::plan::{Condition, Link, Nested, Operand};
 use decisions::Decision;
@@ -97,7 +97,19 @@ pub fn units_of(doc: &Document, condition: &Condition, child: NodeId) -> Option<
         }
         Condition::Exists(query) => units_of_query(doc, query, child),
         Condition::Decided(operand, decision) => units_of_decided(doc, operand, decision, child),
+        Condition::Joined(is_any, parts) => units_of_joined(doc, *is_any, parts, child),
     }
+}
+
+// The operands of all parts.
+#[cycle(units)]
+#[inline(always)]
+#[tactic(auto, using(crate::proofs::Joining::charge_listed))]
+fn units_of_joined(doc: &Document, is_any: bool, parts: &[Condition], child: NodeId) -> Option<u32>
+    ensures { IfSome result (λ units. charge_expr (node_at doc.now 0) (listed is_any (joined is_any (trees (map condition_view parts.now)))) (node_at doc.now child.0) ≡ units) }
+{
+    let _ = is_any;
+    units_of_all(doc, parts, child)
 }
 
 #[cycle(units)]

@@ -1,4 +1,4 @@
-use Rattle.std.proofs.Common.{sym, ◌∙◌, ◌++◌, ◌+◌, ◌-◌, ◌*◌, ◌<◌, ◌≡◌, [], ◌∷◌, arith, ap, refl, length, map}
+use Rattle.std.proofs.Common.{sym, ◌∙◌, ◌++◌, ◌-◌, ◌*◌, ◌<◌, ◌≡◌, [], ◌∷◌, arith, ap, refl, length, map}
 use Rattle.std.specs.Prelude.{flat_map}
 use Rattle.std.specs.Prelude.{filter as keep}
 use Rattle.std.proofs.lemmas.Result.{err_from_is_err_and}
@@ -20,6 +20,7 @@ use Rattle.tape_select.proofs.Links.{links_charged, links_charged_first, found_t
 use Rattle.tape_select.proofs.Adding.{drawn, drawn_inside}
 use Rattle.tape_select.proofs.Naming.{adds_named, adds_wild}
 use Rattle.tape_select.proofs.Deciding.{free, paid, refused_first, refused_then}
+use Rattle.tape_select.proofs.Joining.{finds_some, finds_all}
 use Rattle.tape_select.proofs.evaluation.+evaluation.Goals as goal
 
 pub all_selected-loop-stage-preserved : goal.all_selected-loop-stage-preserved
@@ -242,7 +243,7 @@ found_behind-returns-clause-found t c =
 pub decided-returns-then-times-eq0-clause-found : goal.decided-returns-then-times-eq0-clause-found
 decided-returns-then-times-eq0-clause-found t c =
     let d = c.args.doc.now in
-    free c.tells_as_compared.ensures (node_at d 0) (node_at d c.args.child.0) (operand_view c.args.operand.now).tree (test_view c.args.decision.now) c.args.state.now.meter.left c.holds.result
+    free c.tells_as_compared.ensures (node_at d 0) (node_at d c.args.child.0) (operand_view c.args.operand.now).tree (test_view c.args.decision.now) c.related-relation.result c.related-relation.ensures.related c.args.state.now.meter.left c.holds.result
     (sym c.uses-times.ensures ∙ c.if-times-eq0.true) c.holds.ensures
 
 pub decided-returns-in_err-side-clause-found : goal.decided-returns-in_err-side-clause-found
@@ -275,5 +276,15 @@ decided-returns-clause-found t c =
     let some : 0 < c.uses-times.result = (let n = c.if-times-eq0.false in omega arith) in
     let found = (c.in_ok-side.ensures).found in
     let parted = found.2 in
-    paid c.tells_as_compared.ensures (node_at d 0) (node_at d c.args.child.0) (operand_view c.args.operand.now).tree e old left c.spend_each.new.self.left c.uses-times.result (old - left) c.holds-2.result
-    c.uses-times.ensures some parted (omega arith) (rw c.from.ensures at c.in_ok-spend_each.ensures) (c.holds-2.ensures ∙ ap (λ v. truth v e) found.0)
+    paid c.tells_as_compared.ensures (node_at d 0) (node_at d c.args.child.0) (operand_view c.args.operand.now).tree e c.related-relation.result c.related-relation.ensures.related old left c.spend_each.new.self.left c.uses-times.result (old - left) c.holds-2.result
+    c.uses-times.ensures some parted (omega arith) (rw c.from.ensures at c.in_ok-spend_each.ensures) (c.holds-2.ensures ∙ ap (λ v. truth v c.related-relation.result e) found.0)
+
+pub joined_hold-returns-then-is_any-clause-found : goal.joined_hold-returns-then-is_any-clause-found
+joined_hold-returns-then-is_any-clause-found t c =
+    let d = c.args.doc.now in
+    finds_some (node_at d 0) (node_at d c.args.child.0) c.some_hold.result c.args.is_any (trees (map condition_view c.args.parts.now)) c.args.state.now.meter.left c.some_hold.new.state.meter.left c.if-is_any.true c.some_hold.ensures.found
+
+pub joined_hold-returns-clause-found : goal.joined_hold-returns-clause-found
+joined_hold-returns-clause-found t c =
+    let d = c.args.doc.now in
+    finds_all (node_at d 0) (node_at d c.args.child.0) c.all_hold.result c.args.is_any (trees (map condition_view c.args.parts.now)) c.args.state.now.meter.left c.all_hold.new.state.meter.left c.if-is_any.false c.all_hold.ensures.found

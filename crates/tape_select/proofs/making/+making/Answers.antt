@@ -1,10 +1,11 @@
-use Rattle.std.proofs.Common.{rules, ◌∙◌, map, refl}
+use Rattle.std.proofs.Common.{rules, ◌∙◌, drop, map, refl}
 use Rattle.path_grammar.specs.Tree.{exprs_of}
 use Rattle.path_grammar.specs.View.{segments_view, selectors_view, segment_view, selector_view, expr_view}
 use Rattle.path_types.specs.Validity.{is_valid, are_valid, are_valid_exprs, is_valid_selector, is_valid_expr}
 use Rattle.tape_select.specs.Planned.{selection_view, stage_view, condition_view}
 use Rattle.tape_select.proofs.Makings.{made_more, valid_more}
 use Rattle.tape_select.proofs.Claims.{numbered_push}
+use Rattle.tape_select.proofs.Joining.{parts_more}
 use Rattle.tape_select.proofs.Calls.{not_one_call, one_call}
 use Rattle.tape_select.proofs.making.+making.Goals as goal
 use Rattle.tape_select.proofs.making.+making.Goals.{function-in_default-via-then-as_slice-lt1, function-in_default-via-else-as_slice-lt1+else-this-lt2}
@@ -45,4 +46,13 @@ conditions-loop-operand-preserved t c =
       same = rw c.in_ok-push.ensures.items (made_more condition_view expr_view c.loop-operand.made.items c.in_ok-one.one c.args.operands.now c.loop-operand.operand-index c.operand-item.result c.loop-operand-test.true c.operand-item.is c.in_ok-one.ensures.same ∙ c.loop-operand.invariant.same);
       numbered = rw c.in_ok-push.ensures.items (numbered_push condition_view c.loop-operand.made.items c.in_ok-one.one c.args.next.now c.loop-operand.next c.condition.new.next c.loop-operand.invariant.numbered c.in_ok-one.ensures.numbered);
       valid = v.1;
+    }
+
+pub parts-loop-from-preserved : goal.parts-loop-from-preserved
+parts-loop-from-preserved t c =
+    let ops = c.args.operands.now in
+    record {
+      same = rw c.in_ok-push.ensures.items (parts_more c.args.is_any c.loop-from.made.items c.in_ok-one.one.condition (exprs_of (map expr_view (drop c.in_ok-one.one.end ops))) (exprs_of (map expr_view (drop c.loop-from.from ops))) c.in_ok-one.ensures.same ∙ c.loop-from.invariant.same);
+      within = c.in_ok-one.ensures.within;
+      numbered = rw c.in_ok-push.ensures.items (numbered_push condition_view c.loop-from.made.items c.in_ok-one.one.condition c.args.next.now c.loop-from.next c.part.new.next c.loop-from.invariant.numbered c.in_ok-one.ensures.numbered);
     }

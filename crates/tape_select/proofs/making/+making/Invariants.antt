@@ -1,9 +1,9 @@
-use Rattle.std.proofs.Common.{◌≡◌, ◌++◌, drop, map, Some}
+use Rattle.std.proofs.Common.{◌≡◌, ◌++◌, ◌-◌, ◌≤◌, drop, length, map, Some}
 use Rattle.std.specs.Prelude.{IsTrue}
 use Rattle.path_grammar.specs.Tree.{exprs_of}
 use Rattle.path_grammar.specs.View.{segments_view, selectors_view, segment_view, selector_view, expr_view}
 use Rattle.path_types.specs.Validity.{is_valid, are_valid, are_valid_exprs}
-use Rattle.tape_select.specs.Planned.{trees, claims_of, all_claims, numbered, selection_view, stage_view, condition_view}
+use Rattle.tape_select.specs.Planned.{trees, joined, append_exprs, claims_of, all_claims, numbered, selection_view, stage_view, condition_view}
 use Rattle.tape_select.proofs.making.+making.Given as goal
 
 abbrev pub invariant-selections-loop-selector : goal.invariant-selections-loop-selector
@@ -26,3 +26,13 @@ invariant-conditions-loop-operand l = record {
   numbered : numbered (all_claims (map condition_view l.made.items)) l.initial.next ≡ Some l.next;
   valid : IsTrue (are_valid_exprs (exprs_of (map expr_view (drop l.operand-index l.operands))));
 }
+
+abbrev pub invariant-parts-loop-from : goal.invariant-parts-loop-from
+invariant-parts-loop-from l = record {
+  same : append_exprs (joined l.is_any (trees (map condition_view l.made.items))) (exprs_of (map expr_view (drop l.from l.operands))) ≡ exprs_of (map expr_view l.operands);
+  within : l.from ≤ length l.operands;
+  numbered : numbered (all_claims (map condition_view l.made.items)) l.initial.next ≡ Some l.next;
+}
+
+abbrev pub decreases-parts-loop-from : goal.decreases-parts-loop-from
+decreases-parts-loop-from l = length l.operands - l.from
