@@ -1,5 +1,5 @@
 use Rattle.std.proofs.Common.{◌≡◌, ◌+◌, length}
-use Rattle.json_tape.proofs.lengths.count_of.Given as goal
+use Rattle.json_tape.proofs.scalars.count_of.Given as goal
 
 abbrev pub invariant-loop-scalars : goal.invariant-loop-scalars
 invariant-loop-scalars l = l.count + length l.scalars ≡ length l.fn.scalars
