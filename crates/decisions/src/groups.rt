@@ -98,9 +98,11 @@ fn firsts_in(alloc: Global, operands: &[Expr]) -> Result<Vec<usize>, AllocError>
     let mut firsts = Vec::new(alloc);
     for i in 0..operands.len() {
         let operand = &operands[i];
+        let side = side_in(operand);
         if firsts.len() < MOST
+            && is_on(operand, side)
             && group_of(operands, &firsts, operand) == 0
-            && FEW < parts_on(operands, side_in(operand))
+            && FEW < parts_on(operands, side)
         {
             firsts.push(i)?;
         }
