@@ -73,3 +73,7 @@ row_joins out out' p f s n h shape count l e =
     ap (λ (xs : List ℕ). xs ++ left (record p { place = p.place + 1 })) e
     ∙ append_assoc out (row p.metrics p.gauges f p.place) (left (record p { place = p.place + 1 }))
     ∙ ap (λ (xs : List ℕ). out ++ xs) (sym (row_left p f (sym h) within))
+
+-- behind the last metric nothing is left
+pub none_left : (p : Page) → length families ≤ p.family → left p ≡ []
+none_left p l = ap (left_of p.metrics p.gauges p.place) (drop_all p.family families l)

@@ -1,10 +1,8 @@
--- What is counted of what happens: this project's own.
+-- What is counted of requests: this project's own.
 use Rattle.std.specs.Prelude.{ℕ, ◌+◌, ◌-◌, ◌*◌, ◌^◌, List, [], ◌∷◌, min, replicate, nat_lt, if◌then◌else◌, Option, Some, None, slice_index, slice_set}
 use Rattle.std.specs.List.{count_by}
 use Rattle.admin_pages.specs.declared.counted.Metrics.{Metrics}
 use Rattle.admin_pages.specs.declared.counted.Served.{Served}
-use Rattle.admin_pages.specs.declared.counted.Event.{Event}
-use Rattle.admin_pages.specs.declared.counted.Event.TheVariants.{Answered, Accepted, Read, Written, Dropped}
 
 -- a sum, up to the greatest number of 64 bits
 abbrev pub added : ℕ → ℕ → ℕ
@@ -21,10 +19,6 @@ none = record {
   tenants = replicate 256 0;
   times = replicate 17 0;
   micros = 0;
-  connections = 0;
-  read = 0;
-  written = 0;
-  dropped = 0;
 }
 
 -- commands have the bytes 1 to 8, statuses 0 to 23; what has no command counts under 0, and FrameFault (255) under 24
@@ -50,10 +44,3 @@ after_request m s = record m {
   times = raised m.times (time_place s.micros);
   micros = added m.micros s.micros;
 }
-
-abbrev pub after : Metrics → Event → Metrics
-after m (Answered s) = after_request m s
-after m Accepted = record m { connections = added m.connections 1 }
-after m (Read bytes) = record m { read = added m.read bytes }
-after m (Written bytes) = record m { written = added m.written bytes }
-after m (Dropped lines) = record m { dropped = added m.dropped lines }

@@ -1,7 +1,7 @@
 //! What is counted.
 ghost use Rattle.std.specs.Prelude.{◌≡◌, ◌<◌, ◌≤◌, length, nat_lt};
 ghost use Rattle.std.specs.List.{count_by};
-ghost use Rattle.admin_pages.specs.Counting.{after, after_request, cell, none, time_place};
+ghost use Rattle.admin_pages.specs.Counting.{after_request, cell, none, raised, time_place};
 
 /// The least place of a command of the protocol, and how many places they have: 0 is for what has none.
 const COMMANDS: usize = 9;
@@ -24,32 +24,17 @@ const BOUNDS: [u64; 16] = [
 /// A request that was answered.
 #[derive(Clone, Copy, Debug)]
 pub struct Served {
-    /// The command's byte, or 0 where there is none.
+    /// The command's byte, or 0 if there is none.
     pub command: u8,
     /// The status of the reply.
     pub status: u8,
     /// The tenant's number, if the key is one's.
-    pub tenant: Option<u8>,
+    pub tenant: Option<usize>,
     /// How long it took, in microseconds.
     pub micros: u64,
 }
 
-/// What happens to a server.
-#[derive(Clone, Copy, Debug)]
-pub enum Event {
-    /// A request was answered.
-    Answered(Served),
-    /// A connection was accepted.
-    Accepted,
-    /// So many bytes were read.
-    Read(u64),
-    /// So many bytes were written.
-    Written(u64),
-    /// So many lines of the log were dropped.
-    Dropped(u64),
-}
-
-/// Counts since the start. A count stays at its greatest number, 2^64 - 1.
+/// Counts of requests since the start. A count stays at its greatest number, 2^64 - 1.
 #[derive(Clone, Copy, Debug)]
 pub struct Metrics {
     /// Requests by command and status: 25 places for each command.
@@ -60,18 +45,10 @@ pub struct Metrics {
     pub times: [u64; TIMES],
     /// The microseconds of all requests.
     pub micros: u64,
-    /// Connections that were accepted.
-    pub connections: u64,
-    /// Bytes read.
-    pub read: u64,
-    /// Bytes written.
-    pub written: u64,
-    /// Lines of the log that were dropped.
-    pub dropped: u64,
 }
 
 impl Metrics {
-    /// Nothing has happened.
+    /// None was answered.
     pub fn new() -> Metrics
         ensures { result ≡ none }
     {
@@ -80,38 +57,30 @@ impl Metrics {
             tenants: [0; TENANTS],
             times: [0; TIMES],
             micros: 0,
-            connections: 0,
-            read: 0,
-            written: 0,
-            dropped: 0,
         }
     }
 
-    /// Counts what happened.
-    pub fn count(&mut self, event: &Event)
-        ensures { self.new ≡ after self.old event.now }
-    {
-        match event {
-            Event::Answered(served) => self.count_request(served),
-            Event::Accepted => self.connections = self.connections.saturating_add(1),
-            Event::Read(bytes) => self.read = self.read.saturating_add(*bytes),
-            Event::Written(bytes) => self.written = self.written.saturating_add(*bytes),
-            Event::Dropped(lines) => self.dropped = self.dropped.saturating_add(*lines),
-        }
-    }
-
-    fn count_request(&mut self, served: &Served)
+    /// Counts a request once: under its command and status, its tenant if it has one, and its time.
+    pub fn count(&mut self, served: &Served)
         ensures { self.new ≡ after_request self.old served.now }
     {
         let place = cell(served.command, served.status);
         self.requests[place] = self.requests[place].saturating_add(1);
         if let Some(tenant) = served.tenant {
-            let place = usize::from(tenant);
-            self.tenants[place] = self.tenants[place].saturating_add(1);
+            raise(&mut self.tenants, tenant);
         }
         let place = time_place(served.micros);
         self.times[place] = self.times[place].saturating_add(1);
         self.micros = self.micros.saturating_add(served.micros);
+    }
+}
+
+// One more at a place, if there is such a place.
+fn raise(counts: &mut [u64; TENANTS], place: usize)
+    ensures { counts.new ≡ raised counts.old place }
+{
+    if place < TENANTS {
+        counts[place] = counts[place].saturating_add(1);
     }
 }
 

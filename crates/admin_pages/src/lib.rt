@@ -13,7 +13,7 @@ mod replies;
 mod routes;
 mod standing;
 
-pub use counted::{Event, Metrics, Served};
+pub use counted::{Metrics, Served};
 pub use families::Family;
 pub use heads::{Reading, read_request};
 pub use laws::{counted_once, named_once};

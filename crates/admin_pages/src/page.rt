@@ -1,5 +1,5 @@
 //! The page of metrics, in the text format of Prometheus (version 0.0.4).
-ghost use Rattle.std.specs.Prelude.{◌≡◌, ◌++◌, slice_index, OnErr, OnOk};
+ghost use Rattle.std.specs.Prelude.{◌≡◌, ◌++◌, [], slice_index, IsTrue, OnErr, OnOk};
 ghost use Rattle.admin_pages.specs.declared.families.Shape.TheVariants.{Tenants};
 ghost use Rattle.admin_pages.specs.Pages.{head, is_whole, label, left, moved, page, row, sample, start, suffix, time_value, total, value, value_end};
 
@@ -28,6 +28,14 @@ pub struct Gauges {
     pub buffered: u64,
     /// The most bytes that are buffered.
     pub limit: u64,
+    /// Connections that were accepted.
+    pub connections: u64,
+    /// Bytes read.
+    pub read: u64,
+    /// Bytes written.
+    pub written: u64,
+    /// Lines of the log that were dropped.
+    pub dropped: u64,
     /// How many tenants there are.
     pub tenants: usize,
     /// Collections of each.
@@ -61,8 +69,10 @@ impl Page {
     }
 
     /// Whether all of it is written.
+    #[tactic(auto, using(crate::proofs::Lines::none_left))]
     pub fn is_whole(&self) -> bool
-        ensures { result ≡ is_whole self.now }
+        ensures whole { result ≡ is_whole self.now }
+        ensures none { IsTrue result → left self.now ≡ [] }
     {
         self.family >= family_count()
     }
@@ -218,10 +228,10 @@ fn value(metrics: &Metrics, gauges: &Gauges, family: Family, place: usize) -> u6
         Family::Waiting => gauges.waiting,
         Family::Buffered => gauges.buffered,
         Family::Limit => gauges.limit,
-        Family::Connections => metrics.connections,
-        Family::Read => metrics.read,
-        Family::Written => metrics.written,
-        Family::Dropped => metrics.dropped,
+        Family::Connections => gauges.connections,
+        Family::Read => gauges.read,
+        Family::Written => gauges.written,
+        Family::Dropped => gauges.dropped,
         Family::Requests => number_at(&metrics.requests, place),
         Family::Times => time_number(metrics, place),
         Family::TenantRequests => number_at(&metrics.tenants, place),

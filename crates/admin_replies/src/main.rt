@@ -5,8 +5,7 @@
 #![tactic(auto)]
 
 use admin_pages::{
-    Asked, Event, Gauges, Metrics, Page, Reading, Reply, Served, Standing, append_reply,
-    read_request,
+    Asked, Gauges, Metrics, Page, Reading, Reply, Served, Standing, append_reply, read_request,
 };
 use standard_streams::{read_past, write_whole};
 use std::alloc::{AllocError, Global};
@@ -78,10 +77,6 @@ fn page_text(alloc: Global) -> Result<Vec<u8>, AllocError> {
 
 fn counted() -> Metrics {
     let mut metrics = Metrics::new();
-    metrics.count(&Event::Accepted);
-    metrics.count(&Event::Read(1_000));
-    metrics.count(&Event::Written(2_000));
-    metrics.count(&Event::Dropped(3));
     for (command, status, tenant, micros) in [
         (1, 0, Some(0), 100),
         (5, 0, Some(1), 101),
@@ -89,12 +84,12 @@ fn counted() -> Metrics {
         (0, 255, None, 1),
         (8, 23, Some(1), 60_000_000),
     ] {
-        metrics.count(&Event::Answered(Served {
+        metrics.count(&Served {
             command,
             status,
             tenant,
             micros,
-        }));
+        });
     }
     metrics
 }
@@ -109,6 +104,10 @@ fn gauges() -> Gauges {
         waiting: 0,
         buffered: 65_536,
         limit: 1_073_741_824,
+        connections: 1,
+        read: 1_000,
+        written: 2_000,
+        dropped: 3,
         tenants: 2,
         collections: [0; 256],
         documents: [0; 256],

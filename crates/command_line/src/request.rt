@@ -69,6 +69,8 @@ pub struct Listening<'a> {
     pub spare: u64,
     /// Whether a line of counts is printed each minute.
     pub log: bool,
+    /// The administration address.
+    pub admin: Option<&'a str>,
 }
 
 // A word behind a subcommand.
@@ -163,6 +165,12 @@ fn listen<'a>(alloc: Global) -> Result<Command<'a>, AllocError> {
             "At the limit on connections, closes one that was idle for this long to admit a new one",
             "10",
         ))?
+        .arg(option(
+            alloc,
+            "admin",
+            "ADDR",
+            "Answers GET /health, /ready and /metrics, and POST /ready and /drain?grace=SECONDS by HTTP at this address",
+        ))?
         .arg(
             Arg::new(alloc, "log")
                 .long("log")
@@ -256,5 +264,6 @@ fn listen_of<'a>(words: &ArgMatches<'a>) -> Option<Listening<'a>> {
         frame_time: words.get_one("frame-time")?,
         spare: words.get_one("spare")?,
         log: words.get_flag("log"),
+        admin: words.get_str("admin"),
     })
 }

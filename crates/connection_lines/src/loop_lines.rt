@@ -47,8 +47,9 @@ pub struct LoopLines<'a, R: Eprint + Clock> {
     // The second since 1970 that was last printed in, and how many lines were.
     second: u64,
     printed: u32,
-    // The lines that were dropped since that was last told.
+    // The lines that were dropped since that was last told, and since the start.
     dropped: u64,
+    all_dropped: u64,
 }
 
 impl<'a, R: Eprint + Clock> LoopLines<'a, R> {
@@ -61,6 +62,7 @@ impl<'a, R: Eprint + Clock> LoopLines<'a, R> {
             second: 0,
             printed: 0,
             dropped: 0,
+            all_dropped: 0,
         }
     }
 
@@ -72,6 +74,7 @@ impl<'a, R: Eprint + Clock> LoopLines<'a, R> {
             let _ = eprintln!(self.rt; "{} {line}", Time(second));
         } else {
             self.dropped = self.dropped.saturating_add(1);
+            self.all_dropped = self.all_dropped.saturating_add(1);
         }
     }
 
@@ -118,6 +121,10 @@ impl<'a, R: Eprint + Clock> Journal for LoopLines<'a, R> {
 
     fn ticked(&mut self) {
         self.tell_dropped();
+    }
+
+    fn dropped(&self) -> u64 {
+        self.all_dropped
     }
 }
 
@@ -197,6 +204,7 @@ fn name_of(end: End) -> &'static str {
         End::Stalled => "StallLimit",
         End::Slow => "FrameTimeLimit",
         End::Displaced => "SpareLimit",
+        End::Drained => "Drained",
     }
 }
 
@@ -279,6 +287,7 @@ mod tests {
             (End::Stalled, "StallLimit"),
             (End::Slow, "FrameTimeLimit"),
             (End::Displaced, "SpareLimit"),
+            (End::Drained, "Drained"),
         ] {
             assert_eq!(rt; name_of(how), name);
         }

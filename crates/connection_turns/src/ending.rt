@@ -23,6 +23,8 @@ pub enum End {
     Slow,
     /// It was idle, and made room for a new one at the limit on connections.
     Displaced,
+    /// The server drained, and its seconds for that passed.
+    Drained,
 }
 
 /// A connection that ended.

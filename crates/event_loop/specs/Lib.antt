@@ -1,2 +1,3 @@
 pub mod Servers
 pub mod Clocked
+pub mod Drains

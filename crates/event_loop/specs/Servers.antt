@@ -1,13 +1,13 @@
 -- A server of many connections, as its clauses see it: this project's own.
 use Rattle.std.specs.Prelude.{◌≡◌, ℕ, Bool, IsFalse, List, Option, None, slice_index_or}
 use Rattle.outbox.specs.Lines.{Line}
-use Rattle.path_hub.specs.HubState.{HubState}
+use Rattle.hub_metrics.specs.Measuring.{Measured}
 use Rattle.connection_turns.specs.declared.limits.Limits.{Limits}
 use Rattle.open_connections.specs.declared.budgets.Budgets.{Budgets}
 use Rattle.open_connections.specs.Looping.{Lanes}
 use Rattle.open_connections.specs.Shares.{limits_in}
 
--- whether it takes in connections, how many are open and were taken in, the bytes read and written, its limits, the budgets of memory, the hub, and by key what each connection that is served is owed
+-- whether it takes in connections, how many are open and were taken in, the bytes read and written, its limits, the budgets of memory, the hub and what it has counted, and by key what each connection that is served is owed
 pub record Serving : Type 0 where
   pub listens : Bool
   pub connected : ℕ
@@ -16,7 +16,7 @@ pub record Serving : Type 0 where
   pub written : ℕ
   pub limits : Limits
   pub budgets : Budgets
-  pub hub : HubState
+  pub hub : Measured
   pub lines : List (Option Line)
 
 -- as the steps of the loop see it

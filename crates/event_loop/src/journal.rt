@@ -41,4 +41,9 @@ pub trait Journal {
 
     /// A second passed.
     fn ticked(&mut self);
+
+    /// How many lines it dropped so far.
+    fn dropped(&self) -> u64 {
+        0
+    }
 }

@@ -3,6 +3,7 @@
 //! [`Server`] goes round over a system and a clock (`socket_poll`). The open connections and their turns are in `open_connections`.
 #![tactic(auto)]
 
+mod administering;
 mod fault;
 mod journal;
 mod rounds;

@@ -1,5 +1,6 @@
 //! The rounds of a loop: each waits for what is ready, takes connections in, and gives turns.
-ghost use Rattle.std.specs.Prelude.{◌≡◌, ℕ, None, IfOk, IsTrue};
+ghost use Rattle.std.specs.Prelude.{◌≡◌, ℕ, None, IfOk, IsFalse, IsTrue};
+ghost use Rattle.hub_metrics.specs.Measuring.{measured};
 ghost use Rattle.open_connections.specs.Looping.{Stays, DoesSome, DoesAtMost, HasTurn, LetGo};
 ghost use Rattle.open_connections.specs.Opened.{lanes_of, connected_in};
 ghost use Rattle.open_connections.specs.Shares.{fresh_budgets};
@@ -9,6 +10,7 @@ use crate::fault::LoopFault;
 use crate::journal::{Journal, Totals};
 use crate::seconds::Seconds;
 use crate::told::{Holding, Told};
+use admin_desk::Desk;
 use connection_turns::{End, Limits, Outcome};
 use open_connections::Open;
 use path_listen::HubCore;
@@ -37,7 +39,7 @@ pub(crate) struct Acceptor {
     // A connection may wait to be taken in.
     is_asked: bool,
     // The last accept failed.
-    is_refused: bool,
+    pub is_refused: bool,
     // How many were taken in.
     pub taken: u64,
 }
@@ -59,9 +61,15 @@ pub(crate) struct Rounds<S: System + Drop, T: Time + Drop> {
     pub system: S,
     pub acceptor: Acceptor,
     pub opened: Open<S::Stream, T>,
-    seconds: Seconds<T>,
+    pub seconds: Seconds<T>,
     pub limits: Limits,
     told: Told,
+    // The connections of the administration address.
+    pub desk: Desk<S::Stream>,
+    // The keys of the tenants that a page of metrics tells of.
+    pub keys: Vec<[u8; 16]>,
+    // The second in which the server began to drain.
+    pub drained: Option<u64>,
 }
 
 impl<S: System + Drop, T: Time + Drop> Rounds<S, T> {
@@ -82,7 +90,7 @@ impl<S: System + Drop, T: Time + Drop> Rounds<S, T> {
         ensures unconnected { IfOk result (λ rounds. connected_in rounds.opened ≡ 0) }
         ensures none_taken { IfOk result (λ rounds. rounds.acceptor.taken ≡ 0) }
         ensures limits { IfOk result (λ rounds. rounds.limits ≡ limits) }
-        ensures hub { IfOk result (λ rounds. (lanes_of rounds.opened).hub ≡ core) }
+        ensures hub { IfOk result (λ rounds. (lanes_of rounds.opened).hub ≡ measured core) }
         ensures none { IfOk result (λ rounds. (q : ℕ) → (lanes_of rounds.opened).lines q ≡ None) }
         ensures budgets { IfOk result (λ rounds. rounds.opened.budgets ≡ fresh_budgets limits.memory) }
     {
@@ -99,6 +107,9 @@ impl<S: System + Drop, T: Time + Drop> Rounds<S, T> {
             seconds: Seconds::new(seconds),
             limits,
             told: Told::new(),
+            desk: Desk::new(alloc),
+            keys: Vec::new(alloc),
+            drained: None,
         })
     }
 
@@ -132,7 +143,9 @@ impl<S: System + Drop, T: Time + Drop> Rounds<S, T> {
         self.wait(is_later)?;
         self.look(is_later, journal)?;
         self.accept(journal)?;
-        self.take_turns(journal)
+        self.take_turns(journal)?;
+        self.administer(journal);
+        Ok(())
     }
 
     // Reads the clock, and tells whether a second passed since that was last told.
@@ -173,7 +186,7 @@ impl<S: System + Drop, T: Time + Drop> Rounds<S, T> {
 
     // How long a wait may last: not at all where a connection can go on or may be taken in, a little where that failed, a second else.
     fn most(&self) -> Duration {
-        if self.opened.has_due() {
+        if self.opened.has_due() || self.desk.has_due() {
             Duration::from_millis(0)
         } else if self.acceptor.is_asked && self.acceptor.listens && !self.is_full() {
             Duration::from_millis(if self.acceptor.is_refused { RETRY } else { 0 })
@@ -207,16 +220,28 @@ impl<S: System + Drop, T: Time + Drop> Rounds<S, T> {
             let Some(report) = self.system.report(number) else {
                 return Ok(());
             };
-            self.opened.note(report)?;
+            if !self.desk.note(report) {
+                self.opened.note(report)?;
+            }
         }
         Ok(())
     }
 
-    // Takes in connections that wait, as long as the limits allow.
+    // Takes in connections that wait, as long as the limits allow. A server that does not listen takes in none.
     fn accept<J: Journal>(&mut self, journal: &mut J) -> Result<(), LoopFault>
-        ensures { DoesSome (lanes_of self.old.opened) (lanes_of self.new.opened) }
+        ensures lanes { DoesSome (lanes_of self.old.opened) (lanes_of self.new.opened) }
+        ensures deaf { IsFalse self.old.acceptor.listens → Stays (lanes_of self.old.opened) (lanes_of self.new.opened) }
     {
         self.acceptor.is_refused = false;
+        if !self.acceptor.listens {
+            return Ok(());
+        }
+        self.accept_some(journal)
+    }
+
+    fn accept_some<J: Journal>(&mut self, journal: &mut J) -> Result<(), LoopFault>
+        ensures { DoesSome (lanes_of self.old.opened) (lanes_of self.new.opened) }
+    {
         'accepts: for _ in 0..ACCEPTS {
             if !self.may_accept() {
                 return Ok(());
@@ -231,7 +256,7 @@ impl<S: System + Drop, T: Time + Drop> Rounds<S, T> {
     }
 
     fn may_accept(&self) -> bool {
-        self.acceptor.listens && self.acceptor.is_asked && !self.acceptor.is_refused
+        self.acceptor.is_asked && !self.acceptor.is_refused
     }
 
     // Where there is room for one more.
@@ -408,7 +433,12 @@ impl<S: System + Drop, T: Time + Drop> Rounds<S, T> {
 
     // A connection that is over is closed. Where bytes may be unread, what still comes is read for a little while before, since a close
     // with bytes unread can take the last replies with it.
-    fn finish<J: Journal>(&mut self, key: usize, how: End, journal: &mut J) -> Result<(), LoopFault>
+    pub fn finish<J: Journal>(
+        &mut self,
+        key: usize,
+        how: End,
+        journal: &mut J,
+    ) -> Result<(), LoopFault>
         ensures { DoesAtMost (LetGo key) (lanes_of self.old.opened) (lanes_of self.new.opened) }
     {
         if let Some(ending) = self.opened.ending(key, how) {
@@ -461,7 +491,7 @@ impl<S: System + Drop, T: Time + Drop> Rounds<S, T> {
         match self.opened.expiry(key, self.seconds.last(), &self.limits) {
             Outcome::Over(how) => self.finish(key, how, journal),
             Outcome::Closed => self.close(key),
-            Outcome::Open => Ok(()),
+            Outcome::Open => self.drain(key, journal),
         }
     }
 

@@ -26,7 +26,9 @@ impl<T: Time + Drop> Seconds<T> {
     }
 
     /// When it was last read.
-    pub fn last(&self) -> u64 {
+    pub fn last(&self) -> u64
+        ensures { result ≡ self.now.last }
+    {
         self.last
     }
 

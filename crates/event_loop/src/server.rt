@@ -1,6 +1,7 @@
 //! A server of many connections.
 ghost use Rattle.std.specs.Prelude.{◌≡◌, ℕ, None, OnOk, IfOk, IsTrue};
 ghost use Rattle.event_loop.specs.Servers.{IsOver, lanes_in};
+ghost use Rattle.hub_metrics.specs.Measuring.{measured};
 ghost use Rattle.open_connections.specs.Looping.{DoesSome, AreServed};
 ghost use Rattle.open_connections.specs.Shares.{fresh_budgets, limits_in, IsWithin};
 
@@ -17,8 +18,8 @@ use std::marker::Model;
 use std::net::{Net, SocketAddr};
 use std::time::Clock;
 
-/// A server of many connections. Its value has whether it listens, its limits, the budgets of memory, and the hub with the bytes that each served
-/// connection is owed. It also has how many connections are open and were accepted, and how many bytes were read and written.
+/// A server of many connections. Its value has whether it listens, its limits, the budgets of memory, and the hub with its counts and the bytes that
+/// each served connection is owed. It also has how many connections are open and were accepted, and how many bytes were read and written.
 #[derive(Drop)]
 pub struct Server<S: System + Drop, T: Time + Drop> {
     rounds: Rounds<S, T>,
@@ -49,13 +50,31 @@ impl<'r, R: Net + Clock + AllocGlobal> Server<Sockets, Since<'r, R>> {
         ensures unconnected { IfOk result (λ server. server.connected ≡ 0) }
         ensures none_taken { IfOk result (λ server. server.taken ≡ 0) }
         ensures limits { IfOk result (λ server. server.limits ≡ limits) }
-        ensures hub { IfOk result (λ server. server.hub ≡ core) }
+        ensures hub { IfOk result (λ server. server.hub ≡ measured core) }
         ensures none { IfOk result (λ server. (q : ℕ) → (lanes_in server).lines q ≡ None) }
         ensures budgets { IfOk result (λ server. server.budgets ≡ fresh_budgets limits.memory) }
     {
         let time = Since::new(rt)?;
         let system = Sockets::bind(rt, rt.alloc(), addr)?;
         Server::over(rt.alloc(), system, time.again(), time, core, limits)
+    }
+
+    /// Binds the administration address, and returns the one that is bound. A page of metrics tells of the tenants with these keys.
+    ///
+    /// # Errors
+    ///
+    /// `Net` if it cannot be bound, or the clock fails.
+    pub fn administer(
+        &mut self,
+        rt: &'r R,
+        addr: SocketAddr,
+        keys: Vec<[u8; 16]>,
+    ) -> Result<SocketAddr, LoopFault> {
+        let clock = Since::new(rt)?;
+        let bound = self.rounds.system.administer(rt, addr)?;
+        self.rounds.opened.measure(clock);
+        self.rounds.keys = keys;
+        Ok(bound)
     }
 }
 
@@ -77,7 +96,7 @@ impl<S: System + Drop, T: Time + Drop> Server<S, T> {
         ensures unconnected { IfOk result (λ server. server.connected ≡ 0) }
         ensures none_taken { IfOk result (λ server. server.taken ≡ 0) }
         ensures limits { IfOk result (λ server. server.limits ≡ limits) }
-        ensures hub { IfOk result (λ server. server.hub ≡ core) }
+        ensures hub { IfOk result (λ server. server.hub ≡ measured core) }
         ensures none { IfOk result (λ server. (q : ℕ) → (lanes_in server).lines q ≡ None) }
         ensures budgets { IfOk result (λ server. server.budgets ≡ fresh_budgets limits.memory) }
     {
@@ -114,7 +133,7 @@ impl<S: System + Drop, T: Time + Drop> Server<S, T> {
         self.rounds.totals()
     }
 
-    /// Serves until standard input is closed, and then each open connection to its end. It reports each end of a connection to the journal, and
+    /// Serves until standard input is closed or a drain is asked for, and then each open connection to its end. It reports each end of a connection to the journal, and
     /// the totals each minute.
     ///
     /// # Errors
@@ -157,7 +176,9 @@ impl<S: System + Drop, T: Time + Drop> Server<S, T> {
     pub fn is_over(&self) -> bool
         ensures { IsTrue result → IsOver self.now }
     {
-        !self.rounds.acceptor.listens && self.rounds.opened.count() == 0
+        !self.rounds.acceptor.listens
+            && self.rounds.opened.count() == 0
+            && self.rounds.desk.is_empty()
     }
 
     /// One round: waits until something is ready, accepts connections, and gives a turn to each that can make progress.

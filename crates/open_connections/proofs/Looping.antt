@@ -2,14 +2,15 @@
 use Rattle.std.proofs.Common.{◌≡◌, ℕ, Bool, true, false, List, [], ◌∷◌, ◌++◌, Option, Some, None, sym, ap, ◌∙◌, subst, refl, inl, inr}
 use Rattle.std.specs.Prelude.{◌==◌, if◌then◌else◌, MatchBool}
 use Rattle.std.proofs.lemmas.Bool.{cases_Bool, eqb-true, eqb-false}
-use Rattle.outbox.specs.Lines.{Line, fresh, run}
+use Rattle.outbox.specs.Lines.{Line, Event, Readable, Declined, Answered, Writable, Ends, Fails, after, fresh, run}
 use Rattle.outbox.specs.Turns.{DoesAll}
-use Rattle.path_hub.specs.HubState.{HubState}
-use Rattle.path_listen.specs.Answering.{Opens, Closes, takes, Answers}
-use Rattle.path_listen.specs.Acts.{Opened, Turned, Closed, changed}
+use Rattle.path_listen.specs.Answering as listen
+use Rattle.path_listen.specs.Acts as told
+use Rattle.path_listen.specs.Acts.{Act, Opened, Turned, Closed, changed, lines_after}
+use Rattle.hub_metrics.specs.Measuring.{Measured, Opens, Closes, takes, Answers}
 use Rattle.path_listen.specs.Served.{TurnsAreServed}
 use Rattle.connection_turns.specs.Turning.{TakesTurn}
-use Rattle.open_connections.specs.Looping.{Lanes, Step, TakenIn, HasTurn, LetGo, TurnAt, OthersStay, Does, DoesEach, DoesSome, DoesAtMost, Stays, Extends, ActsOf, AreServed, LoopIsServed}
+use Rattle.open_connections.specs.Looping.{Lanes, Step, TakenIn, HasTurn, LetGo, TurnAt, OthersStay, Does, DoesEach, DoesSome, DoesAtMost, Stays, Extends, ActsOf, AllHappen, AreServed, LoopIsServed}
 
 picked : (b : Bool) (x y : Line) → b ≡ true → (if b then x else y) ≡ x
 picked true x y e = refl
@@ -69,10 +70,26 @@ acts_of (LetGo conn ∷ steps) kept old new same d =
       lines_are = r.lines_are;
     }
 
+-- without the counts, a hub does the same
+hub_does : (conn : ℕ) (line : Line) (es : List Event) (old new : Measured) → DoesAll (takes conn) (Answers conn) line es old new → DoesAll (listen.takes conn) (listen.Answers conn) line es old.hub new.hub
+hub_does conn line [] old new d = ap (λ (m : Measured). m.hub) d
+hub_does conn line (Readable piece ∷ es) old new d = (d.0.hub, (d.1.0, d.1.1.0), hub_does conn (after line (Readable piece)) es d.0 new d.2)
+hub_does conn line (Declined piece ∷ es) old new d = (d.0.hub, (d.1.0, ap (λ (m : Measured). m.hub) d.1.1), hub_does conn (after line (Declined piece)) es d.0 new d.2)
+hub_does conn line (Answered reply ∷ es) old new d = (d.0.hub, (d.1.0, d.1.1.answers), hub_does conn (after line (Answered reply)) es d.0 new d.2)
+hub_does conn line (Writable room ∷ es) old new d = (d.0.hub, ap (λ (m : Measured). m.hub) d.1, hub_does conn (after line (Writable room)) es d.0 new d.2)
+hub_does conn line (Ends ∷ es) old new d = (d.0.hub, ap (λ (m : Measured). m.hub) d.1, hub_does conn (after line Ends) es d.0 new d.2)
+hub_does conn line (Fails ∷ es) old new d = (d.0.hub, ap (λ (m : Measured). m.hub) d.1, hub_does conn (after line Fails) es d.0 new d.2)
+
+all_happen : (lines : ℕ → Line) (done : List Act) (old new : Measured) → AllHappen lines done old new → told.AllHappen lines done old.hub new.hub
+all_happen lines [] old new d = ap (λ (m : Measured). m.hub) d
+all_happen lines (Opened conn ∷ done) old new d = (d.0.hub, d.1.opens, all_happen (lines_after lines (Opened conn)) done d.0 new d.2)
+all_happen lines (Turned conn events ∷ done) old new d = (d.0.hub, hub_does conn (lines conn) events old d.0 d.1, all_happen (lines_after lines (Turned conn events)) done d.0 new d.2)
+all_happen lines (Closed conn ∷ done) old new d = (d.0.hub, d.1.closes, all_happen (lines_after lines (Closed conn)) done d.0 new d.2)
+
 pub loop_served : TurnsAreServed → LoopIsServed
 loop_served law steps lines old new same d =
     let done : ActsOf steps lines old new = acts_of steps lines old new same d in
-    (done, law lines done.acts old.hub new.hub done.happen)
+    (done, law lines done.acts old.hub.hub new.hub.hub (all_happen lines done.acts old.hub new.hub done.happen))
 
 pub are_served : LoopIsServed → (old new : Lanes) → DoesSome old new → AreServed old new
 are_served law old new d lines same = let r = law d.0 lines old new same d.1 in (d.0, r.0, r.1)
@@ -82,7 +99,7 @@ are_served law old new d lines same = let r = law d.0 lines old new same d.1 in 
 pub stays : (s : Lanes) → Stays s s
 stays s = record { hub_stays = refl; lines_stay = λ q. refl; limits_stay = refl; bytes_stay = refl }
 
-pub stays_in : (hub : HubState) (lines : ℕ → Option Line) (limits limits' bytes : ℕ × ℕ) → limits' ≡ limits
+pub stays_in : (hub : Measured) (lines : ℕ → Option Line) (limits limits' bytes : ℕ × ℕ) → limits' ≡ limits
     → Stays (record { hub = hub; lines = lines; limits = limits; bytes = bytes }) (record { hub = hub; lines = lines; limits = limits'; bytes = bytes })
 stays_in hub lines limits limits' bytes e = record { hub_stays = refl; lines_stay = λ q. refl; limits_stay = e; bytes_stay = refl }
 
@@ -91,18 +108,18 @@ stays_then a b c h k = record { hub_stays = k.hub_stays ∙ h.hub_stays; lines_s
 
 -- a step from where nothing changed, and one behind which nothing changes
 before_step : (step : Step) (a b c : Lanes) → Stays a b → Does step b c → Does step a c
-before_step (TakenIn conn) a b c h d = (subst (λ (x : HubState). Opens conn x c.hub) h.hub_stays d.0, d.1, λ q e. d.2 q e ∙ h.lines_stay q, d.3 ∙ h.limits_stay, d.4 ∙ h.bytes_stay)
+before_step (TakenIn conn) a b c h d = (subst (λ (x : Measured). Opens conn x c.hub) h.hub_stays d.0, d.1, λ q e. d.2 q e ∙ h.lines_stay q, d.3 ∙ h.limits_stay, d.4 ∙ h.bytes_stay)
 before_step (HasTurn conn) a b c h d =
-    let t : TakesTurn (takes conn) (Answers conn) d.line a.hub d.line' c.hub = subst (λ (x : HubState). TakesTurn (takes conn) (Answers conn) d.line x d.line' c.hub) h.hub_stays d.takes_turn in
+    let t : TakesTurn (takes conn) (Answers conn) d.line a.hub d.line' c.hub = subst (λ (x : Measured). TakesTurn (takes conn) (Answers conn) d.line x d.line' c.hub) h.hub_stays d.takes_turn in
     record { line = d.line; line' = d.line'; was = sym (h.lines_stay conn) ∙ d.was; is = d.is; takes_turn = t; others = λ q e. d.others q e ∙ h.lines_stay q; limits_stay = d.limits_stay ∙ h.limits_stay }
-before_step (LetGo conn) a b c h d = (subst (λ (x : HubState). Closes conn x c.hub) h.hub_stays d.0, d.1, λ q e. d.2 q e ∙ h.lines_stay q, d.3 ∙ h.limits_stay, d.4 ∙ h.bytes_stay)
+before_step (LetGo conn) a b c h d = (subst (λ (x : Measured). Closes conn x c.hub) h.hub_stays d.0, d.1, λ q e. d.2 q e ∙ h.lines_stay q, d.3 ∙ h.limits_stay, d.4 ∙ h.bytes_stay)
 
 step_then : (step : Step) (a b c : Lanes) → Does step a b → Stays b c → Does step a c
-step_then (TakenIn conn) a b c d h = (subst (λ (x : HubState). Opens conn a.hub x) (sym h.hub_stays) d.0, h.lines_stay conn ∙ d.1, λ q e. h.lines_stay q ∙ d.2 q e, h.limits_stay ∙ d.3, h.bytes_stay ∙ d.4)
+step_then (TakenIn conn) a b c d h = (subst (λ (x : Measured). Opens conn a.hub x) (sym h.hub_stays) d.0, h.lines_stay conn ∙ d.1, λ q e. h.lines_stay q ∙ d.2 q e, h.limits_stay ∙ d.3, h.bytes_stay ∙ d.4)
 step_then (HasTurn conn) a b c d h =
-    let t : TakesTurn (takes conn) (Answers conn) d.line a.hub d.line' c.hub = subst (λ (x : HubState). TakesTurn (takes conn) (Answers conn) d.line a.hub d.line' x) (sym h.hub_stays) d.takes_turn in
+    let t : TakesTurn (takes conn) (Answers conn) d.line a.hub d.line' c.hub = subst (λ (x : Measured). TakesTurn (takes conn) (Answers conn) d.line a.hub d.line' x) (sym h.hub_stays) d.takes_turn in
     record { line = d.line; line' = d.line'; was = d.was; is = h.lines_stay conn ∙ d.is; takes_turn = t; others = λ q e. h.lines_stay q ∙ d.others q e; limits_stay = h.limits_stay ∙ d.limits_stay }
-step_then (LetGo conn) a b c d h = (subst (λ (x : HubState). Closes conn a.hub x) (sym h.hub_stays) d.0, h.lines_stay conn ∙ d.1, λ q e. h.lines_stay q ∙ d.2 q e, h.limits_stay ∙ d.3, h.bytes_stay ∙ d.4)
+step_then (LetGo conn) a b c d h = (subst (λ (x : Measured). Closes conn a.hub x) (sym h.hub_stays) d.0, h.lines_stay conn ∙ d.1, λ q e. h.lines_stay q ∙ d.2 q e, h.limits_stay ∙ d.3, h.bytes_stay ∙ d.4)
 
 pub then_at_most : (step : Step) (a b c : Lanes) → Stays a b → DoesAtMost step b c → DoesAtMost step a c
 then_at_most step a b c h d = elim d [ inl x ↦ inl (before_step step a b c h x) | inr k ↦ inr (stays_then a b c h k) ]

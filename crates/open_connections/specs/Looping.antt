@@ -1,15 +1,15 @@
 -- What a loop over one hub does, a step at a time, and what its steps come to: this project's own.
 use Rattle.std.specs.Prelude.{◌≡◌, ◌≢◌, ◌⊎◌, ℕ, List, [], ◌∷◌, map, Option, Some, None}
 use Rattle.outbox.specs.Lines.{Line, fresh}
-use Rattle.path_hub.specs.HubState.{HubState}
-use Rattle.path_listen.specs.Answering.{Opens, Closes, takes, Answers}
-use Rattle.path_listen.specs.Acts.{Act, Opened, Turned, Closed, lines_after, AllHappen}
+use Rattle.outbox.specs.Turns.{DoesAll}
+use Rattle.hub_metrics.specs.Measuring.{Measured, Opens, Closes, takes, Answers}
+use Rattle.path_listen.specs.Acts.{Act, Opened, Turned, Closed, lines_after}
 use Rattle.path_listen.specs.Served.{Serves}
 use Rattle.connection_turns.specs.Turning.{TakesTurn}
 
--- the hub, what each connection that is served is owed, the limits of the two budgets of memory, and how many bytes were read and written
+-- the hub and what it has counted, what each connection that is served is owed, the limits of the two budgets of memory, and how many bytes were read and written
 pub record Lanes : Type 0 where
-  pub hub : HubState
+  pub hub : Measured
   pub lines : ℕ → Option Line
   pub limits : ℕ × ℕ
   pub bytes : ℕ × ℕ
@@ -67,11 +67,21 @@ abbrev pub all_lines_after : (ℕ → Line) → List Act → ℕ → Line
 all_lines_after lines [] = lines
 all_lines_after lines (act ∷ acts) = all_lines_after (lines_after lines act) acts
 
+-- what an act does to the hub and to its counts
+abbrev pub Happens : (ℕ → Line) → Act → Measured → Measured → Type 0
+Happens lines (Opened conn) old new = Opens conn old new
+Happens lines (Turned conn events) old new = DoesAll (takes conn) (Answers conn) (lines conn) events old new
+Happens lines (Closed conn) old new = Closes conn old new
+
+abbrev pub AllHappen : (ℕ → Line) → List Act → Measured → Measured → Type 0
+AllHappen lines [] old new = new ≡ old
+AllHappen lines (act ∷ acts) old new = (mid : Measured) × Happens lines act old mid × AllHappen (lines_after lines act) acts mid new
+
 -- lines of all connections that are those of the ones that are served
 abbrev pub Extends : (ℕ → Line) → (ℕ → Option Line) → Type 0
 Extends all served = (q : ℕ) (line : Line) → served q ≡ Some line → all q ≡ line
 
--- the acts that the steps are, one each
+-- the acts that the steps are, one each: each request that is answered in them is counted once
 pub record ActsOf (steps : List Step) (lines : ℕ → Line) (old new : Lanes) : Type 0 where
   pub acts : List Act
   pub steps_are : map step_of acts ≡ steps
@@ -79,8 +89,8 @@ pub record ActsOf (steps : List Step) (lines : ℕ → Line) (old new : Lanes) :
   pub lines_are : Extends (all_lines_after lines acts) new.lines
 
 abbrev pub LoopIsServed : Type 0
-LoopIsServed = (steps : List Step) (lines : ℕ → Line) (old new : Lanes) → Extends lines old.lines → DoesEach steps old new → (done : ActsOf steps lines old new) × Serves lines old.hub done.acts new.hub
+LoopIsServed = (steps : List Step) (lines : ℕ → Line) (old new : Lanes) → Extends lines old.lines → DoesEach steps old new → (done : ActsOf steps lines old new) × Serves lines old.hub.hub done.acts new.hub.hub
 
 -- what the law says of what a loop did
 abbrev pub AreServed : Lanes → Lanes → Type 0
-AreServed old new = (lines : ℕ → Line) → Extends lines old.lines → (steps : List Step) × (done : ActsOf steps lines old new) × Serves lines old.hub done.acts new.hub
+AreServed old new = (lines : ℕ → Line) → Extends lines old.lines → (steps : List Step) × (done : ActsOf steps lines old new) × Serves lines old.hub.hub done.acts new.hub.hub

@@ -33,6 +33,13 @@ impl Budgets {
         self.tenants.has_room(bytes)
     }
 
+    /// The bytes that are held, and those that there are.
+    pub fn held(&self) -> (usize, usize) {
+        let limit = self.tenants.limit().saturating_add(self.strangers.limit());
+        let left = self.tenants.left().saturating_add(self.strangers.left());
+        (limit.saturating_sub(left), limit)
+    }
+
     /// Whether somebody waits.
     pub fn is_waited_for(&self, pool: Pool) -> bool {
         match pool {

@@ -3,16 +3,21 @@ ghost use Rattle.std.specs.Prelude.{◌≡◌, ◌<◌, ◌≤◌, ◌^◌, ℕ,
 ghost use Rattle.slab.specs.Slab.{slab_len};
 ghost use Rattle.open_connections.specs.Looping.{Stays, Does, DoesAtMost, TakenIn, HasTurn, LetGo};
 ghost use Rattle.std.specs.Bool.{MatchBool};
-ghost use Rattle.path_listen.specs.Answering.{Opens, Closes};
+ghost use Rattle.std.specs.Option.{option_map};
+ghost use Rattle.hub_metrics.specs.Measuring.{Opens, Closes, measured};
+ghost use Rattle.path_hub.specs.Tenants.{map_of};
+ghost use Rattle.tenant_map.specs.Quotas.{usage_of};
 ghost use Rattle.connection_turns.specs.Owed.{line_of};
 ghost use Rattle.open_connections.specs.Opened.{lanes_of, bytes_of, IsMarked};
 ghost use Rattle.open_connections.specs.Shares.{fresh_budgets, IsWithin, StayFree, IsGivenBack, claim_at};
 
 use crate::budgets::Budgets;
 use crate::needs::{After, covers, left_of, need, piece_of};
+use admin_pages::Metrics;
 use connection_turns::{
     Claim, Connection, Counted, Counts, End, Ending, Limits, Outcome, Phase, Plan, Pool, Purpose,
 };
+use hub_metrics::MeasuredHub;
 use memory_budget::Answer;
 use outbox::CAP;
 use path_listen::{HubCore, MOST_REPLY};
@@ -21,6 +26,7 @@ use socket_poll::{Peer, Report, Time};
 use std::alloc::{AllocError, Global};
 use std::mem;
 use std::net::SocketAddr;
+use tenant_map::Usage;
 
 /// The most bytes that one turn reads.
 pub(crate) const PIECE: usize = 65_536;
@@ -33,7 +39,7 @@ const ROOM: usize = CAP + MOST_REPLY;
 pub struct Open<S: Peer, T: Time + Drop> {
     alloc: Global,
     connections: Slab<Connection<S>>,
-    core: Counted<HubCore, T>,
+    core: Counted<MeasuredHub<T>, T>,
     budgets: Budgets,
     buffer: Box<[u8; PIECE]>,
     // No key was above it.
@@ -60,7 +66,7 @@ impl<S: Peer, T: Time + Drop> Open<S, T> {
         ensures empty { IfOk result (λ opened. slab_len opened.connections ≡ 0) }
         ensures unread { IfOk result (λ opened. opened.read ≡ 0) }
         ensures unwritten { IfOk result (λ opened. opened.written ≡ 0) }
-        ensures hub { IfOk result (λ opened. (lanes_of opened).hub ≡ core) }
+        ensures hub { IfOk result (λ opened. (lanes_of opened).hub ≡ measured core) }
         ensures none { IfOk result (λ opened. (q : ℕ) → (lanes_of opened).lines q ≡ None) }
         ensures budgets { IfOk result (λ opened. opened.budgets ≡ fresh_budgets memory) }
     {
@@ -71,7 +77,7 @@ impl<S: Peer, T: Time + Drop> Open<S, T> {
         Ok(Open {
             alloc,
             connections: Slab::new(alloc),
-            core: Counted::new(time, core),
+            core: Counted::new(time, MeasuredHub::new(core)),
             budgets: Budgets::new(alloc, memory),
             buffer,
             bound: 0,
@@ -106,6 +112,39 @@ impl<S: Peer, T: Time + Drop> Open<S, T> {
     /// What was answered.
     pub fn counts(&self) -> &Counts {
         self.core.counts()
+    }
+
+    /// Measures how long requests take, by this clock.
+    pub fn measure(&mut self, clock: T)
+        ensures { Stays (lanes_of self.old) (lanes_of self.new) }
+    {
+        measure(&mut self.core, clock);
+    }
+
+    /// What was counted of requests.
+    pub fn metrics(&self) -> &Metrics
+        ensures { result.now ≡ self.now.core.metrics }
+    {
+        self.core.inner().metrics()
+    }
+
+    /// How much the tenant with this key holds.
+    pub fn usage(&self, key: &[u8; 16]) -> Option<Usage>
+        ensures { result ≡ option_map usage_of (map_of key.now self.now.core.hub.tenants) }
+    {
+        self.core.inner().hub().usage(key)
+    }
+
+    /// The bytes that connections hold of the budgets, those that there are, and how many connections wait for some.
+    pub fn memory(&self) -> (usize, usize, u64) {
+        let (held, limit) = self.budgets.held();
+        let mut waiting = 0u64;
+        'keys: for key in 0..self.bound {
+            if let Some(connection) = self.connections.get(key) {
+                waiting = waiting.saturating_add(u64::from(waits(connection)));
+            }
+        }
+        (held, limit, waiting)
     }
 
     /// The bytes that were read and written.
@@ -202,7 +241,7 @@ impl<S: Peer, T: Time + Drop> Open<S, T> {
         let Some(conn) = conn_of(key) else {
             return Ok(false);
         };
-        let most = self.core.inner().most_reply(conn);
+        let most = self.core.inner().hub().most_reply(conn);
         let Some(connection) = self.connections.get_mut(key) else {
             return Ok(false);
         };
@@ -267,7 +306,7 @@ impl<S: Peer, T: Time + Drop> Open<S, T> {
         match connection.phase {
             Phase::Lingering => (drained(connection, &mut *self.buffer), false),
             Phase::Served => {
-                let most = piece_of(connection, plan, self.core.inner(), conn);
+                let most = piece_of(connection, plan, self.core.inner().hub(), conn);
                 let (read, written) = connection.turn(
                     &mut self.core,
                     conn,
@@ -300,7 +339,7 @@ impl<S: Peer, T: Time + Drop> Open<S, T> {
         let Some(conn) = conn_of(key) else {
             return Ok(());
         };
-        let waiting = self.core.inner().waiting(conn);
+        let waiting = self.core.inner().hub().waiting(conn);
         let Some(connection) = self.connections.get_mut(key) else {
             return Ok(());
         };
@@ -345,7 +384,7 @@ impl<S: Peer, T: Time + Drop> Open<S, T> {
         let Some(connection) = self.connections.get(key) else {
             return Ok(());
         };
-        match need(connection, self.core.inner(), conn) {
+        match need(connection, self.core.inner().hub(), conn) {
             Some((pool, purpose, bytes)) => {
                 self.claim(key, pool, purpose, bytes, now)?;
                 Ok(())
@@ -490,6 +529,14 @@ impl<S: Peer, T: Time + Drop> Open<S, T> {
         }
     }
 
+    /// Whether a connection is open and served.
+    pub fn is_served(&self, key: usize) -> bool {
+        match self.connections.get(key) {
+            Some(connection) => matches!(connection.phase, Phase::Served),
+            None => false,
+        }
+    }
+
     /// How a connection's time is up, where it is.
     pub fn expiry(&self, key: usize, now: u64, limits: &Limits) -> Outcome {
         let Some(connection) = self.connections.get(key) else {
@@ -570,17 +617,31 @@ impl<S: Peer, T: Time + Drop> Open<S, T> {
 }
 
 // Opens a connection's session, and tells whether that was not refused.
-fn connect<T: Time + Drop>(counted: &mut Counted<HubCore, T>, conn: u32) -> bool
+fn connect<T: Time + Drop>(counted: &mut Counted<MeasuredHub<T>, T>, conn: u32) -> bool
     ensures { MatchBool result (Opens conn counted.old counted.new) (counted.new ≡ counted.old) }
 {
     counted.core.connect(conn).is_ok()
 }
 
 // Ends a connection's session.
-fn disconnect<T: Time + Drop>(counted: &mut Counted<HubCore, T>, conn: u32)
+fn disconnect<T: Time + Drop>(counted: &mut Counted<MeasuredHub<T>, T>, conn: u32)
     ensures { Closes conn counted.old counted.new }
 {
     counted.core.disconnect(conn);
+}
+
+fn measure<T: Time + Drop>(counted: &mut Counted<MeasuredHub<T>, T>, clock: T)
+    ensures { counted.new ≡ counted.old }
+{
+    counted.core.measure(clock);
+}
+
+// Whether a connection waits for memory.
+fn waits<S: Peer>(connection: &Connection<S>) -> bool {
+    match &connection.claim {
+        Some(claim) => !claim.is_granted,
+        None => false,
+    }
 }
 
 // The number that the hub knows a connection by.

@@ -3,3 +3,4 @@ pub mod Acts
 pub mod Served
 pub mod Needs
 pub mod Replies
+pub mod Asking

@@ -1,16 +1,22 @@
 //! The hub as the core of turns.
 ghost use Rattle.std.specs.Prelude.{◌≡◌, ◌↔◌, [], OnOk, OnErr, IsErrOf, IsSome, is_some, length, MatchOption};
-ghost use Rattle.std.specs.Option.{option_map_or};
+ghost use Rattle.std.specs.Option.{option_map, option_map_or};
 ghost use Rattle.path_hub.specs.Sessions.{session};
 ghost use Rattle.path_listen.specs.Answering.{Opens, Closes};
 ghost use Rattle.path_listen.specs.Needs.{IsPart, IsNoPart};
 ghost use Rattle.path_listen.specs.Replies.{IsMostReply};
+ghost use Rattle.path_listen.specs.Asking.{asks, whole_body};
+ghost use Rattle.path_hub.specs.Tenants.{map_of};
+ghost use Rattle.tenant_map.specs.Quotas.{usage_of};
+ghost use Rattle.wire_frames.specs.Frames.{front};
 
+use crate::asked::{Asked, asked_of};
 use crate::needs::{Part, most_of, part_of};
 use outbox::{Core, Step};
 use path_hub::{ConnectFault, Hub};
 use std::alloc::Global;
 use std::marker::Model;
+use tenant_map::Usage;
 
 /// A hub that answers one request at a time, as [`outbox::turn`] needs it. Its value is the hub's.
 #[derive(Drop)]
@@ -68,6 +74,24 @@ impl HubCore {
         ensures { let waiting = option_map_or (λ f. f.waiting) (session conn self.now.sessions) [] in MatchOption result (IsNoPart waiting) (IsPart self.now.tenants waiting) }
     {
         part_of(self.hub.tenants(), self.hub.waiting_bytes(conn))
+    }
+
+    /// What the request asks that is answered next on a connection.
+    pub fn asked(&self, conn: u32) -> Asked
+        ensures { let waiting = option_map_or (λ f. f.waiting) (session conn self.now.sessions) [] in result ≡ asks self.now.tenants (whole_body (front waiting)) }
+    {
+        asked_of(self.hub.tenants(), self.hub.waiting_bytes(conn))
+    }
+
+    /// How much the tenant with this key holds.
+    pub fn usage(&self, key: &[u8; 16]) -> Option<Usage>
+        ensures { result ≡ option_map usage_of (map_of key.now self.now.tenants) }
+    {
+        let tenants = self.hub.tenants();
+        match tenants.place_of(key) {
+            Some(place) => Some(tenants.tenant(place).usage()),
+            None => None,
+        }
     }
 
     /// The most bytes of the reply to the first request, or to the fault, that waits on a connection. For a text it is the exact length, for

@@ -4,10 +4,12 @@
 //! [`turns_are_served`] joins the contract of a turn with that of the hub.
 #![tactic(auto)]
 
+mod asked;
 mod hub_core;
 mod laws;
 mod needs;
 
+pub use asked::Asked;
 pub use hub_core::HubCore;
 pub use laws::turns_are_served;
 pub use needs::{LONGEST_FRAME, MOST_REPLY, Part};

@@ -38,6 +38,9 @@ fn serve<R: Print + Eprint + Net + Clock + AllocGlobal>(
 ) -> Result<(), Failure> {
     let mut server = bind(rt, wanted, keys)?;
     begin(rt, wanted, &server)?;
+    if let Some(address) = wanted.admin {
+        administer(rt, address, &mut server, keys)?;
+    }
     let lines = lines(rt, wanted)?;
     run(rt, wanted, &mut server, lines)?;
     end(rt, &server.totals())
@@ -55,6 +58,27 @@ where
     match server.local_addr() {
         Ok(bound) => print_line(rt, &bound),
         Err(fault) => Err(failure_of(rt.alloc(), wanted.address, fault)),
+    }
+}
+
+// Binds the administration address, and prints the line with it.
+fn administer<'r, R: Print + Net + Clock + AllocGlobal>(
+    rt: &'r R,
+    address: &str,
+    server: &mut Bound<'r, R>,
+    keys: &[[u8; 16]],
+) -> Result<(), Failure> {
+    let addr = address_of(rt, address)?;
+    let mut known = Vec::new(rt.alloc());
+    if known.extend_from_slice(keys).is_err() {
+        return Err(Failure::Memory);
+    }
+    match server.administer(rt, addr, known) {
+        Ok(bound) => match println!(rt; "administration {bound}") {
+            Ok(()) => Ok(()),
+            Err(_) => Err(Failure::Write),
+        },
+        Err(fault) => Err(failure_of(rt.alloc(), address, fault)),
     }
 }
 

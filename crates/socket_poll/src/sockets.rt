@@ -17,19 +17,25 @@ const LISTENER: Token = Token(usize::MAX);
 
 const INPUT: Token = Token(usize::MAX - 1);
 
+const ADMINISTRATION: Token = Token(usize::MAX - 2);
+
 impl Peer for TcpStream {
     fn end_writing(&mut self) {
         let _ = self.shutdown(Shutdown::Write);
     }
 }
 
-/// TCP sockets, and the end of standard input.
+/// TCP sockets, the end of standard input, and an administration address.
 #[derive(Drop)]
 pub struct Sockets {
     poll: Poll,
     events: Events,
     // None once none is accepted any more.
     listener: Option<TcpListener>,
+    // That of the administration address.
+    administration: Option<TcpListener>,
+    // A connection of that address may wait.
+    is_called: bool,
     reports: Vec<Report>,
 }
 
@@ -68,8 +74,25 @@ impl Sockets {
             poll,
             events,
             listener: Some(listener),
+            administration: None,
+            is_called: false,
             reports,
         })
+    }
+
+    /// Binds the administration address, and returns the one that is bound.
+    ///
+    /// # Errors
+    ///
+    /// The system's reason.
+    pub fn administer<R: Net>(&mut self, rt: &R, addr: SocketAddr) -> io::Result<SocketAddr> {
+        let mut listener = TcpListener::bind(rt, addr)?;
+        let bound = listener.local_addr()?;
+        self.poll
+            .registry()
+            .register(&mut listener, ADMINISTRATION, Interest::READABLE)?;
+        self.administration = Some(listener);
+        Ok(bound)
     }
 }
 
@@ -99,6 +122,7 @@ impl System for Sockets {
         'events: for event in &self.events {
             match event.token() {
                 LISTENER => woken.is_asked = true,
+                ADMINISTRATION => self.is_called = true,
                 INPUT => {
                     woken.is_closed = woken.is_closed || event.is_read_closed() || event.is_error()
                 }
@@ -116,21 +140,18 @@ impl System for Sockets {
     }
 
     fn accept(&mut self) -> Accepted<TcpStream> {
-        let Some(listener) = &self.listener else {
+        accept_at(&self.listener)
+    }
+
+    fn accept_caller(&mut self) -> Accepted<TcpStream> {
+        if !self.is_called {
             return Accepted::Blocked;
-        };
-        match listener.accept() {
-            Ok((stream, peer)) => {
-                // without it no reply is wrong, and some come later
-                let _ = stream.set_nodelay(true);
-                Accepted::Stream(stream, peer)
-            }
-            Err(error) => match error.kind() {
-                ErrorKind::WouldBlock => Accepted::Blocked,
-                ErrorKind::ConnectionAborted => Accepted::Aborted,
-                _ => Accepted::Refused,
-            },
         }
+        let accepted = accept_at(&self.administration);
+        if let Accepted::Blocked = &accepted {
+            self.is_called = false;
+        }
+        accepted
     }
 
     fn watch(&mut self, stream: &mut TcpStream, key: usize) -> bool {
@@ -153,6 +174,25 @@ impl System for Sockets {
             },
             None => Err(ErrorKind::NotConnected),
         }
+    }
+}
+
+// Accepts a connection, which never waits.
+fn accept_at(listener: &Option<TcpListener>) -> Accepted<TcpStream> {
+    let Some(listener) = listener else {
+        return Accepted::Blocked;
+    };
+    match listener.accept() {
+        Ok((stream, peer)) => {
+            // without it no reply is wrong, and some come later
+            let _ = stream.set_nodelay(true);
+            Accepted::Stream(stream, peer)
+        }
+        Err(error) => match error.kind() {
+            ErrorKind::WouldBlock => Accepted::Blocked,
+            ErrorKind::ConnectionAborted => Accepted::Aborted,
+            _ => Accepted::Refused,
+        },
     }
 }
 

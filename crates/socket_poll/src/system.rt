@@ -59,6 +59,11 @@ pub trait System {
     /// Accepts a connection.
     fn accept(&mut self) -> Accepted<Self::Stream>;
 
+    /// Accepts a connection of the administration address. None waits if there is no such address.
+    fn accept_caller(&mut self) -> Accepted<Self::Stream> {
+        Accepted::Blocked
+    }
+
     /// Has a stream reported under this key when it is ready. `false` if the system refuses.
     fn watch(&mut self, stream: &mut Self::Stream, key: usize) -> bool;
 

@@ -1,6 +1,6 @@
 use Rattle.open_connections.specs.Looping.{DoesSome}
 use Rattle.open_connections.specs.Opened.{lanes_of}
-use Rattle.event_loop.proofs.rounds.Rounds.accept.Given as goal
+use Rattle.event_loop.proofs.rounds.Rounds.accept_some.Given as goal
 
 -- what was done so far
 abbrev pub invariant-accepts : goal.invariant-accepts

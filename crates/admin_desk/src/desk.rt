@@ -1,0 +1,243 @@
+//! The few connections of the administration address.
+ghost use Rattle.std.specs.Prelude.{◌≡◌, ◌≤◌, None, false, nat_lt};
+ghost use Rattle.slab.specs.Slab.{get, slab_len};
+ghost use Rattle.admin_pages.specs.Standings.{at_start};
+ghost use Rattle.admin_desk.specs.Desks.{IsLate, SaysAtMost, is_own};
+
+use crate::visit::{PIECE, Stage, Visit};
+use admin_pages::{Gauges, Metrics, Standing};
+use slab::Slab;
+use socket_poll::{Peer, Report};
+use std::alloc::Global;
+use std::io::ErrorKind;
+
+/// The most connections that are open at once; further ones wait to be accepted.
+pub const PLACES: usize = 8;
+
+/// The seconds after which a connection is closed, whatever it waits for.
+const PATIENCE: u64 = 5;
+
+/// The most bytes of a write.
+const MOST_WRITTEN: usize = 16_384;
+
+/// The key of the first connection. Those of the others are below it.
+const FIRST_KEY: usize = usize::MAX - 16;
+
+/// One connection.
+#[derive(Drop)]
+struct Caller<S: Peer> {
+    stream: S,
+    visit: Visit,
+    // The second in which it was accepted.
+    since: u64,
+    is_readable: bool,
+    is_writable: bool,
+}
+
+/// The connections, and what was said on them. A step of one reads a piece, makes a few lines of a page, or writes a part of a reply.
+#[derive(Drop)]
+pub struct Desk<S: Peer> {
+    alloc: Global,
+    callers: Slab<Caller<S>>,
+    standing: Standing,
+}
+
+impl<S: Peer> Desk<S> {
+    /// None is open.
+    pub fn new(alloc: Global) -> Desk<S>
+        ensures unsaid { result.standing ≡ at_start }
+        ensures empty { slab_len result.callers ≡ 0 }
+    {
+        Desk {
+            alloc,
+            callers: Slab::new(alloc),
+            standing: Standing::new(),
+        }
+    }
+
+    /// What was said.
+    pub fn standing(&self) -> &Standing
+        ensures { result.now ≡ self.now.standing }
+    {
+        &self.standing
+    }
+
+    /// Whether none is open.
+    pub fn is_empty(&self) -> bool {
+        self.callers.len() == 0
+    }
+
+    /// Whether one can go on.
+    pub fn has_due(&self) -> bool {
+        let mut has_due = false;
+        for place in 0..PLACES {
+            if let Some(caller) = self.callers.get(place) {
+                has_due |= caller.can_go_on();
+            }
+        }
+        has_due
+    }
+
+    /// Whether there is room for one more.
+    pub fn has_room(&self) -> bool
+        ensures { result ≡ nat_lt (slab_len self.now.callers) 8 }
+    {
+        self.callers.len() < PLACES
+    }
+
+    /// The key of the next connection, if there is room for one.
+    pub fn vacant(&mut self) -> Option<usize>
+        ensures { self.new.standing ≡ self.old.standing }
+    {
+        if self.has_room() && self.callers.reserve(1).is_ok() {
+            FIRST_KEY.checked_sub(self.callers.vacant_key())
+        } else {
+            None
+        }
+    }
+
+    /// Takes one in under the key that is vacant, if there is room for it.
+    pub fn take_in(&mut self, stream: S, now: u64)
+        ensures standing { self.new.standing ≡ self.old.standing }
+        ensures few { slab_len self.old.callers ≤ 8 → slab_len self.new.callers ≤ 8 }
+    {
+        if !self.has_room() || self.callers.reserve(1).is_err() {
+            return;
+        }
+        self.callers.insert_reserved(Caller {
+            stream,
+            visit: Visit::new(self.alloc),
+            since: now,
+            is_readable: false,
+            is_writable: false,
+        });
+    }
+
+    /// Notes a report. `false` if its key is not one of these connections'.
+    pub fn note(&mut self, report: Report) -> bool
+        ensures own { result ≡ is_own report.key }
+        ensures standing { self.new.standing ≡ self.old.standing }
+    {
+        if report.key > FIRST_KEY || report.key <= FIRST_KEY - PLACES {
+            return false;
+        }
+        if let Some(caller) = self.callers.get_mut(FIRST_KEY - report.key) {
+            caller.is_readable |= report.is_readable;
+            caller.is_writable |= report.is_writable;
+        }
+        true
+    }
+
+    /// Whether the page of one is to be begun.
+    pub fn wants_page(&self, place: usize) -> bool {
+        match self.callers.get(place) {
+            Some(caller) => caller.visit.stage == Stage::Figures,
+            None => false,
+        }
+    }
+
+    /// Begins the page of one.
+    pub fn begin_page(&mut self, place: usize, metrics: &Metrics, gauges: &Gauges)
+        ensures { self.new.standing ≡ self.old.standing }
+    {
+        let Some(caller) = self.callers.get_mut(place) else {
+            return;
+        };
+        if caller.visit.begin_page(metrics, gauges).is_err() {
+            self.close(place);
+        }
+    }
+
+    /// One step of a connection. It is closed if its time is up, or it is done with.
+    pub fn step(&mut self, place: usize, now: u64)
+        ensures said { SaysAtMost self.old.standing self.new.standing }
+        ensures late { IsLate (get self.old.callers place) now → get self.new.callers place ≡ None }
+    {
+        if !self.go_on(place, now) {
+            self.close(place);
+        }
+    }
+
+    // One step of a connection, and whether it stays open.
+    fn go_on(&mut self, place: usize, now: u64) -> bool
+        ensures said { SaysAtMost self.old.standing self.new.standing }
+        ensures late { IsLate (get self.old.callers place) now → result ≡ false }
+    {
+        match self.callers.get_mut(place) {
+            Some(caller) if now.saturating_sub(caller.since) > PATIENCE => false,
+            Some(caller) => caller.step(&mut self.standing),
+            None => true,
+        }
+    }
+
+    fn close(&mut self, place: usize)
+        ensures standing { self.new.standing ≡ self.old.standing }
+        ensures gone { get self.new.callers place ≡ None }
+    {
+        let _ = self.callers.try_remove(place);
+    }
+}
+
+impl<S: Peer> Caller<S> {
+    fn can_go_on(&self) -> bool {
+        match self.visit.stage {
+            Stage::Head | Stage::Done => self.is_readable,
+            Stage::Figures | Stage::Lines => true,
+            Stage::Reply => self.is_writable,
+        }
+    }
+
+    // One step, and whether it stays open.
+    fn step(&mut self, standing: &mut Standing) -> bool
+        ensures { SaysAtMost standing.old standing.new }
+    {
+        if !self.can_go_on() {
+            return true;
+        }
+        match self.visit.stage {
+            Stage::Head | Stage::Done => self.read(standing),
+            Stage::Figures => true,
+            Stage::Lines => self.visit.go_on().is_ok(),
+            Stage::Reply => self.write(),
+        }
+    }
+
+    // Reads a piece. What comes behind the request is thrown away.
+    fn read(&mut self, standing: &mut Standing) -> bool
+        ensures { SaysAtMost standing.old standing.new }
+    {
+        let mut buffer = [0u8; PIECE];
+        match self.stream.read(&mut buffer) {
+            Ok(0) => false,
+            Ok(count) => {
+                let piece = buffer.get(..count).unwrap_or_default();
+                self.visit.hear(piece, standing).is_ok()
+            }
+            Err(error) if error.kind() == ErrorKind::WouldBlock => {
+                self.is_readable = false;
+                true
+            }
+            Err(_) => false,
+        }
+    }
+
+    // Writes a part of the reply, and ends the writing side behind the last.
+    fn write(&mut self) -> bool {
+        let owed = self.visit.owed();
+        match self.stream.write(owed.get(..MOST_WRITTEN).unwrap_or(owed)) {
+            Ok(0) => false,
+            Ok(count) => {
+                self.visit.took(count);
+                if self.visit.stage == Stage::Done {
+                    self.stream.end_writing();
+                }
+                true
+            }
+            Err(error) if error.kind() == ErrorKind::WouldBlock => {
+                self.is_writable = false;
+                true
+            }
+            Err(_) => false,
+        }
+    }
+}

@@ -1,0 +1,7 @@
+use Rattle.open_connections.specs.Looping.{Stays}
+use Rattle.open_connections.specs.Opened.{lanes_of}
+use Rattle.event_loop.proofs.rounds.Rounds.administer.Given as goal
+
+-- nothing that is served has changed so far
+abbrev pub invariant-places : goal.invariant-places
+invariant-places g l = Stays (lanes_of l.initial.self.opened) (lanes_of l.self.opened)

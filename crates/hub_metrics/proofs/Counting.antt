@@ -1,0 +1,61 @@
+-- What was asked is what was answered.
+use Rattle.std.proofs.Common.{◌≡◌, ℕ, List, [], ◌++◌, Bool, Option, Some, None, sym, ap, ◌∙◌, subst, drop, length}
+use Rattle.std.specs.Prelude.{slice_index}
+use Rattle.std.proofs.Math.Seq.{drop-append_seam}
+use Rattle.std.specs.Option.{option_map_or}
+use Rattle.wire_frames.specs.Frames.{Front, front}
+use Rattle.wire_frames.specs.Framing.{Framing}
+use Rattle.outbox.specs.Appends.{RepliesTo}
+use Rattle.path_hub.specs.HubState.{HubState}
+use Rattle.path_hub.specs.Pending.{Takes}
+use Rattle.path_hub.specs.Sessions.{session}
+use Rattle.path_listen.specs.declared.asked.Asked.{Asked}
+use Rattle.path_listen.specs.Asking.{asks, whole_body}
+use Rattle.path_listen.specs.Answering as listen
+use Rattle.admin_pages.specs.declared.counted.Metrics.{Metrics}
+use Rattle.admin_pages.specs.Counting.{after_request}
+use Rattle.hub_metrics.specs.Measuring.{Measured, Counts, Answers, served, is_over}
+
+abbrev pub waiting_on : ℕ → HubState → List ℕ
+waiting_on conn hub = option_map_or (λ f. f.waiting) (session conn hub.sessions) []
+
+next_is : (f g : Framing) (body : Option (List ℕ)) → Takes f body g → whole_body (front f.waiting) ≡ body
+next_is f g (Some body) t = ap whole_body t.2
+next_is f g None t = ap whole_body t.2
+
+next_asked : (conn : ℕ) (old new : HubState) (reply : List ℕ) (a : listen.Answers conn old reply new) → whole_body (front (waiting_on conn old)) ≡ a.body
+next_asked conn old new reply a =
+    ap (λ (f : Option Framing). whole_body (front (option_map_or (λ g. g.waiting) f []))) a.was ∙ next_is a.framing a.left a.body a.takes_off
+
+-- the hub's reply, behind what there was, and its count
+pub counted_reply : (last : Bool) (conn : ℕ) (old mid new : Measured) (before after part : List ℕ) (n : ℕ) (asked : Asked) → n ≡ length before → part ≡ drop n after → mid.metrics ≡ old.metrics → asked ≡ asks old.hub.tenants (whole_body (front (waiting_on conn old.hub))) →
+    RepliesTo last (listen.Answers conn) (listen.is_over conn) (λ bytes reply. bytes ++ reply) old.hub before after mid.hub → Counts asked part mid new →
+    RepliesTo last (Answers conn) (is_over conn) (λ bytes reply. bytes ++ reply) old before after new
+counted_reply last conn old mid new before after part n asked long behind stay same r k =
+    let reply : List ℕ = r.0 in
+    let a : listen.Answers conn old.hub reply mid.hub = r.2 in
+    let b : listen.Answers conn old.hub reply new.hub = subst (λ (h : HubState). listen.Answers conn old.hub reply h) (sym k.hub_stays) a in
+    let cut : part ≡ reply = behind ∙ ap (λ (m : ℕ). drop m after) long ∙ ap (λ (xs : List ℕ). drop (length before) xs) r.1 ∙ drop-append_seam before reply in
+    let told : asked ≡ asks old.hub.tenants b.body = same ∙ ap (λ (x : Option (List ℕ)). asks old.hub.tenants x) (next_asked conn old.hub new.hub reply b) in (
+      reply,
+      r.1,
+      record {
+        answers = b;
+        micros = k.micros;
+        counted = k.counted
+            ∙ ap (λ (m : Metrics). after_request m (served asked part k.micros)) stay
+            ∙ ap (λ (x : Asked). after_request old.metrics (served x part k.micros)) told
+            ∙ ap (λ (xs : List ℕ). after_request old.metrics (served (asks old.hub.tenants b.body) xs k.micros)) cut;
+      },
+      ap (listen.is_over conn) k.hub_stays ∙ r.3,
+    )
+
+pub counted_once : (old mid : Measured) (metrics : Metrics) (asked : Asked) (reply : List ℕ) (status micros : ℕ) → mid ≡ old → status ≡ slice_index reply 4 →
+    metrics ≡ after_request mid.metrics (record { command = asked.command; status = status; tenant = asked.tenant; micros = micros }) → Counts asked reply old (record { hub = mid.hub; metrics = metrics })
+counted_once old mid metrics asked reply status micros same is e = record {
+  micros = micros;
+  hub_stays = ap (λ (m : Measured). m.hub) same;
+  counted = e
+      ∙ ap (λ (n : ℕ). after_request mid.metrics (record { command = asked.command; status = n; tenant = asked.tenant; micros = micros })) is
+      ∙ ap (λ (m : Measured). after_request m.metrics (served asked reply micros)) same;
+}

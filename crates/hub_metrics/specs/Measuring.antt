@@ -1,0 +1,51 @@
+-- A hub whose answers are counted: this project's own.
+use Rattle.std.specs.Prelude.{◌≡◌, ℕ, List, slice_index, Bool}
+use Rattle.path_hub.specs.HubState.{HubState}
+use Rattle.path_listen.specs.declared.asked.Asked.{Asked}
+use Rattle.path_listen.specs.Asking.{asks}
+use Rattle.path_listen.specs.Answering as listen
+use Rattle.admin_pages.specs.declared.counted.Metrics.{Metrics}
+use Rattle.admin_pages.specs.declared.counted.Served.{Served}
+use Rattle.admin_pages.specs.Counting.{none, after_request}
+
+pub record Measured : Type 0 where
+  pub hub : HubState
+  pub metrics : Metrics
+
+-- nothing was counted
+abbrev pub measured : HubState → Measured
+measured hub = record { hub = hub; metrics = none }
+
+-- a request as it is counted: what it asks, the status of its reply behind the four bytes of the length, and how long it took
+abbrev pub served : Asked → (reply : List ℕ) → (micros : ℕ) → Served
+served asked reply micros = record { command = asked.command; status = slice_index reply 4; tenant = asked.tenant; micros = micros }
+
+-- this reply to what is asked is counted once
+pub record Counts (asked : Asked) (reply : List ℕ) (old new : Measured) : Type 0 where
+  pub micros : ℕ
+  pub hub_stays : new.hub ≡ old.hub
+  pub counted : new.metrics ≡ after_request old.metrics (served asked reply micros)
+
+-- a session is opened or ended, a piece is taken: nothing is counted
+pub record Opens (conn : ℕ) (old new : Measured) : Type 0 where
+  pub opens : listen.Opens conn old.hub new.hub
+  pub metrics_stay : new.metrics ≡ old.metrics
+
+pub record Closes (conn : ℕ) (old new : Measured) : Type 0 where
+  pub closes : listen.Closes conn old.hub new.hub
+  pub metrics_stay : new.metrics ≡ old.metrics
+
+abbrev pub takes : ℕ → Measured → List ℕ → Measured → Type 0
+takes conn old piece new = listen.takes conn old.hub piece new.hub × (new.metrics ≡ old.metrics)
+
+-- the hub answers, and the answer is counted once: under the command and the tenant of the request, and the status of the reply
+pub record Answers (conn : ℕ) (old : Measured) (reply : List ℕ) (new : Measured) : Type 0 where
+  pub answers : listen.Answers conn old.hub reply new.hub
+  pub micros : ℕ
+  pub counted : new.metrics ≡ after_request old.metrics (served (asks old.hub.tenants answers.body) reply micros)
+
+abbrev pub IsIdle : ℕ → Measured → Type 0
+IsIdle conn now = listen.IsIdle conn now.hub
+
+abbrev pub is_over : ℕ → Measured → Bool
+is_over conn now = listen.is_over conn now.hub

@@ -1,0 +1,216 @@
+#!/usr/bin/env python3
+"""The administration address of a running server: tests/administration.py [STREAMS [SEED]].
+
+So many streams of random requests (200) go to the server, and the page of metrics is compared with what the plain model (lib/plain_model.py) counts
+of them. Peers of the address that are slow, silent, huge or many keep nobody waiting. A drain serves what is open, and ends with status 0.
+"""
+import http.client
+import random
+import re
+import socket
+import sys
+import time
+from collections import Counter
+
+from lib.plain_model import STATUS, Server, counts
+from lib.running_server import PATIENCE, Listening, Report, frames_of, open_connection, talk
+from lib.traffic import KEYS, Traffic
+from path_client import connect, parse_address
+
+NAMES = {0: "none", 1: "put", 2: "get", 3: "remove", 4: "list", 5: "query", 6: "drop", 7: "usage", 8: "put_new"}
+STATUSES = {place: name for name, place in STATUS.items()}
+MOST_OPEN, TIME_LIMIT = 8, 5.0
+REQUEST = b"GET /health HTTP/1.1\r\nHost: a\r\n\r\n"
+
+
+class Administered(Listening):
+    """A server with an administration address, which its second line names."""
+
+    def __init__(self, *words):
+        super().__init__(KEYS, "--admin", "127.0.0.1:0", *words)
+
+    def read_address(self, subcommand):
+        address = super().read_address(subcommand)
+        line = self.process.stdout.readline()
+        found = re.fullmatch(rb"administration (\S+:\d+)\n", line)
+        if not found:
+            sys.exit(f"wanted the line `administration ADDRESS`, got {line!r} and {self.said()!r} on standard error")
+        self.admin = found[1].decode()
+        return address
+
+    def ask(self, method, target):
+        connection = http.client.HTTPConnection(self.admin, timeout=PATIENCE)
+        try:
+            connection.request(method, target)
+            reply = connection.getresponse()
+            return reply.status, reply.read()
+        finally:
+            connection.close()
+
+    def numbers(self):
+        status, body = self.ask("GET", "/metrics")
+        lines = [line for line in body.decode().splitlines() if not line.startswith("#")]
+        return {name.removeprefix("path_server_"): float(number) for name, number in (line.rsplit(" ", 1) for line in lines)} if status == 200 else {}
+
+    def ended(self):
+        """The status and the last line, or None where it runs on."""
+        deadline = time.monotonic() + PATIENCE
+        while self.process.poll() is None and time.monotonic() < deadline:
+            time.sleep(0.05)
+        return None if self.process.poll() is None else (self.process.returncode, bool(re.fullmatch(rb"served \d+ connections, \d+ requests\n", self.process.stdout.read())))
+
+
+def wanted_cells(model, streams):
+    """Requests by command and status, by tenant, and the bytes, as the model has them."""
+    cells, tenants, read, written = Counter(), Counter(), 0, 0
+    for conn, stream in enumerate(streams):
+        model.open(conn)
+        replies = model.bytes(conn, stream)
+        bodies = [frame[4:] for frame in frames_of(stream)]
+        for body, reply in zip(bodies, replies):
+            status = STATUSES[reply[4]]
+            is_fault = status == "FrameFault"
+            cells[NAMES.get(body[0] if body and not is_fault else 0, "none"), status] += 1
+            if not is_fault and body[5:21] in KEYS:
+                tenants[KEYS.index(body[5:21])] += 1
+        read, written = read + len(stream), written + sum(map(len, replies))
+    return cells, tenants, read, written
+
+
+def tells_what_was_done(report, count, seed):
+    chance = random.Random(seed)
+    traffic, model = Traffic(chance), Server(KEYS)
+    streams = [traffic.stream() for _ in range(count)]
+    with Administered() as server:
+        for stream in streams:
+            with open_connection(server.address) as connection:
+                talk(connection, traffic.pieces(stream))
+        cells, tenants, read, written = wanted_cells(model, streams)
+        numbers = server.numbers()
+        told = {tuple(re.findall(r'"(\w+)"', name)): number for name, number in numbers.items() if name.startswith("requests_total{")}
+        report.case("requests by command and status", seed, dict(cells), {cell: int(number) for cell, number in told.items() if number})
+        total = sum(cells.values())
+        report.case("the histogram's count", seed, total, numbers["request_seconds_count"])
+        report.case("the histogram's last bound", seed, total, numbers['request_seconds_bucket{le="+Inf"}'])
+        for place, key in enumerate(KEYS):
+            held = tuple(numbers[f'tenant_{name}{{tenant="{place}"}}'] for name in ("collections", "documents", "text_bytes"))
+            report.case(f"what tenant {place} holds", seed, tuple(map(float, counts(model.tenants[key]))), held)
+            report.case(f"requests of tenant {place}", seed, tenants[place], numbers[f'tenant_requests_total{{tenant="{place}"}}'])
+        faults = any(status == "FrameFault" for _, status in cells)
+        report.case("connections", seed, (count, 0.0), (numbers["connections_total"], 0.0))
+        report.case("bytes written", seed, written, numbers["written_bytes_total"])
+        if not faults:
+            report.case("bytes read", seed, read, numbers["read_bytes_total"])
+        report.case("limits", seed, (10_000, 0, 0), (numbers["connections_limit"], numbers["accept_refused"], numbers["connections_waiting"]))
+        server.finish(report)
+
+
+def is_ready_once_it_was_said(report):
+    with Administered() as server:
+        steps = [("GET", "/health", 200), ("GET", "/ready", 503), ("POST", "/ready", 200), ("GET", "/ready", 200), ("GET", "/nowhere", 404), ("DELETE", "/ready", 405)]
+        for method, target, wanted in steps:
+            report.case(f"{method} {target}", "", wanted, server.ask(method, target)[0])
+        report.case("ready, in the page", "", 1.0, server.numbers()["ready"])
+        with connect(server.address, KEYS[0]):
+            report.case("a connection that is open", "", 1.0, server.numbers()["connections_open"])
+
+
+def ends_of(address, sent, patience=TIME_LIMIT + 3):
+    """What comes to bytes that are sent in one piece, and after how many seconds the connection ends; None where it does not."""
+    started = time.monotonic()
+    with socket.create_connection(parse_address(address), PATIENCE) as connection:
+        came, how = talk(connection, [sent] if sent else [], patience)
+    return came, None if how == "silence" else time.monotonic() - started
+
+
+def keeps_nobody_waiting(report):
+    with Administered() as server:
+        with connect(server.address, KEYS[0]) as client:
+            client.put(b"c", b"d", b"[1,2]")
+            silent = [socket.create_connection(parse_address(server.admin), PATIENCE) for _ in range(3 * MOST_OPEN)]
+            started = time.monotonic()
+            for connection in silent[::2]:
+                connection.sendall(b"GET /he")
+            for _ in range(100):
+                report.case("a get beside silent peers", "", b"[1,2]", client.get(b"c", b"d"))
+            report.case("100 gets beside silent peers within a second", "", True, time.monotonic() - started < 1)
+            used = server.processor_seconds()
+            for connection in silent[:MOST_OPEN]:
+                connection.settimeout(TIME_LIMIT + 3)
+                report.case("a silent peer is closed", "", b"", connection.recv(1))
+            seconds = time.monotonic() - started
+            report.case("in about five seconds", "", True, TIME_LIMIT - 1 < seconds < TIME_LIMIT + 3)
+            report.case("and waiting takes no processor", "", True, server.processor_seconds() - used < 0.5)
+            for connection in silent:
+                connection.close()
+            report.case("health behind them", "", 200, server.ask("GET", "/health")[0])
+            slow = socket.create_connection(parse_address(server.admin), PATIENCE)
+            for byte in REQUEST:
+                slow.sendall(bytes([byte]))
+                time.sleep(0.01)
+            report.case("a request byte by byte", "", True, read_all(slow).startswith(b"HTTP/1.1 200 OK\r\n"))
+            came, _ = ends_of(server.admin, 1_000_000 * b"a")
+            report.case("a head without an end", "", b"HTTP/1.1 431 ", came[:13])
+            came, _ = ends_of(server.admin, REQUEST + b"POST /drain HTTP/1.1\r\nHost: a\r\n\r\n")
+            report.case("a request behind another is none", "", 1, came.count(b"HTTP/1.1 "))
+            deaf = [socket.create_connection(parse_address(server.admin), PATIENCE) for _ in range(MOST_OPEN)]
+            for connection in deaf:
+                connection.setsockopt(socket.SOL_SOCKET, socket.SO_RCVBUF, 4096)
+                connection.sendall(b"GET /metrics HTTP/1.1\r\nHost: a\r\n\r\n")
+            report.case("a get beside peers that read nothing", "", b"[1,2]", client.get(b"c", b"d"))
+            before = server.resident()
+            for connection in deaf:
+                connection.close()
+            for _ in range(200):
+                server.ask("GET", "/metrics")
+            report.case("memory after 200 pages", "", True, server.resident() - before < 1_024)
+            report.case("still listening", "", b"[1,2]", client.get(b"c", b"d"))
+
+
+def read_all(connection):
+    return b"".join(iter(lambda: connection.recv(65_536), b""))
+
+
+def is_refused(address):
+    deadline = time.monotonic() + PATIENCE
+    while time.monotonic() < deadline:
+        try:
+            open_connection(address).close()
+        except OSError:
+            return True
+        time.sleep(0.01)
+    return False
+
+
+def drains(report):
+    with Administered() as server:
+        with connect(server.address, KEYS[0]) as client:
+            client.put(b"c", b"d", b"1")
+            server.ask("POST", "/ready")
+            report.case("a drain", "", 202, server.ask("POST", "/drain?grace=60")[0])
+            report.case("takes in no more", "", True, is_refused(server.address))
+            report.case("is ready no more", "", 503, server.ask("GET", "/ready")[0])
+            time.sleep(2)
+            report.case("serves what is open", "", b"1", client.get(b"c", b"d"))
+        report.case("ends once all are closed", "", (0, True), server.ended())
+    with Administered() as server:
+        with open_connection(server.address) as connection:
+            report.case("a short drain", "", 202, server.ask("POST", "/drain?grace=1")[0])
+            report.case("ends what is open then", "", b"", connection.recv(1))
+        report.case("and ends", "", (0, True), server.ended())
+    with Administered() as server:
+        report.case("a drain of an idle server is answered", "", (202, b"draining\n"), server.ask("POST", "/drain"))
+        report.case("and it ends", "", (0, True), server.ended())
+
+
+def main():
+    report = Report()
+    count, seed = [*map(int, sys.argv[1:3]), *[200, 1][len(sys.argv) - 1:]]
+    is_ready_once_it_was_said(report)
+    tells_what_was_done(report, count, seed)
+    keeps_nobody_waiting(report)
+    drains(report)
+    report.close("the administration address of a running server")
+
+
+main()
