@@ -10,7 +10,8 @@ use Rattle.path_hub.specs.HubState.{HubState}
 use Rattle.path_hub.specs.Pending.{Takes}
 use Rattle.path_hub.specs.Sessions.{session}
 use Rattle.path_listen.specs.declared.asked.Asked.{Asked}
-use Rattle.path_listen.specs.Asking.{asks, whole_body}
+use Rattle.path_listen.specs.Asking.{asks}
+use Rattle.path_listen.specs.Replies.{body_at}
 use Rattle.path_listen.specs.Answering as listen
 use Rattle.admin_pages.specs.declared.counted.Metrics.{Metrics}
 use Rattle.admin_pages.specs.Counting.{after_request}
@@ -19,16 +20,16 @@ use Rattle.hub_metrics.specs.Measuring.{Measured, Counts, Answers, served, is_ov
 abbrev pub waiting_on : ℕ → HubState → List ℕ
 waiting_on conn hub = option_map_or (λ f. f.waiting) (session conn hub.sessions) []
 
-next_is : (f g : Framing) (body : Option (List ℕ)) → Takes f body g → whole_body (front f.waiting) ≡ body
-next_is f g (Some body) t = ap whole_body t.2
-next_is f g None t = ap whole_body t.2
+next_is : (f g : Framing) (body : Option (List ℕ)) → Takes f body g → body_at (front f.waiting) ≡ body
+next_is f g (Some body) t = ap body_at t.2
+next_is f g None t = ap body_at t.2
 
-next_asked : (conn : ℕ) (old new : HubState) (reply : List ℕ) (a : listen.Answers conn old reply new) → whole_body (front (waiting_on conn old)) ≡ a.body
+next_asked : (conn : ℕ) (old new : HubState) (reply : List ℕ) (a : listen.Answers conn old reply new) → body_at (front (waiting_on conn old)) ≡ a.body
 next_asked conn old new reply a =
-    ap (λ (f : Option Framing). whole_body (front (option_map_or (λ g. g.waiting) f []))) a.was ∙ next_is a.framing a.left a.body a.takes_off
+    ap (λ (f : Option Framing). body_at (front (option_map_or (λ g. g.waiting) f []))) a.was ∙ next_is a.framing a.left a.body a.takes_off
 
 -- the hub's reply, behind what there was, and its count
-pub counted_reply : (last : Bool) (conn : ℕ) (old mid new : Measured) (before after part : List ℕ) (n : ℕ) (asked : Asked) → n ≡ length before → part ≡ drop n after → mid.metrics ≡ old.metrics → asked ≡ asks old.hub.tenants (whole_body (front (waiting_on conn old.hub))) →
+pub counted_reply : (last : Bool) (conn : ℕ) (old mid new : Measured) (before after part : List ℕ) (n : ℕ) (asked : Asked) → n ≡ length before → part ≡ drop n after → mid.metrics ≡ old.metrics → asked ≡ asks old.hub.tenants (body_at (front (waiting_on conn old.hub))) →
     RepliesTo last (listen.Answers conn) (listen.is_over conn) (λ bytes reply. bytes ++ reply) old.hub before after mid.hub → Counts asked part mid new →
     RepliesTo last (Answers conn) (is_over conn) (λ bytes reply. bytes ++ reply) old before after new
 counted_reply last conn old mid new before after part n asked long behind stay same r k =

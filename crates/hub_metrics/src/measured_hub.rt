@@ -144,6 +144,7 @@ impl<T: Time + Drop> Core for MeasuredHub<T> {
                 self.count(asked, behind(out.as_slice(), before));
                 Step::Last
             }
+            Step::Working => Step::Working,
             Step::Idle => Step::Idle,
             Step::Refused => Step::Refused,
         }

@@ -1,15 +1,8 @@
 -- What the request asks that is answered next on a connection, as it is counted: this project's own.
 use Rattle.std.specs.Prelude.{ℕ, List, length, nat_lt, if◌then◌else◌, Option, Some, None}
-use Rattle.wire_frames.specs.Frames.{Front, Whole, Wait, Fault}
 use Rattle.wire_frames.specs.Requests.{command_of, key_of}
 use Rattle.tenant_map.specs.Tenancy.{Tenancy, place_in}
 use Rattle.path_listen.specs.declared.asked.Asked.{Asked}
-
--- the body of a frame that is whole
-abbrev pub whole_body : Front → Option (List ℕ)
-whole_body (Whole body more) = Some body
-whole_body Wait = None
-whole_body Fault = None
 
 -- the place of a body's key in the list of keys
 abbrev pub tenant_in : Tenancy → List ℕ → Option ℕ

@@ -1,15 +1,12 @@
 //! What the request asks that is answered next on a connection, as it is counted.
 ghost use Rattle.std.specs.Prelude.{◌≡◌};
-ghost use Rattle.std.specs.Option.{option_map};
 ghost use Rattle.wire_frames.specs.Frames.{front};
 ghost use Rattle.wire_frames.specs.Requests.{command_of};
-ghost use Rattle.path_listen.specs.Asking.{asks, tenant_in, whole_body};
+ghost use Rattle.path_listen.specs.Asking.{asks, tenant_in};
+ghost use Rattle.path_listen.specs.Replies.{body_at};
 
+use crate::needs::body_of;
 use tenant_map::Tenants;
-use wire_frames::LONGEST_BODY;
-
-/// The bytes of a frame's length.
-const LENGTH_BYTES: usize = 4;
 
 /// Where a request's key begins in its body, behind the command and the number.
 const KEY_AT: usize = 5;
@@ -28,7 +25,7 @@ pub struct Asked {
 
 /// What the frame asks that these bytes begin with.
 pub(crate) fn asked_of(tenants: &Tenants, bytes: &[u8]) -> Asked
-    ensures { result ≡ asks tenants.now (whole_body (front bytes.now)) }
+    ensures { result ≡ asks tenants.now (body_at (front bytes.now)) }
 {
     match body_of(bytes) {
         Some(body) => Asked {
@@ -57,19 +54,4 @@ fn tenant_in(tenants: &Tenants, body: &[u8]) -> Option<usize>
     let mut key = [0u8; 16];
     key.copy_from_slice(&body[KEY_AT..KEY_END]);
     tenants.place_of(&key)
-}
-
-// The body of the whole frame that these bytes begin with.
-#[tactic(auto, unfolding(wire_frames::specs::Frames::front))]
-fn body_of(bytes: &[u8]) -> Option<&[u8]>
-    ensures { option_map (λ body. body.now) result ≡ whole_body (front bytes.now) }
-{
-    if bytes.len() < LENGTH_BYTES {
-        return None;
-    }
-    let body = u32::from_be_bytes([bytes[0], bytes[1], bytes[2], bytes[3]]) as usize;
-    if body > LONGEST_BODY || bytes.len() - LENGTH_BYTES < body {
-        return None;
-    }
-    Some(&bytes[LENGTH_BYTES..LENGTH_BYTES + body])
 }

@@ -4,8 +4,8 @@ ghost use Rattle.std.specs.Option.{option_map, option_map_or};
 ghost use Rattle.path_hub.specs.Sessions.{session};
 ghost use Rattle.path_listen.specs.Answering.{Opens, Closes};
 ghost use Rattle.path_listen.specs.Needs.{IsPart, IsNoPart};
-ghost use Rattle.path_listen.specs.Replies.{IsMostReply};
-ghost use Rattle.path_listen.specs.Asking.{asks, whole_body};
+ghost use Rattle.path_listen.specs.Replies.{body_at, IsMostReply};
+ghost use Rattle.path_listen.specs.Asking.{asks};
 ghost use Rattle.path_hub.specs.Tenants.{map_of};
 ghost use Rattle.tenant_map.specs.Quotas.{usage_of};
 ghost use Rattle.wire_frames.specs.Frames.{front};
@@ -78,7 +78,7 @@ impl HubCore {
 
     /// What the request asks that is answered next on a connection.
     pub fn asked(&self, conn: u32) -> Asked
-        ensures { let waiting = option_map_or (λ f. f.waiting) (session conn self.now.sessions) [] in result ≡ asks self.now.tenants (whole_body (front waiting)) }
+        ensures { let waiting = option_map_or (λ f. f.waiting) (session conn self.now.sessions) [] in result ≡ asks self.now.tenants (body_at (front waiting)) }
     {
         asked_of(self.hub.tenants(), self.hub.waiting_bytes(conn))
     }

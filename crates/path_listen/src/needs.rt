@@ -93,9 +93,9 @@ pub(crate) fn most_of(tenants: &Tenants, bytes: &[u8]) -> usize
     }
 }
 
-// The body of the frame that these bytes begin with, where it is whole.
+/// The body of the frame that these bytes begin with, where it is whole.
 #[tactic(auto, unfolding(wire_frames::specs::Frames::front))]
-fn body_of(bytes: &[u8]) -> Option<&[u8]>
+pub(crate) fn body_of(bytes: &[u8]) -> Option<&[u8]>
     ensures { option_map (λ body. body.now) result ≡ body_at (front bytes.now) }
 {
     if bytes.len() < LENGTH_BYTES {
