@@ -226,6 +226,18 @@ def filters():
         yield f"arrays of eight, {part}, often", text, filled(part, "&&" if part in holding else "||")
 
 
+def lengths():
+    """Strings to which a query comes a million times, by names that it gives twice."""
+    half = TEXT // 2 - 100
+    plain, escaped = '"' + "s" * half + '"', '"' + "\\n" * (half // 2) + '"'
+    leaves = {"a long string": ([plain], 20), "a long string of escapes": ([escaped], 20), "two long strings in turn": ([plain, plain], 19),
+              "two long strings of escapes in turn": ([escaped, escaped[:-3] + '"'], 19),
+              "a thousand strings of escapes": (['"' + "\\n" * 400 + '"'] * 1_000, 11)}
+    for name, (strings, times) in leaves.items():
+        text = '{"a":' * times + "[" + ",".join(strings) + "]" + "}" * times
+        yield f"{name}, the length often", text, "$" + "['a','a']" * times + "[?length(@)<1]"
+
+
 def readings():
     """Texts and queries that take long to read."""
     of_names = {"long names": long_names, "names that meet by places": meeting_by_places, "names that meet": meeting_by_fnv}
@@ -334,7 +346,8 @@ def asked():
         yield f"items, {query}", text, query
 
 
-ROWS = {asked: AIM_OF_ASKED, free: AIM, rooted: AIM, levels: AIM, equality: AIM, depths: AIM, selectors: AIM, filters: AIM, readings: AIM, units: AIM_OF_UNITS}
+ROWS = {asked: AIM_OF_ASKED, free: AIM, rooted: AIM, levels: AIM, equality: AIM, depths: AIM, selectors: AIM, filters: AIM, lengths: AIM, readings: AIM,
+        units: AIM_OF_UNITS}
 
 
 def limit_stack():

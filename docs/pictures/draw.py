@@ -77,7 +77,7 @@ def way_of_a_text():
     it.box(140, 536, 340, 52, "four checks", ["depth · numbers (decimal_order) · surrogates · names"])
     it.refusal(480, 562, ["TooDeep", "NumberLimit", "LoneSurrogate", "DuplicateName"])
     it.arrow([(310, 588), (310, 612)])
-    it.box(140, 612, 340, 40, "Document", ["text, tape, order of large objects, lengths of long strings"], fill=DATA)
+    it.box(140, 612, 340, 40, "Document", ["text, tape, order of large objects"], fill=DATA)
     return it
 
 

@@ -54,10 +54,8 @@ pub mod Joined
 pub mod Sides
 pub mod Keeping
 pub mod Known
-mod Beginnings
-pub mod PlainBlocks
-pub mod PlainFronts
-pub mod PassedEscapes
+pub mod Beginnings
+pub mod PlainRuns
 pub mod Bridge
 pub mod Counting
 pub mod Walking
@@ -75,10 +73,6 @@ pub mod HashedWords
 pub mod PlainStamps
 pub mod Runs
 pub mod WideNodes
-pub mod CountedStrings
-pub mod ValueBytes
-pub mod ValueBits
-pub mod Inside
 pub mod SameBytes
 pub mod Abreast
 pub mod Alike

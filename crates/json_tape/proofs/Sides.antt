@@ -1,7 +1,7 @@
 -- Cells and sides, and the entries that they stand for.
-use Rattle.std.proofs.Common.{◌≡◌, inl, inr, ℕ, zero, suc, ◌+◌, ◌*◌, ◌/◌, ◌%◌, ◌-◌, ◌^◌, ◌<◌, ◌≤◌, Bool, true, false, ◌&&◌, leb, cond, List, [], ◌∷◌, ◌++◌, length, get_or, set, refl, sym, ap, ◌∙◌, subst, arith, length-append, get_or-set_same, get_or-set_other}
+use Rattle.std.proofs.Common.{◌≡◌, inl, inr, ℕ, zero, suc, ◌+◌, ◌*◌, ◌/◌, ◌%◌, ◌-◌, ◌^◌, ◌<◌, ◌≤◌, Bool, true, false, cond, List, [], ◌∷◌, ◌++◌, length, get_or, set, refl, sym, ap, ◌∙◌, subst, arith, length-append, get_or-set_same, get_or-set_other}
 use Rattle.std.proofs.lemmas.List.{get_or_append_left, get_or_default, get_or-append_right}
-use Rattle.std.proofs.lemmas.Bool.{false≢true, cases_Bool, cases_lt}
+use Rattle.std.proofs.lemmas.Bool.{false≢true, cases_Bool}
 use Rattle.json_tape.specs.declared.tape.Kind.{Kind}
 use Rattle.json_tape.specs.declared.tape.Kind.TheVariants as kinds
 use Rattle.json_tape.specs.declared.tape.Entry.{Entry}
@@ -10,7 +10,7 @@ use Rattle.json_tape.specs.declared.tape.Seat.{Seat}
 use Rattle.json_tape.specs.declared.cells.Cell.{Cell}
 use Rattle.json_tape.specs.declared.cells.Side.{Side}
 use Rattle.json_tape.specs.Machine.{change_at, closed}
-use Rattle.json_tape.specs.Cells.{low, high, holds, is_container, is_object, is_text, is_text_of, HaveNoText, members_in, cell_kind, cell_role, cell_label, cell_start, cell_span, cell_up, leaf_entry, open_entry, leaf_seen, container_seen, seen, no_side, entries_from, entries_of, containers, container_at, AreNumbered, IsTape}
+use Rattle.json_tape.specs.Cells.{low, high, holds, is_container, is_object, members_in, cell_kind, cell_role, cell_label, cell_start, cell_span, cell_up, leaf_entry, open_entry, leaf_seen, container_seen, seen, no_side, entries_from, entries_of, containers, container_at, AreNumbered, IsTape}
 
 pub length-entries : (k : ℕ) (cells : List Cell) (sides : List Side) → length (entries_from k cells sides) ≡ length cells
 length-entries k [] sides = refl
@@ -302,33 +302,3 @@ short_leaf cells sides v n c e len q l f h small short s g =
       short_label c len small short s ∙ ap (λ (x : Entry). x.label) is,
       sym (ap (λ (x : Entry). x.after) is),
     )
-
--- ---- Strings
-
-no_text_holds : (kind : Kind) → is_container kind ≡ true → is_text kind ≡ false
-no_text_holds kinds.Text h = absurd (false≢true h)
-no_text_holds _ h = refl
-
-text_seen : (least k : ℕ) (c : Cell) (s : Side) (b : Bool) → is_container (cell_kind c) ≡ b → is_text_of least (cond b (container_seen c s) (leaf_seen k c)) ≡ (is_text (cell_kind c) && leb least (cell_span c))
-text_seen least k c s false h = refl
-text_seen least k c s true h = let t = no_text_holds (cell_kind c) h in rw t refl
-
--- what a cell tells of it is so of its entry
-pub text_shown : (least : ℕ) (cells : List Cell) (sides : List Side) (v : List Entry) (n : ℕ) (c : Cell) (e : Entry) → entries_of cells sides ≡ v → n < length cells → c ≡ get_or cells n c → e ≡ get_or v n e
-    → is_text_of least e ≡ (is_text (cell_kind c) && leb least (cell_span c))
-text_shown least cells sides v n c e q l f g =
-    ap (is_text_of least) (g ∙ entry_here cells sides v n c e q l f) ∙ text_seen least n c (get_or sides (cell_span c) no_side) (holds c) (sym (holds_kind c))
-
--- one more that is none
-pub no_text_more : (least : ℕ) (v : List Entry) (from n : ℕ) → HaveNoText least v from n → ((e : Entry) → e ≡ get_or v n e → is_text_of least e ≡ false) → HaveNoText least v from (n + 1)
-no_text_more least v from n before here k a b e g = elim (cases_lt k n) [
-  | inl x ↦ before k a x e g
-  | inr x ↦ (let same : k ≡ n = omega arith in here e (g ∙ ap (λ i. get_or v i e) same))
-]
-
-kind_text : (kind : Kind) (b : Bool) → (is_text kind && b) ≡ true → kind ≡ kinds.Text
-kind_text kinds.Text b h = refl
-kind_text _ b h = absurd (false≢true h)
-
-pub text_kind : (least : ℕ) (e : Entry) → is_text_of least e ≡ true → e.kind ≡ kinds.Text
-text_kind least e h = kind_text e.kind (leb least e.source.len) h

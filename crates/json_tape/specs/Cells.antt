@@ -1,5 +1,5 @@
 -- What a cell of 16 bytes tells, and with the sides of the containers, which entries a list of cells stands for.
-use Rattle.std.specs.Prelude.{◌≡◌, ℕ, zero, suc, ◌+◌, ◌*◌, ◌/◌, ◌%◌, ◌^◌, ◌-◌, ◌<◌, ◌≤◌, Bool, true, false, ◌&&◌, cond, eqb, ltb, leb, List, [], ◌∷◌, length, get_or}
+use Rattle.std.specs.Prelude.{◌≡◌, ℕ, zero, suc, ◌+◌, ◌*◌, ◌/◌, ◌%◌, ◌^◌, ◌-◌, ◌<◌, ◌≤◌, Bool, true, false, cond, eqb, ltb, List, [], ◌∷◌, length, get_or}
 use Rattle.json_tape.specs.declared.tape.Kind.{Kind}
 use Rattle.json_tape.specs.declared.tape.Kind.TheVariants as kinds
 use Rattle.json_tape.specs.declared.tape.Role.{Role}
@@ -39,18 +39,6 @@ is_container _ = false
 abbrev pub is_object : Kind → Bool
 is_object kinds.Object = true
 is_object _ = false
-
-abbrev pub is_text : Kind → Bool
-is_text kinds.Text = true
-is_text _ = false
-
--- a string that has at least so many bytes, its quotes included
-abbrev pub is_text_of : ℕ → Entry → Bool
-is_text_of least e = is_text e.kind && leb least e.source.len
-
--- no entry from the first number to before the second is that of one
-abbrev pub HaveNoText : ℕ → List Entry → ℕ → ℕ → Type 0
-HaveNoText least es from to = (k : ℕ) → from ≤ k → k < to → (e : Entry) → e ≡ get_or es k e → is_text_of least e ≡ false
 
 -- of an object how many there are
 abbrev pub members_in : Entry → ℕ

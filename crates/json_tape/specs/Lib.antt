@@ -30,4 +30,3 @@ pub mod Ordered
 pub mod Told
 pub mod Sifted
 pub mod KeyOrder
-pub mod Counted

@@ -1,5 +1,5 @@
 -- The characters that the bytes of a string spell (RFC 8259, section 7), told from the bytes one after another.
-use Rattle.std.specs.Prelude.{◌≡◌, ◌≢◌, ◌<◌, ◌≤◌, get_or, ℕ, None, Bool, nat_eq, zero, suc, ◌+◌, ◌-◌, ◌*◌, ◌%◌, cond, eqb, ltb, List, [], ◌∷◌, take, drop, length}
+use Rattle.std.specs.Prelude.{◌≡◌, ◌≢◌, ◌<◌, ◌≤◌, get_or, ℕ, None, Bool, nat_eq, zero, suc, ◌+◌, ◌-◌, ◌*◌, ◌%◌, cond, ◌||◌, eqb, ltb, leb, List, [], ◌∷◌, take, drop, length}
 use Rattle.std.specs.List.{list_any}
 use Rattle.std.specs.Str.{chars}
 use Rattle.std.specs.Char.{digit_value}
@@ -35,6 +35,10 @@ spelt bs = spelt_from Between 0 (chars (unquoted bs))
 -- the scalar values that the characters between two quotes mean
 abbrev pub scalars_in : List ℕ → List ℕ
 scalars_in cs = meaning_after None (spelt_from Between 0 cs)
+
+-- whether a character begins with this byte (RFC 3629, section 3)
+abbrev pub begins : ℕ → Bool
+begins b = ltb b 128 || leb 192 b
 
 -- some byte is a backslash
 abbrev pub has_backslash : List ℕ → Bool

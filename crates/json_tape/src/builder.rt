@@ -23,8 +23,6 @@ pub struct Builder {
     top: Open,
     outer: Vec<Open>,
     deepest: usize,
-    // the most bytes of a value that is a string, which no contract speaks of
-    longest: u32,
 }
 
 impl Model for Builder {
@@ -56,7 +54,6 @@ impl Builder {
             },
             outer: Vec::new(alloc),
             deepest: 0,
-            longest: 0,
         })
     }
 
@@ -108,7 +105,6 @@ impl Builder {
         requires scalar { is_container kind ≡ false }
         ensures { Took (step (Word source kind) (standing self.old Want.Value name)) result (standing self.new Want.Next None) }
     {
-        self.longest = self.longest.max(text_len(kind, source));
         let seat = seat_in(level, self.top, name);
         if self.tape.leaf(kind, seat, source).is_err() {
             return Err(BuildFault::Memory);
@@ -179,12 +175,6 @@ impl Builder {
         self.deepest
     }
 
-    /// The most bytes of a value that is a string. What rests on it is faster where it is right, and right in any case.
-    #[inline(always)]
-    pub fn longest(&self) -> u32 {
-        self.longest
-    }
-
     /// The tape, without room for more.
     pub fn into_tape(self) -> Tape
         ensures { result ≡ self.entries }
@@ -194,19 +184,9 @@ impl Builder {
             top: _,
             outer: _,
             deepest: _,
-            longest: _,
         } = self;
         tape.shrink();
         tape
-    }
-}
-
-// How many bytes a string has, and 0 for any other value.
-#[inline(always)]
-fn text_len(kind: Kind, source: Extent) -> u32 {
-    match kind {
-        Kind::Text => source.len,
-        Kind::Null | Kind::Bool(_) | Kind::Number | Kind::Array | Kind::Object => 0,
     }
 }
 

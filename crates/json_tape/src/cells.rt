@@ -1,7 +1,7 @@
 // A value in 16 bytes: four words, each a number below 2^24 under a byte.
 
-ghost use Rattle.std.specs.Prelude.{◌≡◌, ◌<◌, ◌^◌, ◌&&◌, leb};
-ghost use Rattle.json_tape.specs.Cells.{low as low_of, high as high_of, kind_coded as coded, role_coded as role_of_code, holds as is_container, is_object as is_object_kind, is_text as is_text_kind, IsNear, cell_kind, cell_role, cell_label, cell_start, cell_span, cell_up};
+ghost use Rattle.std.specs.Prelude.{◌≡◌, ◌<◌, ◌^◌};
+ghost use Rattle.json_tape.specs.Cells.{low as low_of, high as high_of, kind_coded as coded, role_coded as role_of_code, holds as is_container, is_object as is_object_kind, IsNear, cell_kind, cell_role, cell_label, cell_start, cell_span, cell_up};
 
 use crate::tape::{Entry, Extent, Kind, Role, Seat};
 
@@ -197,14 +197,6 @@ impl Cell {
         ensures { result ≡ is_container self }
     {
         high(self.start) % 16 >= CONTAINER
-    }
-
-    /// Whether it is a string that has at least so many bytes. Most values are none by their span alone.
-    #[inline(always)]
-    pub fn is_text(self, least: u32) -> bool
-        ensures { result ≡ (is_text_kind (cell_kind self) && leb least (cell_span self)) }
-    {
-        self.span() >= least && matches!(self.kind(), Kind::Text)
     }
 
     #[inline(always)]

@@ -1,8 +1,8 @@
 //! The entries of a text in few bytes: 16 for each value, and 12 more for each container.
 
-ghost use Rattle.std.specs.Prelude.{◌≡◌, ◌+◌, ◌++◌, ◌∷◌, [], ◌<◌, ◌≤◌, ◌^◌, None, IfOk, IfSome, OnOk, OnErr, IsTrue, true, false, length, slice_index_or};
+ghost use Rattle.std.specs.Prelude.{◌≡◌, ◌+◌, ◌++◌, ◌∷◌, [], ◌<◌, ◌≤◌, ◌^◌, IfOk, IfSome, OnOk, OnErr, IsTrue, true, false, length, slice_index_or};
 ghost use Rattle.json_tape.specs.Machine.{change_at, closed};
-ghost use Rattle.json_tape.specs.Cells.{IsNear, is_container, is_text_of, HaveNoText, members_in, container_at, leaf_entry, open_entry};
+ghost use Rattle.json_tape.specs.Cells.{IsNear, is_container, members_in, container_at, leaf_entry, open_entry};
 
 use crate::cells::{Cell, Side, WORD_LIMIT};
 use crate::growth::push;
@@ -97,22 +97,6 @@ impl Tape {
         } else {
             n + 1
         }
-    }
-
-    /// The number of the first string from this number on that has at least so many bytes, its quotes included.
-    #[inline(always)]
-    pub fn next_text(&self, from: u32, least: u32) -> Option<u32>
-        ensures inside { IfSome result (λ n. (from ≤ n) × (n < length self.now)) }
-        ensures text { IfSome result (λ n. (e : Entry) → e ≡ slice_index_or self.now n e → is_text_of least e ≡ true) }
-        ensures first { IfSome result (HaveNoText least self.now from) }
-        ensures none { result ≡ None → HaveNoText least self.now from (length self.now) }
-    {
-        for n in from..self.len() {
-            if self.cells[n as usize].is_text(least) {
-                return Some(n);
-            }
-        }
-        None
     }
 
     /// One more value that holds no other.

@@ -10,7 +10,6 @@ ghost use Rattle.structural_index.specs.Answer.{IsIndexOf};
 ghost use Rattle.json_tape.specs.Answer.{Explains, IsJson, StandsForAll};
 ghost use Rattle.json_tape.specs.Tree.{source_of};
 ghost use Rattle.json_tape.specs.Verdict.{text_limit, IsAccepted, IsFaultless};
-ghost use Rattle.json_tape.specs.Counted.{AreCounted};
 ghost use Rattle.json_tape.specs.Nodes.{size, children, visit, is_named, first_where};
 ghost use Rattle.json_tape.specs.Tape.{Top, tape_of};
 ghost use Rattle.json_tape.specs.Siblings.{numbered};
@@ -20,10 +19,9 @@ ghost use Rattle.json_tape.specs.Document.{tree_of, count, node_at, later, seen,
 use crate::children::Children;
 use crate::compact::Tape;
 use crate::judge::{judge_tape, part_at};
-use crate::lengths::{Lengths, count_of, count_strings, is_long};
 use crate::order::{NameOrder, Run, is_wide, member_in};
 use crate::plain::{Words, is_meant_by, is_meant_plainly, words_of};
-use crate::scalars::{Scalars, unquoted};
+use crate::scalars::{Scalars, count_of, unquoted};
 use crate::second_stage::walk;
 use crate::sought::{Sought, is_sought};
 use crate::tape::{BuildFault, Entry, Kind, Lead, NodeId, Role, TextFault};
@@ -40,7 +38,6 @@ pub struct Document {
     text: String,
     tape: Tape,
     names: NameOrder,
-    lengths: Lengths,
 }
 
 impl Model for Document {
@@ -48,15 +45,13 @@ impl Model for Document {
     ghost use Rattle.std.specs.Prelude.{length};
     ghost use Rattle.json_tape.specs.Document.{Doc, IsDocument};
     ghost use Rattle.json_tape.specs.Ordered.{AreKept};
-    ghost use Rattle.json_tape.specs.Counted.{AreCounted};
 
     ghost Value = { Doc };
 
     ghost view = { λ d. record { text = string_bytes d.text; entries = d.tape } };
 
     ghost invariant = { λ d. IsDocument (record { text = string_bytes d.text; entries = d.tape })
-        × AreKept (string_bytes d.text) d.tape (length d.tape) d.names.objects.items d.names.starts.items d.names.hashes.items d.names.members.items
-        × AreCounted (record { text = string_bytes d.text; entries = d.tape }) d.lengths.strings.items d.lengths.lengths.items };
+        × AreKept (string_bytes d.text) d.tape (length d.tape) d.names.objects.items d.names.starts.items d.names.hashes.items d.names.members.items };
 }
 
 // The characters of a text that is not too long.
@@ -77,16 +72,14 @@ fn characters(text: &[u8]) -> Result<&str, TextFault>
 struct Parts {
     tape: Tape,
     names: NameOrder,
-    lengths: Lengths,
 }
 
-// The tape, the order of the members of wide objects and the lengths of long strings of a text that has this index, or its first fault.
+// The tape and the order of the members of wide objects of a text that has this index, or its first fault.
 fn read_indexed(alloc: Global, text: &str, index: &Index) -> Result<Parts, TextFault>
     requires short { length text.now ≤ text_limit }
     requires index { IsIndexOf index.now text.now }
     ensures { MatchResult result (λ p. IsJson text.now × StandsForAll text.now p.tape × (length p.tape < 2 ^ 31) × IsFaultless text.now
-        × AreKept text.now p.tape (length p.tape) p.names.objects.items p.names.starts.items p.names.hashes.items p.names.members.items
-        × AreCounted (record { text = text.now; entries = p.tape }) p.lengths.strings.items p.lengths.lengths.items)
+        × AreKept text.now p.tape (length p.tape) p.names.objects.items p.names.starts.items p.names.hashes.items p.names.members.items)
         (λ fault. Explains text.now fault) }
 {
     let reading = match walk(alloc, index, &mut Looks::new(text.as_bytes())) {
@@ -94,17 +87,12 @@ fn read_indexed(alloc: Global, text: &str, index: &Index) -> Result<Parts, TextF
         Err(BuildFault::NotJson) => return Err(TextFault::NotJson),
         Err(BuildFault::Memory) => return Err(TextFault::Memory),
     };
-    let names = match judge_tape(alloc, text, index.slashes.as_slice(), &reading) {
-        Ok(names) => names,
-        Err(fault) => return Err(fault),
-    };
-    match count_strings(alloc, text, &reading.tape, reading.longest) {
-        Ok(lengths) => Ok(Parts {
+    match judge_tape(alloc, text, index.slashes.as_slice(), &reading) {
+        Ok(names) => Ok(Parts {
             tape: reading.tape,
             names,
-            lengths,
         }),
-        Err(_) => Err(TextFault::Memory),
+        Err(fault) => Err(fault),
     }
 }
 
@@ -139,7 +127,6 @@ impl Document {
                 text: unsafe { String::from_utf8_unchecked(copy) },
                 tape: parts.tape,
                 names: parts.names,
-                lengths: parts.lengths,
             }),
             Err(fault) => Err(fault),
         }
@@ -162,7 +149,6 @@ impl Document {
                 text: unsafe { String::from_utf8_unchecked(text) },
                 tape: parts.tape,
                 names: parts.names,
-                lengths: parts.lengths,
             }),
             Err(fault) => Err(fault),
         }
@@ -268,23 +254,9 @@ impl Document {
         let entry = self.entry(n);
         match entry.kind {
             Kind::Array | Kind::Object => Some(entry.children),
-            Kind::Text => Some(self.string_length(n)),
+            Kind::Text => Some(count_of(self.string_scalars(n))),
             Kind::Null | Kind::Bool(_) | Kind::Number => None,
         }
-    }
-
-    // The number of scalar values of a string, which is kept where it is long.
-    fn string_length(&self, n: NodeId) -> u32
-        requires inside { n.0 < count self.now }
-        requires string { kind_of (node_at self.now n.0).tree ≡ Kind.Text }
-        ensures { result ≡ length (string_meaning (node_at self.now n.0).tree) }
-    {
-        if is_long(self.entry(n)) {
-            if let Ok(place) = self.lengths.strings.binary_search(&n.0) {
-                return self.lengths.lengths[place];
-            }
-        }
-        count_of(self.string_scalars(n))
     }
 
     /// The elements of an array or the values of an object's members, in the order of the text. Other values have none.

@@ -3,8 +3,8 @@
 //! `Document::read` accepts exactly the texts within the limits that have no lone surrogate and no object with a repeated name. It keeps
 //! the text, and one entry for each value: 16 bytes, and 12 more for an array or an object. The methods of `Document` return each
 //! value's kind, bytes, length, children and name. Most take constant time. Those that read a string or a name take time linear in its
-//! length, except that `length` finds the length of a long string by binary search. `member`, `member_near` and `twin` use binary search
-//! in an object of more than 16 members, and go over the members of a smaller one.
+//! length. `member`, `member_near` and `twin` use binary search in an object of more than 16 members, and go over the members of a
+//! smaller one.
 //!
 //! Reading has three steps. The index finds the places of all tokens (`structural_index`). One walk over the places makes the entries.
 //! Then the entries are checked. Open containers stand in a list, so that depth needs no stack. Numbers and strings are not converted:
@@ -14,6 +14,7 @@
 mod apart;
 mod builder;
 mod cells;
+mod characters;
 mod children;
 mod compact;
 mod document;
@@ -24,7 +25,6 @@ mod hashes;
 mod judge;
 mod keys;
 pub mod laws;
-mod lengths;
 mod lexing;
 mod names;
 mod order;

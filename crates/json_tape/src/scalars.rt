@@ -1,16 +1,18 @@
 //! The scalar values that a string or a name means (RFC 8259, section 7).
 
-ghost use Rattle.std.specs.Prelude.{◌≡◌, ℕ, ◌+◌, ◌<◌, length, false, IfSome, IsTrue};
+ghost use Rattle.std.specs.Prelude.{◌≡◌, ℕ, ◌+◌, ◌<◌, ◌≤◌, length, take, false, IfSome};
 ghost use Rattle.std.specs.Char.{IsScalar};
+ghost use Rattle.std.specs.Str.{IsCharBoundary};
 ghost use Rattle.json_tape.specs.Meaning.{IsHigh, IsLow, short_value as value_of_short, pair_value as value_of_pair};
 ghost use Rattle.json_tape.specs.Limits.{bytes_at};
-ghost use Rattle.json_tape.specs.Spelling.{hex_value as value_of_hex, unquoted as inside, IsQuoted};
+ghost use Rattle.json_tape.specs.Spelling.{hex_value as value_of_hex, has_backslash, unquoted as inside, IsQuoted};
 ghost use Rattle.json_tape.specs.Reading.{Reads, ReadsUnit};
-ghost use Rattle.json_tape.specs.Counted.{BeginsShort, BeginsUnit};
+ghost use Rattle.json_tape.specs.Verdict.{text_limit};
 
-use crate::lengths::plain_front;
+use crate::characters::character_count;
 use crate::scan::Mode;
 use crate::tape::Extent;
+use memchr::memchr;
 use std::marker::Model;
 use std::str::Chars;
 
@@ -158,28 +160,16 @@ fn after(state: Spelling, c: char) -> Meant
     }
 }
 
-// Whether the first bytes are an escape of two bytes: a backslash, and a byte of ASCII that is no `u`.
-#[inline(always)]
-fn begins_short(bytes: &[u8]) -> bool
-    ensures { IsTrue result → BeginsShort bytes.now }
+// How many bytes stand before the first backslash.
+fn plain_run(text: &str) -> usize
+    ensures boundary { IsCharBoundary text.now result }
+    ensures plain { has_backslash (take result text.now) ≡ false }
 {
-    bytes.len() > 1 && bytes[0] == b'\\' && bytes[1] < 0x80 && bytes[1] != b'u'
-}
-
-// Whether the first bytes are an escape of six bytes that spells no surrogate: `\u` and four bytes of ASCII, the first of which is no `D`.
-#[inline(always)]
-fn begins_unit(bytes: &[u8]) -> bool
-    ensures { IsTrue result → BeginsUnit bytes.now }
-{
-    bytes.len() > 5
-        && bytes[0] == b'\\'
-        && bytes[1] == b'u'
-        && bytes[2] != b'D'
-        && bytes[2] != b'd'
-        && bytes[2] < 0x80
-        && bytes[3] < 0x80
-        && bytes[4] < 0x80
-        && bytes[5] < 0x80
+    let bytes = text.as_bytes();
+    match memchr(b'\\', bytes) {
+        Some(at) => at,
+        None => bytes.len(),
+    }
 }
 
 impl<'a> Scalars<'a> {
@@ -195,51 +185,14 @@ impl<'a> Scalars<'a> {
         }
     }
 
-    /// Passes the characters before the next backslash, which stand for themselves, and tells how many.
-    pub(crate) fn pass_plain(&mut self) -> usize
+    // Passes the characters before the next backslash, which stand for themselves, and tells how many.
+    fn pass_plain(&mut self) -> usize
         ensures { length self.old ≡ result + length self.new }
     {
         let rest = self.rest.as_str();
-        let front = plain_front(rest);
-        self.rest = rest[front.bytes..].chars();
-        front.characters
-    }
-
-    // Passes an escape of two bytes, which spells one scalar value. `false` where none stands here.
-    #[inline(always)]
-    fn pass_short(&mut self) -> bool
-        ensures passed { IsTrue result → length self.old ≡ 1 + length self.new }
-        ensures kept { result ≡ false → self.new ≡ self.old }
-    {
-        let rest = self.rest.as_str();
-        if begins_short(rest.as_bytes()) {
-            self.rest = rest[2..].chars();
-            return true;
-        }
-        false
-    }
-
-    // Passes an escape of six bytes that spells no surrogate, and so one scalar value. `false` where none stands here.
-    #[inline(always)]
-    fn pass_unit(&mut self) -> bool
-        ensures passed { IsTrue result → length self.old ≡ 1 + length self.new }
-        ensures kept { result ≡ false → self.new ≡ self.old }
-    {
-        let rest = self.rest.as_str();
-        if begins_unit(rest.as_bytes()) {
-            self.rest = rest[6..].chars();
-            return true;
-        }
-        false
-    }
-
-    /// Passes one scalar value. `false` where none is left.
-    #[inline(always)]
-    pub(crate) fn pass_one(&mut self) -> bool
-        ensures passed { IsTrue result → length self.old ≡ 1 + length self.new }
-        ensures none { result ≡ false → length self.old ≡ 0 }
-    {
-        self.pass_short() || self.pass_unit() || self.next().is_some()
+        let run = plain_run(rest);
+        self.rest = rest[run..].chars();
+        character_count(&rest[..run])
     }
 }
 
@@ -266,6 +219,18 @@ impl<'a> Iterator for Scalars<'a> {
         }
         None
     }
+}
+
+/// How many scalar values are left.
+pub fn count_of(mut scalars: Scalars<'_>) -> u32
+    requires { length scalars ≤ text_limit }
+    ensures { result ≡ length scalars.entry }
+{
+    let mut count = scalars.pass_plain();
+    while scalars.next().is_some() {
+        count += 1 + scalars.pass_plain();
+    }
+    count as u32
 }
 
 /// What stands between the quotes of a string.

@@ -534,14 +534,13 @@ fn whole(
     first_spot(put(builder, Level::Root, None, i, lexed), lexed)
 }
 
-/// The result of a walk: the tape, its depth, whether a number may be beyond the limits, and the most bytes of a string value. `asked` has
-/// the numbers of the objects that may have a repeated name, in no order; all others have none.
+/// The result of a walk: the tape, its depth, and whether a number may be beyond the limits. `asked` has the numbers of the objects that
+/// may have a repeated name, in no order; all others have none.
 #[derive(Drop)]
 pub struct Reading {
     pub tape: Tape,
     pub depth: usize,
     pub may_exceed: bool,
-    pub longest: u32,
     pub asked: Vec<u32>,
 }
 
@@ -592,12 +591,10 @@ pub fn walk(alloc: Global, index: &Index, looks: &mut Looks<'_>) -> Result<Readi
         return Err(BuildFault::NotJson);
     }
     let depth = builder.deepest();
-    let longest = builder.longest();
     Ok(Reading {
         tape: builder.into_tape(),
         depth,
         may_exceed,
-        longest,
         asked: met.asked,
     })
 }

@@ -10,6 +10,7 @@ pub mod Picking
 pub mod Turned
 pub mod Following
 pub mod Learnt
+pub mod Counted
 pub mod Slots
 pub mod Filtering
 pub mod Naming

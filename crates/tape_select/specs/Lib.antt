@@ -8,4 +8,5 @@ pub mod Planned
 pub mod Making
 pub mod Slots
 pub mod Answered
+pub mod Counted
 pub mod Memo

@@ -12,6 +12,7 @@ use Rattle.tape_select.specs.Planned.{Claims, look}
 use Rattle.tape_select.specs.declared.state.Found.{Found}
 use Rattle.tape_select.specs.declared.state.State.{State}
 use Rattle.tape_select.specs.Answered.{AreRight}
+use Rattle.tape_select.specs.Counted.{AreCounted}
 use Rattle.tape_values.specs.Sides.{side_value, IsSide}
 use Rattle.tape_values.specs.declared.sides.Side.{Side}
 use Rattle.tape_select.specs.declared.fault.SelectFault.{SelectFault}
@@ -59,4 +60,4 @@ FindsSide d r value charge old new = MatchResult r (λ side. (side_value d side 
 
 -- what is kept is right
 abbrev pub Keeps : Doc → Claims → State → Type 0
-Keeps d table s = Right d table s.slots.items × AreRight d s.answers.items
+Keeps d table s = Right d table s.slots.items × AreRight d s.answers.items × AreCounted d s.lengths.kept.items

@@ -79,7 +79,7 @@ fn does_hold(
         }
         Condition::Compare(Operand::Length(operand), op, Operand::Constant(constant)) => {
             let side = side_of(doc, plan, operand, child, state)?;
-            Ok(compare_length(doc, side, op, constant))
+            Ok(compare_length(doc, side, op, constant, &mut state.lengths))
         }
         _ => holds_by_kind(doc, plan, condition, child, state),
     }
@@ -306,7 +306,7 @@ fn side_by_kind<'a>(
         Operand::Constant(constant) => Ok(Side::Literal(&constant.literal)),
         Operand::Length(operand) => {
             let side = side_of(doc, plan, operand, child, state)?;
-            Ok(length_of(doc, side))
+            Ok(length_of(doc, side, &mut state.lengths))
         }
         Operand::Count(query) => {
             let found = found(doc, plan, query, child, state)?;

@@ -10,6 +10,7 @@ mod chains;
 mod descendants;
 mod evaluation;
 mod fault;
+mod lengths;
 mod making;
 mod meter;
 mod nodes;

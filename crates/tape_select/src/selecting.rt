@@ -10,6 +10,7 @@ ghost use Rattle.tape_select.specs.Planned.{query_of, claims_of, numbered};
 
 use crate::evaluation::all_selected;
 use crate::fault::SelectFault;
+use crate::lengths::no_lengths;
 use crate::meter::Meter;
 use crate::plan::Parts;
 use crate::state::{Found, State};
@@ -58,6 +59,7 @@ pub fn select_all(
         meter: Meter { left: units },
         slots,
         answers: Vec::new(alloc),
+        lengths: no_lengths(alloc, doc),
     };
     let nodes = all_selected(doc, plan, &plan.stages, doc.root(), &mut state)?;
     Ok(Selected {

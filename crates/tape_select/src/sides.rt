@@ -10,9 +10,11 @@ ghost use Rattle.decisions.specs.Tree.{meets_root};
 ghost use Rattle.decisions.specs.Truth.{IsRelated};
 ghost use Rattle.decisions.specs.Views.{test_view};
 ghost use Rattle.tape_select.specs.Answered.{AreRight};
+ghost use Rattle.tape_select.specs.Counted.{AreCounted};
 ghost use Rattle.tape_select.specs.Memo.{value_found};
 
 use crate::answers::{Answer, compare_once, make_room};
+use crate::lengths::{Lengths, length_once};
 use crate::plan::Constant;
 use decisions::{Decision, Relation};
 use json_tape::{Document, Kind, NodeId};
@@ -39,24 +41,28 @@ pub fn side_found<'a>(doc: &Document, found: Option<NodeId>) -> Side<'a>
 }
 
 // How many scalar values, elements or members there are.
-fn total_of(doc: &Document, side: Side<'_>) -> Option<usize>
-    requires { IsSide doc.now side }
-    ensures { length_value (side_value doc.now side.entry) ≡ option_map whole_number result }
+fn total_of(doc: &Document, side: Side<'_>, lengths: &mut Lengths) -> Option<usize>
+    requires side { IsSide doc.now side }
+    requires before { AreCounted doc.now lengths.old.kept.items }
+    ensures value { length_value (side_value doc.now side.entry) ≡ option_map whole_number result }
+    ensures after { AreCounted doc.now lengths.new.kept.items }
 {
     match side {
-        Side::Node(n) => Some(doc.length(n)? as usize),
+        Side::Node(n) => Some(length_once(doc, n, lengths)? as usize),
         Side::Literal(Literal::Text(scalars)) => Some(scalars.len()),
         _ => None,
     }
 }
 
 /// How many scalar values, elements or members there are.
-pub fn length_of<'a>(doc: &Document, side: Side<'_>) -> Side<'a>
-    requires { IsSide doc.now side }
+pub fn length_of<'a>(doc: &Document, side: Side<'_>, lengths: &mut Lengths) -> Side<'a>
+    requires side { IsSide doc.now side }
+    requires before { AreCounted doc.now lengths.old.kept.items }
     ensures value { side_value doc.now result ≡ length_value (side_value doc.now side.entry) }
     ensures side { IsSide doc.now result }
+    ensures after { AreCounted doc.now lengths.new.kept.items }
 {
-    match total_of(doc, side) {
+    match total_of(doc, side, lengths) {
         None => Side::Nothing,
         Some(total) => Side::Whole(total),
     }
@@ -64,11 +70,19 @@ pub fn length_of<'a>(doc: &Document, side: Side<'_>) -> Side<'a>
 
 /// Whether a comparison of a length with a literal holds.
 #[inline(always)]
-pub fn compare_length(doc: &Document, side: Side<'_>, op: &Op, constant: &Constant) -> bool
-    requires { IsSide doc.now side }
-    ensures { result ≡ compared op.now (length_value (side_value doc.now side.entry)) (Some (literal_value (literal_view constant.now.literal))) }
+pub fn compare_length(
+    doc: &Document,
+    side: Side<'_>,
+    op: &Op,
+    constant: &Constant,
+    lengths: &mut Lengths,
+) -> bool
+    requires side { IsSide doc.now side }
+    requires before { AreCounted doc.now lengths.old.kept.items }
+    ensures held { result ≡ compared op.now (length_value (side_value doc.now side.entry)) (Some (literal_value (literal_view constant.now.literal))) }
+    ensures after { AreCounted doc.now lengths.new.kept.items }
 {
-    match total_of(doc, side) {
+    match total_of(doc, side, lengths) {
         None => one_missing(*op),
         Some(total) => compare_whole(doc, total, op, &constant.literal),
     }

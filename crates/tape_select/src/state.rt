@@ -11,6 +11,7 @@ ghost use Rattle.tape_select.specs.Planned.{claims_of, look, links_view};
 use crate::answers::Answer;
 use crate::chains::followed;
 use crate::fault::SelectFault;
+use crate::lengths::Lengths;
 use crate::meter::Meter;
 use crate::plan::{Link, Parts};
 use json_tape::{Document, NodeId};
@@ -26,13 +27,14 @@ pub struct Found {
     pub charge: u64,
 }
 
-/// The units that are left, a slot for each query from the root, and comparisons that were made.
+/// The units that are left, a slot for each query from the root, and comparisons and lengths that were found.
 #[derive(Drop)]
 pub struct State {
     pub alloc: Global,
     pub meter: Meter,
     pub slots: Vec<Option<Found>>,
     pub answers: Vec<Option<Answer>>,
+    pub lengths: Lengths,
 }
 
 /// What the slot holds, where it is filled.

@@ -1,6 +1,5 @@
-use Rattle.std.proofs.Common.{◌∙◌, ap, subst, refl, Err}
-use Rattle.json_tape.specs.Answer.{IsJson, StandsForAll, IsNoJson}
-use Rattle.json_tape.proofs.Told.{document}
+use Rattle.std.proofs.Common.{◌∙◌, ap, subst, Err}
+use Rattle.json_tape.specs.Answer.{IsNoJson}
 use Rattle.json_tape.proofs.Verdicts.{refused_json}
 use Rattle.json_tape.proofs.document.read_indexed.Goals as goal
 
@@ -8,8 +7,3 @@ pub returns-in-Err-NotJson : goal.returns-in-Err-NotJson
 returns-in-Err-NotJson c =
     let same = ap (λ (p : _). p.0) c.new.ensures ∙ c.as_bytes.ensures.value in
     refused_json c.args.text.now c.requires.short c.utf8.text (subst IsNoJson same (c.in-Err-NotJson.ensures.refused (ap Err c.in-Err-NotJson.field-0-is)))
-
-pub count_strings-requires : goal.count_strings-requires
-count_strings-requires c =
-    let same = ap (λ (p : _). p.0) c.new.ensures ∙ c.as_bytes.ensures.value in
-    document c.args.text.now _ c.in-Ok.reading.tape refl (subst IsJson same c.in-Ok.ensures.spelt) (subst (λ t. StandsForAll t c.in-Ok.reading.tape) same c.in-Ok.ensures.stands) c.in-Ok-judge_tape.ensures.0 c.in-Ok.ensures.few

@@ -4,7 +4,6 @@ use Rattle.json_tape.specs.Verdict.{IsAccepted}
 use Rattle.json_tape.specs.Document.{tree_of}
 use Rattle.json_tape.proofs.Told.{is_accepted, document}
 use Rattle.json_tape.proofs.Runs.{kept_of}
-use Rattle.json_tape.proofs.CountedStrings.{counted_of}
 use Rattle.json_tape.proofs.document.Document.read_owned.Goals as goal
 
 pub returns-in-Ok-read_indexed : goal.returns-in-Ok-read_indexed
@@ -25,5 +24,4 @@ invariant_of-result c =
     let tape = c.in-Ok-read_indexed.parts.tape in (
       document c.in-Ok.checked.now (string_bytes c.from_utf8_unchecked.result) tape same found.0 found.1 found.3 found.2,
       kept_of (string_bytes c.from_utf8_unchecked.result) _ tape _ _ _ _ (sym same) found.4,
-      counted_of (string_bytes c.from_utf8_unchecked.result) _ tape _ _ (sym same) found.5,
     )
