@@ -1,6 +1,6 @@
 #!/usr/bin/env python3
 """Tests `bin/edits try` on a made crate, with the prover: an edit that turns a body or a definition is refused, at the function that it is about,
-though others have no proof; one that is still proved, that cannot be read, or that says nothing is told; what was refused is not tried again; and
+though others have no proof; one that is still proved, as to any function that it names, that cannot be read, or that says nothing is told; what was refused is not tried again; and
 where a function is not proved as it stands, no edit counts as refused."""
 import os
 import re
@@ -45,6 +45,7 @@ three = 3
 EDITS = {
     "turned": ("file: src/lib.rt\nold:     next(1)\nnew:     next(1) + 1\n", "refused: "),
     "defined": ("# by: third\nfile: specs/Numbers.antt\nold: three = 3\nnew: three = 4\n", "refused: "),
+    "halved": ("# by: third two\nfile: specs/Numbers.antt\nold: three = 3\nnew: three = 6\n", "NOT REFUSED: two is proved"),
     "same": ("file: src/lib.rt\nold:     3\nnew:     1 + 2\n", "NOT REFUSED: it is proved"),
     "unread": ("file: src/lib.rt\nold:     next(1)\nnew:     next(none)\n", "NOT REFUSED: it cannot be read"),
     "unjudged": ("file: specs/Numbers.antt\nold: three = 3\nnew: three = 5\n", "NOT REFUSED: it changes no function"),
@@ -75,10 +76,12 @@ def line_of(name, lines):
 
 
 def main():
-    wrong = []
+    wrong, right = [], []
 
     def expect(what, holds, lines):
-        if not holds:
+        if holds:
+            right.append(what)
+        else:
             wrong.append(what)
             print(f"{what}:", *lines, sep="\n    ")
 
@@ -89,14 +92,14 @@ def main():
         for name, (_, said) in EDITS.items():
             expect(f"{name} is told", said in line_of(name, lines), lines)
         expect("turned is refused at its function", re.search(r"src/lib\.rt:\d+", line_of("turned", lines)), lines)
-        expect("all are counted", lines[-1] == "2 passed, 3 failed" and status == 1, lines)
+        expect("all are counted", lines[-1] == "2 passed, 4 failed" and status == 1, lines)
         status, lines = tried(root, "--only", "turned")
         expect("a refused one is kept", "refused before" in line_of("turned", lines) and status == 0, lines)
         write(root, SOURCE.replace("result ≡ 2 }\n{\n    next", "result ≡ 7 }\n{\n    next"))
         status, lines = tried(root, "--only", "turned")
         expect("a control that fails is told", any("not proved without one" in line for line in lines), lines)
         expect("no edit counts then", lines[-1] == "0 passed, 1 failed" and status == 1, lines)
-    print(f"{9 - len(wrong)} passed, {len(wrong)} failed")
+    print(f"{len(right)} passed, {len(wrong)} failed")
     sys.exit(1 if wrong else 0)
 
 

@@ -11,7 +11,7 @@ An edit is judged by the functions that it changes. One of anything else, as of 
 import re
 from pathlib import Path
 
-TOGETHER = 24
+TOGETHER = 64
 FUNCTION = re.compile(r"( *)(?:pub(?:\([a-z]+\))? )?(const )?(?:unsafe )?fn (\w+)")
 BLOCK = re.compile(r" *(?:pub(?:\([a-z]+\))? )?(?:unsafe )?(impl|trait|mod)\b")
 CYCLE = re.compile(r"^ *#\[cycle\((\w+)\)\]\n", re.M)
@@ -217,7 +217,7 @@ class Edit:
     def goes_with(self, other):
         """Whether the two may be tried together: bodies of different functions may, and where one changes a clause, what calls its function may not."""
         mine, others = self.functions, other.functions
-        if not mine or not others or {it.name for it in mine} & {it.name for it in others}:
+        if not mine or not others or {it.path for it in mine} & {it.path for it in others}:
             return False
         return self.is_of_bodies and other.is_of_bodies or not any(one.calls(two) or two.calls(one) for one in mine for two in others)
 

@@ -7,8 +7,10 @@ has a body for and a function whose result is an `impl` type keep body and proof
 the judged functions is in.
 """
 import os
+import re
 import shutil
 import subprocess
+import threading
 from pathlib import Path
 
 from edits import CYCLE, functions_of
@@ -57,6 +59,10 @@ def cut(file, text, is_whole):
     return "\n".join(lines)
 
 
+# Where the prover can save nothing, it does not look for the lines that a proof could begin with, for which it begins once more.
+UNSAVED = ["sh", "-c", 'trap "" XFSZ; ulimit -f 8; exec "$@"', "sh"]
+
+
 class HoledCopy:
     """A copy of a crate in a folder of its own, in which only these functions, given by their paths, can be judged."""
 
@@ -98,13 +104,24 @@ class HoledCopy:
         """The functions of a file as it stands in the copy."""
         return functions_of(file, (self.at / file).read_text(encoding="utf-8"))
 
-    def check(self, judged, seconds):
-        """What the prover says of these functions, as lines; nothing where it takes longer."""
+    def check(self, judged, seconds, is_saved=False):
+        """What the prover says of these functions, as lines, which are none where it takes longer than so many seconds, and the processor seconds that
+        it took, with how long each of its stages took on the clock. What is saved serves later checks."""
         only = [word for it in judged for word in ("--only", it)]
-        words = [*self.words, "--jobs", "1", "--incremental", "kept", "--allow-holes", *only]
+        words = [*self.words, "--jobs", "1", "--incremental", "kept", "--allow-holes", "--stage-times", "stages", *only]
+        words = words if is_saved else [*UNSAVED, *words]
         (self.at / "kept").mkdir(exist_ok=True)
         how = {"cwd": self.at, "stdin": subprocess.DEVNULL, "stdout": subprocess.PIPE, "stderr": subprocess.STDOUT}
-        try:
-            return subprocess.run(words, timeout=seconds, **how).stdout.decode(errors="replace").splitlines()
-        except subprocess.TimeoutExpired:
-            return []
+        process = subprocess.Popen(words, **how)
+        limit = threading.Timer(seconds, process.kill)
+        limit.start()
+        said = process.stdout.read().decode(errors="replace").splitlines()
+        _, process.returncode, used = os.wait4(process.pid, 0)
+        is_late = not limit.is_alive()
+        limit.cancel()
+        return [] if is_late else said, used.ru_utime + used.ru_stime, self.stages()
+
+    def stages(self):
+        """The stages of the last check that took a second or more."""
+        told = (self.at / "stages").read_text(encoding="utf-8") if (self.at / "stages").is_file() else ""
+        return [f"{name} {float(seconds):.0f}" for name, seconds in re.findall(r"^stage (\S+) (\S+)", told, re.M) if float(seconds) >= 1]

@@ -10,7 +10,7 @@ import threading
 import time
 from pathlib import Path
 
-from edits import Edit, apply, in_groups, is_open, joined
+from edits import OPEN, Edit, apply, in_groups, is_open, joined
 from holes import PARTS, HoledCopy, front_end
 from proving import Task, run_all
 
@@ -101,9 +101,9 @@ class Kept:
 class Trial:
     """The edits of a crate, and what came of them."""
 
-    def __init__(self, crates, name, files, kit, libraries, kept):
-        self.crates, self.name, self.files, self.kit, self.libraries, self.kept = crates, name, files, kit, libraries, kept
-        self.said, self.refused, self.copy, self.places = [], 0, None, {}
+    def __init__(self, crates, name, files, kit, libraries, kept, are_timed):
+        self.crates, self.name, self.files, self.kit, self.libraries, self.kept, self.are_timed = crates, name, files, kit, libraries, kept, are_timed
+        self.said, self.refused, self.copy, self.places, self.checks, self.spent = [], 0, None, {}, 0, 0.0
 
     def run(self, _):
         started = time.monotonic()
@@ -113,7 +113,7 @@ class Trial:
         else:
             with tempfile.TemporaryDirectory(prefix="try-edits-") as at:
                 self.try_all(Path(at))
-        self.said.append(f"{self.name}: {self.refused} of {len(self.files)} refused, {span(time.monotonic() - started)}")
+        self.said.append(f"{self.name}: {self.refused} of {len(self.files)} refused, {self.checks} checks, {self.spent:.0f} s of a processor, {span(time.monotonic() - started)}")
         return True
 
     def try_all(self, at):
@@ -139,14 +139,26 @@ class Trial:
         judges = list(dict.fromkeys(path for it in edits for path in it.judges))
         words = [str(self.kit / "bin/rattle"), "check", *front_end(self.kit, self.crates, self.name, self.libraries.folder)]
         self.copy = HoledCopy(at, folder, self.name, words, judges)
-        lines = joined(self.copy.check(judges, SECONDS))
-        whole = {it for it in judges if any(line.startswith((f"fn {self.name}::{it}: no holes", f"fn {self.name}::{it}: depends on a hole")) for line in lines)}
+        lines = self.check("control", judges, is_saved=True)
+        whole = [it for it in judges if self.is_whole(it, lines)]
         against = [f"{it}, which an edit names, is no function of the crate" for it in self.copy.unknown]
         against += [line for line in lines if is_open(line) or UNREAD.match(line)] + [f"{it} was not judged" for it in judges if it not in whole]
         if against or not was_judged(lines):
             self.said += [f"{self.name}: its edits were not tried, since it is not proved without one:", *(against or lines[-5:])[:5]]
             return False
         return True
+
+    def is_whole(self, path, lines):
+        """Whether the lines of a check tell that a function is proved, but for what others promise."""
+        return any(line.startswith((f"fn {self.name}::{path}: no holes", f"fn {self.name}::{path}: depends on a hole")) for line in lines)
+
+    def check(self, what, judged, is_saved=False):
+        """What the prover says of these functions in the copy."""
+        lines, spent, stages = self.copy.check(judged, SECONDS, is_saved)
+        self.checks, self.spent = self.checks + 1, self.spent + spent
+        if self.are_timed:
+            self.said.append(f"{self.name}: {spent:.0f} s of a processor for {len(judged)} functions ({', '.join(stages)}): {what}")
+        return joined(lines)
 
     def try_group(self, group):
         """Tries edits together; those that no goal refused, each with what the check said."""
@@ -156,34 +168,42 @@ class Trial:
         before = {file: (folder / file).read_text(encoding="utf-8") for file in texts}
         try:
             self.copy.put(texts)
-            lines = joined(self.copy.check(list(dict.fromkeys(path for it in group for path in it.judges)), SECONDS))
+            lines = self.check(" ".join(it.name for it in group), list(dict.fromkeys(path for it in group for path in it.judges)))
             now = {it.path: it for file in self.copy.files for it in self.copy.functions(file)}
         finally:
             self.copy.put(before)
         left = []
         for edit in group:
             edit.lines = lines
-            # a definition's edit is tried alone, and may break a lemma before it breaks the law that it is about
-            is_told = lambda line: any(now[it].is_at(line) for it in edit.judges if it in now) or not edit.functions and is_open(line)
-            told = next(filter(is_told, lines), None) if was_judged(lines) else None
+            told = self.told_of(edit, lines, now) if was_judged(lines) else []
             if told:
-                self.tell(edit.name, told, "refused")
-                self.kept.keep(self.places[edit.name], told)
+                # a goal in the source says more than the proof that did not fit it
+                line = min(told, key=lambda it: not OPEN.match(it)[1])
+                self.tell(edit.name, line, "refused")
+                self.kept.keep(self.places[edit.name], line)
             else:
                 left.append(edit)
         return left
 
+    def told_of(self, edit, lines, now):
+        """The lines of a check that tell of the goals that refuse an edit. That of a definition is tried alone, and may break a lemma before it breaks
+        the laws that it is about, of which none may be proved then."""
+        if edit.functions:
+            return [line for line in lines if any(now[it].is_at(line) for it in edit.judges if it in now)]
+        return [] if any(self.is_whole(it, lines) for it in edit.judges) else [line for line in lines if is_open(line)]
+
     def against(self, edit):
         """Says why an edit that was tried alone is not refused."""
         unread = next((line for line in edit.lines if UNREAD.match(line)), None)
+        whole = [it for it in edit.judges if self.is_whole(it, edit.lines)]
         if not edit.lines:
             why = f"its check did not end within {span(SECONDS)}"
         elif unread or not was_judged(edit.lines):
             why = f"it cannot be read: {unread or edit.lines[-1]}"
-        elif any(line.startswith(f"fn {self.name}::{it}: not proved") for line in edit.lines for it in edit.judges):
+        elif not whole:
             why = "only a proof no longer fits, which says little of the contract: " + next((line for line in edit.lines if ": error: " in line), "")
         else:
-            why = "it is proved"
+            why = "it is proved" if len(whole) == len(edit.judges) else f"{whole[0]} is proved"
         self.said.append(f"{self.name}/{edit.name}: NOT REFUSED: {why[:300]}")
 
     def tell(self, name, line, how):
@@ -205,7 +225,7 @@ def prove_libraries(crates, names):
     return True
 
 
-def try_edits(crates, kind, names, word, folder, are_named, is_anew, many):
+def try_edits(crates, kind, names, word, folder, are_named, is_anew, are_timed, many):
     """Tries the edits of a kind whose name has the word, of the crates that are named or of all, many crates at a time. The libraries stand in a folder like
     that of the repository, which may be told to come as they are named on standard input; with no folder they are proved first. Prints what
     comes of them; how many were refused, and how many were not."""
@@ -217,7 +237,7 @@ def try_edits(crates, kind, names, word, folder, are_named, is_anew, many):
     if not folder and not prove_libraries(crates, edits):
         return 0, max(total, 1)
     libraries, kept = Libraries((folder or crates.top).resolve(), are_named), Kept(kit, is_anew)
-    trials = {name: Trial(crates, name, files, kit, libraries, kept) for name, files in edits.items()}
+    trials = {name: Trial(crates, name, files, kit, libraries, kept, are_timed) for name, files in edits.items()}
 
     def tell(task, how):
         lines = [f"still at {', '.join(how)}"] if task is None else trials[task.name].said

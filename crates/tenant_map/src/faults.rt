@@ -6,55 +6,39 @@ ghost use Rattle.tenant_map.specs.declared.faults.StoreFault.TheVariants.{NoMemo
 
 use json_tape::TextFault;
 use std::alloc::{AllocError, AllocFailed};
-use thiserror::Error;
 
 /// Why a tenant refuses a call. Each fault is numbered as the status of its reply.
-#[derive(Clone, Copy, Debug, Drop, PartialEq, Eq, Error)]
+#[derive(Clone, Copy, Debug, Drop, PartialEq, Eq)]
 pub enum StoreFault {
     /// The text is longer than its limit.
-    #[error("the text is longer than its limit")]
     TooLong = 5,
     /// The text is not UTF-8.
-    #[error("the text is not UTF-8")]
     NotUtf8 = 6,
     /// The text is not JSON (RFC 8259, section 2).
-    #[error("the text is not JSON")]
     NotJson = 7,
     /// The text is nested more deeply than its limit.
-    #[error("the text is nested more deeply than its limit")]
     TooDeep = 8,
     /// A number of the text is longer, or its exponent larger, than the limit.
-    #[error("a number of the text is longer, or its exponent larger, than the limit")]
     NumberLimit = 9,
     /// A string of the text has one half of a surrogate pair (RFC 8259, section 8.2).
-    #[error("a string of the text has one half of a surrogate pair")]
     LoneSurrogate = 10,
     /// Two names of one object are equal (RFC 8259, section 4).
-    #[error("two names of one object are equal")]
     DuplicateName = 11,
     /// The tenant would have more collections than its quota.
-    #[error("the tenant would have more collections than its quota")]
     TooManyCollections = 12,
     /// The tenant would have more documents than its quota.
-    #[error("the tenant would have more documents than its quota")]
     TooManyDocuments = 13,
     /// The tenant's texts would have more bytes than its quota.
-    #[error("the texts of the tenant would have more bytes than its quota")]
     TooManyBytes = 14,
     /// The collection or the document is not there.
-    #[error("the collection or the document is not there")]
     NotFound = 15,
     /// The reply's body would be longer than its limit.
-    #[error("the body of the reply would be longer than its limit")]
     ReplyTooLarge = 20,
     /// An allocation failed.
-    #[error("a growth was refused")]
     NoMemory = 21,
     /// The charge of the query on the documents up to some one is above the budget.
-    #[error("the query is charged more than the budget")]
     Costly = 22,
     /// The document is there.
-    #[error("the document is there")]
     Exists = 23,
 }
 

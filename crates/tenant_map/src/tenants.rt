@@ -1,11 +1,13 @@
 //! All tenants, by key.
 
-ghost use Rattle.std.specs.Prelude.{◌≡◌, ◌+◌, ◌<◌, ◌≤◌, IfOk, IfErr, IfSome, [], length, replicate, slice_get, Some};
+ghost use Rattle.std.specs.Prelude.{◌≡◌, ◌+◌, ◌<◌, ◌≤◌, ℕ, List, IfOk, IfErr, IfSome, [], length, replicate, slice_get, Some, false};
+ghost use Rattle.std.specs.Map.{lookup};
+ghost use Rattle.tenant_map.specs.Keyed.{at};
 ghost use Rattle.tenant_map.specs.declared.tenants.TenantsFault.TheVariants.{Memory};
 ghost use Rattle.std.specs.Borrow.{Lends, sem};
 ghost use Rattle.tenant_map.specs.contracts.tenant.Tenant as tenant;
 ghost use Rattle.tenant_map.specs.contracts.tenants.Tenants as tenants;
-ghost use Rattle.tenant_map.specs.Tenancy.{place_in, with_map, AcceptsKeys, RefusesKeys};
+ghost use Rattle.tenant_map.specs.Tenancy.{place_in, has_repeated, with_map, AcceptsKeys, RefusesKeys};
 
 use crate::tenant::Tenant;
 use std::alloc::{AllocError, AllocFailed, Global};
@@ -82,13 +84,10 @@ impl Tenants {
         if keys.len() > TENANT_LIMIT {
             return Err(TenantsFault::TooManyKeys);
         }
-        let mut places = BTreeMap::new(alloc);
-        for i in 0..keys.len() {
-            let earlier = places.insert(keys[i], i)?;
-            if earlier.is_some() {
-                return Err(TenantsFault::RepeatedKey);
-            }
-        }
+        let places = match places_of(alloc, keys) {
+            Ok(places) => places,
+            Err(fault) => return Err(fault),
+        };
         let tenants = empty_tenants(alloc, keys.len())?;
         let keys = Vec::from_slice(alloc, keys)?;
         Ok(Tenants {
@@ -125,6 +124,24 @@ impl Tenants {
     {
         &mut self.tenants[place]
     }
+}
+
+// The place of each key, where none comes twice.
+fn places_of(alloc: Global, keys: &[[u8; 16]]) -> Result<BTreeMap<[u8; 16], usize>, TenantsFault>
+    requires some { 0 < length keys.now }
+    requires few { length keys.now ≤ 256 }
+    ensures place { IfOk result (λ places. (q : List ℕ) → lookup (at q) places.entries ≡ place_in keys.now q) }
+    ensures distinct { IfOk result (λ places. has_repeated keys.now ≡ false) }
+    ensures refused { IfErr result (RefusesKeys keys.now) }
+{
+    let mut places = BTreeMap::new(alloc);
+    for i in 0..keys.len() {
+        let earlier = places.insert(keys[i], i)?;
+        if earlier.is_some() {
+            return Err(TenantsFault::RepeatedKey);
+        }
+    }
+    Ok(places)
 }
 
 fn empty_tenants(alloc: Global, count: usize) -> Result<Vec<Tenant>, AllocError>

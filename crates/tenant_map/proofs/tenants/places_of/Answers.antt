@@ -1,6 +1,6 @@
 use Rattle.std.proofs.Common.{◌<◌, [], length, get_or, sym, ◌∙◌, arith}
 use Rattle.tenant_map.proofs.Places.{repeated_found, place_next, distinct_next}
-use Rattle.tenant_map.proofs.tenants.Tenants.new.Goals as goal
+use Rattle.tenant_map.proofs.tenants.places_of.Goals as goal
 
 pub loop-i-preserved : goal.loop-i-preserved
 loop-i-preserved c =
@@ -19,4 +19,4 @@ returns-then-is_some-clause-refused c =
     let ks = c.args.keys.now in
     let i = c.loop-i.i in
     let l : i < length ks = omega (arith, c.loop-i-test.true) in
-    (omega (arith, l), c.if-keys-gt-TENANT_LIMIT.false, repeated_found ks i c.in_ok-earlier.earlier l (c.in_ok-earlier.ensures.old ∙ c.loop-i.invariant.place (get_or ks i [])) (sym c.is_some.ensures ∙ c.if-is_some.true))
+    (c.requires.some, c.requires.few, repeated_found ks i c.in_ok-earlier.earlier l (c.in_ok-earlier.ensures.old ∙ c.loop-i.invariant.place (get_or ks i [])) (sym c.is_some.ensures ∙ c.if-is_some.true))

@@ -2,7 +2,7 @@ use Rattle.std.proofs.Common.{◌≡◌, ℕ, List, take, false}
 use Rattle.std.specs.Map.{lookup}
 use Rattle.tenant_map.specs.Keyed.{at}
 use Rattle.tenant_map.specs.Tenancy.{place_in, has_repeated}
-use Rattle.tenant_map.proofs.tenants.Tenants.new.Given as goal
+use Rattle.tenant_map.proofs.tenants.places_of.Given as goal
 
 abbrev pub invariant-loop-i : goal.invariant-loop-i
 invariant-loop-i l = record {
