@@ -323,7 +323,10 @@ def free():
     yield "objects, the text for nothing", many('{"a":0}'), filled("@==$")
     yield "an object of zeros, all pairs for nothing", members(numbered())[0], distinct(itertools.cycle(pairs))
     sides = itertools.cycle(["@", "length(@)", "count(@)", "value(@)", "$"])
-    yield "zeros, five sides for nothing", texts["zeros"], distinct(f"{side}=={key}" for side, key in zip(sides, range(1, 2_000)))
+    turns = list(zip(sides, range(1, 2_000)))
+    yield "zeros, five sides for nothing", texts["zeros"], distinct(f"{side}=={key}" for side, key in turns)
+    yield "zeros, five sides by && for nothing", texts["zeros"], distinct((f"{side}!={key}" for side, key in turns), "&&")
+    yield "strings, five sides in ! for nothing", texts["strings"], distinct(f"!({side}!={key})" for side, key in turns)
     yield "strings, lengths and keys for nothing", texts["strings"], distinct(f'@>="{key}"&&length(@)=={key}' for key in range(2, 2_000))
 
 

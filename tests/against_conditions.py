@@ -48,11 +48,11 @@ def condition(chance, side, depth):
 
 
 def query(chance):
-    """A filter by conditions on one side, or on a few, often several next to each other on the same."""
-    sides = [chance.choice(SIDES) for _ in range(chance.choice([1, 1, 2, 3]))]
-    side, parts = sides[0], []
-    for _ in range(chance.choice([1, 2, 4, 8, 16])):
-        side = chance.choice(sides) if chance.random() < 0.2 else side
+    """A filter by conditions on one side, or on some, either several next to each other on the same or in any order."""
+    sides = [chance.choice(SIDES) for _ in range(chance.choice([1, 1, 2, 3, 12]))]
+    side, parts, change = sides[0], [], chance.choice([0.2, 1.0])
+    for _ in range(chance.choice([1, 2, 4, 8, 16, 60])):
+        side = chance.choice(sides) if chance.random() < change else side
         parts.append(condition(chance, side, chance.choice([0, 0, 1, 3])))
     return "$[?" + chance.choice(["||", "&&"]).join(parts) + "]"
 

@@ -8,19 +8,19 @@
 mod counting;
 mod decision;
 mod gathering;
+mod groups;
 mod laws;
 mod order;
 mod places;
 mod reading;
 mod relation;
-mod runs;
 mod tables;
 mod telling;
 mod test;
 
 pub use decision::Decision;
+pub use groups::{Groups, grouped, side_in_group};
 pub use laws::{tells_as_compared, tells_by_places};
-pub use reading::{decide, decide_list, side_in, side_in_any};
+pub use reading::{decide, decide_group, side_in};
 pub use relation::Relation;
-pub use runs::{has_run, run_end};
 pub use test::{Constant, Test};

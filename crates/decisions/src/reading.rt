@@ -1,11 +1,12 @@
 //! Conditions read from the syntax tree of a query.
 
-ghost use Rattle.std.specs.Prelude.{◌≡◌, map, IsTrue, IfOk, IfSome};
+ghost use Rattle.std.specs.Prelude.{◌≡◌, length, map, IsTrue, IfOk, IfSome};
 ghost use Rattle.path_grammar.specs.Tree as tree;
 ghost use Rattle.path_grammar.specs.Tree.{exprs_of};
 ghost use Rattle.path_grammar.specs.View.{literal_view, comparable_view, call_view, expr_view, nested_view, segment_view};
 ghost use Rattle.path_types.specs.Validity.{is_literal, is_valid_expr, are_valid_exprs, is_valid_comparable};
 ghost use Rattle.decisions.specs.Tree.{expr_of, exprs_of_tests, tests_of, listed};
+ghost use Rattle.decisions.specs.Turns.{dealt};
 ghost use Rattle.decisions.specs.Views.{constant_view, test_view};
 
 use crate::decision::Decision;
@@ -296,17 +297,45 @@ pub fn decide(alloc: Global, side: &Comparable, expr: &Expr) -> Result<Option<De
     }
 }
 
-/// The same of operands with `||` between them, or with `&&`.
-pub fn decide_list(
+// The conditions on this side of the operands with this number, if they all are.
+fn read_group(
+    alloc: Global,
+    operands: &[Expr],
+    numbers: &[usize],
+    number: usize,
+    side: &Comparable,
+) -> Result<Option<Vec<Test>>, AllocError>
+    requires valid { IsTrue (are_valid_exprs (exprs_of (map expr_view operands.now))) }
+    requires each { length numbers.now ≡ length operands.now }
+    ensures { IfOk result (λ made. IfSome made (λ tests. exprs_of_tests (comparable_view side.now) (tests_of (map test_view tests.items)) ≡ exprs_of (map expr_view (dealt numbers.now number operands.now)))) }
+{
+    let mut made = Vec::new(alloc);
+    for i in 0..operands.len() {
+        if numbers[i] != number {
+            continue;
+        }
+        match read(alloc, &operands[i], side)? {
+            None => return Ok(None),
+            Some(test) => made.push(test)?,
+        }
+    }
+    Ok(Some(made))
+}
+
+/// The same of the operands with this number, with `||` between them, or with `&&`.
+pub fn decide_group(
     alloc: Global,
     side: &Comparable,
     is_any: bool,
     operands: &[Expr],
+    numbers: &[usize],
+    number: usize,
 ) -> Result<Option<Decision>, AllocError>
     requires valid { IsTrue (are_valid_exprs (exprs_of (map expr_view operands.now))) }
-    ensures { IfOk result (λ made. IfSome made (λ decision. expr_of (comparable_view side.now) (test_view decision) ≡ listed is_any (exprs_of (map expr_view operands.now)))) }
+    requires each { length numbers.now ≡ length operands.now }
+    ensures { IfOk result (λ made. IfSome made (λ decision. expr_of (comparable_view side.now) (test_view decision) ≡ listed is_any (exprs_of (map expr_view (dealt numbers.now number operands.now))))) }
 {
-    match read_all(alloc, operands, side)? {
+    match read_group(alloc, operands, numbers, number, side)? {
         None => Ok(None),
         Some(tests) => {
             if is_any {
@@ -340,9 +369,8 @@ pub fn side_in(expr: &Expr) -> Option<&Comparable> {
     }
 }
 
-/// The first side in expressions that stands against a literal.
 #[cycle(sides)]
-pub fn side_in_any(operands: &[Expr]) -> Option<&Comparable> {
+fn side_in_any(operands: &[Expr]) -> Option<&Comparable> {
     for operand in operands {
         if let Some(side) = side_in(operand) {
             return Some(side);

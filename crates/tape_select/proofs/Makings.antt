@@ -4,7 +4,7 @@ use Rattle.std.specs.Prelude.{IsTrue}
 use Rattle.std.proofs.lemmas.List.{drop_more}
 use Rattle.tape_select.specs.Planned.{With, trees}
 
-push_tree : {A B : Type 0} (f : A → With B) (xs : List A) (one : A) (ys : List B) → trees (map f (xs ++ one ∷ [])) ++ ys ≡ trees (map f xs) ++ (f one).tree ∷ ys
+pub push_tree : {A B : Type 0} (f : A → With B) (xs : List A) (one : A) (ys : List B) → trees (map f (xs ++ one ∷ [])) ++ ys ≡ trees (map f xs) ++ (f one).tree ∷ ys
 push_tree f [] one ys = refl
 push_tree f (x ∷ xs) one ys = ap (λ zs. (f x).tree ∷ zs) (push_tree f xs one ys)
 

@@ -1,5 +1,5 @@
 -- The query that a plan stands for, and which of its queries have which slots: each level once, with what is inside already seen.
-use Rattle.std.specs.Prelude.{ℕ, ◌+◌, List, [], ◌∷◌, ◌++◌, map, Bool, true, false, Option, Some, None, nat_eq, if◌then◌else◌, codes}
+use Rattle.std.specs.Prelude.{ℕ, zero, suc, ◌+◌, List, [], ◌∷◌, ◌++◌, map, Bool, true, false, Option, Some, None, nat_eq, if◌then◌else◌, codes}
 use Rattle.path_grammar.specs.Tree as tree
 use Rattle.path_grammar.specs.Tree.{OneSegment, Segments, segments_of, selectors_of, exprs_of}
 use Rattle.path_grammar.specs.View.{literal_view}
@@ -76,10 +76,37 @@ abbrev pub append_exprs : tree.Exprs → tree.Exprs → tree.Exprs
 append_exprs tree.no_exprs others = others
 append_exprs (tree.expr e es) others = tree.expr e (append_exprs es others)
 
+abbrev pub appended : List tree.Exprs → tree.Exprs
+appended [] = tree.no_exprs
+appended (xs ∷ xss) = append_exprs xs (appended xss)
+
+-- the first operand of the list at this place, and all lists without it
+abbrev pub first_of : ℕ → List tree.Exprs → Option tree.Expr
+first_of zero [] = None
+first_of zero (tree.no_exprs ∷ xss) = None
+first_of zero (tree.expr e es ∷ xss) = Some e
+first_of (suc k) [] = None
+first_of (suc k) (xs ∷ xss) = first_of k xss
+
+abbrev pub behind_of : ℕ → List tree.Exprs → List tree.Exprs
+behind_of zero [] = []
+behind_of zero (tree.no_exprs ∷ xss) = tree.no_exprs ∷ xss
+behind_of zero (tree.expr e es ∷ xss) = es ∷ xss
+behind_of (suc k) [] = []
+behind_of (suc k) (xs ∷ xss) = xs ∷ behind_of k xss
+
+abbrev pub put_first : Option tree.Expr → tree.Exprs → tree.Exprs
+put_first None es = es
+put_first (Some e) es = tree.expr e es
+
+-- the operands of all lists: in turn the next of the list at each of these places, and then those that are left
+abbrev pub woven : (places : List ℕ) → List tree.Exprs → tree.Exprs
+woven [] xss = appended xss
+woven (k ∷ ks) xss = put_first (first_of k xss) (woven ks (behind_of k xss))
+
 -- the operands of all parts
-abbrev pub joined : (is_any : Bool) → List tree.Expr → tree.Exprs
-joined is_any [] = tree.no_exprs
-joined is_any (e ∷ es) = append_exprs (operands_of is_any e) (joined is_any es)
+abbrev pub joined : (is_any : Bool) (places : List ℕ) → List tree.Expr → tree.Exprs
+joined is_any ks es = woven ks (map (operands_of is_any) es)
 
 -- ---- The levels
 
@@ -104,7 +131,7 @@ module _ where
   condition_step (Condition-F.Compare a op b) = record { tree = tree.compare a.tree op b.tree; claims = both a.claims b.claims }
   condition_step (Condition-F.Exists q) = record { tree = tree.test q.tree; claims = q.claims }
   condition_step (Condition-F.Decided a b) = record { tree = expr_of a.tree (test_view b.value); claims = a.claims }
-  condition_step (Condition-F.Joined is_any v) = record { tree = listed is_any (joined is_any (map tree_in v.items)); claims = all_claims v.items }
+  condition_step (Condition-F.Joined is_any ks v) = record { tree = listed is_any (joined is_any ks.items (map tree_in v.items)); claims = all_claims v.items }
 
   abbrev pub operand_step : Layer Operand-F → With tree.Comparable
   operand_step (Operand-F.Constant l) = record { tree = tree.lit (constant_view l); claims = no_claims }

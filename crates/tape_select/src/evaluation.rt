@@ -121,7 +121,9 @@ fn holds_by_kind(
         Condition::Decided(operand, decision) => {
             decided(doc, plan, operand, decision, child, state)
         }
-        Condition::Joined(is_any, parts) => joined_hold(doc, plan, *is_any, parts, child, state),
+        Condition::Joined(is_any, numbers, parts) => {
+            joined_hold(doc, plan, *is_any, numbers, parts, child, state)
+        }
     }
 }
 
@@ -133,6 +135,7 @@ fn joined_hold(
     doc: &Document,
     plan: &Parts,
     is_any: bool,
+    numbers: &[usize],
     parts: &[Condition],
     child: NodeId,
     state: &mut State,
@@ -140,9 +143,10 @@ fn joined_hold(
     requires inside { child.0 < count doc.now }
     requires claimed { AreClaimed (claims_of plan.now.stages.items) (all_claims (map condition_view parts.now)) }
     requires kept { Keeps doc.now (claims_of plan.now.stages.items) state.old }
-    ensures found { Finds result (holds (node_at doc.now 0) (listed is_any (joined is_any (trees (map condition_view parts.now)))) (node_at doc.now child.0)) (charge_expr (node_at doc.now 0) (listed is_any (joined is_any (trees (map condition_view parts.now)))) (node_at doc.now child.0)) state.old.meter.left state.new.meter.left }
+    ensures found { Finds result (holds (node_at doc.now 0) (listed is_any (joined is_any numbers.now (trees (map condition_view parts.now)))) (node_at doc.now child.0)) (charge_expr (node_at doc.now 0) (listed is_any (joined is_any numbers.now (trees (map condition_view parts.now)))) (node_at doc.now child.0)) state.old.meter.left state.new.meter.left }
     ensures kept { Keeps doc.now (claims_of plan.now.stages.items) state.new }
 {
+    let _ = numbers;
     if is_any {
         return some_hold(doc, plan, parts, child, state);
     }

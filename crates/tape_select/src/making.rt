@@ -1,16 +1,19 @@
 //! A plan made of a query.
 
-ghost use Rattle.std.specs.Prelude.{◌≡◌, ◌<◌, ◌≤◌, ◌++◌, length, drop, get_or, map, Some, IfOk, IfSome, IsTrue, codes};
+ghost use Rattle.std.specs.Prelude.{◌≡◌, ◌<◌, ◌≤◌, ◌++◌, length, drop, map, Some, IfOk, IfSome, IsTrue, codes};
+ghost use Rattle.std.specs.List.{All};
 ghost use Rattle.path_grammar.specs.Tree as tree;
 ghost use Rattle.path_grammar.specs.Tree.{Segments, exprs_of};
 ghost use Rattle.path_grammar.specs.View.{segments_view, selectors_view, segment_view, selector_view, expr_view, nested_view as query_tree, comparable_view, call_view, argument_view, literal_view, query_view};
 ghost use Rattle.path_types.specs.Validity.{is_literal, is_valid, are_valid, is_valid_selector, is_valid_expr, are_valid_exprs, is_valid_nested, is_valid_comparable, is_valid_call, is_valid_argument};
-ghost use Rattle.tape_select.specs.Planned.{trees, joined, append_exprs, operands_of, all_claims, query_of, claims_of, is_rooted, own_claim, as_argument, calling, constant_view, link_view, condition_view, operand_view, selection_view, nested_view, stage_view, numbered};
+ghost use Rattle.decisions.specs.Tree.{listed};
+ghost use Rattle.decisions.specs.Turns.{dealt};
+ghost use Rattle.tape_select.specs.Planned.{trees, joined, all_claims, query_of, claims_of, is_rooted, own_claim, as_argument, calling, constant_view, link_view, condition_view, operand_view, selection_view, nested_view, stage_view, numbered};
 ghost use Rattle.tape_select.specs.Making.{is_valid_nodes};
 
 use crate::plan::{Condition, Constant, Link, Name, Nested, Operand, Parts, Selection, Stage};
-use crate::short::{Part, decided, decided_part, lone};
-use decisions::has_run;
+use crate::short::{decided, decided_group};
+use decisions::{Groups, grouped};
 use path_grammar::{Argument, Call, Comparable, Expr, Literal, Segment, Selector, SubQuery};
 use path_types::ValidQuery;
 use std::alloc::{AllocError, Global};
@@ -204,18 +207,14 @@ fn condition_by_kind(alloc: Global, expr: &Expr, next: &mut u32) -> Result<Condi
     ensures numbered { IfOk result (λ made. numbered (condition_view made).claims next.old ≡ Some next.new) }
 {
     match expr {
-        Expr::Any(operands) => {
-            if has_run(operands) {
-                return Ok(Condition::Joined(true, parts(alloc, true, operands, next)?));
-            }
-            Ok(Condition::Any(conditions(alloc, operands, next)?))
-        }
-        Expr::Each(operands) => {
-            if has_run(operands) {
-                return Ok(Condition::Joined(false, parts(alloc, false, operands, next)?));
-            }
-            Ok(Condition::Each(conditions(alloc, operands, next)?))
-        }
+        Expr::Any(operands) => match grouped(alloc, operands)? {
+            None => Ok(Condition::Any(conditions(alloc, operands, next)?)),
+            Some(groups) => joined_parts(alloc, true, operands, groups, next),
+        },
+        Expr::Each(operands) => match grouped(alloc, operands)? {
+            None => Ok(Condition::Each(conditions(alloc, operands, next)?)),
+            Some(groups) => joined_parts(alloc, false, operands, groups, next),
+        },
         Expr::Not(operand) => {
             let made = condition(alloc, operand, next)?;
             Ok(Condition::Not(Box::new(alloc, made)?))
@@ -248,59 +247,114 @@ fn conditions(
     Ok(made)
 }
 
-// The operands in parts: those next to each other that are decided together, and each of the others.
+// A list in parts, one for each group of its operands.
 #[cycle(making)]
-#[tactic(auto, using(crate::proofs::Joining::parting))]
+fn joined_parts(
+    alloc: Global,
+    is_any: bool,
+    operands: &[Expr],
+    groups: Groups,
+    next: &mut u32,
+) -> Result<Condition, AllocError>
+    requires valid { IsTrue (are_valid_exprs (exprs_of (map expr_view operands.now))) }
+    requires each { length groups.numbers.items ≡ length operands.now }
+    requires below { All (λ k. k < groups.count) groups.numbers.items }
+    ensures same { IfOk result (λ made. (condition_view made).tree ≡ listed is_any (exprs_of (map expr_view operands.now))) }
+    ensures numbered { IfOk result (λ made. numbered (condition_view made).claims next.old ≡ Some next.new) }
+{
+    let parts = parts(alloc, is_any, operands, &groups.numbers, groups.count, next)?;
+    Ok(Condition::Joined(is_any, groups.numbers, parts))
+}
+
+#[cycle(making)]
 fn parts(
     alloc: Global,
     is_any: bool,
     operands: &[Expr],
+    numbers: &[usize],
+    count: usize,
     next: &mut u32,
 ) -> Result<Vec<Condition>, AllocError>
     requires valid { IsTrue (are_valid_exprs (exprs_of (map expr_view operands.now))) }
-    ensures same { IfOk result (λ made. joined is_any (trees (map condition_view made.items)) ≡ exprs_of (map expr_view operands.now)) }
+    requires each { length numbers.now ≡ length operands.now }
+    requires below { All (λ k. k < count) numbers.now }
+    ensures same { IfOk result (λ made. joined is_any numbers.now (trees (map condition_view made.items)) ≡ exprs_of (map expr_view operands.now)) }
     ensures numbered { IfOk result (λ made. numbered (all_claims (map condition_view made.items)) next.old ≡ Some next.new) }
 {
     let mut made = Vec::new(alloc);
-    let mut from = 0;
-    while from < operands.len() {
-        let one = part(alloc, &operands[from], is_any, operands, from, next)?;
-        from = one.end;
-        made.push(one.condition)?;
+    for number in 0..count {
+        let one = part(alloc, is_any, operands, numbers, number, next)?;
+        made.push(one)?;
     }
     Ok(made)
 }
 
-// The part that begins at an operand, which is at this place.
+// The operands of a group, decided together if they can be.
 #[cycle(making)]
-#[tactic(auto, using(crate::proofs::Joining::parting))]
 fn part(
     alloc: Global,
-    operand: &Expr,
     is_any: bool,
     operands: &[Expr],
-    from: usize,
+    numbers: &[usize],
+    number: usize,
     next: &mut u32,
-) -> Result<Part, AllocError>
-    requires inside { from < length operands.now }
-    requires here { operand.now ≡ get_or operands.now from operand.now }
+) -> Result<Condition, AllocError>
     requires valid { IsTrue (are_valid_exprs (exprs_of (map expr_view operands.now))) }
-    ensures ahead { IfOk result (λ part. from < part.end) }
-    ensures within { IfOk result (λ part. part.end ≤ length operands.now) }
-    ensures same { IfOk result (λ part. append_exprs (operands_of is_any (condition_view part.condition).tree) (exprs_of (map expr_view (drop part.end operands.now))) ≡ exprs_of (map expr_view (drop from operands.now))) }
-    ensures numbered { IfOk result (λ part. numbered (condition_view part.condition).claims next.old ≡ Some next.new) }
+    requires each { length numbers.now ≡ length operands.now }
+    ensures same { IfOk result (λ made. (condition_view made).tree ≡ listed is_any (exprs_of (map expr_view (dealt numbers.now number operands.now)))) }
+    ensures numbered { IfOk result (λ made. numbered (condition_view made).claims next.old ≡ Some next.new) }
 {
-    match decided_part(alloc, is_any, operands, from, next)? {
-        Some(part) => Ok(part),
-        None => {
-            let made = condition(alloc, operand, next)?;
-            let condition = lone(alloc, is_any, made)?;
-            Ok(Part {
-                condition,
-                end: from + 1,
-            })
-        }
+    match decided_group(alloc, is_any, operands, numbers, number, next)? {
+        Some(made) => Ok(made),
+        None => part_by_kind(alloc, is_any, operands, numbers, number, next),
     }
+}
+
+// The same where they are not decided.
+#[cycle(making)]
+fn part_by_kind(
+    alloc: Global,
+    is_any: bool,
+    operands: &[Expr],
+    numbers: &[usize],
+    number: usize,
+    next: &mut u32,
+) -> Result<Condition, AllocError>
+    requires valid { IsTrue (are_valid_exprs (exprs_of (map expr_view operands.now))) }
+    requires each { length numbers.now ≡ length operands.now }
+    ensures same { IfOk result (λ made. (condition_view made).tree ≡ listed is_any (exprs_of (map expr_view (dealt numbers.now number operands.now)))) }
+    ensures numbered { IfOk result (λ made. numbered (condition_view made).claims next.old ≡ Some next.new) }
+{
+    let made = group(alloc, operands, numbers, number, next)?;
+    if is_any {
+        Ok(Condition::Any(made))
+    } else {
+        Ok(Condition::Each(made))
+    }
+}
+
+#[cycle(making)]
+fn group(
+    alloc: Global,
+    operands: &[Expr],
+    numbers: &[usize],
+    number: usize,
+    next: &mut u32,
+) -> Result<Vec<Condition>, AllocError>
+    requires valid { IsTrue (are_valid_exprs (exprs_of (map expr_view operands.now))) }
+    requires each { length numbers.now ≡ length operands.now }
+    ensures same { IfOk result (λ made. trees (map condition_view made.items) ≡ map expr_view (dealt numbers.now number operands.now)) }
+    ensures numbered { IfOk result (λ made. numbered (all_claims (map condition_view made.items)) next.old ≡ Some next.new) }
+{
+    let mut made = Vec::new(alloc);
+    for i in 0..operands.len() {
+        if numbers[i] != number {
+            continue;
+        }
+        let one = condition(alloc, &operands[i], next)?;
+        made.push(one)?;
+    }
+    Ok(made)
 }
 
 #[cycle(making)]

@@ -65,8 +65,9 @@ pub enum Condition {
     Exists(Nested),
     /// A condition that compares one side with literals, decided for each place of its value among them.
     Decided(Operand, Box<Decision>),
-    /// The operands of all of these with `||` between them, or with `&&`, as the flag says; one that has no such operands is itself one.
-    Joined(bool, Vec<Condition>),
+    /// The operands of all of these with `||` between them, or with `&&`, as the flag says; one that has no such operands is itself one. The
+    /// numbers say for each operand of the query in turn of which it is the next.
+    Joined(bool, Vec<usize>, Vec<Condition>),
 }
 
 /// A side of a comparison, or the argument of `length` (RFC 9535, sections 2.3.5.1 and 2.4).

@@ -1,17 +1,18 @@
 //! Conditions that are decided when a plan is made.
 
-ghost use Rattle.std.specs.Prelude.{◌≡◌, ◌<◌, ◌≤◌, codes, drop, length, map, Some, IsTrue, IfOk, IfSome, MatchOption};
+ghost use Rattle.std.specs.Prelude.{◌≡◌, codes, length, map, Some, IsTrue, IfOk, IfSome, MatchOption};
 ghost use Rattle.path_grammar.specs.Tree as tree;
 ghost use Rattle.path_grammar.specs.Tree.{exprs_of};
 ghost use Rattle.path_grammar.specs.View.{call_view, expr_view, nested_view as query_tree, comparable_view};
 ghost use Rattle.path_types.specs.Validity.{is_valid_expr, are_valid_exprs};
 ghost use Rattle.decisions.specs.Tree.{expr_of, listed};
+ghost use Rattle.decisions.specs.Turns.{dealt};
 ghost use Rattle.decisions.specs.Views.{test_view};
-ghost use Rattle.tape_select.specs.Planned.{calling, both, no_claims, numbered, operands_of, append_exprs, condition_view, operand_view, nested_view};
+ghost use Rattle.tape_select.specs.Planned.{calling, numbered, condition_view, operand_view, nested_view};
 
 use crate::making::{links, slot};
 use crate::plan::{Condition, Nested, Operand};
-use decisions::{Decision, decide, decide_list, run_end, side_in, side_in_any};
+use decisions::{Decision, decide, decide_group, side_in, side_in_group};
 use path_grammar::{Argument, Call, Comparable, Expr, SubQuery};
 use std::alloc::{AllocError, Global};
 
@@ -180,84 +181,46 @@ fn current(alloc: Global) -> Comparable {
     })
 }
 
-// The same of operands with `||` between them, or with `&&`.
-fn list_on(
+// The same of the operands of a group, with `||` between them, or with `&&`.
+fn group_on(
     alloc: Global,
     side: &Comparable,
     is_any: bool,
     operands: &[Expr],
+    numbers: &[usize],
+    number: usize,
     next: &mut u32,
 ) -> Result<Option<Condition>, AllocError>
     requires valid { IsTrue (are_valid_exprs (exprs_of (map expr_view operands.now))) }
-    ensures same { IfOk result (λ made. IfSome made (λ condition. (condition_view condition).tree ≡ listed is_any (exprs_of (map expr_view operands.now)))) }
+    requires each { length numbers.now ≡ length operands.now }
+    ensures same { IfOk result (λ made. IfSome made (λ condition. (condition_view condition).tree ≡ listed is_any (exprs_of (map expr_view (dealt numbers.now number operands.now))))) }
     ensures numbered { IfOk result (λ made. MatchOption made (next.new ≡ next.old) (λ condition. numbered (condition_view condition).claims next.old ≡ Some next.new)) }
 {
-    match decide_list(alloc, side, is_any, operands)? {
+    match decide_group(alloc, side, is_any, operands, numbers, number)? {
         None => Ok(None),
         Some(decision) => on_side(alloc, side, decision, next),
     }
 }
 
-fn decided_list(
+/// The operands with this number decided together, if they compare one side with literals and there are several comparisons in them.
+pub fn decided_group(
     alloc: Global,
     is_any: bool,
     operands: &[Expr],
+    numbers: &[usize],
+    number: usize,
     next: &mut u32,
 ) -> Result<Option<Condition>, AllocError>
     requires valid { IsTrue (are_valid_exprs (exprs_of (map expr_view operands.now))) }
-    ensures same { IfOk result (λ made. IfSome made (λ condition. (condition_view condition).tree ≡ listed is_any (exprs_of (map expr_view operands.now)))) }
+    requires each { length numbers.now ≡ length operands.now }
+    ensures same { IfOk result (λ made. IfSome made (λ condition. (condition_view condition).tree ≡ listed is_any (exprs_of (map expr_view (dealt numbers.now number operands.now))))) }
     ensures numbered { IfOk result (λ made. MatchOption made (next.new ≡ next.old) (λ condition. numbered (condition_view condition).claims next.old ≡ Some next.new)) }
 {
-    match side_in_any(operands) {
-        Some(side) => list_on(alloc, side, is_any, operands, next),
+    match side_in_group(operands, numbers, number) {
+        Some(side) => group_on(alloc, side, is_any, operands, numbers, number, next),
         None => {
             let side = current(alloc);
-            list_on(alloc, &side, is_any, operands, next)
+            group_on(alloc, &side, is_any, operands, numbers, number, next)
         }
-    }
-}
-
-/// A part of a list of operands, and where it ends.
-#[derive(Drop)]
-pub struct Part {
-    pub condition: Condition,
-    pub end: usize,
-}
-
-/// The operands from a place on that are decided together, if there are several comparisons in them.
-#[tactic(auto, using(crate::proofs::Joining::runs))]
-pub fn decided_part(
-    alloc: Global,
-    is_any: bool,
-    operands: &[Expr],
-    from: usize,
-    next: &mut u32,
-) -> Result<Option<Part>, AllocError>
-    requires valid { IsTrue (are_valid_exprs (exprs_of (map expr_view operands.now))) }
-    ensures ahead { IfOk result (λ made. IfSome made (λ part. from < part.end)) }
-    ensures within { IfOk result (λ made. IfSome made (λ part. part.end ≤ length operands.now)) }
-    ensures same { IfOk result (λ made. IfSome made (λ part. append_exprs (operands_of is_any (condition_view part.condition).tree) (exprs_of (map expr_view (drop part.end operands.now))) ≡ exprs_of (map expr_view (drop from operands.now)))) }
-    ensures numbered { IfOk result (λ made. MatchOption made (next.new ≡ next.old) (λ part. numbered (condition_view part.condition).claims next.old ≡ Some next.new)) }
-{
-    let Some(end) = run_end(operands, from) else {
-        return Ok(None);
-    };
-    match decided_list(alloc, is_any, &operands[from..end], next)? {
-        None => Ok(None),
-        Some(condition) => Ok(Some(Part { condition, end })),
-    }
-}
-
-/// A list of this operand alone.
-pub fn lone(alloc: Global, is_any: bool, operand: Condition) -> Result<Condition, AllocError>
-    ensures same { IfOk result (λ made. operands_of is_any (condition_view made).tree ≡ tree.expr (condition_view operand).tree tree.no_exprs) }
-    ensures claims { IfOk result (λ made. (condition_view made).claims ≡ both (condition_view operand).claims no_claims) }
-{
-    let mut list = Vec::new(alloc);
-    list.push(operand)?;
-    if is_any {
-        Ok(Condition::Any(list))
-    } else {
-        Ok(Condition::Each(list))
     }
 }

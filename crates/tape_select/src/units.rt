@@ -97,7 +97,9 @@ pub fn units_of(doc: &Document, condition: &Condition, child: NodeId) -> Option<
         }
         Condition::Exists(query) => units_of_query(doc, query, child),
         Condition::Decided(operand, decision) => units_of_decided(doc, operand, decision, child),
-        Condition::Joined(is_any, parts) => units_of_joined(doc, *is_any, parts, child),
+        Condition::Joined(is_any, numbers, parts) => {
+            units_of_joined(doc, *is_any, numbers, parts, child)
+        }
     }
 }
 
@@ -105,10 +107,17 @@ pub fn units_of(doc: &Document, condition: &Condition, child: NodeId) -> Option<
 #[cycle(units)]
 #[inline(always)]
 #[tactic(auto, using(crate::proofs::Joining::charge_listed))]
-fn units_of_joined(doc: &Document, is_any: bool, parts: &[Condition], child: NodeId) -> Option<u32>
-    ensures { IfSome result (λ units. charge_expr (node_at doc.now 0) (listed is_any (joined is_any (trees (map condition_view parts.now)))) (node_at doc.now child.0) ≡ units) }
+fn units_of_joined(
+    doc: &Document,
+    is_any: bool,
+    numbers: &[usize],
+    parts: &[Condition],
+    child: NodeId,
+) -> Option<u32>
+    ensures { IfSome result (λ units. charge_expr (node_at doc.now 0) (listed is_any (joined is_any numbers.now (trees (map condition_view parts.now)))) (node_at doc.now child.0) ≡ units) }
 {
     let _ = is_any;
+    let _ = numbers;
     units_of_all(doc, parts, child)
 }
 

@@ -282,9 +282,9 @@ decided-returns-clause-found t c =
 pub joined_hold-returns-then-is_any-clause-found : goal.joined_hold-returns-then-is_any-clause-found
 joined_hold-returns-then-is_any-clause-found t c =
     let d = c.args.doc.now in
-    finds_some (node_at d 0) (node_at d c.args.child.0) c.some_hold.result c.args.is_any (trees (map condition_view c.args.parts.now)) c.args.state.now.meter.left c.some_hold.new.state.meter.left c.if-is_any.true c.some_hold.ensures.found
+    finds_some (node_at d 0) (node_at d c.args.child.0) c.some_hold.result c.args.is_any c.args.numbers.now (trees (map condition_view c.args.parts.now)) c.args.state.now.meter.left c.some_hold.new.state.meter.left c.if-is_any.true c.some_hold.ensures.found
 
 pub joined_hold-returns-clause-found : goal.joined_hold-returns-clause-found
 joined_hold-returns-clause-found t c =
     let d = c.args.doc.now in
-    finds_all (node_at d 0) (node_at d c.args.child.0) c.all_hold.result c.args.is_any (trees (map condition_view c.args.parts.now)) c.args.state.now.meter.left c.all_hold.new.state.meter.left c.if-is_any.false c.all_hold.ensures.found
+    finds_all (node_at d 0) (node_at d c.args.child.0) c.all_hold.result c.args.is_any c.args.numbers.now (trees (map condition_view c.args.parts.now)) c.args.state.now.meter.left c.all_hold.new.state.meter.left c.if-is_any.false c.all_hold.ensures.found

@@ -1,11 +1,12 @@
-use Rattle.std.proofs.Common.{rules, ◌∙◌, drop, map, refl}
+use Rattle.std.proofs.Common.{rules, List, ◌++◌, ◌∙◌, ap, drop, map, refl, arith}
+use Rattle.path_grammar.specs.declared.ast.Expr.{Expr}
 use Rattle.path_grammar.specs.Tree.{exprs_of}
 use Rattle.path_grammar.specs.View.{segments_view, selectors_view, segment_view, selector_view, expr_view}
 use Rattle.path_types.specs.Validity.{is_valid, are_valid, are_valid_exprs, is_valid_selector, is_valid_expr}
-use Rattle.tape_select.specs.Planned.{selection_view, stage_view, condition_view}
+use Rattle.tape_select.specs.Planned.{trees, selection_view, stage_view, condition_view}
 use Rattle.tape_select.proofs.Makings.{made_more, valid_more}
 use Rattle.tape_select.proofs.Claims.{numbered_push}
-use Rattle.tape_select.proofs.Joining.{parts_more}
+use Rattle.tape_select.proofs.Joining.{parts_more, all_parts, group_passed, group_more, valid_behind}
 use Rattle.tape_select.proofs.Calls.{not_one_call, one_call}
 use Rattle.tape_select.proofs.making.+making.Goals as goal
 use Rattle.tape_select.proofs.making.+making.Goals.{function-in_default-via-then-as_slice-lt1, function-in_default-via-else-as_slice-lt1+else-this-lt2}
@@ -48,11 +49,34 @@ conditions-loop-operand-preserved t c =
       valid = v.1;
     }
 
-pub parts-loop-from-preserved : goal.parts-loop-from-preserved
-parts-loop-from-preserved t c =
-    let ops = c.args.operands.now in
+pub parts-loop-number-preserved : goal.parts-loop-number-preserved
+parts-loop-number-preserved t c = record {
+  same = rw c.in_ok-push.ensures.items (parts_more c.args.is_any c.args.numbers.now c.args.operands.now c.loop-number.number c.loop-number.made.items c.in_ok-one.one c.loop-number.invariant.same c.in_ok-one.ensures.same);
+  numbered = rw c.in_ok-push.ensures.items (numbered_push condition_view c.loop-number.made.items c.in_ok-one.one c.args.next.now c.loop-number.next c.part.new.next c.loop-number.invariant.numbered c.in_ok-one.ensures.numbered);
+}
+
+pub parts-returns-clause-same : goal.parts-returns-clause-same
+parts-returns-clause-same t c =
+    all_parts c.args.is_any c.args.numbers.now c.args.operands.now c.args.count c.loop-number.number c.loop-number.made.items c.loop-number-test.false (omega (arith, c.loop-number.auto.number-end)) c.requires.below c.requires.each c.loop-number.invariant.same
+
+pub group-loop-i-preserved-then-numbers-i : goal.group-loop-i-preserved-then-numbers-i
+group-loop-i-preserved-then-numbers-i t c =
+    let each = c.requires.each in
+    let inside = c.loop-i-test.true in
+    let rest = group_passed c.args.numbers.now c.args.operands.now c.args.number c.loop-i.i (omega (arith, each, inside)) inside c.if-numbers-i.true in
     record {
-      same = rw c.in_ok-push.ensures.items (parts_more c.args.is_any c.loop-from.made.items c.in_ok-one.one.condition (exprs_of (map expr_view (drop c.in_ok-one.one.end ops))) (exprs_of (map expr_view (drop c.loop-from.from ops))) c.in_ok-one.ensures.same ∙ c.loop-from.invariant.same);
-      within = c.in_ok-one.ensures.within;
-      numbered = rw c.in_ok-push.ensures.items (numbered_push condition_view c.loop-from.made.items c.in_ok-one.one.condition c.args.next.now c.loop-from.next c.part.new.next c.loop-from.invariant.numbered c.in_ok-one.ensures.numbered);
+      same = ap (λ (es : List Expr). trees (map condition_view c.loop-i.made.items) ++ map expr_view es) rest ∙ c.loop-i.invariant.same;
+      numbered = c.loop-i.invariant.numbered;
+      valid = valid_behind c.args.operands.now c.loop-i.i c.loop-i.invariant.valid;
+    }
+
+pub group-loop-i-preserved : goal.group-loop-i-preserved
+group-loop-i-preserved t c =
+    let each = c.requires.each in
+    let inside = c.loop-i-test.true in
+    record {
+      same = rw c.in_ok-push.ensures.items (group_more c.loop-i.made.items c.in_ok-one.one c.args.numbers.now c.args.operands.now c.args.number c.loop-i.i c.index-operands-i.result (omega (arith, each, inside)) inside c.if-numbers-i.false
+          c.index-operands-i.is c.in_ok-one.ensures.same ∙ c.loop-i.invariant.same);
+      numbered = rw c.in_ok-push.ensures.items (numbered_push condition_view c.loop-i.made.items c.in_ok-one.one c.args.next.now c.loop-i.next c.condition.new.next c.loop-i.invariant.numbered c.in_ok-one.ensures.numbered);
+      valid = valid_behind c.args.operands.now c.loop-i.i c.loop-i.invariant.valid;
     }

@@ -1,9 +1,11 @@
-use Rattle.std.proofs.Common.{◌≡◌, ◌++◌, ◌-◌, ◌≤◌, drop, length, map, Some}
+use Rattle.std.proofs.Common.{◌≡◌, ◌++◌, drop, map, Some}
 use Rattle.std.specs.Prelude.{IsTrue}
 use Rattle.path_grammar.specs.Tree.{exprs_of}
 use Rattle.path_grammar.specs.View.{segments_view, selectors_view, segment_view, selector_view, expr_view}
 use Rattle.path_types.specs.Validity.{is_valid, are_valid, are_valid_exprs}
-use Rattle.tape_select.specs.Planned.{trees, joined, append_exprs, claims_of, all_claims, numbered, selection_view, stage_view, condition_view}
+use Rattle.tape_select.specs.Planned.{trees, operands_of, claims_of, all_claims, numbered, selection_view, stage_view, condition_view}
+use Rattle.decisions.specs.Turns.{dealt}
+use Rattle.tape_select.proofs.Joining.{groups_below}
 use Rattle.tape_select.proofs.making.+making.Given as goal
 
 abbrev pub invariant-selections-loop-selector : goal.invariant-selections-loop-selector
@@ -27,12 +29,15 @@ invariant-conditions-loop-operand l = record {
   valid : IsTrue (are_valid_exprs (exprs_of (map expr_view (drop l.operand-index l.operands))));
 }
 
-abbrev pub invariant-parts-loop-from : goal.invariant-parts-loop-from
-invariant-parts-loop-from l = record {
-  same : append_exprs (joined l.is_any (trees (map condition_view l.made.items))) (exprs_of (map expr_view (drop l.from l.operands))) ≡ exprs_of (map expr_view l.operands);
-  within : l.from ≤ length l.operands;
+abbrev pub invariant-parts-loop-number : goal.invariant-parts-loop-number
+invariant-parts-loop-number l = record {
+  same : map (operands_of l.is_any) (trees (map condition_view l.made.items)) ≡ groups_below l.numbers l.operands l.number;
   numbered : numbered (all_claims (map condition_view l.made.items)) l.initial.next ≡ Some l.next;
 }
 
-abbrev pub decreases-parts-loop-from : goal.decreases-parts-loop-from
-decreases-parts-loop-from l = length l.operands - l.from
+abbrev pub invariant-group-loop-i : goal.invariant-group-loop-i
+invariant-group-loop-i l = record {
+  same : trees (map condition_view l.made.items) ++ map expr_view (dealt (drop l.i l.numbers) l.number (drop l.i l.operands)) ≡ map expr_view (dealt l.numbers l.number l.operands);
+  numbered : numbered (all_claims (map condition_view l.made.items)) l.initial.next ≡ Some l.next;
+  valid : IsTrue (are_valid_exprs (exprs_of (map expr_view (drop l.i l.operands))));
+}
