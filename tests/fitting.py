@@ -79,6 +79,7 @@ PLACES = {
 OPEN = {
     "note: src/made.rt:4:1: it is not proved that what the function ensures holds when it returns (`returns`)": ["one"],
     "note: src/made.rt:13:9: it is not proved that this sum fits (`add`)": ["two"],
+    "note: src/made.rt:13:9: `search` found no proof (`invariant_of-result`); `search` gave up at one of its limits": ["two"],
     "note: `returns` of proofs/made/Two/three/Answers.antt must prove: c.result ≡ 30": ["three"],
     "./proofs/made/Two/two/Answers.antt:3:1: error: `returns`: expected type `a`": ["two"],
     "./proofs/made/Two/two/Answers.antt:3:1: error: `c.args` has no field `gone`": [],

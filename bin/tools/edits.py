@@ -16,7 +16,7 @@ FUNCTION = re.compile(r"( *)(?:pub(?:\([a-z]+\))? )?(const )?(?:unsafe )?fn (\w+
 BLOCK = re.compile(r" *(?:pub(?:\([a-z]+\))? )?(?:unsafe )?(impl|trait|mod)\b")
 CYCLE = re.compile(r"^ *#\[cycle\((\w+)\)\]\n", re.M)
 # the lines of a check that tell of an open goal: where in a source file, or in which proof file
-OPEN = re.compile(r"note: (?:\./)?(src/\S+?):(\d+):\d+: it is not proved that|note: `[^`]+` of (proofs/\S+) must prove|(?:\./)?(proofs/\S+?):\d+:\d+: error: ")
+OPEN = re.compile(r"note: (?:\./)?(src/\S+?):(\d+):\d+: (?:it is not proved that|`search` found no proof)|note: `[^`]+` of (proofs/\S+) must prove|(?:\./)?(proofs/\S+?):\d+:\d+: error: ")
 # of these, a proof that names what is gone
 NAMES = re.compile(r"(?:\./)?proofs/.*(has no field|is not in scope|has no `|was not admitted)")
 # what says so in a line of its own

@@ -129,9 +129,10 @@ class Trial:
             self.said.append(f"{self.name}/{edit.name}: NOT REFUSED: it changes no function, and names none that judges it")
         left = [it for it in left if it.judges]
         if left and self.control(at, folder, left):
-            again = [edit for group in in_groups(left, folder) for edit in self.try_group(group) if len(group) > 1 or self.against(edit)]
+            again = [edit for group in in_groups(left, folder) for edit in self.try_group(group)]
             for edit in again:
-                for it in self.try_group([edit]):
+                # what is saved has the prover say more
+                for it in self.try_group([edit], is_saved=True):
                     self.against(it)
 
     def control(self, at, folder, edits):
@@ -160,7 +161,7 @@ class Trial:
             self.said.append(f"{self.name}: {spent:.0f} s of a processor for {len(judged)} functions ({', '.join(stages)}): {what}")
         return joined(lines)
 
-    def try_group(self, group):
+    def try_group(self, group, is_saved=False):
         """Tries edits together; those that no goal refused, each with what the check said."""
         folder, texts = self.crates.folder(self.name), {}
         for edit in group:
@@ -168,7 +169,7 @@ class Trial:
         before = {file: (folder / file).read_text(encoding="utf-8") for file in texts}
         try:
             self.copy.put(texts)
-            lines = self.check(" ".join(it.name for it in group), list(dict.fromkeys(path for it in group for path in it.judges)))
+            lines = self.check(" ".join(it.name for it in group), list(dict.fromkeys(path for it in group for path in it.judges)), is_saved)
             now = {it.path: it for file in self.copy.files for it in self.copy.functions(file)}
         finally:
             self.copy.put(before)
