@@ -1,4 +1,4 @@
-use Rattle.std.proofs.Common.{rules, List, ◌++◌, ◌∙◌, ap, drop, map, refl, arith}
+use Rattle.std.proofs.Common.{rules, List, ◌++◌, ◌∙◌, ap, map, refl, arith}
 use Rattle.path_grammar.specs.declared.ast.Expr.{Expr}
 use Rattle.path_grammar.specs.Tree.{exprs_of}
 use Rattle.path_grammar.specs.View.{segments_view, selectors_view, segment_view, selector_view, expr_view}
