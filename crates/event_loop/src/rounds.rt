@@ -2,6 +2,8 @@
 ghost use Rattle.std.specs.Prelude.{◌≡◌, ℕ, None, IfOk, IsTrue};
 ghost use Rattle.open_connections.specs.Looping.{Stays, DoesSome, DoesAtMost, HasTurn, LetGo};
 ghost use Rattle.open_connections.specs.Opened.{lanes_of, connected_in};
+ghost use Rattle.open_connections.specs.Shares.{fresh_budgets};
+ghost use Rattle.event_loop.specs.Clocked.{IsNoted, NotesMoved};
 
 use crate::fault::LoopFault;
 use crate::journal::{Journal, Totals};
@@ -82,6 +84,7 @@ impl<S: System + Drop, T: Time + Drop> Rounds<S, T> {
         ensures limits { IfOk result (λ rounds. rounds.limits ≡ limits) }
         ensures hub { IfOk result (λ rounds. (lanes_of rounds.opened).hub ≡ core) }
         ensures none { IfOk result (λ rounds. (q : ℕ) → (lanes_of rounds.opened).lines q ≡ None) }
+        ensures budgets { IfOk result (λ rounds. rounds.opened.budgets ≡ fresh_budgets limits.memory) }
     {
         let opened = Open::new(alloc, turns, core, limits.memory)?;
         Ok(Rounds {
@@ -355,22 +358,25 @@ impl<S: System + Drop, T: Time + Drop> Rounds<S, T> {
         self.follow(key, outcome, journal)
     }
 
-    // One turn for a connection. That bytes moved is noted at the clock behind it.
+    // One turn for a connection. If bytes moved, the second that the clock tells behind it is noted.
     fn turn(&mut self, key: usize) -> Outcome
-        ensures { DoesAtMost (HasTurn key) (lanes_of self.old.opened) (lanes_of self.new.opened) }
+        ensures lanes { DoesAtMost (HasTurn key) (lanes_of self.old.opened) (lanes_of self.new.opened) }
+        ensures clock { NotesMoved key self.old.opened self.new.opened self.new.seconds.counted self.new.seconds.last }
     {
         let (outcome, has_moved) = self.opened.turn(key, self.seconds.last());
         self.mark(key, has_moved);
         outcome
     }
 
+    // If bytes moved on a connection, notes when.
     fn mark(&mut self, key: usize, has_moved: bool)
-        ensures { Stays (lanes_of self.old.opened) (lanes_of self.new.opened) }
+        ensures lanes { Stays (lanes_of self.old.opened) (lanes_of self.new.opened) }
+        ensures clock { IsTrue has_moved → IsNoted key self.new.opened self.new.seconds.counted self.new.seconds.last }
     {
         if !has_moved {
             return;
         }
-        let now = self.seconds.read();
+        let now = self.seconds.read_behind(self.opened.bytes());
         self.opened.mark(key, now);
     }
 

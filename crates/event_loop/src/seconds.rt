@@ -1,4 +1,5 @@
 //! The time since a server began, in seconds.
+ghost use Rattle.std.specs.Prelude.{◌≡◌};
 
 use socket_poll::Time;
 
@@ -9,6 +10,8 @@ pub(crate) struct Seconds<T: Time + Drop> {
     last: u64,
     // The second that was last told as a later one.
     told: u64,
+    // How many bytes the server had read and written when it was last read behind a turn.
+    counted: (u64, u64),
 }
 
 impl<T: Time + Drop> Seconds<T> {
@@ -18,6 +21,7 @@ impl<T: Time + Drop> Seconds<T> {
             time,
             last: 0,
             told: 0,
+            counted: (0, 0),
         }
     }
 
@@ -27,11 +31,23 @@ impl<T: Time + Drop> Seconds<T> {
     }
 
     /// Reads it.
-    pub fn read(&mut self) -> u64 {
+    pub fn read(&mut self) -> u64
+        ensures { result ≡ self.new.last }
+    {
         if let Some(elapsed) = self.time.now() {
             self.last = elapsed.as_secs();
         }
         self.last
+    }
+
+    /// Reads it behind a turn, with which so many bytes are read and written.
+    pub fn read_behind(&mut self, counted: (u64, u64)) -> u64
+        ensures second { result ≡ self.new.last }
+        ensures bytes { self.new.counted ≡ counted }
+    {
+        let now = self.read();
+        self.counted = counted;
+        now
     }
 
     /// Reads it, and tells whether a second passed since that was last told.

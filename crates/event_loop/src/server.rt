@@ -2,6 +2,7 @@
 ghost use Rattle.std.specs.Prelude.{◌≡◌, ℕ, None, OnOk, IfOk, IsTrue};
 ghost use Rattle.event_loop.specs.Servers.{IsOver, lanes_in};
 ghost use Rattle.open_connections.specs.Looping.{DoesSome, AreServed};
+ghost use Rattle.open_connections.specs.Shares.{fresh_budgets, limits_in, IsWithin};
 
 use crate::fault::LoopFault;
 use crate::journal::{Journal, Totals};
@@ -16,8 +17,8 @@ use std::marker::Model;
 use std::net::{Net, SocketAddr};
 use std::time::Clock;
 
-/// A server of many connections. Its value has whether it listens, its limits, and the hub with the bytes that each served connection is owed. It
-/// also has how many connections are open and were accepted, and how many bytes were read and written.
+/// A server of many connections. Its value has whether it listens, its limits, the budgets of memory, and the hub with the bytes that each served
+/// connection is owed. It also has how many connections are open and were accepted, and how many bytes were read and written.
 #[derive(Drop)]
 pub struct Server<S: System + Drop, T: Time + Drop> {
     rounds: Rounds<S, T>,
@@ -29,7 +30,7 @@ impl<S: System + Drop, T: Time + Drop> Model for Server<S, T> {
 
     ghost Value = { Serving };
 
-    ghost view = { λ s. record { listens = s.rounds.acceptor.listens; connected = connected_in s.rounds.opened; taken = s.rounds.acceptor.taken; read = s.rounds.opened.read; written = s.rounds.opened.written; limits = s.rounds.limits; hub = s.rounds.opened.core; lines = listed s.rounds.opened.connections } };
+    ghost view = { λ s. record { listens = s.rounds.acceptor.listens; connected = connected_in s.rounds.opened; taken = s.rounds.acceptor.taken; read = s.rounds.opened.read; written = s.rounds.opened.written; limits = s.rounds.limits; budgets = s.rounds.opened.budgets; hub = s.rounds.opened.core; lines = listed s.rounds.opened.connections } };
 }
 
 impl<'r, R: Net + Clock + AllocGlobal> Server<Sockets, Since<'r, R>> {
@@ -50,6 +51,7 @@ impl<'r, R: Net + Clock + AllocGlobal> Server<Sockets, Since<'r, R>> {
         ensures limits { IfOk result (λ server. server.limits ≡ limits) }
         ensures hub { IfOk result (λ server. server.hub ≡ core) }
         ensures none { IfOk result (λ server. (q : ℕ) → (lanes_in server).lines q ≡ None) }
+        ensures budgets { IfOk result (λ server. server.budgets ≡ fresh_budgets limits.memory) }
     {
         let time = Since::new(rt)?;
         let system = Sockets::bind(rt, rt.alloc(), addr)?;
@@ -77,6 +79,7 @@ impl<S: System + Drop, T: Time + Drop> Server<S, T> {
         ensures limits { IfOk result (λ server. server.limits ≡ limits) }
         ensures hub { IfOk result (λ server. server.hub ≡ core) }
         ensures none { IfOk result (λ server. (q : ℕ) → (lanes_in server).lines q ≡ None) }
+        ensures budgets { IfOk result (λ server. server.budgets ≡ fresh_budgets limits.memory) }
     {
         let rounds = Rounds::new(alloc, system, seconds, turns, core, limits)?;
         Ok(Server { rounds })
@@ -120,9 +123,20 @@ impl<S: System + Drop, T: Time + Drop> Server<S, T> {
     pub fn serve<J: Journal>(&mut self, journal: &mut J) -> Result<(), LoopFault>
         ensures over { OnOk result (IsOver self.new) }
         ensures served { AreServed (lanes_in self.old) (lanes_in self.new) }
+        ensures limits { limits_in self.new.budgets ≡ limits_in self.old.budgets }
+        ensures within { IsWithin self.new.budgets }
     {
         loop_is_served();
-        self.run(journal)
+        let done = self.run(journal);
+        self.is_within();
+        done
+    }
+
+    // No more memory is held than the limits allow.
+    fn is_within(&self)
+        ensures { IsWithin self.now.budgets }
+    {
+        self.rounds.opened.is_within();
     }
 
     // Goes round until it is over.
@@ -134,7 +148,7 @@ impl<S: System + Drop, T: Time + Drop> Server<S, T> {
             if self.is_over() {
                 return Ok(());
             }
-            self.step(journal)?;
+            self.round(journal)?;
         }
         Err(LoopFault::Net(ErrorKind::Other))
     }
@@ -152,6 +166,16 @@ impl<S: System + Drop, T: Time + Drop> Server<S, T> {
     ///
     /// Those of [`Server::serve`].
     pub fn step<J: Journal>(&mut self, journal: &mut J) -> Result<(), LoopFault>
+        ensures steps { DoesSome (lanes_in self.old) (lanes_in self.new) }
+        ensures limits { limits_in self.new.budgets ≡ limits_in self.old.budgets }
+        ensures within { IsWithin self.new.budgets }
+    {
+        let done = self.round(journal);
+        self.is_within();
+        done
+    }
+
+    fn round<J: Journal>(&mut self, journal: &mut J) -> Result<(), LoopFault>
         ensures { DoesSome (lanes_in self.old) (lanes_in self.new) }
     {
         self.rounds.step(journal)

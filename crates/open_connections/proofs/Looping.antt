@@ -1,5 +1,5 @@
 -- The steps of a loop as the acts that a law speaks of.
-use Rattle.std.proofs.Common.{◌≡◌, ℕ, Bool, true, false, List, [], ◌∷◌, ◌++◌, Some, None, sym, ap, ◌∙◌, subst, refl, inl, inr}
+use Rattle.std.proofs.Common.{◌≡◌, ℕ, Bool, true, false, List, [], ◌∷◌, ◌++◌, Option, Some, None, sym, ap, ◌∙◌, subst, refl, inl, inr}
 use Rattle.std.specs.Prelude.{◌==◌, if◌then◌else◌, MatchBool}
 use Rattle.std.proofs.lemmas.Bool.{cases_Bool, eqb-true, eqb-false}
 use Rattle.outbox.specs.Lines.{Line, fresh, run}
@@ -80,25 +80,29 @@ are_served law old new d lines same = let r = law d.0 lines old new same d.1 in 
 -- ---- Steps one after the other
 
 pub stays : (s : Lanes) → Stays s s
-stays s = record { hub_stays = refl; lines_stay = λ q. refl }
+stays s = record { hub_stays = refl; lines_stay = λ q. refl; limits_stay = refl; bytes_stay = refl }
+
+pub stays_in : (hub : HubState) (lines : ℕ → Option Line) (limits limits' bytes : ℕ × ℕ) → limits' ≡ limits
+    → Stays (record { hub = hub; lines = lines; limits = limits; bytes = bytes }) (record { hub = hub; lines = lines; limits = limits'; bytes = bytes })
+stays_in hub lines limits limits' bytes e = record { hub_stays = refl; lines_stay = λ q. refl; limits_stay = e; bytes_stay = refl }
 
 pub stays_then : (a b c : Lanes) → Stays a b → Stays b c → Stays a c
-stays_then a b c h k = record { hub_stays = k.hub_stays ∙ h.hub_stays; lines_stay = λ q. k.lines_stay q ∙ h.lines_stay q }
+stays_then a b c h k = record { hub_stays = k.hub_stays ∙ h.hub_stays; lines_stay = λ q. k.lines_stay q ∙ h.lines_stay q; limits_stay = k.limits_stay ∙ h.limits_stay; bytes_stay = k.bytes_stay ∙ h.bytes_stay }
 
 -- a step from where nothing changed, and one behind which nothing changes
 before_step : (step : Step) (a b c : Lanes) → Stays a b → Does step b c → Does step a c
-before_step (TakenIn conn) a b c h d = (subst (λ (x : HubState). Opens conn x c.hub) h.hub_stays d.0, d.1, λ q e. d.2 q e ∙ h.lines_stay q)
+before_step (TakenIn conn) a b c h d = (subst (λ (x : HubState). Opens conn x c.hub) h.hub_stays d.0, d.1, λ q e. d.2 q e ∙ h.lines_stay q, d.3 ∙ h.limits_stay, d.4 ∙ h.bytes_stay)
 before_step (HasTurn conn) a b c h d =
     let t : TakesTurn (takes conn) (Answers conn) d.line a.hub d.line' c.hub = subst (λ (x : HubState). TakesTurn (takes conn) (Answers conn) d.line x d.line' c.hub) h.hub_stays d.takes_turn in
-    record { line = d.line; line' = d.line'; was = sym (h.lines_stay conn) ∙ d.was; is = d.is; takes_turn = t; others = λ q e. d.others q e ∙ h.lines_stay q }
-before_step (LetGo conn) a b c h d = (subst (λ (x : HubState). Closes conn x c.hub) h.hub_stays d.0, d.1, λ q e. d.2 q e ∙ h.lines_stay q)
+    record { line = d.line; line' = d.line'; was = sym (h.lines_stay conn) ∙ d.was; is = d.is; takes_turn = t; others = λ q e. d.others q e ∙ h.lines_stay q; limits_stay = d.limits_stay ∙ h.limits_stay }
+before_step (LetGo conn) a b c h d = (subst (λ (x : HubState). Closes conn x c.hub) h.hub_stays d.0, d.1, λ q e. d.2 q e ∙ h.lines_stay q, d.3 ∙ h.limits_stay, d.4 ∙ h.bytes_stay)
 
 step_then : (step : Step) (a b c : Lanes) → Does step a b → Stays b c → Does step a c
-step_then (TakenIn conn) a b c d h = (subst (λ (x : HubState). Opens conn a.hub x) (sym h.hub_stays) d.0, h.lines_stay conn ∙ d.1, λ q e. h.lines_stay q ∙ d.2 q e)
+step_then (TakenIn conn) a b c d h = (subst (λ (x : HubState). Opens conn a.hub x) (sym h.hub_stays) d.0, h.lines_stay conn ∙ d.1, λ q e. h.lines_stay q ∙ d.2 q e, h.limits_stay ∙ d.3, h.bytes_stay ∙ d.4)
 step_then (HasTurn conn) a b c d h =
     let t : TakesTurn (takes conn) (Answers conn) d.line a.hub d.line' c.hub = subst (λ (x : HubState). TakesTurn (takes conn) (Answers conn) d.line a.hub d.line' x) (sym h.hub_stays) d.takes_turn in
-    record { line = d.line; line' = d.line'; was = d.was; is = h.lines_stay conn ∙ d.is; takes_turn = t; others = λ q e. h.lines_stay q ∙ d.others q e }
-step_then (LetGo conn) a b c d h = (subst (λ (x : HubState). Closes conn a.hub x) (sym h.hub_stays) d.0, h.lines_stay conn ∙ d.1, λ q e. h.lines_stay q ∙ d.2 q e)
+    record { line = d.line; line' = d.line'; was = d.was; is = h.lines_stay conn ∙ d.is; takes_turn = t; others = λ q e. h.lines_stay q ∙ d.others q e; limits_stay = h.limits_stay ∙ d.limits_stay }
+step_then (LetGo conn) a b c d h = (subst (λ (x : HubState). Closes conn a.hub x) (sym h.hub_stays) d.0, h.lines_stay conn ∙ d.1, λ q e. h.lines_stay q ∙ d.2 q e, h.limits_stay ∙ d.3, h.bytes_stay ∙ d.4)
 
 pub then_at_most : (step : Step) (a b c : Lanes) → Stays a b → DoesAtMost step b c → DoesAtMost step a c
 then_at_most step a b c h d = elim d [ inl x ↦ inl (before_step step a b c h x) | inr k ↦ inr (stays_then a b c h k) ]
@@ -126,3 +130,15 @@ at_most_some step a b d = elim d [ inl x ↦ (step ∷ [], (b, x, stays b)) | in
 pub taken_some : (conn : ℕ) (taken : Bool) (a b : Lanes) → MatchBool taken (Does (TakenIn conn) a b) (Stays a b) → DoesSome a b
 taken_some conn true a b d = at_most_some (TakenIn conn) a b (inl d)
 taken_some conn false a b d = no_step a b d
+
+limits_at : (step : Step) (a b : Lanes) → Does step a b → b.limits ≡ a.limits
+limits_at (TakenIn conn) a b d = d.3
+limits_at (HasTurn conn) a b d = d.limits_stay
+limits_at (LetGo conn) a b d = d.3
+
+limits_after : (steps : List Step) (a b : Lanes) → DoesEach steps a b → b.limits ≡ a.limits
+limits_after [] a b d = d.limits_stay
+limits_after (step ∷ steps) a b d = limits_after steps d.0 b d.2 ∙ limits_at step a d.0 d.1
+
+pub limits_kept : (a b : Lanes) → DoesSome a b → b.limits ≡ a.limits
+limits_kept a b d = limits_after d.0 a b d.1

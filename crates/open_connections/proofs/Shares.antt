@@ -1,8 +1,11 @@
 -- What a release and a grant leave of a ticket.
-use Rattle.std.proofs.Common.{◌≡◌, ℕ, List, [], ◌∷◌, ◌++◌, Option, Some, sym, refl, subst, inl, inr}
+use Rattle.std.proofs.Common.{◌≡◌, ℕ, List, [], ◌∷◌, ◌++◌, Option, Some, Result, Ok, Err, sym, ap, refl, subst, inl, inr}
+use Rattle.std.specs.Prelude.{OnOk, OnErr}
+use Rattle.std.specs.declared.alloc.AllocError.{AllocError}
 use Rattle.std.proofs.lemmas.Bool.{cases_Bool}
 use Rattle.memory_budget.specs.declared.share.Share.{Share}
-use Rattle.memory_budget.specs.States.{State, Releases, after, is_of, own, without}
+use Rattle.memory_budget.specs.declared.share.Answer.{Answer}
+use Rattle.memory_budget.specs.States.{State, Asks, Releases, after, is_of, own, without}
 use Rattle.connection_turns.specs.declared.claim.Claim.{Claim}
 use Rattle.open_connections.specs.declared.budgets.Budgets.{Budgets}
 use Rattle.open_connections.specs.Shares.{in_pool, IsFree, StayFree, IsGivenBack}
@@ -33,3 +36,8 @@ given_same claim a b h e = subst (λ (x : Budgets). IsGivenBack claim x) (sym e)
 
 pub given_alike : (claim claim' : Option Claim) (a : Budgets) → IsGivenBack claim a → claim ≡ claim' → IsGivenBack claim' a
 given_alike claim claim' a h e = subst (λ (x : Option Claim). IsGivenBack x a) e h
+
+-- what is asked for changes no limit, whatever comes of it
+pub asked_within : (r : Result Answer AllocError) (s s' : State) (owner bytes : ℕ) → OnOk r (s' ≡ after s (Asks owner bytes)) → OnErr r (s' ≡ s) → s'.limit ≡ s.limit
+asked_within (Ok answer) s s' owner bytes h k = ap (λ (x : State). x.limit) h
+asked_within (Err error) s s' owner bytes h k = ap (λ (x : State). x.limit) k

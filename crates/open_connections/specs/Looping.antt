@@ -7,10 +7,12 @@ use Rattle.path_listen.specs.Acts.{Act, Opened, Turned, Closed, lines_after, All
 use Rattle.path_listen.specs.Served.{Serves}
 use Rattle.connection_turns.specs.Turning.{TakesTurn}
 
--- the hub, and of each connection that is served what it is owed
+-- the hub, what each connection that is served is owed, the limits of the two budgets of memory, and how many bytes were read and written
 pub record Lanes : Type 0 where
   pub hub : HubState
   pub lines : ℕ → Option Line
+  pub limits : ℕ × ℕ
+  pub bytes : ℕ × ℕ
 
 -- a connection is taken in, one has a turn, one is served no further
 pub data Step : Type 0 where
@@ -29,17 +31,20 @@ pub record TurnAt (conn : ℕ) (old new : Lanes) : Type 0 where
   pub is : new.lines conn ≡ Some line'
   pub takes_turn : TakesTurn (takes conn) (Answers conn) line old.hub line' new.hub
   pub others : OthersStay conn old new
+  pub limits_stay : new.limits ≡ old.limits
 
--- what a step does to each connection's line, and to the hub
+-- what a step does to each connection's line, and to the hub; no limit changes, and bytes move in turns alone
 abbrev pub Does : Step → Lanes → Lanes → Type 0
-Does (TakenIn conn) old new = Opens conn old.hub new.hub × (new.lines conn ≡ Some fresh) × OthersStay conn old new
+Does (TakenIn conn) old new = Opens conn old.hub new.hub × (new.lines conn ≡ Some fresh) × OthersStay conn old new × (new.limits ≡ old.limits) × (new.bytes ≡ old.bytes)
 Does (HasTurn conn) old new = TurnAt conn old new
-Does (LetGo conn) old new = Closes conn old.hub new.hub × (new.lines conn ≡ None) × OthersStay conn old new
+Does (LetGo conn) old new = Closes conn old.hub new.hub × (new.lines conn ≡ None) × OthersStay conn old new × (new.limits ≡ old.limits) × (new.bytes ≡ old.bytes)
 
--- nothing that is served changes
+-- nothing of that changes
 pub record Stays (old new : Lanes) : Type 0 where
   pub hub_stays : new.hub ≡ old.hub
   pub lines_stay : (q : ℕ) → new.lines q ≡ old.lines q
+  pub limits_stay : new.limits ≡ old.limits
+  pub bytes_stay : new.bytes ≡ old.bytes
 
 abbrev pub DoesEach : List Step → Lanes → Lanes → Type 0
 DoesEach [] old new = Stays old new

@@ -1,5 +1,5 @@
 -- The connections that a loop has open, as its steps see them: this project's own.
-use Rattle.std.specs.Prelude.{ℕ, List, map, Option}
+use Rattle.std.specs.Prelude.{◌≡◌, ℕ, List, map, Option, IfSome}
 use Rattle.std.specs.Option.{option_and_then}
 use Rattle.slab.specs.Slab.{Slab, get, slab_len}
 use Rattle.outbox.specs.Lines.{Line}
@@ -7,12 +7,17 @@ use Rattle.connection_turns.specs.declared.connection.Connection.{Connection}
 use Rattle.open_connections.specs.declared.open.Open.{Open}
 use Rattle.connection_turns.specs.Owed.{line_of}
 use Rattle.open_connections.specs.Looping.{Lanes}
+use Rattle.open_connections.specs.Shares.{limits_in}
 
 abbrev pub lines_in : {S : Type 0} → Slab (Connection S) → ℕ → Option Line
 lines_in slab q = option_and_then (λ c. line_of c) (get slab q)
 
+-- how many bytes were read and written
+abbrev pub bytes_of : {S T : Type 0} → Open S T → ℕ × ℕ
+bytes_of o = (o.read, o.written)
+
 abbrev pub lanes_of : {S T : Type 0} → Open S T → Lanes
-lanes_of o = record { hub = o.core; lines = lines_in o.connections }
+lanes_of o = record { hub = o.core; lines = lines_in o.connections; limits = limits_in o.budgets; bytes = bytes_of o }
 
 -- how many are open
 abbrev pub connected_in : {S T : Type 0} → Open S T → ℕ
@@ -21,3 +26,7 @@ connected_in o = slab_len o.connections
 -- what each is owed, in a list by key
 abbrev pub listed : {S : Type 0} → Slab (Connection S) → List (Option Line)
 listed slab = map (λ slot. option_and_then (λ c. line_of c) slot) slab.slots
+
+-- the second by which the connection with this key is idle is this one, if it is there
+abbrev pub IsMarked : {S T : Type 0} → Open S T → (key second : ℕ) → Type 0
+IsMarked o key second = IfSome (get o.connections key) (λ c. c.moved ≡ second)

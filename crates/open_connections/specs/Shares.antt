@@ -1,8 +1,9 @@
 -- What a connection has of the budgets of memory, and that it is given back: this project's own.
-use Rattle.std.specs.Prelude.{◌≡◌, ℕ, [], ◌++◌, Option, Some, None}
+use Rattle.std.specs.Prelude.{◌≡◌, ◌≤◌, ◌-◌, ℕ, max, [], ◌++◌, Option, Some, None}
 use Rattle.std.specs.Option.{option_and_then}
 use Rattle.slab.specs.Slab.{Slab, get}
-use Rattle.memory_budget.specs.States.{State, own}
+use Rattle.memory_budget.specs.States.{State, fresh, own, total}
+use Rattle.path_listen.specs.declared.needs.TheConstants.{LONGEST_FRAME, MOST_REPLY}
 use Rattle.connection_turns.specs.declared.claim.Claim.{Claim}
 use Rattle.connection_turns.specs.declared.claim.Pool.{Pool}
 use Rattle.connection_turns.specs.declared.claim.Pool.TheVariants.{Tenants, Strangers}
@@ -12,6 +13,19 @@ use Rattle.connection_turns.specs.declared.connection.Connection.{Connection}
 abbrev pub in_pool : Pool → Budgets → State
 in_pool Tenants budgets = budgets.tenants
 in_pool Strangers budgets = budgets.strangers
+
+-- those of so much memory, of which nothing is held: a longest frame for strangers, and the rest for tenants, at least a longest reply
+abbrev pub fresh_budgets : ℕ → Budgets
+fresh_budgets memory = record { tenants = fresh (max (memory - LONGEST_FRAME) MOST_REPLY); strangers = fresh LONGEST_FRAME }
+
+-- the limits of both
+abbrev pub limits_in : Budgets → ℕ × ℕ
+limits_in budgets = (budgets.tenants.limit, budgets.strangers.limit)
+
+-- what is held of each is together at most its limit
+pub record IsWithin (budgets : Budgets) : Type 0 where
+  pub tenants : total budgets.tenants.held ≤ budgets.tenants.limit
+  pub strangers : total budgets.strangers.held ≤ budgets.strangers.limit
 
 -- no share has this ticket, held or waiting
 abbrev pub IsFree : ℕ → State → Type 0

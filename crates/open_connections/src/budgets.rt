@@ -1,5 +1,6 @@
 //! The budgets of memory that connections share.
-ghost use Rattle.open_connections.specs.Shares.{in_pool, IsFree, StayFree};
+ghost use Rattle.std.specs.Prelude.{◌≡◌};
+ghost use Rattle.open_connections.specs.Shares.{fresh_budgets, in_pool, limits_in, IsFree, IsWithin, StayFree};
 
 use connection_turns::{Claim, Pool};
 use memory_budget::{Answer, Budget, Share};
@@ -18,7 +19,9 @@ pub(crate) struct Budgets {
 
 impl Budgets {
     /// So many bytes, at least [`LEAST_MEMORY`].
-    pub fn new(alloc: Global, limit: usize) -> Budgets {
+    pub fn new(alloc: Global, limit: usize) -> Budgets
+        ensures { result ≡ fresh_budgets limit }
+    {
         Budgets {
             tenants: Budget::new(alloc, limit.saturating_sub(LONGEST_FRAME).max(MOST_REPLY)),
             strangers: Budget::new(alloc, LONGEST_FRAME),
@@ -39,7 +42,9 @@ impl Budgets {
     }
 
     /// Asks for so many bytes, or the limit where that is less.
-    pub fn ask(&mut self, pool: Pool, key: usize, bytes: usize) -> Result<Answer, AllocError> {
+    pub fn ask(&mut self, pool: Pool, key: usize, bytes: usize) -> Result<Answer, AllocError>
+        ensures { limits_in self.new ≡ limits_in self.old }
+    {
         match pool {
             Pool::Tenants => {
                 let bytes = bytes.min(self.tenants.limit());
@@ -54,7 +59,8 @@ impl Budgets {
 
     /// Gives a share back.
     pub fn release(&mut self, claim: &Claim)
-        ensures { IsFree claim.now.ticket (in_pool claim.now.pool self.new) }
+        ensures free { IsFree claim.now.ticket (in_pool claim.now.pool self.new) }
+        ensures limits { limits_in self.new ≡ limits_in self.old }
     {
         match claim.pool {
             Pool::Tenants => self.tenants.release(claim.ticket),
@@ -63,7 +69,9 @@ impl Budgets {
     }
 
     /// Keeps at most so many bytes of a share.
-    pub fn shrink(&mut self, claim: &Claim, to: usize) {
+    pub fn shrink(&mut self, claim: &Claim, to: usize)
+        ensures { limits_in self.new ≡ limits_in self.old }
+    {
         match claim.pool {
             Pool::Tenants => self.tenants.shrink(claim.ticket, to),
             Pool::Strangers => self.strangers.shrink(claim.ticket, to),
@@ -72,11 +80,19 @@ impl Budgets {
 
     /// Grants the next share, where there is room.
     pub fn next(&mut self) -> Option<Share>
-        ensures { StayFree self.old self.new }
+        ensures free { StayFree self.old self.new }
+        ensures limits { limits_in self.new ≡ limits_in self.old }
     {
         match self.tenants.next() {
             Some(share) => Some(share),
             None => self.strangers.next(),
         }
+    }
+    /// No more is held than the limits allow: the function does nothing, and its contract says it.
+    pub fn are_within(&self)
+        ensures { IsWithin self.now }
+    {
+        let _ = self.tenants.left();
+        let _ = self.strangers.left();
     }
 }

@@ -1,12 +1,12 @@
 //! The connections that are open, the hub that answers them, and the memory that they share.
-ghost use Rattle.std.specs.Prelude.{◌≡◌, ◌<◌, ◌≤◌, ◌^◌, ℕ, None, IfOk, MatchOption};
+ghost use Rattle.std.specs.Prelude.{◌≡◌, ◌<◌, ◌≤◌, ◌^◌, ℕ, None, IfOk, IsFalse, MatchOption};
 ghost use Rattle.slab.specs.Slab.{slab_len};
 ghost use Rattle.open_connections.specs.Looping.{Stays, Does, DoesAtMost, TakenIn, HasTurn, LetGo};
 ghost use Rattle.std.specs.Bool.{MatchBool};
 ghost use Rattle.path_listen.specs.Answering.{Opens, Closes};
 ghost use Rattle.connection_turns.specs.Owed.{line_of};
-ghost use Rattle.open_connections.specs.Opened.{lanes_of};
-ghost use Rattle.open_connections.specs.Shares.{StayFree, IsGivenBack, claim_at};
+ghost use Rattle.open_connections.specs.Opened.{lanes_of, bytes_of, IsMarked};
+ghost use Rattle.open_connections.specs.Shares.{fresh_budgets, IsWithin, StayFree, IsGivenBack, claim_at};
 
 use crate::budgets::Budgets;
 use crate::needs::{After, covers, left_of, need, piece_of};
@@ -62,6 +62,7 @@ impl<S: Peer, T: Time + Drop> Open<S, T> {
         ensures unwritten { IfOk result (λ opened. opened.written ≡ 0) }
         ensures hub { IfOk result (λ opened. (lanes_of opened).hub ≡ core) }
         ensures none { IfOk result (λ opened. (q : ℕ) → (lanes_of opened).lines q ≡ None) }
+        ensures budgets { IfOk result (λ opened. opened.budgets ≡ fresh_budgets memory) }
     {
         let buffer = match Box::new(alloc, [0; PIECE]) {
             Ok(buffer) => buffer,
@@ -81,6 +82,13 @@ impl<S: Peer, T: Time + Drop> Open<S, T> {
             read: 0,
             written: 0,
         })
+    }
+
+    /// No more memory is held than the limits allow: the function does nothing, and its contract says it.
+    pub fn is_within(&self)
+        ensures { IsWithin self.now.budgets }
+    {
+        self.budgets.are_within();
     }
 
     /// How many are open.
@@ -142,7 +150,8 @@ impl<S: Peer, T: Time + Drop> Open<S, T> {
         stream: S,
         now: u64,
     ) -> bool
-        ensures { MatchBool result (Does (TakenIn key) (lanes_of self.old) (lanes_of self.new)) (Stays (lanes_of self.old) (lanes_of self.new)) }
+        ensures lanes { MatchBool result (Does (TakenIn key) (lanes_of self.old) (lanes_of self.new)) (Stays (lanes_of self.old) (lanes_of self.new)) }
+        ensures budgets { self.new.budgets ≡ self.old.budgets }
     {
         let Some(conn) = conn_of(key) else {
             return false;
@@ -208,7 +217,8 @@ impl<S: Peer, T: Time + Drop> Open<S, T> {
 
     /// One turn for a connection, and whether bytes moved.
     pub fn turn(&mut self, key: usize, now: u64) -> (Outcome, bool)
-        ensures { DoesAtMost (HasTurn key) (lanes_of self.old) (lanes_of self.new) }
+        ensures lanes { DoesAtMost (HasTurn key) (lanes_of self.old) (lanes_of self.new) }
+        ensures bytes { IsFalse result.1 → bytes_of self.new ≡ bytes_of self.old }
     {
         match self.prepare(key, now) {
             Ok(plan) => self.work(key, plan),
@@ -245,7 +255,8 @@ impl<S: Peer, T: Time + Drop> Open<S, T> {
 
     // One turn by a plan.
     fn work(&mut self, key: usize, plan: Plan) -> (Outcome, bool)
-        ensures { DoesAtMost (HasTurn key) (lanes_of self.old) (lanes_of self.new) }
+        ensures lanes { DoesAtMost (HasTurn key) (lanes_of self.old) (lanes_of self.new) }
+        ensures bytes { IsFalse result.1 → bytes_of self.new ≡ bytes_of self.old }
     {
         let Some(conn) = conn_of(key) else {
             return (Outcome::Closed, false);
@@ -264,8 +275,8 @@ impl<S: Peer, T: Time + Drop> Open<S, T> {
                     most,
                     plan,
                 );
-                self.read = self.read.saturating_add(read);
-                self.written = self.written.saturating_add(written);
+                self.read = added(self.read, read);
+                self.written = added(self.written, written);
                 (connection.outcome(), has_moved(read, written))
             }
         }
@@ -273,11 +284,13 @@ impl<S: Peer, T: Time + Drop> Open<S, T> {
 
     /// Notes the second in which bytes moved.
     pub fn mark(&mut self, key: usize, now: u64)
-        ensures { Stays (lanes_of self.old) (lanes_of self.new) }
+        ensures lanes { Stays (lanes_of self.old) (lanes_of self.new) }
+        ensures marked { IsMarked self.new key now }
     {
-        if let Some(connection) = self.connections.get_mut(key) {
-            connection.moved = now;
-        }
+        let Some(connection) = self.connections.get_mut(key) else {
+            return;
+        };
+        connection.moved = now;
     }
 
     /// After a turn: what is done with is given back, and what the next step needs is asked for.
@@ -577,8 +590,18 @@ fn conn_of(key: usize) -> Option<u32>
     u32::try_from(key).ok()
 }
 
-fn has_moved(read: u64, written: u64) -> bool {
+// Whether one of these numbers of bytes is not 0.
+fn has_moved(read: u64, written: u64) -> bool
+    ensures { IsFalse result → (read ≡ 0) × (written ≡ 0) }
+{
     read > 0 || written > 0
+}
+
+// A count of bytes with so many more. It stops at its greatest number.
+fn added(count: u64, more: u64) -> u64
+    ensures { more ≡ 0 → result ≡ count }
+{
+    count.saturating_add(more)
 }
 
 // Reads once what still comes on a connection that is served no further.

@@ -2,3 +2,4 @@ pub mod Answering
 pub mod Acts
 pub mod Served
 pub mod Needs
+pub mod Replies

@@ -4,6 +4,7 @@ ghost use Rattle.std.specs.Option.{option_map_or};
 ghost use Rattle.path_hub.specs.Sessions.{session};
 ghost use Rattle.path_listen.specs.Answering.{Opens, Closes};
 ghost use Rattle.path_listen.specs.Needs.{IsPart, IsNoPart};
+ghost use Rattle.path_listen.specs.Replies.{IsMostReply};
 
 use crate::needs::{Part, most_of, part_of};
 use outbox::{Core, Step};
@@ -69,9 +70,11 @@ impl HubCore {
         part_of(self.hub.tenants(), self.hub.waiting_bytes(conn))
     }
 
-    /// The most bytes of the reply to the first request that waits on a connection. For a text it is the exact length, for a list or hits
-    /// the greatest length.
-    pub fn most_reply(&self, conn: u32) -> usize {
+    /// The most bytes of the reply to the first request, or to the fault, that waits on a connection. For a text it is the exact length, for
+    /// a list that of as many longest names, and for hits the greatest length.
+    pub fn most_reply(&self, conn: u32) -> usize
+        ensures { IsMostReply conn self.now result }
+    {
         most_of(self.hub.tenants(), self.hub.waiting_bytes(conn))
     }
 }

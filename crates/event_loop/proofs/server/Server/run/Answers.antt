@@ -5,7 +5,7 @@ pub rounds-init : goal.rounds-init
 rounds-init g c = no_step _ _ (stays _)
 
 pub rounds-preserved : goal.rounds-preserved
-rounds-preserved g c = some_then _ _ _ c.rounds.invariant c.step.ensures
+rounds-preserved g c = some_then _ _ _ c.rounds.invariant c.round.ensures
 
-pub returns-in_err-step-clause-steps : goal.returns-in_err-step-clause-steps
-returns-in_err-step-clause-steps g c = some_then _ _ _ c.rounds.invariant c.step.ensures
+pub returns-in_err-round-clause-steps : goal.returns-in_err-round-clause-steps
+returns-in_err-round-clause-steps g c = some_then _ _ _ c.rounds.invariant c.round.ensures
