@@ -20,6 +20,7 @@ mod moved;
 mod places;
 mod queries;
 mod session;
+mod shares;
 mod streams;
 mod trial;
 mod turns;
@@ -82,6 +83,7 @@ fn try_all<R: Print + AllocGlobal>(rt: &R) -> Sum {
     sum.add(rt, &frames::trials(alloc));
     sum.add(rt, &cache::trials(alloc));
     sum.add(rt, &hub::trials(alloc));
+    sum.add(rt, &shares::trials(alloc));
     sum.add(rt, &connections::trials(alloc));
     sum.add(rt, &listeners::trials(alloc));
     sum.add(rt, &wires::trials(alloc));

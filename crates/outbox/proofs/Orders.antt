@@ -9,7 +9,7 @@ use Rattle.std.proofs.Math.Seq.{drop-nil, take-nil}
 use Rattle.std.proofs.Common.{length-append}
 use Rattle.outbox.specs.declared.stage.Stage.{Stage}
 use Rattle.outbox.specs.declared.stage.Stage.TheVariants.{Open, Ending, Broken}
-use Rattle.outbox.specs.Lines.{Line, Event, Readable, Declined, Answered, Writable, Ends, Fails, cap, ended, is_open, reads, after, read_at, taken_at, replied_at, sent_at, lost_at, run, gathered, read, taken, replied, sent, lost, is_short, is_sound}
+use Rattle.outbox.specs.Lines.{Line, Event, Readable, Declined, Answered, Writable, Ends, Fails, Worked, cap, ended, is_open, reads, after, read_at, taken_at, replied_at, sent_at, lost_at, run, gathered, read, taken, replied, sent, lost, is_short, is_sound}
 use Rattle.outbox.specs.Lanes.{At, own, changed, run_all, sent_to}
 
 -- after a fault
@@ -23,6 +23,7 @@ after_dead (Answered reply) = refl
 after_dead (Writable room) = ap (λ (xs : List ℕ). record { owed = xs; stage = Broken }) (drop-nil room)
 after_dead Ends = refl
 after_dead Fails = refl
+after_dead Worked = refl
 
 sent_dead : (e : Event) → sent_at dead e ≡ []
 sent_dead (Readable piece) = refl
@@ -31,6 +32,7 @@ sent_dead (Answered reply) = refl
 sent_dead (Writable room) = take-nil room
 sent_dead Ends = refl
 sent_dead Fails = refl
+sent_dead Worked = refl
 
 lost_dead : (e : Event) → lost_at dead e ≡ []
 lost_dead (Readable piece) = refl
@@ -39,6 +41,7 @@ lost_dead (Answered reply) = refl
 lost_dead (Writable room) = refl
 lost_dead Ends = refl
 lost_dead Fails = refl
+lost_dead Worked = refl
 
 replied_dead : (e : Event) → replied_at dead e ≡ []
 replied_dead (Readable piece) = refl
@@ -47,6 +50,7 @@ replied_dead (Answered reply) = refl
 replied_dead (Writable room) = refl
 replied_dead Ends = refl
 replied_dead Fails = refl
+replied_dead Worked = refl
 
 run_dead : (es : List Event) → run dead es ≡ dead
 run_dead [] = refl
@@ -84,6 +88,7 @@ kept line (Writable room ∷ es) =
     ∙ ap (λ (zs : List ℕ). zs ++ replied next es) (take-append-drop room line.owed)
 kept line (Ends ∷ es) = kept (after line Ends) es
 kept line (Fails ∷ es) = thrown line.owed (sent dead es) (lost dead es) (run dead es).owed (replied dead es) (none_dead sent_at sent_dead es) (none_dead lost_at lost_dead es) (ap (λ (l : Line). l.owed) (run_dead es)) (none_dead replied_at replied_dead es)
+kept line (Worked ∷ es) = kept line es
 
 pub no_loss : (line : Line) (es : List Event) → AllByRecursion is_sound es → lost line es ≡ []
 no_loss line [] h = refl
@@ -93,6 +98,7 @@ no_loss line (Answered reply ∷ es) h = no_loss (after line (Answered reply)) e
 no_loss line (Writable room ∷ es) h = no_loss (after line (Writable room)) es h.1
 no_loss line (Ends ∷ es) h = no_loss (after line Ends) es h.1
 no_loss line (Fails ∷ es) h = absurd h.0
+no_loss line (Worked ∷ es) h = no_loss line es h.1
 
 -- a reply is added only where less than the cap is owed
 added : (line : Line) (reply : List ℕ) (most : ℕ) (s b : Bool) → (b ≡ true → length line.owed < cap) → length line.owed ≤ cap + most → length reply ≤ most → length (if s && b then record line { owed = line.owed ++ reply } else line).owed ≤ cap + most
@@ -108,6 +114,7 @@ within line most (Answered reply ∷ es) h k = within (after line (Answered repl
 within line most (Writable room ∷ es) h k = within (after line (Writable room)) most es (omega (arith, length-drop room line.owed)) k.1
 within line most (Ends ∷ es) h k = within (after line Ends) most es h k.1
 within line most (Fails ∷ es) h k = within dead most es (omega arith) k.1
+within line most (Worked ∷ es) h k = within line most es h k.1
 
 less_left : (room : ℕ) (rooms : List ℕ) (xs : List ℕ) → length xs ≤ sum (room ∷ rooms) → length (drop room xs) ≤ sum rooms
 less_left room rooms xs h = omega (arith, h, length-drop room xs, sum_by-cons (λ (n : ℕ). n) room rooms)
@@ -154,6 +161,7 @@ closed_stays line (Answered reply) h = ap is_open (answered_stage line reply (re
 closed_stays line (Writable room) h = h
 closed_stays line Ends h = ended_closed line.stage
 closed_stays line Fails h = refl
+closed_stays line Worked h = h
 
 unread : (b c : Bool) (piece : List ℕ) → b ≡ false → (if b && c then piece else []) ≡ []
 unread true c piece h = absurd cc
@@ -166,6 +174,7 @@ not_read line (Answered reply) h = refl
 not_read line (Writable room) h = refl
 not_read line Ends h = refl
 not_read line Fails h = refl
+not_read line Worked h = refl
 
 not_taken : (line : Line) (e : Event) → is_open line.stage ≡ false → taken_at line e ≡ []
 not_taken line (Readable piece) h = unread (is_open line.stage) (nat_lt (length line.owed) cap) piece h
@@ -174,6 +183,7 @@ not_taken line (Answered reply) h = refl
 not_taken line (Writable room) h = refl
 not_taken line Ends h = refl
 not_taken line Fails h = refl
+not_taken line Worked h = refl
 
 -- once a line is not open, nothing of these
 none_closed : (at : Line → Event → List ℕ) → ((line : Line) (e : Event) → is_open line.stage ≡ false → at line e ≡ []) → (line : Line) (es : List Event) → is_open line.stage ≡ false → gathered at line es ≡ []
@@ -193,3 +203,4 @@ taken_first line (Answered reply ∷ es) = taken_first (after line (Answered rep
 taken_first line (Writable room ∷ es) = taken_first (after line (Writable room)) es
 taken_first line (Ends ∷ es) = taken_first (after line Ends) es
 taken_first line (Fails ∷ es) = taken_first (after line Fails) es
+taken_first line (Worked ∷ es) = taken_first line es

@@ -3,7 +3,7 @@ use Rattle.std.proofs.Common.{arith, ◌≡◌, ℕ, ◌<◌, ◌≤◌, List, [
 use Rattle.std.specs.Prelude.{Option, Some, None, ◌||◌, ◌&&◌, not, nat_lt, if◌then◌else◌}
 use Rattle.std.proofs.lemmas.List.{append-nil, length-take-le}
 use Rattle.std.proofs.lemmas.Bool.{cases_Bool, lt-ltb, MatchBool-at_true, MatchBool-at_false}
-use Rattle.outbox.specs.Lines.{Line, Event, Readable, Declined, Answered, Writable, Ends, Fails, after, is_open, ended as ended_stage, owes, reads, cap, read_at, sent_at}
+use Rattle.outbox.specs.Lines.{Line, Event, Readable, Declined, Answered, Writable, Ends, Fails, Worked, after, is_open, ended as ended_stage, owes, reads, cap, read_at, sent_at}
 use Rattle.outbox.specs.Told.{Told, moved, with_read, with_written}
 use Rattle.outbox.specs.Turns.{Turned, Moment, here, DoesAt, moves_at, pieces_at, answers_at, HasFallen, HasNotRisen, IsTold, IsEnded, WritesOnce, Flushes, can_write, can_read, can_answer}
 use Rattle.outbox.specs.Appends.{with_reply}
@@ -179,6 +179,11 @@ replied_one T R I O l l' w r c c' reply can line t goes =
     one 0 1 T R I O can_answer (here l w c r) (here l' w c' r) (Answered reply)
     (line ∙ sym (picked (reads l) (with_reply l reply) l open')) (moved_none w) (open', t) refl can
     (λ h e. waits r l can e) (λ h o. clash (O c') o goes) (omega arith) (omega arith)
+
+pub worked_one : {C : Type 0} (T R : C → List ℕ → C → Type 0) (I : C → Type 0) (O : C → Bool) (l l' : Line) (w : Option Told) (r : Readiness) (c c' : C)
+    → can_answer r l ≡ true → l' ≡ l → c' ≡ c → Turned 0 1 T R I O can_answer (here l w c r) (here l' w c' r)
+worked_one T R I O l l' w r c c' can line same = one 0 1 T R I O can_answer (here l w c r) (here l' w c' r) Worked line (moved_none w) same refl can
+    (λ h e. waits r l can e) (λ h o. ap (λ (x : Line). is_open x.stage) line ∙ h (ap O (sym same) ∙ o)) (omega arith) (omega arith)
 
 pub idle_one : {C : Type 0} (T R : C → List ℕ → C → Type 0) (I : C → Type 0) (O : C → Bool) (l l' : Line) (w : Option Told) (r : Readiness) (c c' : C)
     → can_answer r l ≡ true → I c → l' ≡ l → c' ≡ c → Turned 0 1 T R I O can_answer (here l w c r) (here l' w c' (record r { waiting = false }))

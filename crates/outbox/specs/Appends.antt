@@ -2,7 +2,7 @@
 use Rattle.std.specs.Prelude.{◌≡◌, ℕ, List, ◌++◌, Bool, true, false}
 use Rattle.outbox.specs.Lines.{Line}
 use Rattle.outbox.specs.declared.answers.Step.{Step}
-use Rattle.outbox.specs.declared.answers.Step.TheVariants.{Replied, Idle, Last, Refused}
+use Rattle.outbox.specs.declared.answers.Step.TheVariants.{Replied, Idle, Last, Refused, Working}
 
 -- with a reply, which is the last one or not
 abbrev pub RepliesTo : {C X : Type 0} → Bool → (C → List ℕ → C → Type 0) → (C → Bool) → (X → List ℕ → X) → C → X → X → C → Type 0
@@ -14,6 +14,7 @@ Steps answers idle over with_reply Replied old before after new = RepliesTo fals
 Steps answers idle over with_reply Idle old before after new = idle old × (after ≡ before) × (new ≡ old)
 Steps answers idle over with_reply Last old before after new = RepliesTo true answers over with_reply old before after new
 Steps answers idle over with_reply Refused old before after new = (after ≡ before) × (new ≡ old)
+Steps answers idle over with_reply Working old before after new = (after ≡ before) × (new ≡ old)
 
 -- what is appended to bytes
 abbrev pub Appends : {C : Type 0} → (C → List ℕ → C → Type 0) → (C → Type 0) → (C → Bool) → Step → C → List ℕ → List ℕ → C → Type 0

@@ -14,7 +14,8 @@ pub record Line : Type 0 where
 abbrev pub fresh : Line
 fresh = record { owed = []; stage = Open }
 
--- a piece was read, and taken or not; a request was answered so; the peer's side has room for so many bytes; no piece comes any more; a fault
+-- a piece was read, and taken or not; a request was answered so; the peer's side has room for so many bytes; no piece comes any more; a fault;
+-- a share of work on a request was done
 pub data Event : Type 0 where
   Readable : (piece : List ℕ) → Event
   Declined : (piece : List ℕ) → Event
@@ -22,6 +23,7 @@ pub data Event : Type 0 where
   Writable : (room : ℕ) → Event
   Ends : Event
   Fails : Event
+  Worked : Event
 
 abbrev pub is_open : Stage → Bool
 is_open Open = true
@@ -53,6 +55,7 @@ after line (Answered reply) = if reads line then record line { owed = line.owed 
 after line (Writable room) = record line { owed = drop room line.owed }
 after line Ends = record line { stage = ended line.stage }
 after line Fails = record { owed = []; stage = Broken }
+after line Worked = line
 
 -- what was read, what of it was taken, what that is answered, what goes out, and what a fault throws away
 abbrev pub read_at : Line → Event → List ℕ
@@ -62,6 +65,7 @@ read_at line (Answered reply) = []
 read_at line (Writable room) = []
 read_at line Ends = []
 read_at line Fails = []
+read_at line Worked = []
 
 abbrev pub taken_at : Line → Event → List ℕ
 taken_at line (Readable piece) = if reads line then piece else []
@@ -70,6 +74,7 @@ taken_at line (Answered reply) = []
 taken_at line (Writable room) = []
 taken_at line Ends = []
 taken_at line Fails = []
+taken_at line Worked = []
 
 abbrev pub replied_at : Line → Event → List ℕ
 replied_at line (Readable piece) = []
@@ -78,6 +83,7 @@ replied_at line (Answered reply) = if reads line then reply else []
 replied_at line (Writable room) = []
 replied_at line Ends = []
 replied_at line Fails = []
+replied_at line Worked = []
 
 abbrev pub sent_at : Line → Event → List ℕ
 sent_at line (Readable piece) = []
@@ -86,6 +92,7 @@ sent_at line (Answered reply) = []
 sent_at line (Writable room) = take room line.owed
 sent_at line Ends = []
 sent_at line Fails = []
+sent_at line Worked = []
 
 abbrev pub lost_at : Line → Event → List ℕ
 lost_at line (Readable piece) = []
@@ -94,6 +101,7 @@ lost_at line (Answered reply) = []
 lost_at line (Writable room) = []
 lost_at line Ends = []
 lost_at line Fails = line.owed
+lost_at line Worked = []
 
 -- the same of all events
 abbrev pub run : Line → List Event → Line
@@ -127,6 +135,7 @@ is_short most (Answered reply) = length reply ≤ most
 is_short most (Writable room) = Unit {0}
 is_short most Ends = Unit {0}
 is_short most Fails = Unit {0}
+is_short most Worked = Unit {0}
 
 -- no fault
 abbrev pub is_sound : Event → Type 0
@@ -136,3 +145,4 @@ is_sound (Answered reply) = Unit {0}
 is_sound (Writable room) = Unit {0}
 is_sound Ends = Unit {0}
 is_sound Fails = ⊥
+is_sound Worked = Unit {0}

@@ -2,7 +2,7 @@
 use Rattle.std.specs.Prelude.{◌≡◌, ◌⊎◌, ℕ, ◌+◌, ◌<◌, ◌≤◌, List, [], ◌∷◌, length, take, nat_lt, Option, Bool, true, false, not, ◌&&◌, ◌||◌}
 use Rattle.std.specs.Bool.{MatchBool}
 use Rattle.outbox.specs.declared.readiness.Readiness.{Readiness}
-use Rattle.outbox.specs.Lines.{Line, Event, Readable, Declined, Answered, Writable, Ends, Fails, after, run, read, sent, reads, owes, is_open}
+use Rattle.outbox.specs.Lines.{Line, Event, Readable, Declined, Answered, Writable, Ends, Fails, Worked, after, run, read, sent, reads, owes, is_open}
 use Rattle.outbox.specs.Told.{Told, moved, with_written}
 
 -- the core took this piece, which was read, or answered so
@@ -13,12 +13,13 @@ DoesAt takes answers line (Answered reply) old new = (reads line ≡ true) × an
 DoesAt takes answers line (Writable room) old new = new ≡ old
 DoesAt takes answers line Ends old new = new ≡ old
 DoesAt takes answers line Fails old new = new ≡ old
+DoesAt takes answers line Worked old new = new ≡ old
 
 abbrev pub DoesAll : {C : Type 0} → (C → List ℕ → C → Type 0) → (C → List ℕ → C → Type 0) → Line → List Event → C → C → Type 0
 DoesAll takes answers line [] old new = new ≡ old
 DoesAll {C} takes answers line (e ∷ es) old new = (mid : C) × DoesAt takes answers line e old mid × DoesAll takes answers (after line e) es mid new
 
--- bytes are read or written, a request is answered, or the line comes nearer to its end
+-- bytes are read or written, a request is answered or worked on, or the line comes nearer to its end
 abbrev pub moves_at : Line → Event → Bool
 moves_at line (Readable piece) = nat_lt 0 (length piece)
 moves_at line (Declined piece) = is_open line.stage
@@ -26,6 +27,7 @@ moves_at line (Answered reply) = true
 moves_at line (Writable room) = nat_lt 0 room && owes line
 moves_at line Ends = is_open line.stage
 moves_at line Fails = is_open line.stage || owes line
+moves_at line Worked = true
 
 abbrev pub moves : Line → List Event → Bool
 moves line [] = false
@@ -72,7 +74,7 @@ IsTold idle now = now.ready.waiting ≡ false → idle now.core
 abbrev pub IsEnded : {C : Type 0} → (C → Bool) → Moment C → Type 0
 IsEnded over now = over now.core ≡ true → is_open now.line.stage ≡ false
 
--- the pieces that were read, and the requests that were answered
+-- the pieces that were read, and the requests that were answered or worked on
 abbrev pub pieces_at : Event → ℕ
 pieces_at (Readable piece) = 1
 pieces_at (Declined piece) = 1
@@ -80,6 +82,7 @@ pieces_at (Answered reply) = 0
 pieces_at (Writable room) = 0
 pieces_at Ends = 0
 pieces_at Fails = 0
+pieces_at Worked = 0
 
 abbrev pub answers_at : Event → ℕ
 answers_at (Readable piece) = 0
@@ -88,6 +91,7 @@ answers_at (Answered reply) = 1
 answers_at (Writable room) = 0
 answers_at Ends = 0
 answers_at Fails = 0
+answers_at Worked = 1
 
 abbrev pub count_of : (Event → ℕ) → List Event → ℕ
 count_of at [] = 0

@@ -14,6 +14,8 @@ pub enum Step {
     Last,
     /// There was no memory for a reply: no further request of the connection is answered.
     Refused,
+    /// A share of the work on the next request was done; the request waits on.
+    Working,
 }
 
 /// A server of many connections: it takes pieces of their streams and answers the requests in them one at a time.

@@ -107,6 +107,7 @@ fn answer_one<C: Core>(outbox: &mut Outbox, core: &mut C, conn: u32, ready: &mut
     }
     match outbox.answer_next(core, conn) {
         Step::Replied => {}
+        Step::Working => {}
         Step::Idle => ready.waiting = false,
         Step::Last => outbox.end(),
         Step::Refused => outbox.end(),

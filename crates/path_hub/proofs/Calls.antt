@@ -1,16 +1,20 @@
 -- The calls of the hub on one connection.
-use Rattle.std.proofs.Common.{◌≡◌, ◌<◌, ℕ, Bool, true, false, List, sym, ap, ◌∙◌, subst, refl, Option, Some, None, cond, Ok, Err, Result}
+use Rattle.std.proofs.Common.{◌≡◌, ◌<◌, ◌++◌, ℕ, Bool, true, false, List, sym, ap, ◌∙◌, subst, refl, Option, Some, None, cond, Ok, Err, Result}
 use Rattle.std.specs.Prelude.{OnErr, IfOk}
 use Rattle.std.specs.Bool.{MatchBool}
 use Rattle.std.specs.Map.{set_value}
 use Rattle.std.specs.Ordering.{nat_cmp}
 use Rattle.std.specs.BTreeMap.{is_at}
 use Rattle.std.proofs.lemmas.Bool.{false≢true}
-use Rattle.wire_frames.specs.Framing.{Framing, with_piece}
+use Rattle.wire_frames.specs.declared.framing.Next.TheVariants.{Frame}
+use Rattle.wire_frames.specs.Frames.{Front, Whole, Wait, Fault, front}
+use Rattle.wire_frames.specs.NextFrame.{next_of, next_at}
+use Rattle.wire_frames.specs.Framing.{Framing, with_piece, framing_after, after_at}
 use Rattle.wire_frames.specs.Splitting.{Splitting}
 use Rattle.tenant_map.specs.Tenancy.{Tenancy}
 use Rattle.path_hub.specs.Sessions.{Sessions, session, Sets}
-use Rattle.path_hub.specs.Pending.{Answered, IsIdle, IsDue, pending}
+use Rattle.path_hub.specs.Tenants.{Serves, Step}
+use Rattle.path_hub.specs.Pending.{Answered, IsIdle, IsDue, Takes, pending}
 use Rattle.path_hub.specs.Into.{AnswersInto, TakesPiece, IsTaken, AnswersOne, AnswersNone, HasDue}
 use Rattle.path_hub.specs.HubState.{HubState, state}
 use Rattle.path_hub.proofs.Loop.{into_none, into_more, pending_idle, left_falls, left}
@@ -29,7 +33,7 @@ same_some : (f g : Framing) → Some f ≡ Some g → f ≡ g
 same_some f g e = cc
 
 -- one step of a connection is one of the hub
-one_step : (laws : Splitting) (conn : ℕ) (ss ss' : Sessions) (os os' : Tenancy) (f f' : Framing) (before after : List ℕ) (more : Bool) → session conn ss ≡ Some f → Sets conn (Some f') ss ss' → (f' ≡ f → ss' ≡ ss)
+pub one_step : (laws : Splitting) (conn : ℕ) (ss ss' : Sessions) (os os' : Tenancy) (f f' : Framing) (before after : List ℕ) (more : Bool) → session conn ss ≡ Some f → Sets conn (Some f') ss ss' → (f' ≡ f → ss' ≡ ss)
     → MatchBool more (Answered f os before f' os' after) (IsIdle f os before f' os' after) → MatchBool more (AnswersOne conn (state ss os) before (state ss' os') after) (AnswersNone conn (state ss os) before (state ss' os') after)
 one_step laws conn ss ss' os os' f f' before after true h sets stay a = record { framing = f; was = h; left = f'; sets = sets; answered = a }
 one_step laws conn ss ss' os os' f f' before after false h sets stay i = record {
@@ -113,3 +117,22 @@ pub left_at_falls : (laws : Splitting) (conn : ℕ) (old new : HubState) (before
 unfolding left_at left_in
 left_at_falls laws conn old new before after a =
     subst (λ n. left_in (session conn new.sessions) < left_in n) (sym a.was) (subst (λ n. left_in n < left a.framing) (sym (sets_here conn (Some a.left) old.sessions new.sessions a.sets)) (left_falls laws a.framing a.answered.body a.left a.answered.takes))
+
+-- ---- A frame, served
+
+pub taken_by : (f f' : Framing) (b : List ℕ) (x : Front) → front f.waiting ≡ x → f.closed ≡ false → Frame b ≡ next_at x → f' ≡ after_at x f → Takes f (Some b) f'
+taken_by f f' b (Whole c m) e o n a =
+    let same : b ≡ c = cc in
+    let rest : m ≡ f'.waiting = sym (ap (λ (g : Framing). g.waiting) a) in
+    (o, ap (λ (g : Framing). g.closed) a ∙ o, e ∙ ap (λ y. Whole y m) (sym same) ∙ ap (Whole b) rest)
+taken_by f f' b Wait e o n a = absurd (cc)
+taken_by f f' b Fault e o n a = absurd (cc)
+
+pub answered : (f f' : Framing) (b s : List ℕ) (os os' : Tenancy) (before mid after : List ℕ) → f.closed ≡ false → Frame b ≡ next_of f → f' ≡ framing_after f → s ≡ b → mid ≡ before → Serves os s mid after os' → Answered f os before f' os' after
+answered f f' b s os os' before mid after o n a e r g = record {
+  body = Some b;
+  frame = g.0;
+  out = g.1 ∙ ap (λ xs. xs ++ g.0) r;
+  step = subst (λ x. Step os x g.0 os') e g.2;
+  takes = taken_by f f' b (front f.waiting) refl o n a;
+}

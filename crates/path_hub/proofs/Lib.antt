@@ -13,3 +13,4 @@ pub mod Writing
 pub mod Sent
 pub mod Once
 pub mod Standing
+pub mod UnderWay

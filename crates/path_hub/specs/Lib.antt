@@ -6,6 +6,7 @@ pub mod Pending
 pub mod Sessions
 pub mod HubState
 pub mod Into
+pub mod UnderWay
 pub mod Headline
 pub mod Wires
 pub mod Serving

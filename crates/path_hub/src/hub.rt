@@ -8,10 +8,13 @@ ghost use Rattle.path_hub.specs.Sessions.{session, Sets, opened_session, Feeds, 
 ghost use Rattle.path_hub.specs.Into.{Bytes, Takes, AnswersOne, AnswersNone, HasDue};
 ghost use Rattle.path_hub.specs.HubState.{state};
 ghost use Rattle.path_hub.specs.Headline.{Runs};
+ghost use Rattle.path_hub.specs.UnderWay.{AreOnWay, Shares, is_first_held};
 
 use crate::event::{Event, Reply};
 use crate::fault::{ConnectFault, HubFault, RunFault, TakeFault};
+use crate::sharing::{answer_some, waits_first};
 use crate::step::{answer_all, answer_next};
+use crate::tasks::{Share, Tasks};
 use query_cache::Cache;
 use std::alloc::{AllocError, Global};
 use std::collections::BTreeMap;
@@ -172,6 +175,54 @@ impl Hub {
         )
     }
 
+    /// Whether the first request that waits on a connection waits for a query of its tenant, which another connection has under way.
+    pub fn waits(&self, conn: u32, tasks: &Tasks) -> bool
+        ensures { result ≡ is_first_held conn self.now tasks.now }
+    {
+        match self.sessions.get(&conn) {
+            Some(framer) => waits_first(framer, &self.tenants, tasks, conn),
+            None => false,
+        }
+    }
+
+    /// Does a share of work on the first frame, or the framing fault, that waits on a connection. It is answered and its reply appended, or
+    /// its query goes on for about so many units.
+    ///
+    /// Between two shares of a query other connections may be served, but for requests of its tenant ([`Hub::waits`]). Nothing of it is to be
+    /// seen in the hub. The tasks are those that earlier calls left.
+    ///
+    /// # Errors
+    ///
+    /// As [`Hub::answer_next`].
+    pub fn answer_some(
+        &mut self,
+        alloc: Global,
+        conn: u32,
+        units: u64,
+        tasks: &mut Tasks,
+        out: &mut Vec<u8>,
+    ) -> Result<Share, AllocError>
+        requires on_way { AreOnWay self.old.tenants tasks.old }
+        requires free { is_first_held conn self.old tasks.old ≡ false }
+        ensures shares { IfOk result (λ share. Shares share conn self.old tasks.old out.old.items self.new tasks.new out.new.items) }
+        ensures on_way { AreOnWay self.new.tenants tasks.new }
+        ensures due { OnErr result (HasDue conn self.old) }
+        ensures unchanged { OnErr result (self.new ≡ self.old) }
+        ensures same_tasks { OnErr result (tasks.new ≡ tasks.old) }
+        ensures unwritten { OnErr result (out.new.items ≡ out.old.items) }
+    {
+        share_at(
+            &mut self.sessions,
+            &mut self.tenants,
+            &mut self.cache,
+            tasks,
+            alloc,
+            conn,
+            units,
+            out,
+        )
+    }
+
     /// Takes a piece of a connection's stream, and appends the replies to all frames that are now whole, in order.
     ///
     /// # Errors
@@ -268,6 +319,33 @@ fn answer_at(
     match sessions.get_mut(&conn) {
         None => Ok(false),
         Some(framer) => answer_next(framer, tenants, cache, alloc, out),
+    }
+}
+
+/// Does a share of work on the first frame or fault that waits on a connection.
+fn share_at(
+    sessions: &mut BTreeMap<u32, Framer>,
+    tenants: &mut Tenants,
+    cache: &mut Cache,
+    tasks: &mut Tasks,
+    alloc: Global,
+    conn: u32,
+    units: u64,
+    out: &mut Vec<u8>,
+) -> Result<Share, AllocError>
+    requires on_way { AreOnWay tenants.old tasks.old }
+    requires free { is_first_held conn (state sessions.old.entries tenants.old) tasks.old ≡ false }
+    ensures shares { IfOk result (λ share. Shares share conn (state sessions.old.entries tenants.old) tasks.old out.old.items (state sessions.new.entries tenants.new) tasks.new out.new.items) }
+    ensures on_way { AreOnWay tenants.new tasks.new }
+    ensures due { OnErr result (HasDue conn (state sessions.old.entries tenants.old)) }
+    ensures unchanged { OnErr result (state sessions.new.entries tenants.new ≡ state sessions.old.entries tenants.old) }
+    ensures same_tasks { OnErr result (tasks.new ≡ tasks.old) }
+    ensures unwritten { OnErr result (out.new.items ≡ out.old.items) }
+{
+    splits_from_the_front();
+    match sessions.get_mut(&conn) {
+        None => Ok(Share::Idle),
+        Some(framer) => answer_some(framer, tenants, cache, tasks, alloc, conn, units, out),
     }
 }
 

@@ -9,7 +9,9 @@ mod memory_wire;
 mod replies;
 mod sending;
 mod serving;
+mod sharing;
 mod step;
+mod tasks;
 mod wire;
 
 pub use event::{Event, Reply};
@@ -20,4 +22,5 @@ pub use laws::{
 };
 pub use memory_wire::{Call, MemoryWire, Moved};
 pub use serving::serve_connection;
+pub use tasks::{Share, Tasks};
 pub use wire::{ConnEnd, Wire, WireFault, write_all};

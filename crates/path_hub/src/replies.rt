@@ -32,7 +32,7 @@ const NOT_WELL_FORMED: u8 = 17;
 
 const NOT_VALID: u8 = 18;
 
-const NO_MEMORY: u8 = 21;
+pub const NO_MEMORY: u8 = 21;
 
 /// Appends a reply of at most 21 bytes, for which there is room.
 pub fn write_small(status: u8, number: u32, payload: &[u8], out: &mut Vec<u8>)
@@ -125,7 +125,7 @@ fn answer_drop(map: &mut Tenant, number: u32, collection: CollName<'_>, out: &mu
 }
 
 /// Appends room for the head of a reply whose payload is appended next.
-fn begin(out: &mut Vec<u8>)
+pub fn begin(out: &mut Vec<u8>)
     requires { vec_len out.old + 21 ≤ vec_capacity out.old }
     ensures items { take (length out.old.items) out.new.items ≡ out.old.items }
     ensures len { vec_len out.new ≡ vec_len out.old + 9 }
@@ -135,7 +135,7 @@ fn begin(out: &mut Vec<u8>)
 }
 
 /// Writes the head of a reply in front of its payload.
-fn finish(start: usize, number: u32, out: &mut Vec<u8>)
+pub fn finish(start: usize, number: u32, out: &mut Vec<u8>)
     requires started { start + 9 ≤ vec_len out.old }
     requires short { vec_len out.old ≤ start + (9 + payload_limit) }
     ensures { out.new.items ≡ take start out.old.items ++ reply 0 number (drop (start + 9) out.old.items) }
@@ -146,7 +146,7 @@ fn finish(start: usize, number: u32, out: &mut Vec<u8>)
 }
 
 /// A refusal in the place of a reply that was begun.
-fn take_back(fault: StoreFault, start: usize, number: u32, out: &mut Vec<u8>)
+pub fn take_back(fault: StoreFault, start: usize, number: u32, out: &mut Vec<u8>)
     requires started { start ≤ vec_len out.old }
     requires room { start + 21 ≤ vec_capacity out.old }
     ensures { out.new.items ≡ take start out.old.items ++ reply (status_of fault) number [] }
@@ -200,7 +200,7 @@ fn answer_query(
     }
 }
 
-fn status_of_query(fault: QueryFault) -> u8
+pub fn status_of_query(fault: QueryFault) -> u8
     ensures { result ≡ query_status fault }
 {
     match fault {

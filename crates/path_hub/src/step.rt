@@ -11,9 +11,9 @@ use tenant_store::Tenants;
 use wire_frames::{Framer, Front, splits_from_the_front};
 
 /// A short reply fits into so many bytes, as does that to a request for the usage.
-const SHORT_REPLY: usize = 21;
+pub const SHORT_REPLY: usize = 21;
 
-const FRAME_FAULT: u8 = 255;
+pub const FRAME_FAULT: u8 = 255;
 
 /// Takes one frame or fault of a connection and answers it. There is `false` where none is whole. Only where one is, growth may be
 /// refused, and that changes nothing.
@@ -88,9 +88,7 @@ pub fn answer_all(
         }
         out.reserve(1)?;
         let mut frame = Vec::new(alloc);
-        if !answer_next(framer, tenants, cache, alloc, &mut frame)? {
-            return Ok(());
-        }
+        answer_next(framer, tenants, cache, alloc, &mut frame)?;
         out.push(Reply { conn, frame }).unwrap();
     }
 }

@@ -8,7 +8,7 @@ use Rattle.std.proofs.lemmas.Bool.{cases_Bool, eqb-true, eqb-false}
 use Rattle.std.proofs.lemmas.Bool.Decides.{nat_tests, Decides-eqb}
 use Rattle.wire_frames.specs.Framing.{Framing, fresh as fresh_framing, with_piece}
 use Rattle.tenant_map.specs.Tenancy.{Tenancy}
-use Rattle.outbox.specs.Lines.{Line, Event, Readable, Declined, Answered, Writable, Ends, Fails, fresh, after, run, reads, gathered, taken_at, replied_at, taken, replied, read, lost, sent as sent_by}
+use Rattle.outbox.specs.Lines.{Line, Event, Readable, Declined, Answered, Writable, Ends, Fails, Worked, fresh, after, run, reads, gathered, taken_at, replied_at, taken, replied, read, lost, sent as sent_by}
 use Rattle.outbox.specs.Turns.{DoesAll}
 use Rattle.path_hub.specs.HubState.{HubState}
 use Rattle.path_hub.specs.Items.{Item}
@@ -130,6 +130,7 @@ answering w conn line (Answered reply ∷ es) h h' d =
 answering w conn line (Writable room ∷ es) h h' d = quiet conn line (Writable room) es h d.0 h' refl refl refl d.1 (answering w conn (after line (Writable room)) es d.0 h' d.2)
 answering w conn line (Ends ∷ es) h h' d = quiet conn line Ends es h d.0 h' refl refl refl d.1 (answering w conn (after line Ends) es d.0 h' d.2)
 answering w conn line (Fails ∷ es) h h' d = quiet conn line Fails es h d.0 h' refl refl refl d.1 (answering w conn (after line Fails) es d.0 h' d.2)
+answering w conn line (Worked ∷ es) h h' d = quiet conn line Worked es h d.0 h' refl refl refl d.1 (answering w conn line es d.0 h' d.2)
 
 -- ---- Acts
 

@@ -1,7 +1,7 @@
 -- What happens at many connections over one hub: this project's own.
 use Rattle.std.specs.Prelude.{◌≡◌, ◌≢◌, ℕ, ◌==◌, List, [], ◌∷◌, ◌++◌, map, Option, if◌then◌else◌}
 use Rattle.std.specs.List.{AllByRecursion}
-use Rattle.outbox.specs.Lines.{Line, Event, Readable, Declined, Answered, Writable, Ends, Fails, fresh, run}
+use Rattle.outbox.specs.Lines.{Line, Event, Readable, Declined, Answered, Writable, Ends, Fails, Worked, fresh, run}
 use Rattle.outbox.specs.Turns.{DoesAll}
 use Rattle.path_hub.specs.HubState.{HubState}
 use Rattle.path_hub.specs.Items.{Item}
@@ -43,6 +43,7 @@ replies_in (Answered reply ∷ events) = reply ∷ replies_in events
 replies_in (Writable room ∷ events) = replies_in events
 replies_in (Ends ∷ events) = replies_in events
 replies_in (Fails ∷ events) = replies_in events
+replies_in (Worked ∷ events) = replies_in events
 
 abbrev pub told_at : Act → List Told
 told_at (Opened conn) = []

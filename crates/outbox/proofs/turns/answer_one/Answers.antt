@@ -1,6 +1,6 @@
 use Rattle.std.proofs.Common.{sym}
 use Rattle.outbox.specs.Turns.{here, can_answer}
-use Rattle.outbox.proofs.Single.{nothing, replied_one, idle_one, last_one, refused_one}
+use Rattle.outbox.proofs.Single.{nothing, replied_one, idle_one, last_one, refused_one, worked_one}
 use Rattle.outbox.proofs.turns.answer_one.Goals as goal
 
 pub returns-then-not-can_answer : goal.returns-then-not-can_answer
@@ -25,3 +25,8 @@ pub returns-in-Refused : goal.returns-in-Refused
 returns-in-Refused g c wire =
     refused_one _ _ _ _ c.args.outbox.now c.answer_next.new.self c.end-in-Refused.new.self wire c.args.ready.now c.args.core.now c.answer_next.new.core
     (sym c.if-not-can_answer.ensures) c.in-Refused.ensures.0 c.end-in-Refused.ensures c.in-Refused.ensures.1
+
+pub returns-in-Working : goal.returns-in-Working
+returns-in-Working g c wire =
+    worked_one _ _ _ _ c.args.outbox.now c.answer_next.new.self wire c.args.ready.now c.args.core.now c.answer_next.new.core
+    (sym c.if-not-can_answer.ensures) c.in-Working.ensures.0 c.in-Working.ensures.1

@@ -1,0 +1,147 @@
+-- Queries under way (this project's own): one of a connection's at most. They are no part of a hub's state.
+use Rattle.std.specs.Prelude.{◌≡◌, ◌<◌, ℕ, List, slice_get, slice_range, Option, Some, None, Bool, true, false, not, ◌&&◌, ◌==◌, if◌then◌else◌}
+use Rattle.std.specs.BTreeMap.{is_at}
+use Rattle.std.specs.List.{list_any}
+use Rattle.std.specs.Map.{lookup}
+use Rattle.std.specs.Option.{option_map_or}
+use Rattle.std.specs.Ordering.{nat_cmp}
+use Rattle.path_grammar.specs.Tree.{Segments}
+use Rattle.path_types.specs.Verdict.{IsValidQuery}
+use Rattle.tenant_map.specs.Maps.{Map, documents_of}
+use Rattle.tenant_map.specs.Tenancy.{Tenancy, place_in}
+use Rattle.tenant_store.specs.Walks.{Charges, IsOnWay, work_left}
+use Rattle.tenant_store.specs.declared.tasks.QueryTask.{QueryTask}
+use Rattle.wire_frames.specs.Frames.{Whole, front}
+use Rattle.wire_frames.specs.Framing.{Framing}
+use Rattle.wire_frames.specs.NextFrame.{next_of}
+use Rattle.wire_frames.specs.declared.framing.Next.{Next}
+use Rattle.wire_frames.specs.declared.framing.Next.TheVariants as next
+use Rattle.wire_frames.specs.Requests.{Asks, Query, key_of, reading}
+use Rattle.path_hub.specs.declared.tasks.Asked.{Asked}
+use Rattle.path_hub.specs.declared.tasks.Tasks.{Tasks}
+use Rattle.path_hub.specs.declared.tasks.Share.{Share}
+use Rattle.path_hub.specs.declared.tasks.Share.TheVariants as share
+use Rattle.path_hub.specs.Answers.{Gives}
+use Rattle.path_hub.specs.Tenants.{Serves, is_short}
+use Rattle.path_hub.specs.Pending.{Answered, IsIdle}
+use Rattle.path_hub.specs.Sessions.{session}
+use Rattle.path_hub.specs.HubState.{HubState}
+use Rattle.path_hub.specs.Into.{AnswersOne, AnswersNone}
+
+-- what a connection has under way
+abbrev pub task_at : ℕ → Tasks → Option Asked
+task_at conn tasks = lookup (is_at (nat_cmp conn)) tasks.asked.entries
+
+-- that of one connection is set, and the others stay
+abbrev pub SetsTask : ℕ → Option Asked → Tasks → Tasks → Type 0
+SetsTask conn v old new = (q : ℕ) → task_at q new ≡ (if is_at (nat_cmp conn) q then v else task_at q old)
+
+-- it is the query of the tenant at this place, on this collection, with this text
+abbrev pub IsOf : Asked → (place : ℕ) → (collection text : List ℕ) → Type 0
+IsOf a place collection text = (a.place ≡ place) × (a.collection.items ≡ collection) × (a.query.items ≡ text)
+
+-- the query that the text is, on its way to its answer from the collection of this map
+abbrev pub Goes : (collection text : List ℕ) → Map → QueryTask → Type 0
+Goes collection text m task = (q : Segments) → IsValidQuery text q → IsOnWay q (documents_of collection m) task
+
+-- each query under way is on its way to its answer from its tenant's map
+abbrev pub AreOnWay : Tenancy → Tasks → Type 0
+AreOnWay t tasks = (conn : ℕ) (a : Asked) (m : Map) → task_at conn tasks ≡ Some a → slice_get t.maps a.place ≡ Some m → Goes a.collection.items a.query.items m a.task
+
+-- the connection's query is under way, with less left than it had
+pub record GoesOn (conn place : ℕ) (collection text : List ℕ) (old new : Tasks) : Type 0 where
+  pub asked : Asked
+  pub sets : SetsTask conn (Some asked) old new
+  pub its : IsOf asked place collection text
+  pub less : (a : Asked) → task_at conn old ≡ Some a → IsOf a place collection text → work_left asked.task < work_left a.task
+
+-- ---- Who waits
+
+-- the place of the tenant whose key is in a body
+abbrev pub tenant_asked : Tenancy → List ℕ → Option ℕ
+tenant_asked t body = if is_short body then None else place_in t.keys (key_of body)
+
+-- a query of the tenant, which another connection asked
+abbrev pub is_other : (place conn : ℕ) → ℕ × Asked → Bool
+is_other place conn e = not (e.0 == conn) && (e.1.place == place)
+
+-- another connection has a query of the tenant under way
+abbrev pub has_other : (place conn : ℕ) → Tasks → Bool
+has_other place conn tasks = list_any (is_other place conn) tasks.asked.entries
+
+-- so it has one of the tenant that the body asks
+abbrev pub is_held : ℕ → List ℕ → Tenancy → Tasks → Bool
+is_held conn body t tasks = option_map_or (λ place. has_other place conn tasks) (tenant_asked t body) false
+
+abbrev pub is_next_held : ℕ → Next → Tenancy → Tasks → Bool
+is_next_held conn (next.Frame body) t tasks = is_held conn body t tasks
+is_next_held conn next.Wait t tasks = false
+is_next_held conn next.Fault t tasks = false
+
+-- the first request that waits on the connection waits for another connection's query
+abbrev pub is_first_held : ℕ → HubState → Tasks → Bool
+is_first_held conn h tasks = option_map_or (λ f. is_next_held conn (next_of f) h.tenants tasks) (session conn h.sessions) false
+
+-- ---- A share of work
+
+-- if units are told, they are the charge of the query on the collection of this map
+abbrev pub IsCharge : Option ℕ → (collection text : List ℕ) → Map → Type 0
+IsCharge None collection text m = Unit {0}
+IsCharge (Some units) collection text m = (q : Segments) × IsValidQuery text q × Charges q (documents_of collection m) units
+
+-- the body asks a query of a tenant
+pub record AsksQuery (body : List ℕ) (t : Tenancy) : Type 0 where
+  pub number : ℕ
+  pub key : List ℕ
+  pub collection : List ℕ
+  pub text : List ℕ
+  pub reads : Asks number key (Query collection text) ≡ reading body
+  pub place : ℕ
+  pub placed : place_in t.keys key ≡ Some place
+
+-- its charge is told
+abbrev pub IsBodyCharge : Option ℕ → List ℕ → Tenancy → Type 0
+IsBodyCharge None body t = Unit {0}
+IsBodyCharge (Some units) body t = (a : AsksQuery body t) × (m : Map) × (slice_get t.maps a.place ≡ Some m) × IsCharge (Some units) a.collection a.text m
+
+-- it goes on
+abbrev pub WorksOn : ℕ → List ℕ → Tenancy → (old new : Tasks) → Type 0
+WorksOn conn body t old new = (a : AsksQuery body t) × GoesOn conn a.place a.collection a.text old new
+
+-- the same of the first body that waits
+abbrev pub IsFirstCharge : Option ℕ → Framing → Tenancy → Type 0
+IsFirstCharge None f t = Unit {0}
+IsFirstCharge (Some units) f t = (body : List ℕ) × (behind : List ℕ) × (front f.waiting ≡ Whole body behind) × IsBodyCharge (Some units) body t
+
+abbrev pub WorksOnFirst : ℕ → Framing → Tenancy → (old new : Tasks) → Type 0
+WorksOnFirst conn f t old new = (body : List ℕ) × (behind : List ℕ) × (front f.waiting ≡ Whole body behind) × WorksOn conn body t old new
+
+-- and on a connection
+abbrev pub IsChargeAt : Option ℕ → ℕ → HubState → Type 0
+IsChargeAt None conn h = Unit {0}
+IsChargeAt (Some units) conn h = (f : Framing) × (session conn h.sessions ≡ Some f) × IsFirstCharge (Some units) f h.tenants
+
+-- What a share of work on a tenant's query leaves: the step of its reply, or nothing but its task.
+abbrev pub SharesQuery : Share → (conn place number : ℕ) → (collection text : List ℕ) → Tenancy → Tasks → List ℕ → Tasks → List ℕ → Type 0
+SharesQuery (share.Replied charge) conn place number collection text t tasks before tasks' after =
+    (m : Map) × (slice_get t.maps place ≡ Some m) × Gives m (Query collection text) number before after m × SetsTask conn None tasks tasks' × IsCharge charge collection text m
+SharesQuery share.Working conn place number collection text t tasks before tasks' after = (after ≡ before) × GoesOn conn place collection text tasks tasks'
+SharesQuery share.Idle conn place number collection text t tasks before tasks' after = ⊥
+
+-- on a body
+abbrev pub SharesBody : Share → ℕ → List ℕ → Tenancy → Tasks → List ℕ → Tenancy → Tasks → List ℕ → Type 0
+SharesBody (share.Replied charge) conn body t tasks before t' tasks' after = Serves t body before after t' × SetsTask conn None tasks tasks' × IsBodyCharge charge body t
+SharesBody share.Working conn body t tasks before t' tasks' after = (t' ≡ t) × (after ≡ before) × WorksOn conn body t tasks tasks'
+SharesBody share.Idle conn body t tasks before t' tasks' after = ⊥
+
+-- on what is first on a connection
+abbrev pub SharesFirst : Share → ℕ → Framing → Tenancy → Tasks → List ℕ → Framing → Tenancy → Tasks → List ℕ → Type 0
+SharesFirst (share.Replied charge) conn f t tasks before f' t' tasks' after = Answered f t before f' t' after × SetsTask conn None tasks tasks' × IsFirstCharge charge f t
+SharesFirst share.Idle conn f t tasks before f' t' tasks' after = IsIdle f t before f' t' after × (tasks' ≡ tasks)
+SharesFirst share.Working conn f t tasks before f' t' tasks' after = (f' ≡ f) × (t' ≡ t) × (after ≡ before) × WorksOnFirst conn f t tasks tasks'
+
+-- on a connection of a hub, of which only a reply changes the state
+abbrev pub Shares : Share → ℕ → HubState → Tasks → List ℕ → HubState → Tasks → List ℕ → Type 0
+Shares (share.Replied charge) conn old tasks before new tasks' after = AnswersOne conn old before new after × SetsTask conn None tasks tasks' × IsChargeAt charge conn old
+Shares share.Idle conn old tasks before new tasks' after = AnswersNone conn old before new after × (tasks' ≡ tasks)
+Shares share.Working conn old tasks before new tasks' after = (new ≡ old) × (after ≡ before) × ((f : Framing) × (session conn old.sessions ≡ Some f) × WorksOnFirst conn f old.tenants tasks tasks')
