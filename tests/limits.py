@@ -17,7 +17,7 @@ import sys
 import tempfile
 import threading
 import time
-from contextlib import contextmanager
+from contextlib import contextmanager, suppress
 
 from many_connections import FAULT, FAULT_REPLY, GET, GET_REPLY, KEY, MEBIBYTE, PUT, PUT_REPLY, exchange, frame
 from lib.running_server import GIVE_BACK, PATIENCE, PROGRAM, Listening, Report, open_connection, reset
@@ -324,6 +324,34 @@ def parts_at_the_limit(report, most):
         server.finish(report)
 
 
+def strangers_at_the_limit(report, most):
+    """Peers without a key that wait for memory, drip, or ask now and then keep others out for --frame-time at most. One with a key stays."""
+    part, asked = put(b"h", HALF, STRANGER)[:40], frame(2, b"\x01c\x01d", STRANGER)
+
+    def go_on(stop, drips, asks):
+        for connection, bytes_sent in [*((it, b"\x00") for it in drips), *((it, asked) for it in asks)]:
+            with suppress(OSError):
+                connection.sendall(bytes_sent)
+        stop.wait(0.4)
+
+    with Listening([KEY], "--connections", str(most), "--spare", "3", "--frame-time", "4") as server:
+        opened = [open_connection(server.address) for _ in range(most)]
+        waits, drips, asks = opened[1::3], opened[2::3], opened[3::3]
+        for connection in waits:
+            connection.sendall(part)
+        for connection in drips:
+            connection.sendall(asked[:4])
+        with meanwhile(go_on, drips, asks), meanwhile(lambda stop: (exchange(opened[0], PUT, 9), stop.wait(0.5))):
+            later = [open_connection(server.address) for _ in range(3)]
+            for connection in later:
+                with within(report, "a reply beside strangers at the limit", 8):
+                    report.case("a reply beside strangers at the limit", PUT, PUT_REPLY, exchange(connection, PUT, 9))
+        report.case("one with a key beside strangers at the limit", "", PUT_REPLY, exchange(opened[0], PUT, 9))
+        for connection in [*opened, *later]:
+            connection.close()
+        server.finish(report)
+
+
 def few_descriptors(report):
     """Where the system has no descriptor left, idle ones make room too."""
     def limit():
@@ -487,6 +515,7 @@ def cases(is_short):
     yield (held_without_others,)
     yield spare, 200 if is_short else 10_000
     yield parts_at_the_limit, 50 if is_short else 1_000
+    yield strangers_at_the_limit, 40 if is_short else 1_000
     yield (few_descriptors,)
     yield full_standard_error, 2_500 if is_short else 100_000
     yield few_lines, 2_000 if is_short else 20_000

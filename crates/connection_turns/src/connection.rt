@@ -4,7 +4,7 @@ ghost use Rattle.outbox.specs.Lines.{fresh};
 ghost use Rattle.connection_turns.specs.Owed.{line_of};
 ghost use Rattle.connection_turns.specs.Turning.{TakesTurn};
 
-use crate::claim::{Claim, Purpose};
+use crate::claim::{Claim, Pool, Purpose};
 use crate::counted::Counted;
 use crate::ending::End;
 use crate::limits::Limits;
@@ -64,6 +64,8 @@ pub struct Connection<S: Peer> {
     pub peer: SocketAddr,
     /// The second in which a byte last moved, or in which it was served no further.
     pub moved: u64,
+    // The second in which it was accepted.
+    accepted: u64,
     /// Its share of the budgets.
     pub claim: Option<Claim>,
     /// What its peer is owed.
@@ -75,6 +77,8 @@ pub struct Connection<S: Peer> {
     pub phase: Phase,
     // Its last answer was given.
     has_faulted: bool,
+    // A tenant was answered on it.
+    is_known: bool,
     /// It is among those that get a turn.
     pub is_due: bool,
     /// A frame came in part, or is not answered.
@@ -90,6 +94,7 @@ impl<S: Peer> Connection<S> {
             number,
             peer,
             moved: now,
+            accepted: now,
             claim: None,
             outbox: Outbox::new(alloc),
             socket: Socket::new(stream),
@@ -100,6 +105,7 @@ impl<S: Peer> Connection<S> {
             },
             phase: Phase::Served,
             has_faulted: false,
+            is_known: false,
             is_due: false,
             has_part: false,
         }
@@ -185,6 +191,7 @@ impl<S: Peer> Connection<S> {
             Plan::Answer | Plan::All => self.serve(core, conn, &mut buffer[..most]),
         }
         self.has_faulted = self.has_faulted || core.has_faulted();
+        self.is_known = self.is_known || core.has_heard();
         if self.socket.is_drained() {
             self.ready.readable = false;
         }
@@ -329,18 +336,41 @@ impl<S: Peer> Connection<S> {
         }
     }
 
-    /// Whether it has been idle for so long that it makes room for another one: `spare` seconds where it owes nothing and has nothing in part,
-    /// and else `frame_time` seconds. One that waits for memory, or is to have a turn, is not idle.
-    pub fn is_spare(&self, now: u64, limits: &Limits) -> bool {
+    /// The second since which it is idle, or a stranger's, if it makes room for another one.
+    pub fn spare_since(&self, now: u64, limits: &Limits) -> Option<u64> {
+        match self.phase {
+            Phase::Lingering => None,
+            Phase::Served => {
+                if self.is_strangers(now, limits) {
+                    Some(self.accepted)
+                } else if self.is_idle(now, limits) {
+                    Some(self.moved)
+                } else {
+                    None
+                }
+            }
+        }
+    }
+
+    // Whether no tenant was ever answered on it for `frame_time` seconds: then nothing that its peer sends or waits for keeps it open, but a
+    // share of the tenants' budget.
+    fn is_strangers(&self, now: u64, limits: &Limits) -> bool {
+        let has_share = match &self.claim {
+            Some(claim) => claim.pool == Pool::Tenants,
+            None => false,
+        };
+        !self.is_known && !has_share && now.saturating_sub(self.accepted) >= limits.frame_time
+    }
+
+    // Whether it was idle for so long that it makes room: `spare` seconds where it owes nothing and has nothing in part, and else `frame_time`
+    // seconds. One that waits for memory, or is to have a turn, is not idle.
+    fn is_idle(&self, now: u64, limits: &Limits) -> bool {
         let seconds = if self.has_part || self.claim.is_some() || self.outbox.owes() {
             limits.frame_time
         } else {
             limits.spare
         };
-        !self.is_due
-            && !self.waits_for_memory()
-            && matches!(self.phase, Phase::Served)
-            && now.saturating_sub(self.moved) >= seconds
+        !self.is_due && !self.waits_for_memory() && now.saturating_sub(self.moved) >= seconds
     }
 
     // Whether its share is not granted yet.

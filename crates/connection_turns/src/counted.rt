@@ -1,7 +1,7 @@
 //! A core whose answers are counted, and the time that they take.
 ghost use Rattle.std.specs.Prelude.{◌≡◌};
 
-use crate::counts::Counts;
+use crate::counts::{Counts, is_to_tenant};
 use outbox::{Core, Step};
 use socket_poll::Time;
 use std::marker::Model;
@@ -19,6 +19,8 @@ pub struct Counted<C: Core, T: Time + Drop> {
     counts: Counts,
     // The last answer of this turn was given: a framing fault.
     has_faulted: bool,
+    // This turn answered a tenant.
+    has_heard: bool,
     // When this turn began, where the clock tells it.
     began: Option<Duration>,
     // This turn answers one request.
@@ -43,6 +45,7 @@ impl<C: Core, T: Time + Drop> Counted<C, T> {
             time,
             counts: Counts::new(),
             has_faulted: false,
+            has_heard: false,
             began: None,
             is_single: false,
             answered: 0,
@@ -66,6 +69,7 @@ impl<C: Core, T: Time + Drop> Counted<C, T> {
         ensures { self.new ≡ self.old }
     {
         self.has_faulted = false;
+        self.has_heard = false;
         self.began = self.time.now();
         self.is_single = is_single;
         self.answered = 0;
@@ -74,6 +78,11 @@ impl<C: Core, T: Time + Drop> Counted<C, T> {
     /// How many requests were answered in this turn.
     pub fn answered(&self) -> u32 {
         self.answered
+    }
+
+    /// Whether a tenant was answered in this turn.
+    pub(crate) fn has_heard(&self) -> bool {
+        self.has_heard
     }
 
     /// Whether the last answer was given in this turn.
@@ -99,7 +108,9 @@ impl<C: Core, T: Time + Drop> Core for Counted<C, T> {
         let before = out.len();
         let step = self.core.answer_next(conn, out);
         if matches!(step, Step::Replied | Step::Last) {
-            self.counts.count(out.get(before..).unwrap_or_default());
+            let reply = out.get(before..).unwrap_or_default();
+            self.counts.count(reply);
+            self.has_heard = self.has_heard || is_to_tenant(reply);
             self.answered = self.answered.saturating_add(1);
         }
         self.has_faulted = self.has_faulted || matches!(step, Step::Last);

@@ -5,6 +5,9 @@ ghost use Rattle.connection_turns.specs.Counting.{with_reply};
 /// The place of the status in a reply, behind its length.
 const STATUS: usize = 4;
 
+/// The statuses of replies to what no tenant asked: a body that is too short, an unknown key, a framing fault.
+const OF_NO_TENANT: [u8; 3] = [1, 2, 255];
+
 /// How many requests were answered. A count stops at its greatest number.
 #[derive(Clone, Copy, Debug)]
 pub struct Counts {
@@ -32,5 +35,13 @@ impl Counts {
             let place = usize::from(*status);
             self.statuses[place] = self.statuses[place].saturating_add(1);
         }
+    }
+}
+
+/// Whether this is a reply to a tenant.
+pub(crate) fn is_to_tenant(reply: &[u8]) -> bool {
+    match reply.get(STATUS) {
+        Some(status) => !OF_NO_TENANT.contains(status),
+        None => false,
     }
 }

@@ -41,7 +41,7 @@ pub struct Open<S: Peer, T: Time + Drop> {
     // The connections that get a turn, and room for the next ones.
     due: Vec<usize>,
     next_due: Vec<usize>,
-    // Those that are idle, the longest last, each with the second in which a byte last moved on it, and when they were looked for.
+    // Those that make room for others, the longest idle last, each with the second since which it is, and when they were looked for.
     idle: Vec<(u64, usize)>,
     looked: Option<u64>,
     // The bytes that were read and written.
@@ -538,9 +538,9 @@ impl<S: Peer, T: Time + Drop> Open<S, T> {
         ensures { Stays (lanes_of self.old) (lanes_of self.new) }
     {
         'found: for _ in 0..self.idle.len() {
-            let (moved, key) = self.idle.pop()?;
+            let (since, key) = self.idle.pop()?;
             if let Some(connection) = self.connections.get(key) {
-                if connection.moved == moved && connection.is_spare(now, limits) {
+                if connection.spare_since(now, limits) == Some(since) {
                     return Some(key);
                 }
             }
@@ -559,8 +559,8 @@ impl<S: Peer, T: Time + Drop> Open<S, T> {
         }
         'keys: for key in 0..self.bound {
             if let Some(connection) = self.connections.get(key) {
-                if connection.is_spare(now, limits) {
-                    let _ = self.idle.push((connection.moved, key));
+                if let Some(since) = connection.spare_since(now, limits) {
+                    let _ = self.idle.push((since, key));
                 }
             }
         }

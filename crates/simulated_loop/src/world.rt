@@ -326,6 +326,7 @@ fn simulate_in<R: Print + AllocGlobal>(
         times: Times {
             idle: limits.idle.map(|seconds| seconds.saturating_mul(1_000)),
             spare: limits.spare.saturating_mul(1_000),
+            frame_time: limits.frame_time.saturating_mul(1_000),
         },
         tally: outcome.tally,
         is_scarce: words.is_scarce,

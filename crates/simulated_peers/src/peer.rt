@@ -78,6 +78,8 @@ pub struct Times {
     pub idle: Option<u64>,
     /// After so many it makes room for another one.
     pub spare: u64,
+    /// After so many one without a reply to a tenant makes room.
+    pub frame_time: u64,
 }
 
 /// What all peers share.
@@ -114,6 +116,8 @@ pub struct Peer {
     length: usize,
     head: [u8; 9],
     is_alike: bool,
+    // It got a reply on this connection.
+    is_known: bool,
     // It ended or reset the connection itself; one that takes nothing has put its text.
     has_left: bool,
     is_ready: bool,
@@ -139,6 +143,7 @@ impl Peer {
             length: 0,
             head: [0; 9],
             is_alike: true,
+            is_known: false,
             has_left: true,
             is_ready: false,
             changed: 0,
@@ -220,6 +225,7 @@ impl Peer {
         if self.is_unsure {
             self.manner = Manner::Lively;
         }
+        self.is_known = false;
         self.has_left = false;
         self.is_ready = false;
         self.came = 0;
@@ -258,13 +264,22 @@ impl Peer {
         }
     }
 
-    // Whether the server may have closed it although it goes on: before it was served, or after it was idle for long, and what it asked since
-    // then, if anything, came in the same moment.
+    // Whether the server may have closed it although it goes on: before it was served, after it got no reply for long, or after it was idle for
+    // long, and what it asked since then, if anything, came in the same moment.
     fn may_be_closed(&self, pipe: &Pipe, shared: &Shared) -> bool {
         if pipe.key.is_none() || shared.is_scarce && pipe.how.is_none() {
             return true;
         }
-        let quiet = pipe.closed.saturating_sub(pipe.moved);
+        let (quiet, open) = (
+            pipe.closed.saturating_sub(pipe.moved),
+            pipe.closed.saturating_sub(pipe.taken),
+        );
+        if pipe.how == Some(How::Displaced)
+            && !self.is_known
+            && open.saturating_add(1_000) > shared.times.frame_time
+        {
+            return true;
+        }
         let was_idle = match (pipe.how, shared.times.idle) {
             (Some(How::Displaced), _) => quiet.saturating_add(1_000) > shared.times.spare,
             (Some(How::Idle), Some(idle)) => quiet >= idle,
@@ -382,6 +397,7 @@ impl Peer {
             tally.differ = tally.differ.saturating_add(1);
         }
         tally.replies = tally.replies.saturating_add(1);
+        self.is_known = true;
         self.came = 0;
         self.is_alike = true;
         self.waits = 0;

@@ -33,8 +33,9 @@ pub struct Pipe {
     is_readable: bool,
     is_writable: bool,
     is_blocked: bool,
-    /// The millisecond in which the server last moved a byte, or took it in, and the one in which it closed it.
+    /// The millisecond in which the server last moved a byte, or took it in, the one in which it took it in, and the one in which it closed it.
     pub moved: u64,
+    pub taken: u64,
     pub closed: u64,
     /// The reads and writes of the server.
     pub calls: u64,
@@ -59,6 +60,7 @@ impl Pipe {
             is_writable: false,
             is_blocked: false,
             moved: 0,
+            taken: 0,
             closed: 0,
             calls: 0,
         }
@@ -88,6 +90,7 @@ impl Pipe {
         self.is_readable = !self.to_server.is_empty() || self.is_reset || self.is_ended;
         self.is_writable = true;
         self.moved = now;
+        self.taken = now;
     }
 
     /// What is reported once: whether it may give bytes, take some, and whether its peer ended.
