@@ -37,11 +37,12 @@ fn serve<R: Print + Eprint + Net + Clock + AllocGlobal>(
     keys: &[[u8; 16]],
 ) -> Result<(), Failure> {
     let mut server = bind(rt, wanted, keys)?;
-    begin(rt, wanted, &server)?;
-    if let Some(address) = wanted.admin {
-        administer(rt, address, &mut server, keys)?;
-    }
+    let administration = administer(rt, wanted, &mut server, keys)?;
     let lines = lines(rt, wanted)?;
+    begin(rt, wanted, &server)?;
+    if let Some(bound) = administration {
+        print_line(rt, "administration", &bound)?;
+    }
     run(rt, wanted, &mut server, lines)?;
     end(rt, &server.totals())
 }
@@ -56,34 +57,34 @@ where
     R: Net + Clock,
 {
     match server.local_addr() {
-        Ok(bound) => print_line(rt, &bound),
+        Ok(bound) => print_line(rt, "listening", &bound),
         Err(fault) => Err(failure_of(rt.alloc(), wanted.address, fault)),
     }
 }
 
-// Binds the administration address, and prints the line with it.
-fn administer<'r, R: Print + Net + Clock + AllocGlobal>(
+// Binds the administration address, where there is one.
+fn administer<'r, R: Net + Clock + AllocGlobal>(
     rt: &'r R,
-    address: &str,
+    wanted: &Listening<'_>,
     server: &mut Bound<'r, R>,
     keys: &[[u8; 16]],
-) -> Result<(), Failure> {
+) -> Result<Option<SocketAddr>, Failure> {
+    let Some(address) = wanted.admin else {
+        return Ok(None);
+    };
     let addr = address_of(rt, address)?;
     let mut known = Vec::new(rt.alloc());
     if known.extend_from_slice(keys).is_err() {
         return Err(Failure::Memory);
     }
     match server.administer(rt, addr, known) {
-        Ok(bound) => match println!(rt; "administration {bound}") {
-            Ok(()) => Ok(()),
-            Err(_) => Err(Failure::Write),
-        },
+        Ok(bound) => Ok(Some(bound)),
         Err(fault) => Err(failure_of(rt.alloc(), address, fault)),
     }
 }
 
-fn print_line<R: Print>(rt: &R, bound: &SocketAddr) -> Result<(), Failure> {
-    match println!(rt; "listening {bound}") {
+fn print_line<R: Print>(rt: &R, what: &str, bound: &SocketAddr) -> Result<(), Failure> {
+    match println!(rt; "{what} {bound}") {
         Ok(()) => Ok(()),
         Err(_) => Err(Failure::Write),
     }
