@@ -179,4 +179,5 @@ def main():
     report.close("the administration address")
 
 
-main()
+if __name__ == "__main__":
+    main()

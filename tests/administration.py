@@ -26,8 +26,8 @@ REQUEST = b"GET /health HTTP/1.1\r\nHost: a\r\n\r\n"
 class Administered(Listening):
     """A server with an administration address, which its second line names."""
 
-    def __init__(self, *words):
-        super().__init__(KEYS, "--admin", "127.0.0.1:0", *words)
+    def __init__(self, *words, **more):
+        super().__init__(KEYS, "--admin", "127.0.0.1:0", *words, **more)
 
     def read_address(self, subcommand):
         address = super().read_address(subcommand)
@@ -213,4 +213,5 @@ def main():
     report.close("the administration address of a running server")
 
 
-main()
+if __name__ == "__main__":
+    main()
