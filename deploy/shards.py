@@ -3,8 +3,8 @@
 
 Lines of the table (blank ones, and those that begin with `#`, say nothing):
 
-    shard NAME ADDRESS                    a process of path_server
-    reception ADDRESS                     one that answers who has no key, or one that nobody has
+    shard NAME ADDRESS [ADMIN]            a process of path_server, and its administration address
+    reception ADDRESS [ADMIN]             one that answers who has no key, or one that nobody has
     probe KEY                             the key by which HAProxy asks whether a shard is ready
     tenant KEY SHARD[,SHARD..] [NAME..]   served by the first shard; the others know the key too, so that it can be moved there.
                                           Certificates with these common names may use it
@@ -35,6 +35,7 @@ class Table:
     def __init__(self, path):
         self.path, self.faults = path, []
         self.shards, self.tenants, self.reception, self.probe = {}, {}, None, None
+        self.admins, self.taken = {}, set()
         readers = {"shard": self.shard, "reception": self.receive, "probe": self.ask, "tenant": self.tenant}
         for self.line, text in enumerate(Path(path).read_text(encoding="utf-8").splitlines(), 1):
             words = text.split()
@@ -44,37 +45,40 @@ class Table:
         self.judge()
 
     def has_words(self, words):
-        return {"shard": len(words) == 3, "reception": len(words) == 2, "probe": len(words) == 2, "tenant": len(words) >= 3}.get(words[0], False)
+        return {"shard": len(words) in (3, 4), "reception": len(words) in (2, 3), "probe": len(words) == 2, "tenant": len(words) >= 3}.get(words[0], False)
 
     def fault(self, what, line=None):
         line = line or self.line
         self.faults.append(f"{self.path}:{line}: {what}" if line else f"{self.path}: {what}")
 
     def no_line(self, *_):
-        self.fault("a line is `shard NAME ADDRESS`, `reception ADDRESS`, `probe KEY` or `tenant KEY SHARD[,SHARD..] [NAME..]`")
+        self.fault("a line is `shard NAME ADDRESS [ADMIN]`, `reception ADDRESS [ADMIN]`, `probe KEY` or `tenant KEY SHARD[,SHARD..] [NAME..]`")
 
-    def shard(self, name, address):
+    def shard(self, name, address, *admin):
         if not NAME.fullmatch(name) or name in ("reception", "probe"):
             self.fault(f"{name} is no name of a shard")
         elif name in self.shards:
             self.fault(f"the shard {name} stands twice")
-        elif self.is_address(address):
+        elif all(map(self.is_address, (address, *admin))):
             self.shards[name] = (address, self.line)
+            self.admins[name] = admin
 
-    def receive(self, address):
+    def receive(self, address, *admin):
         if self.reception:
             self.fault("a second reception")
-        elif self.is_address(address):
+        elif all(map(self.is_address, (address, *admin))):
             self.reception = address
+            self.admins["reception"] = admin
 
     def is_address(self, address):
         found = ADDRESS.fullmatch(address)
         is_one = bool(found) and 0 < int(found[2]) < 65_536
         if not is_one:
             self.fault(f"{address} is no address: a host, a colon and a port")
-        elif address in [self.reception, *[it for it, _ in self.shards.values()]]:
+        elif address in self.taken:
             self.fault(f"the address {address} stands twice")
             return False
+        self.taken.add(address)
         return is_one
 
     def is_key(self, key):
@@ -120,7 +124,7 @@ class Table:
         if self.probe in self.tenants:
             self.fault("the probe's key is a tenant's", self.tenants[self.probe][2])
         for name, (_, line) in self.shards.items():
-            if name not in [places[0] for places, _, _ in self.tenants.values()]:
+            if known[name] == 1:
                 self.fault(f"the shard {name} has no tenants", line)
             if known[name] > MOST_KEYS:
                 self.fault(f"the shard {name} has {known[name]} keys with the probe's; a process has at most {MOST_KEYS}", line)
@@ -150,14 +154,25 @@ def haproxy(table, folder, options):
     return text + "\n".join(["", "backend reception", *turns, "    timeout server 10s", f"    server path_server {table.reception} maxconn 1000", ""])
 
 
+def variables(table, name, address, options):
+    """The text of a .env."""
+    words = [options.words] * bool(options.words) + [f"--admin {it}" for it in table.admins[name]]
+    return f"ADDRESS={address}\nOPTIONS={shell_word(' '.join(words))}\n"
+
+
+def shell_word(text):
+    """As a shell and systemd read it."""
+    return f'"{text}"' if " " in text else text
+
+
 def files(table, folder, options):
     """Each file's name and text."""
     keys = {name: [table.probe, *[key for key, (places, _, _) in table.tenants.items() if name in places]] for name in table.shards}
     for name, (address, _) in table.shards.items():
         yield f"{name}.keys", "".join(f"{key}\n" for key in keys[name])
-        yield f"{name}.env", f"ADDRESS={address}\nOPTIONS={options.words}\n"
+        yield f"{name}.env", variables(table, name, address, options)
     yield "reception.keys", secrets.token_hex(16) + "\n"
-    yield "reception.env", f"ADDRESS={table.reception}\nOPTIONS={options.words}\n"
+    yield "reception.env", variables(table, "reception", table.reception, options)
     yield "probe.key", table.probe + "\n"
     yield "tenants.map", "".join(f"{digest(key)} shard-{places[0]}\n" for key, (places, _, _) in table.tenants.items())
     yield "grants.map", "".join(f"{name}:{digest(key)} 1\n" for key, (_, names, _) in table.tenants.items() for name in names)

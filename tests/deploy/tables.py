@@ -10,14 +10,16 @@ from deployment import TOP
 from lib.running_server import Report
 
 KEYS = [f"{place:032x}" for place in range(600)]
-GOOD = ["reception 127.0.0.1:7100", f"probe {KEYS[0]}", "shard 1 127.0.0.1:7101", "shard 2 127.0.0.1:7102", f"tenant {KEYS[1]} 1,2 alice bob",
+GOOD = ["reception 127.0.0.1:7100", f"probe {KEYS[0]}", "shard 1 127.0.0.1:7101", "shard 2 127.0.0.1:7102 127.0.0.1:9002", f"tenant {KEYS[1]} 1,2 alice bob",
         f"tenant {KEYS[10].upper()} 2"]
 # lines behind the good ones, and what is wrong with each
 BAD = {
     f"tenant {KEYS[1]} 1": "7: the key stands twice, first in line 5",
     f"tenant {KEYS[10]} 1": "7: the key stands twice, first in line 6",
     "shard 3 127.0.0.1:7103": "7: the shard 3 has no tenants",
-    f"shard 3 127.0.0.1:7103\ntenant {KEYS[2]} 1,3": "7: the shard 3 has no tenants",
+    f"shard 3 127.0.0.1:7103 127.0.0.1:7101\ntenant {KEYS[2]} 1": "7: the address 127.0.0.1:7101 stands twice",
+    f"shard 3 127.0.0.1:9002\ntenant {KEYS[2]} 1": "7: the address 127.0.0.1:9002 stands twice",
+    f"shard 3 127.0.0.1:7103 9003\ntenant {KEYS[2]} 1": "7: 9003 is no address: a host, a colon and a port",
     "shard 2 127.0.0.1:7103": "7: the shard 2 stands twice",
     f"shard 3 127.0.0.1:7101\ntenant {KEYS[2]} 1": "7: the address 127.0.0.1:7101 stands twice",
     f"tenant {KEYS[2]} 3": "7: there is no shard 3",
@@ -27,8 +29,8 @@ BAD = {
     f"tenant {KEYS[2][1:]}g 1": "7: a key has 32 hexadecimal digits",
     f"tenant {KEYS[2]} 1 a,b": "7: a,b is no common name",
     f"tenant {KEYS[0]} 1": "7: the probe's key is a tenant's",
-    f"tenant {KEYS[2]}": "7: a line is `shard NAME ADDRESS`, `reception ADDRESS`, `probe KEY` or `tenant KEY SHARD[,SHARD..] [NAME..]`",
-    "tenants": "7: a line is `shard NAME ADDRESS`, `reception ADDRESS`, `probe KEY` or `tenant KEY SHARD[,SHARD..] [NAME..]`",
+    f"tenant {KEYS[2]}": "7: a line is `shard NAME ADDRESS [ADMIN]`, `reception ADDRESS [ADMIN]`, `probe KEY` or `tenant KEY SHARD[,SHARD..] [NAME..]`",
+    "tenants": "7: a line is `shard NAME ADDRESS [ADMIN]`, `reception ADDRESS [ADMIN]`, `probe KEY` or `tenant KEY SHARD[,SHARD..] [NAME..]`",
     f"probe {KEYS[2]}": "7: a second probe",
     "reception 127.0.0.1:7103": "7: a second reception",
     "shard 3 7103": "7: 7103 is no address: a host, a colon and a port",
@@ -55,8 +57,12 @@ def good(report, folder):
     digests = [hashlib.sha256(bytes.fromhex(key)).hexdigest().upper() for key in (KEYS[1], KEYS[10])]
     report.case("tenants.map", "", [f"{digests[0]} shard-1", f"{digests[1]} shard-2"], (made / "tenants.map").read_text().splitlines())
     report.case("grants.map", "", [f"alice:{digests[0]} 1", f"bob:{digests[0]} 1"], (made / "grants.map").read_text().splitlines())
-    report.case("1.env", "", "ADDRESS=127.0.0.1:7101\nOPTIONS=--idle 600\n", (made / "1.env").read_text())
+    report.case("1.env", "", 'ADDRESS=127.0.0.1:7101\nOPTIONS="--idle 600"\n', (made / "1.env").read_text())
+    report.case("2.env", "", 'ADDRESS=127.0.0.1:7102\nOPTIONS="--idle 600 --admin 127.0.0.1:9002"\n', (made / "2.env").read_text())
     report.case("who may read", "", {0o600}, {it.stat().st_mode & 0o777 for it in made.iterdir()})
+    ran = run(folder, [*GOOD, "shard 3 127.0.0.1:7103", f"tenant {KEYS[2]} 1,3"])
+    report.case("a shard that tenants are to be moved to", "", (0, [KEYS[0], KEYS[2]]), (ran.returncode, (made / "3.keys").read_text().split()))
+    run(folder, GOOD, "--words=--idle 600")
     text = "".join(it.read_text() for it in made.iterdir() if it.suffix in (".cfg", ".map"))
     report.case("no tenant's key is in a file for HAProxy", "", [], [key for key in (KEYS[1], KEYS[10]) if key in text.lower()])
     report.case("the reception's key is nobody's", "", False, (made / "reception.keys").read_text().strip() in KEYS)
