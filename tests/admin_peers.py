@@ -2,8 +2,9 @@
 """Hostile peers of a running server's administration address: tests/admin_peers.py [CONNECTIONS].
 
 Requests of every malformed kind, in one piece, byte by byte and half-closed; graces that are none; drains one after the other; peers that hold the
-address, flood it or read nothing; ports that are taken. Then the address while memory is short, while each call for memory is refused (where there is
-cc), and while so many connections (10,000, or as many as there are descriptors for) are open at the limit. Meanwhile clients are answered.
+address, flood it or read nothing; ports that are taken. Then the address while memory is short, while each call for memory is refused (where there is cc),
+while there are few descriptors, and while so many connections (10,000, or as many as there are descriptors for) are open at the limit. Meanwhile
+clients are answered.
 """
 import os
 import random
@@ -291,6 +292,28 @@ def short_of_memory(report):
             connection.close()
 
 
+def few_descriptors(report):
+    """More clients than descriptors: once some are closed, the address is answered."""
+    def limit():
+        resource.setrlimit(resource.RLIMIT_NOFILE, (64, 64))
+
+    with Administered(preexec_fn=limit) as server:
+        opened = [open_connection(server.address) for _ in range(100)]
+        time.sleep(0.5)
+        waiting = socket.create_connection(parse_address(server.admin), PATIENCE)
+        waiting.sendall(HEALTH)
+        used = server.processor_seconds()
+        time.sleep(1)
+        report.case("a wait without descriptors takes no processor", "", True, server.processor_seconds() - used < 0.5)
+        for connection in opened[:60]:
+            connection.close()
+        report.case("health, once there are some", "", True, read_all(waiting).startswith(b"HTTP/1.1 200 OK\r\n"))
+        report.case("a page", "", 200, server.ask("GET", "/metrics")[0])
+        for connection in [waiting, *opened]:
+            connection.close()
+        server.finish(report)
+
+
 def refused_memory(report):
     """Each call for memory fails, alone or with all behind it: a reply is whole, or the connection is closed; the server goes on, or ends with status 4."""
     if not shutil.which("cc"):
@@ -366,6 +389,7 @@ def main():
     agrees(report, 1)
     taken_ports(report)
     short_of_memory(report)
+    few_descriptors(report)
     refused_memory(report)
     at_the_limit(report, count)
     report.close("hostile peers of the administration address")
