@@ -4,8 +4,7 @@
 It compiles bench/many_echo.c and bench/many_load.c (cc), starts the program as `path_server listen`, the loop in C and, where it is
 installed, Redis, and loads them in turns. Each line has for each of them the middle one of five rates and the times of a request. Then come
 the bytes that an idle connection takes in the process, and the times of requests beside others that take long or come without a pause
-(bench/many_flood.c), also where these are a tenant's in another process. The program is the one that bin/build makes, or the one that the
-environment's PATH_SERVER names.
+(bench/many_flood.c). The program is the one that bin/build makes, or the one that the environment's PATH_SERVER names.
 """
 import contextlib
 import resource
@@ -16,7 +15,7 @@ import tempfile
 import time
 from pathlib import Path
 
-from running import QUERY, USAGE, compiled, get, listening, name, need_program, put, query, read_exactly, redis, redis_words, reply, request, resident, started
+from running import compiled, get, listening, need_program, put, query, read_exactly, redis, redis_words, reply, request, resident, started, USAGE
 
 TURNS = 5
 COUNTS = (1, 100, 1_000, 10_000)
@@ -111,24 +110,6 @@ def beside(seconds, turns=TURNS):
                 yield name, count, middle(rows)
 
 
-def apart(seconds, turns=TURNS):
-    """The times of a small request beside a tenant that repeats a query of 9,000,000 units, in one process and in two."""
-    costly = request(QUERY, name(b"c") + b"$[?" + b"||".join(b"count(@.*)>%d" % (99_999 - place) for place in range(20)) + b"]")
-    rows = b"[" + b",".join([b"[" + b",".join([b"0"] * 3_000) + b"]"] * 150) + b"]"
-    with tempfile.TemporaryDirectory() as folder, listening() as (_, noisy), listening() as (_, quiet):
-        load, flood = compiled(folder, "many_load.c"), compiled(folder, "many_flood.c")
-        with socket.create_connection(("127.0.0.1", noisy)) as connection:
-            connection.sendall(put(b"d", rows))
-            assert read_exactly(connection, 9) == reply()
-        for where, port in {"one process": noisy, "two processes": quiet}.items():
-            flooding = subprocess.Popen([flood, str(noisy), "1", str(seconds * turns + 2), "1"], stdin=subprocess.PIPE, stdout=subprocess.DEVNULL)
-            flooding.stdin.write(costly)
-            flooding.stdin.close()
-            time.sleep(0.5)
-            yield where, middle([rates(load, port, 1, seconds) for _ in range(turns)])
-            flooding.wait()
-
-
 def main():
     need_program()
     allow_descriptors()
@@ -140,8 +121,6 @@ def main():
         print(f"a connection that {name}: {idle(sent, replies):.0f} bytes in the process", flush=True)
     for name, count, row in beside(seconds):
         print(told.format(f"{count} beside {name}", *row), flush=True)
-    for where, row in apart(seconds):
-        print(told.format(f"1 beside costly queries, in {where}", *row), flush=True)
 
 
 if __name__ == "__main__":
