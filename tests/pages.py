@@ -33,7 +33,7 @@ from pathlib import Path
 from lib.running_server import PATIENCE, PROGRAM, TOP, Report
 
 LONG = re.compile(r"(?:\w+=\S* )*(?:nice )?(bin/(?:check\b(?!-)|build\b|edits try|check-layout|unproved|path_server --proved)\S*|tests/\S+|bench/\S+|rt\b|g\+\+|c\+\+|apt-get|"
-                  r"git clone|pip|npm|systemctl|docker|\./\w+$|\(cd )")
+                  r"git clone|pip|npm|install -|systemctl|docker|\./\w+$|\(cd )")
 FOLDERS = "bin|bench|clients|crates|deploy|docs|tests"
 PATH = re.compile(rf"`((?:{FOLDERS})/[\w./@-]*\w/?)(?:[ `].*)?")
 ADDRESS = re.compile(r"((?:127\.0\.0\.1|TCP-LISTEN)[: ])([1-9]\d{3,4})")
