@@ -12,8 +12,8 @@ from pathlib import Path
 
 HERE = Path(__file__).resolve().parent
 # scripts, the commands that they want, and the packages of Debian that have these
-SCRIPTS = {"tables.py": [], "unit.py": ["systemd-analyze"], "balanced.py": ["haproxy", "openssl"], "crowded.py": ["haproxy", "openssl"]}
-PACKAGES = {"systemd-analyze": "systemd", "haproxy": "haproxy", "openssl": "openssl"}
+SCRIPTS = {"tables.py": [], "alerts.py": ["promtool"], "unit.py": ["systemd-analyze"], "balanced.py": ["haproxy", "openssl"], "crowded.py": ["haproxy", "openssl"]}
+PACKAGES = {"promtool": "prometheus", "systemd-analyze": "systemd", "haproxy": "haproxy", "openssl": "openssl"}
 
 
 def install(tools):
