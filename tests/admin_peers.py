@@ -8,6 +8,7 @@ clients are answered.
 """
 import os
 import random
+import re
 import resource
 import shutil
 import socket
@@ -16,12 +17,13 @@ import sys
 import tempfile
 import threading
 import time
+from collections import Counter
 from pathlib import Path
 
 from admin_replies import ALLOWED, HOST, TOO_LONG, WHOLE, read
-from administration import Administered, ends_of, is_refused, read_all
+from administration import STATUSES, Administered, is_refused, read_all
 from lib.plain_model import Server, number
-from lib.running_server import GIVE_BACK, PATIENCE, PROGRAM, Report, open_connection, talk
+from lib.running_server import GIVE_BACK, PATIENCE, PROGRAM, Report, frames_of, open_connection, talk
 from lib.traffic import KEYS, Traffic
 from many_connections import KEY, LARGE, MEBIBYTE, PUT_LARGE, fill, greedy
 from path_client import REQUEST_LIMIT, connect, parse_address
@@ -218,15 +220,16 @@ def flood(address, goes):
 
 
 def agrees(report, seed):
-    """Each page is of one moment, while requests go on: what is counted by command, by tenant and by time fits together."""
+    """Each page is of one moment, while requests go on: what is counted by command, by tenant and by time fits together. In the end there is a count for
+    each reply that came."""
     chance = random.Random(seed)
-    traffic, goes = Traffic(chance), [True]
+    traffic, goes, came = Traffic(chance), [True], []
     streams = [traffic.stream() for _ in range(100)]
     with Administered() as server:
         def ask():
             while goes[0]:
                 with open_connection(server.address) as connection:
-                    talk(connection, [streams[random.randrange(len(streams))]])
+                    came.append(talk(connection, [random.choice(streams)])[0])
 
         threads = [threading.Thread(target=ask) for _ in range(4)]
         for it in threads:
@@ -244,6 +247,11 @@ def agrees(report, seed):
         for it in threads:
             it.join()
         _, page = server.ask("GET", "/metrics")
+        replies = Counter(STATUSES[frame[4]] for data in came for frame in frames_of(data))
+        counted = Counter()
+        for status, number in re.findall(r'^path_server_requests_total\{command="\w+",status="(\w+)"\} ([1-9]\d*)$', page.decode(), re.M):
+            counted[status] += int(number)
+        report.case("replies that came, by status", "", dict(replies), dict(counted))
         if shutil.which("promtool"):
             ran = subprocess.run(["promtool", "check", "metrics"], input=page, capture_output=True)
             report.case("promtool check metrics", "", (0, b"", b""), (ran.returncode, ran.stdout, ran.stderr))
