@@ -39,7 +39,7 @@ PATH = re.compile(rf"`((?:{FOLDERS})/[\w./@-]*\w/?)(?:[ `].*)?")
 ADDRESS = re.compile(r"((?:127\.0\.0\.1|TCP-LISTEN)[: ])([1-9]\d{3,4})")
 SCRIPT = re.compile(r"(?:bin/|deploy/|printf |echo |cat |export |exec |for [^\n]*; do|haproxy -db |key=|socat |sed -i |curl |\(\. )")
 SERVES = re.compile(r"^bin/path_server(?:_run)? (?:listen|serve) [^&|]*\Z", re.M)
-TOOLS = re.compile(r"(?:\A|\| *|\n|etc/)(jq|nc|xxd|curl|node|socat|haproxy|openssl)\b")
+TOOLS = re.compile(r"(?:\A|\| *|\n|\$\(|etc/)(jq|nc|xxd|curl|node|socat|haproxy|openssl)\b")
 COUNTED = re.compile(r"`bin/definitions (\w+::[\w:]+)`[^|]*\|(?:[^|]*\|)*? *(\d+ files?, [\d,]+ lines)")
 SETTLES = 0.3
 PROGRAMS = {"path_server": PROGRAM, "path_client": os.environ.get("PATH_CLIENT") or str(TOP / "crates/path_client/out/path_client")}
