@@ -15,7 +15,7 @@ import sys
 import threading
 import time
 
-from deployment import CLIENT, ENDED, FRAME_FAULT, GET, NO_TENANT, NOT_FOUND, OK, PUT, SHORT, USAGE, Deployment, ask, frame, read_reply, wait_until
+from deployment import CLIENT, ENDED, FRAME_FAULT, GET, NO_TENANT, NOT_FOUND, OK, PUT, SHORT, USAGE, Deployment, Shard, ask, frame, free_ports, read_reply, wait_until
 from lib.running_server import PATIENCE, Report, open_connection
 from path_client import connect
 
@@ -216,6 +216,63 @@ def reloaded(it, key, texts):
     has(it, "behind a reload", key, texts)
 
 
+class Visitors(threading.Thread):
+    """Connects as one tenant after the other and gets all its documents, until stopped; what was lost or wrong."""
+
+    def __init__(self, it, texts):
+        super().__init__(daemon=True)
+        self.address, self.texts, self.goes, self.wrong, self.count = "%s:%d" % it.plain, texts, True, [], 0
+        self.start()
+
+    def run(self):
+        while self.goes:
+            for key, texts in self.texts.items():
+                try:
+                    with connect(self.address, key) as client:
+                        got = {document: client.get("c", document) for document in texts}
+                except Exception as fault:
+                    got = repr(fault)
+                self.count += len(texts)
+                if got != texts:
+                    self.wrong.append(got)
+
+
+def rewritten(it, change):
+    """The table is changed, the files are written anew, and HAProxy is replaced by one that reads them."""
+    old = it.balancer
+    it.table.write_text(change(it.table.read_text()))
+    it.write()
+    if "3" in it.keys and "3" not in it.running:
+        it.running["3"] = Shard(it.folder, "3")
+        it.running["3"].say_ready()
+    it.balance("-x", it.folder / "haproxy.sock", "-sf", str(old.pid))
+    report.case("the old HAProxy ends", "", True, wait_until(lambda: old.poll() is not None))
+
+
+def replaced(it):
+    """Another shard takes the place of the second: its tenants are moved there one by one, and no client misses a reply."""
+    (port,), keys = free_ports(1), [*it.keys["2"], it.keys["1"][1]]
+    texts = {key: documents(it, key) for key in keys}
+    visitors = Visitors(it, texts)
+    it.keys["3"] = []
+    rewritten(it, lambda table: table.replace(" 2,1", " 2,1,3") + f"shard 3 127.0.0.1:{port}\n")
+    for key in keys:
+        load(it, key, dump(it, key), it.running["3"])
+        it.say(f"set map {it.folder}/tenants.map {hashlib.sha256(key).hexdigest().upper()} shard-3")
+    old, it.keys["3"] = it.running.pop("2"), it.keys.pop("2")
+    rewritten(it, lambda table: "".join(line for line in table.replace(" 2,1,3", " 3,1").splitlines(True) if not line.startswith("shard 2 ") and " 1,2" not in line)
+              + "".join(f"tenant {key.hex()} 1\n" for key in it.keys["1"] if key not in keys))
+    old.process.terminate()
+    report.case("the old shard ends", "", 0, old.process.wait(PATIENCE))
+    old.kill()
+    visitors.goes = False
+    visitors.join()
+    report.case("what visitors missed", "", ([], True), (visitors.wrong, visitors.count > 0))
+    print(f"replaced: {visitors.count} replies to visitors", flush=True)
+    for key in keys:
+        has(it, "at the new shard", key, texts[key])
+
+
 def certified(it):
     hers, other = it.keys["1"][0], it.keys["1"][2]
     with it.open_secure("alice") as connection:
@@ -259,7 +316,7 @@ def main():
     if not os.access(CLIENT, os.X_OK):
         sys.exit(f"no program {CLIENT}: bin/build makes it")
     with Deployment(4) as it:
-        for part in (routes, certified, killed, drained, moved):
+        for part in (routes, certified, killed, drained, moved, replaced):
             part(it)
     limited()
     report.close("behind HAProxy")
