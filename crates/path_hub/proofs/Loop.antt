@@ -1,7 +1,7 @@
 -- Answering what is pending, one step after another.
 use Rattle.std.proofs.Common.{◌≡◌, ◌≢◌, ◌⊎◌, ℕ, ◌<◌, ◌+◌, Bool, true, false, List, [], ◌∷◌, ◌++◌, length, map, sym, ap, ◌∙◌, subst, refl, Option, Some, None, cond, inl, inr, arith}
 use Rattle.std.proofs.lemmas.List.{append-nil, append_assoc, map_push, flat_map_more}
-use Rattle.wire_frames.specs.Frames.{Front, Whole, Wait, Fault, front, Split, split, rest, is_fault}
+use Rattle.wire_frames.specs.Frames.{Front, Whole, Wait, Fault, front, Split, rest, is_fault}
 use Rattle.wire_frames.specs.Splitting.{Splitting}
 use Rattle.wire_frames.specs.Framing.{Framing}
 use Rattle.tenant_map.specs.Tenancy.{Tenancy}
@@ -9,7 +9,7 @@ use Rattle.path_hub.specs.declared.event.Reply.{Reply}
 use Rattle.path_hub.specs.Runs.{StepItem, Run}
 use Rattle.path_hub.proofs.Alone.{run-append}
 use Rattle.path_hub.specs.Into.{AnswersInto, sent}
-use Rattle.path_hub.specs.Pending.{bodies_in, pending, IsDue, IsSound, Takes, Answered, IsIdle, item, told, AnswersSome}
+use Rattle.path_hub.specs.Pending.{bodies_in, pending, IsDue, IsSound, Takes, Answered, item, told, AnswersSome}
 
 bodies_by : Split → List (Option (List ℕ))
 bodies_by s = map Some s.frames ++ cond (is_fault (front s.rest)) (None ∷ []) []

@@ -1,5 +1,5 @@
 -- A run, event by event.
-use Rattle.std.proofs.Common.{◌≡◌, ℕ, ◌<◌, ◌≤◌, ◌+◌, List, [], ◌∷◌, ◌++◌, length, map, take, drop, get_or, sym, ap, ◌∙◌, subst, refl, None}
+use Rattle.std.proofs.Common.{◌≡◌, ℕ, ◌<◌, ◌≤◌, ◌+◌, List, [], ◌∷◌, ◌++◌, length, map, take, drop, get_or, sym, ap, ◌∙◌, subst, refl}
 use Rattle.std.proofs.lemmas.List.{append-nil, append_assoc, map-append, take_more, drop_more, take_all, take-append-drop}
 use Rattle.path_hub.specs.declared.event.Event.{Event}
 use Rattle.path_hub.specs.declared.event.Reply.{Reply}
@@ -10,7 +10,7 @@ use Rattle.path_hub.proofs.Alone.{run-append, isolated_from_run}
 use Rattle.request_replies.specs.Tenants.{fresh}
 use Rattle.request_replies.proofs.Keys.{map_of-fresh}
 use Rattle.path_hub.specs.Pending.{told}
-use Rattle.path_hub.specs.Sessions.{Sessions, session, Agree, AgreeAt, Replies, Applies, AppliesSome}
+use Rattle.path_hub.specs.Sessions.{Sessions, Agree, Replies, Applies, AppliesSome}
 use Rattle.path_hub.specs.Headline.{Replied, StopsAt}
 
 items-append : (s : Streams) (es fs : List Event) → items_from s (es ++ fs) ≡ items_from s es ++ items_from (streams_after s es) fs

@@ -3,13 +3,10 @@ use Rattle.std.proofs.Common.{◌≡◌, ℕ, ◌+◌, Bool, true, false, List, 
 use Rattle.std.proofs.lemmas.List.{append-nil, append_assoc, map-append}
 use Rattle.std.proofs.lemmas.Bool.{false≢true}
 use Rattle.path_hub.specs.HubState.{HubState}
-use Rattle.path_hub.specs.Into.{joined, AnswersOne, AnswersNone, IsTaken, TakesPiece, Takes, HasDue}
+use Rattle.path_hub.specs.Into.{joined, AnswersOne, AnswersNone, IsTaken, TakesPiece, HasDue}
 use Rattle.path_hub.specs.Wires.{Meaning, Took, Moved, WritesAll, rise}
 use Rattle.wire_frames.specs.Splitting.{Splitting}
 use Rattle.path_hub.specs.Sending.{Sending, Sends, SendsMore}
-use Rattle.path_hub.specs.declared.fault.TakeFault.{TakeFault}
-use Rattle.path_hub.specs.declared.fault.TakeFault.TheVariants as take
-use Rattle.path_hub.specs.declared.fault.HubFault.{HubFault}
 use Rattle.path_hub.specs.declared.fault.HubFault.TheVariants as fault
 use Rattle.path_hub.proofs.Calls.{taken_none, taken_more, taken_all, taken_stays}
 use Rattle.path_hub.proofs.Traffic.{moved_none, moved_trans, joined-append}

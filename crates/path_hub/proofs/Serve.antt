@@ -12,11 +12,11 @@ use Rattle.path_hub.specs.Pending.{item, bodies_in}
 use Rattle.path_hub.specs.Into.{joined, sent, Bytes}
 use Rattle.path_hub.specs.Sessions.{session, Settled, Sets}
 use Rattle.path_hub.specs.HubState.{HubState}
-use Rattle.path_hub.specs.Wires.{Move, Gave, Took, Meaning, Moved, HasEnded, Reads, Faults, WritesAll, reads_after, rise, read_in, written_in}
+use Rattle.path_hub.specs.Wires.{Move, Gave, Took, Meaning, Moved, HasEnded, Reads, WritesAll, reads_after, rise, read_in, written_in}
 use Rattle.path_hub.specs.Serving.{Ends, EndsCounts, EndsItems, IsPaced, ServesConnection, items_in, longest_piece}
 use Rattle.path_hub.specs.Turns.{Serving, IsCounted, IsPiece}
 use Rattle.path_hub.specs.declared.wire.ConnEnd.{ConnEnd}
-use Rattle.path_hub.specs.declared.wire.ConnEnd.TheVariants.{Done, ReadFault, WriteFault, FrameFault, TurnLimit, Memory}
+use Rattle.path_hub.specs.declared.wire.ConnEnd.TheVariants.{Done, WriteFault, FrameFault, TurnLimit, Memory}
 use Rattle.path_hub.specs.declared.fault.HubFault.{HubFault}
 use Rattle.path_hub.specs.declared.fault.ConnectFault.{ConnectFault}
 use Rattle.std.specs.Prelude.{OnOk, OnErr}

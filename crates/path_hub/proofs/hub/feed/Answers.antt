@@ -1,4 +1,4 @@
-use Rattle.std.proofs.Common.{◌≡◌, Bool, true, false, Some, Err, sym, ap, subst, refl}
+use Rattle.std.proofs.Common.{◌≡◌, false, Some, Err, sym, ap, subst}
 use Rattle.std.specs.Option.{is_some}
 use Rattle.std.proofs.lemmas.Result.{on_err_weaker, on_ok_weaker}
 use Rattle.wire_frames.specs.Framing.{Framing}
