@@ -20,7 +20,7 @@ use Rattle.tenant_map.specs.Listings.{listing}
 use Rattle.tenant_store.specs.Payloads.{Text, AreTextsOf, query_fault, payload, found_in}
 use Rattle.wire_frames.specs.Requests.{Asked, Put, Get, Remove, ListNames, Query, DropCollection, Usage, PutNew, Reading, Short, BadCommand, BadFields, Asks, reading}
 use Rattle.wire_frames.specs.Replies.{reply}
-use Rattle.path_hub.specs.Answers.{usage_payload, query_status, Does, Refuses, IsAnswer, AnswersReading}
+use Rattle.request_replies.specs.Answers.{usage_payload, query_status, Does, Refuses, IsAnswer, AnswersReading}
 use Rattle.answer_law.specs.Law.{IsThere, AreDocuments, HoldsDocuments, HasAnswer, HasReplies}
 use Rattle.answer_law.proofs.There.{here, then'}
 use Rattle.answer_law.proofs.Verdicts.{HasRefusal, HasQuery, HasQueryRefusal, text_judged, query_judged}

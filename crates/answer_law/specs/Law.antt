@@ -3,7 +3,7 @@ use Rattle.std.specs.Prelude.{ℕ, List, []}
 use Rattle.std.specs.List.{AllByRecursion}
 use Rattle.tenant_map.specs.Answers.{IsDocument}
 use Rattle.tenant_map.specs.Maps.{Documents, Map}
-use Rattle.path_hub.specs.Answers.{Answers, Alone}
+use Rattle.request_replies.specs.Answers.{Answers, Alone}
 
 -- it cannot be that there is none
 abbrev pub IsThere : Type 0 → Type 0

@@ -5,7 +5,7 @@ ghost use Rattle.open_connections.specs.Looping.{Stays, Does, DoesAtMost, TakenI
 ghost use Rattle.std.specs.Bool.{MatchBool};
 ghost use Rattle.std.specs.Option.{option_map};
 ghost use Rattle.hub_metrics.specs.Measuring.{Opens, Closes, measured};
-ghost use Rattle.path_hub.specs.Tenants.{map_of};
+ghost use Rattle.request_replies.specs.Tenants.{map_of};
 ghost use Rattle.tenant_map.specs.Quotas.{usage_of};
 ghost use Rattle.connection_turns.specs.Owed.{line_of};
 ghost use Rattle.open_connections.specs.Opened.{lanes_of, bytes_of, IsMarked};

@@ -8,18 +8,13 @@ use Rattle.tenant_map.specs.Maps.{Map}
 use Rattle.tenant_map.specs.Tenancy.{Tenancy}
 use Rattle.wire_frames.specs.Requests.{key_of, number_of}
 use Rattle.wire_frames.specs.Replies.{reply}
-use Rattle.path_hub.specs.Answers.{Answers, Alone, is_no_memory}
-use Rattle.path_hub.specs.Tenants.{map_of, with_map_of, ServesBody, ServesBy, BodyMayWant, is_short}
+use Rattle.request_replies.specs.Answers.{Answers, Alone, is_no_memory}
+use Rattle.request_replies.specs.Tenants.{map_of, with_map_of, ServesBody, ServesBy, BodyMayWant, is_short}
 use Rattle.path_hub.specs.Items.{Item}
 use Rattle.path_hub.specs.Runs.{Told, StepItem, Run, same, is_own, own_requests, own_replies, body_in}
-use Rattle.path_hub.proofs.Keys.{map_of-with_same, map_of-with_other}
+use Rattle.request_replies.proofs.Keys.{map_of-with_same, map_of-with_other}
+use Rattle.request_replies.proofs.Steps.{at_true, at_false}
 use Rattle.std.proofs.lemmas.Bool.{false≢true}
-
-pub at_true : (b : Bool) (A B : Type 0) → b ≡ true → MatchBool b A B → A
-at_true b A B e m = subst (λ c. MatchBool c A B) e m
-
-pub at_false : (b : Bool) (A B : Type 0) → b ≡ false → MatchBool b A B → B
-at_false b A B e m = subst (λ c. MatchBool c A B) e m
 
 -- What a step is to the tenant of a key: nothing, or its own request.
 pub record IsSkipped (key : List ℕ) (m : Map) (body : Option (List ℕ)) (frame : List ℕ) (mid : Tenancy) : Type 0 where

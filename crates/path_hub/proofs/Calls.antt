@@ -6,6 +6,7 @@ use Rattle.std.specs.Map.{set_value}
 use Rattle.std.specs.Ordering.{nat_cmp}
 use Rattle.std.specs.BTreeMap.{is_at}
 use Rattle.std.proofs.lemmas.Bool.{false≢true}
+use Rattle.std.proofs.lemmas.Option.{same_Some}
 use Rattle.wire_frames.specs.declared.framing.Next.TheVariants.{Frame}
 use Rattle.wire_frames.specs.Frames.{Front, Whole, Wait, Fault, front}
 use Rattle.wire_frames.specs.NextFrame.{next_of, next_at}
@@ -13,7 +14,7 @@ use Rattle.wire_frames.specs.Framing.{Framing, with_piece, framing_after, after_
 use Rattle.wire_frames.specs.Splitting.{Splitting}
 use Rattle.tenant_map.specs.Tenancy.{Tenancy}
 use Rattle.path_hub.specs.Sessions.{Sessions, session, Sets}
-use Rattle.path_hub.specs.Tenants.{Serves, Step}
+use Rattle.request_replies.specs.Tenants.{Serves, Step}
 use Rattle.path_hub.specs.Pending.{Answered, IsIdle, IsDue, Takes, pending}
 use Rattle.path_hub.specs.Into.{AnswersInto, TakesPiece, IsTaken, AnswersOne, AnswersNone, HasDue}
 use Rattle.path_hub.specs.HubState.{HubState, state}
@@ -29,15 +30,12 @@ pub not_closed : (b : Bool) → (b ≡ true → ⊥) → b ≡ false
 not_closed true h = absurd (h refl)
 not_closed false h = refl
 
-same_some : (f g : Framing) → Some f ≡ Some g → f ≡ g
-same_some f g e = cc
-
 -- one step of a connection is one of the hub
 pub one_step : (laws : Splitting) (conn : ℕ) (ss ss' : Sessions) (os os' : Tenancy) (f f' : Framing) (before after : List ℕ) (more : Bool) → session conn ss ≡ Some f → Sets conn (Some f') ss ss' → (f' ≡ f → ss' ≡ ss)
     → MatchBool more (Answered f os before f' os' after) (IsIdle f os before f' os' after) → MatchBool more (AnswersOne conn (state ss os) before (state ss' os') after) (AnswersNone conn (state ss os) before (state ss' os') after)
 one_step laws conn ss ss' os os' f f' before after true h sets stay a = record { framing = f; was = h; left = f'; sets = sets; answered = a }
 one_step laws conn ss ss' os os' f f' before after false h sets stay i = record {
-  none = λ g e. ap pending (same_some g f (sym e ∙ h)) ∙ pending_idle laws f i.none;
+  none = λ g e. ap pending (same_Some g f (sym e ∙ h)) ∙ pending_idle laws f i.none;
   same = ap (λ x. state x os') (stay i.framing) ∙ ap (state ss) i.tenants;
   out = i.out;
 }
@@ -79,7 +77,7 @@ sets_again conn f g ss mid ss' a b q = b q ∙ ap (cond (is_at (nat_cmp conn) q)
 
 pub taken_more : (laws : Splitting) (conn : ℕ) (piece : List ℕ) (old mid new : HubState) (before out out' : List ℕ) → TakesPiece conn piece old before mid out false → AnswersOne conn mid out new out' → TakesPiece conn piece old before new out' false
 taken_more laws conn piece old mid new before out out' t a =
-    let same : a.framing ≡ t.left = same_some a.framing t.left (sym a.was ∙ sets_here conn (Some t.left) old.sessions mid.sessions t.sets) in
+    let same : a.framing ≡ t.left = same_Some a.framing t.left (sym a.was ∙ sets_here conn (Some t.left) old.sessions mid.sessions t.sets) in
     record {
       framing = t.framing;
       was = t.was;

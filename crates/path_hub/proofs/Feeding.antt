@@ -17,8 +17,8 @@ use Rattle.path_hub.specs.Items.{Streams, items_of, opened}
 use Rattle.path_hub.specs.Runs.{Run}
 use Rattle.path_hub.specs.Pending.{IsSound, IsDue, pending, item, told, AnswersSome}
 use Rattle.path_hub.specs.HubState.{HubState, state}
-use Rattle.path_hub.specs.declared.event.Event.TheVariants.{Connect, Bytes}
-use Rattle.path_hub.specs.Sessions.{Applies, AppliesSome, PieceWants, Sessions, session, Settled, AgreeAt, Agree, Replies, Feeds, FeedsSome, Sets, opened_session}
+use Rattle.path_hub.specs.declared.event.Event.TheVariants.{Connect}
+use Rattle.path_hub.specs.Sessions.{Applies, AppliesSome, Sessions, session, Settled, AgreeAt, Agree, Replies, Feeds, FeedsSome, Sets, opened_session}
 use Rattle.path_hub.proofs.Loop.{pending_due}
 use Rattle.path_hub.proofs.Settling.{new_closed, settled_closed, pending_piece, settled_piece}
 

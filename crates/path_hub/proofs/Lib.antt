@@ -1,6 +1,4 @@
-pub mod Keys
 pub mod Alone
-pub mod Steps
 pub mod Loop
 pub mod Settling
 pub mod Feeding

@@ -1,7 +1,7 @@
 -- Answering what is pending, one step after another.
 use Rattle.std.proofs.Common.{◌≡◌, ◌≢◌, ◌⊎◌, ℕ, ◌<◌, ◌+◌, Bool, true, false, List, [], ◌∷◌, ◌++◌, length, map, sym, ap, ◌∙◌, subst, refl, Option, Some, None, cond, inl, inr, arith}
 use Rattle.std.proofs.lemmas.List.{append-nil, append_assoc, map_push, flat_map_more}
-use Rattle.wire_frames.specs.Frames.{Front, Whole, Wait, Fault, front, Split, split, rest, is_fault}
+use Rattle.wire_frames.specs.Frames.{Front, Whole, Wait, Fault, front, Split, rest, is_fault}
 use Rattle.wire_frames.specs.Splitting.{Splitting}
 use Rattle.wire_frames.specs.Framing.{Framing}
 use Rattle.tenant_map.specs.Tenancy.{Tenancy}
@@ -9,14 +9,10 @@ use Rattle.path_hub.specs.declared.event.Reply.{Reply}
 use Rattle.path_hub.specs.Runs.{StepItem, Run}
 use Rattle.path_hub.proofs.Alone.{run-append}
 use Rattle.path_hub.specs.Into.{AnswersInto, sent}
-use Rattle.path_hub.specs.Pending.{bodies_in, pending, IsDue, IsSound, Takes, Answered, IsIdle, item, told, AnswersSome}
+use Rattle.path_hub.specs.Pending.{bodies_in, pending, IsDue, IsSound, Takes, Answered, item, told, AnswersSome}
 
 bodies_by : Split → List (Option (List ℕ))
 bodies_by s = map Some s.frames ++ cond (is_fault (front s.rest)) (None ∷ []) []
-
-bodies_split : (w : List ℕ) → bodies_in w ≡ bodies_by (split w)
-unfolding bodies_by
-bodies_split w = refl
 
 pub bodies_whole : (laws : Splitting) (w b v : List ℕ) → front w ≡ Whole b v → bodies_in w ≡ Some b ∷ bodies_in v
 unfolding bodies_by
@@ -120,7 +116,3 @@ into_more laws conn f₀ f f' os₀ os os' out₀ out out' a s = record {
   rest_is = rest_takes laws f s.body f' s.takes ∙ a.rest_is;
   sound = λ _. sound_takes f s.body f' s.takes;
 }
-
-pub into_idle : (conn : ℕ) (f₀ f f' : Framing) (os₀ os os' : Tenancy) (out₀ out out' : List ℕ) → AnswersInto conn f₀ os₀ out₀ f os out → IsIdle f os out f' os' out' → AnswersInto conn f₀ os₀ out₀ f' os' out'
-into_idle conn f₀ f f' os₀ os os' out₀ out out' a s =
-    subst (λ (g : Framing). AnswersInto conn f₀ os₀ out₀ g os' out') (sym s.framing) (subst (λ (x : Tenancy). AnswersInto conn f₀ os₀ out₀ f x out') (sym s.tenants) (subst (λ (x : List ℕ). AnswersInto conn f₀ os₀ out₀ f os x) (sym s.out) a))

@@ -17,6 +17,7 @@ use Rattle.path_hub.specs.declared.fault.HubFault.TheVariants as fault
 use Rattle.path_hub.proofs.Settling.{new_open, pending_piece, settled_piece}
 use Rattle.path_hub.proofs.Feeding.{same_test, empty_split, empty_broken}
 use Rattle.std.proofs.lemmas.Bool.Decides.{Decides-eqb}
+use Rattle.std.proofs.lemmas.Option.{same_Some}
 
 -- a stream's bodies are those of its first bytes and then the new ones
 pub bodies-append : (laws : Splitting) (s p : List ℕ) → is_broken s ≡ false → bodies_in (s ++ p) ≡ bodies_in s ++ new_bodies s p
@@ -64,9 +65,6 @@ sets_others conn v ss ss' sets q n = sets q ∙ ap (λ b. cond b v (session q ss
 pub sets_here : (conn : ℕ) (v : Option Framing) (ss ss' : List (ℕ × Framing)) → Sets conn v ss ss' → session conn ss' ≡ v
 sets_here conn v ss ss' sets = sets conn ∙ ap (λ b. cond b v (session conn ss)) (same_test conn conn ∙ (Decides-eqb conn conn).1 refl)
 
-same_some : (f g : Framing) → Some f ≡ Some g → f ≡ g
-same_some f g e = cc
-
 open_left : (laws : Splitting) (conn : ℕ) (s p : List ℕ) (f : Framing) (h h' : HubState) (bytes : List ℕ) (all : Bool) → Settled s f → (t : TakesPiece conn p h [] h' bytes all) → t.framing ≡ f → Answers conn s p h bytes h' all
 open_left laws conn s p f h h' bytes all z t same =
     let k : f.closed ≡ false = sym (ap (λ (x : Framing). x.closed) same) ∙ t.open' in
@@ -107,10 +105,10 @@ is_ok_of (Err e) = false
 -- what a call of the hub answers
 pub answers_of : (laws : Splitting) (conn : ℕ) (s p : List ℕ) (f : Framing) (h h' : HubState) (bytes : List ℕ) (r : Result (Unit {0}) HubFault) → Settled s f → session conn h.sessions ≡ Some f → Bytes conn p h [] r h' bytes → Answers conn s p h bytes h' (is_ok_of r)
 unfolding is_ok_of
-answers_of laws conn s p f h h' bytes (Ok u) z w b = open_left laws conn s p f h h' bytes true z b (same_some b.framing f (sym b.was ∙ w))
+answers_of laws conn s p f h h' bytes (Ok u) z w b = open_left laws conn s p f h h' bytes true z b (same_Some b.framing f (sym b.was ∙ w))
 answers_of laws conn s p f h h' bytes (Err fault.NoConnection) z w b = none_answered conn s p h h' bytes b.1 b.2
 answers_of laws conn s p f h h' bytes (Err fault.Closed) z w b = none_answered conn s p h h' bytes b.1 b.2
-answers_of laws conn s p f h h' bytes (Err (fault.Memory true)) z w b = open_left laws conn s p f h h' bytes false z b.0 (same_some b.0.framing f (sym b.0.was ∙ w))
+answers_of laws conn s p f h h' bytes (Err (fault.Memory true)) z w b = open_left laws conn s p f h h' bytes false z b.0 (same_Some b.0.framing f (sym b.0.was ∙ w))
 answers_of laws conn s p f h h' bytes (Err (fault.Memory false)) z w b = none_answered conn s p h h' bytes b.1 b.2
 
 pub ok_of : (r : Result (Unit {0}) HubFault) (b : Bool) → b ≡ is_err r → b ≡ false → is_ok_of r ≡ true

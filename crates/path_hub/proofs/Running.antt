@@ -1,5 +1,5 @@
 -- A run, event by event.
-use Rattle.std.proofs.Common.{◌≡◌, ℕ, ◌<◌, ◌≤◌, ◌+◌, List, [], ◌∷◌, ◌++◌, length, map, take, drop, get_or, sym, ap, ◌∙◌, subst, refl, None}
+use Rattle.std.proofs.Common.{◌≡◌, ℕ, ◌<◌, ◌≤◌, ◌+◌, List, [], ◌∷◌, ◌++◌, length, map, take, drop, get_or, sym, ap, ◌∙◌, subst, refl}
 use Rattle.std.proofs.lemmas.List.{append-nil, append_assoc, map-append, take_more, drop_more, take_all, take-append-drop}
 use Rattle.path_hub.specs.declared.event.Event.{Event}
 use Rattle.path_hub.specs.declared.event.Reply.{Reply}
@@ -7,10 +7,10 @@ use Rattle.tenant_map.specs.Tenancy.{Tenancy}
 use Rattle.path_hub.specs.Items.{Item, Streams, after_event, items_at, items_from, streams_after, no_streams, items}
 use Rattle.path_hub.specs.Runs.{Run}
 use Rattle.path_hub.proofs.Alone.{run-append, isolated_from_run}
-use Rattle.path_hub.specs.Tenants.{fresh}
-use Rattle.path_hub.proofs.Keys.{map_of-fresh}
+use Rattle.request_replies.specs.Tenants.{fresh}
+use Rattle.request_replies.proofs.Keys.{map_of-fresh}
 use Rattle.path_hub.specs.Pending.{told}
-use Rattle.path_hub.specs.Sessions.{Sessions, session, Agree, AgreeAt, Replies, Applies, AppliesSome}
+use Rattle.path_hub.specs.Sessions.{Sessions, Agree, Replies, Applies, AppliesSome}
 use Rattle.path_hub.specs.Headline.{Replied, StopsAt}
 
 items-append : (s : Streams) (es fs : List Event) → items_from s (es ++ fs) ≡ items_from s es ++ items_from (streams_after s es) fs
@@ -35,9 +35,6 @@ replies-append os out is js mid out' os' out'' a b = record {
 pub record IsSoFar (events : List Event) (i : ℕ) (os : Tenancy) (out : List Reply) (ss : Sessions) (os' : Tenancy) (out' : List Reply) : Type 0 where
   pub agree : Agree (streams_after no_streams (take i events)) ss
   pub told_so_far : Replies os out (items_from no_streams (take i events)) os' out'
-
-pub so_far_none : (events : List Event) (os : Tenancy) (out : List Reply) (ss : Sessions) → ss ≡ [] → IsSoFar events 0 os out ss os out
-so_far_none events os out ss e = record { agree = record { at = λ c. subst (λ (x : Sessions). AgreeAt None (session c x)) (sym e) tt }; told_so_far = record { replies = []; out = sym (append-nil out); run = refl } }
 
 pub so_far_more : (events : List Event) (i : ℕ) (event : Event) (os mid os' : Tenancy) (out out' out'' : List Reply) (ss ss' : Sessions) → i < length events → event ≡ get_or events i event → IsSoFar events i os out ss mid out' → Applies event ss mid out' ss' os' out'' → IsSoFar events (i + 1) os out ss' os' out''
 so_far_more events i event os mid os' out out' out'' ss ss' l e f a =

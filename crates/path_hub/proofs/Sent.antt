@@ -3,13 +3,10 @@ use Rattle.std.proofs.Common.{◌≡◌, ℕ, ◌+◌, Bool, true, false, List, 
 use Rattle.std.proofs.lemmas.List.{append-nil, append_assoc, map-append}
 use Rattle.std.proofs.lemmas.Bool.{false≢true}
 use Rattle.path_hub.specs.HubState.{HubState}
-use Rattle.path_hub.specs.Into.{joined, AnswersOne, AnswersNone, IsTaken, TakesPiece, Takes, HasDue}
+use Rattle.path_hub.specs.Into.{joined, AnswersOne, AnswersNone, IsTaken, TakesPiece, HasDue}
 use Rattle.path_hub.specs.Wires.{Meaning, Took, Moved, WritesAll, rise}
 use Rattle.wire_frames.specs.Splitting.{Splitting}
 use Rattle.path_hub.specs.Sending.{Sending, Sends, SendsMore}
-use Rattle.path_hub.specs.declared.fault.TakeFault.{TakeFault}
-use Rattle.path_hub.specs.declared.fault.TakeFault.TheVariants as take
-use Rattle.path_hub.specs.declared.fault.HubFault.{HubFault}
 use Rattle.path_hub.specs.declared.fault.HubFault.TheVariants as fault
 use Rattle.path_hub.proofs.Calls.{taken_none, taken_more, taken_all, taken_stays}
 use Rattle.path_hub.proofs.Traffic.{moved_none, moved_trans, joined-append}
@@ -109,15 +106,3 @@ sends_some conn piece before after h mid new m n k written done s due same out m
   answers = taken_stays conn piece h mid new [] (s.sent ++ before) (s.sent ++ after) s.answers due same (ap (λ x. s.sent ++ x) out);
   writes = more m s.sent s.writes;
 }
-
--- a piece that is not taken
-pub not_taken : TakeFault → HubFault
-not_taken take.NoConnection = fault.NoConnection
-not_taken take.Closed = fault.Closed
-not_taken take.Memory = fault.Memory false
-
-pub sends_nothing : (conn : ℕ) (piece : List ℕ) (h h' : HubState) (m : Meaning) (f : TakeFault) → Takes conn piece h (Err f) h' → Sends conn piece h m (Err (not_taken f)) true h' m
-unfolding not_taken
-sends_nothing conn piece h h' m take.NoConnection t = record { bytes = []; answers = (t.0, t.1, refl); writes = writes_none m }
-sends_nothing conn piece h h' m take.Closed t = record { bytes = []; answers = (t.0, t.1, refl); writes = writes_none m }
-sends_nothing conn piece h h' m take.Memory t = record { bytes = []; answers = (t.0, t.1, refl); writes = writes_none m }

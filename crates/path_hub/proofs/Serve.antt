@@ -12,11 +12,11 @@ use Rattle.path_hub.specs.Pending.{item, bodies_in}
 use Rattle.path_hub.specs.Into.{joined, sent, Bytes}
 use Rattle.path_hub.specs.Sessions.{session, Settled, Sets}
 use Rattle.path_hub.specs.HubState.{HubState}
-use Rattle.path_hub.specs.Wires.{Move, Gave, Took, Meaning, Moved, HasEnded, Reads, Faults, WritesAll, reads_after, rise, read_in, written_in}
+use Rattle.path_hub.specs.Wires.{Move, Gave, Took, Meaning, Moved, HasEnded, Reads, WritesAll, reads_after, rise, read_in, written_in}
 use Rattle.path_hub.specs.Serving.{Ends, EndsCounts, EndsItems, IsPaced, ServesConnection, items_in, longest_piece}
 use Rattle.path_hub.specs.Turns.{Serving, IsCounted, IsPiece}
 use Rattle.path_hub.specs.declared.wire.ConnEnd.{ConnEnd}
-use Rattle.path_hub.specs.declared.wire.ConnEnd.TheVariants.{Done, ReadFault, WriteFault, FrameFault, TurnLimit, Memory}
+use Rattle.path_hub.specs.declared.wire.ConnEnd.TheVariants.{Done, WriteFault, FrameFault, TurnLimit, Memory}
 use Rattle.path_hub.specs.declared.fault.HubFault.{HubFault}
 use Rattle.path_hub.specs.declared.fault.ConnectFault.{ConnectFault}
 use Rattle.std.specs.Prelude.{OnOk, OnErr}
@@ -74,11 +74,6 @@ still conn h h' m n n' k s xs e f p t = record {
   others_stay = s.others_stay;
 }
 
-pub read_fails : (conn : ℕ) (h h' : HubState) (m n n' : Meaning) (k : ℕ) → IsCounted m k → Serving conn h m k h' n → Faults n n' → Ends conn h m ReadFault h' n'
-read_fails conn h h' m n n' k c s f =
-    ends_of conn h h' m n' (read_in s.moved) [] [] ReadFault (still conn h h' m n n' k s [] refl refl tt f.moved)
-    (omega (arith, f.reads, s.reads, c.0)) (f.failures ∙ ap (λ x. x + 1) s.failures) (whole s, refl, refl)
-
 pub input_ends : (conn : ℕ) (h h' : HubState) (m n n' : Meaning) (k : ℕ) → IsCounted m k → Serving conn h m k h' n → Reads n [] n' → HasEnded n'.traffic → Ends conn h m Done h' n'
 input_ends conn h h' m n n' k c s r e =
     ends_of conn h h' m n' (read_in s.moved) [] [] Done
@@ -89,11 +84,6 @@ pub turns_over : (conn : ℕ) (h h' : HubState) (m n : Meaning) → Serving conn
 turns_over conn h h' m n s =
     ends_of conn h h' m n (read_in s.moved) [] [] TurnLimit (still conn h h' m n n 1000000 s [] refl refl tt (moved_none n.traffic))
     (omega (arith, s.reads)) (s.failures, s.reads) (whole s, refl, refl)
-
-pub no_buffer : (conn : ℕ) (h h' : HubState) (m n : Meaning) → Serving conn h m 0 h' n → Ends conn h m Memory h' n
-no_buffer conn h h' m n s =
-    ends_of conn h h' m n (read_in s.moved) [] [] Memory (still conn h h' m n n 0 s [] refl refl tt (moved_none n.traffic))
-    (omega (arith, s.reads)) (omega (arith, s.failures)) (λ _. refl)
 
 -- a piece, and what was written of the replies to it
 answered : (laws : Splitting) (conn : ℕ) (h h' h'' : HubState) (m n n' n'' : Meaning) (k : ℕ) (s : Serving conn h m k h' n) (p bytes : List ℕ) (all done : Bool) → Reads n p n' → length p ≤ longest_piece

@@ -8,6 +8,7 @@ use Rattle.std.specs.Map.{lookup}
 use Rattle.std.specs.Option.{option_map_or}
 use Rattle.std.specs.Ordering.{nat_cmp}
 use Rattle.std.proofs.lemmas.Bool.Decides.{nat_tests}
+use Rattle.std.proofs.lemmas.Option.{none-some, same_Some}
 use Rattle.path_grammar.specs.Tree.{Segments}
 use Rattle.path_grammar.specs.Laws.{HaveOneTree}
 use Rattle.path_types.specs.Verdict.{IsValidQuery}
@@ -23,13 +24,13 @@ use Rattle.path_hub.specs.declared.tasks.Asked.{Asked}
 use Rattle.path_hub.specs.declared.tasks.Tasks.{Tasks}
 use Rattle.path_hub.specs.declared.tasks.Share.{Share}
 use Rattle.path_hub.specs.declared.tasks.Share.TheVariants as share
-use Rattle.path_hub.specs.Answers.{Gives, is_no_memory}
-use Rattle.path_hub.specs.Tenants.{Serves, ServesBody, ServesBy, map_of, put_at, is_short}
+use Rattle.request_replies.specs.Answers.{Gives, is_no_memory}
+use Rattle.request_replies.specs.Tenants.{Serves, ServesBody, ServesBy, map_of, put_at, is_short}
 use Rattle.path_hub.specs.Sessions.{Sessions, session, Sets}
 use Rattle.path_hub.specs.HubState.{state}
 use Rattle.path_hub.specs.UnderWay.{AreOnWay, AsksQuery, Goes, GoesOn, IsBodyCharge, IsCharge, IsChargeAt, IsFirstCharge, IsOf, SetsTask, SharesBody, SharesFirst, SharesQuery, Shares, has_other, is_held, is_other, task_at, tenant_asked}
-use Rattle.path_hub.proofs.Keys.{read_other, with_map_at}
-use Rattle.path_hub.proofs.Steps.{serves_command}
+use Rattle.request_replies.proofs.Keys.{read_other, with_map_at}
+use Rattle.request_replies.proofs.Steps.{serves_command}
 use Rattle.path_hub.proofs.Calls.{one_step}
 
 at_same : (p q : ℕ) → is_at (nat_cmp p) q ≡ true → q ≡ p
@@ -41,17 +42,8 @@ at_itself p = grind (arith, nat_tests)
 at_other : (p q : ℕ) → is_at (nat_cmp p) q ≡ false → q ≢ p
 at_other p q h e = absurd (let t : is_at (nat_cmp p) q ≡ true = ap (λ k. is_at (nat_cmp p) k) e ∙ at_itself p in let n : true ≡ false = sym t ∙ h in cc)
 
-none_some : (a : Asked) → None ≡ Some a → ⊥
-none_some a e = absurd cc
-
-same_some : (a b : Asked) → Some a ≡ Some b → a ≡ b
-same_some a b e = cc
-
-same_map : (m n : Map) → Some m ≡ Some n → m ≡ n
-same_map m n e = cc
-
 pub none_on_way : (t : Tenancy) (tasks : Tasks) → tasks.asked.entries ≡ [] → AreOnWay t tasks
-none_on_way t tasks e conn a m h here = absurd (none_some a (ap (λ es. lookup (is_at (nat_cmp conn)) es) (sym e) ∙ h))
+none_on_way t tasks e conn a m h here = absurd (none-some a (ap (λ es. lookup (is_at (nat_cmp conn)) es) (sym e) ∙ h))
 
 -- ---- One connection's query is set
 
@@ -65,7 +57,7 @@ set_on_way t conn v old new w s g q a m k h = by (is_at (nat_cmp conn) q) refl
     by false e = w q a m (sym (s q ∙ ap (λ b. cond b v (task_at q old)) e) ∙ k) h
 
 pub out_on_way : (t : Tenancy) (conn : ℕ) (old new : Tasks) → AreOnWay t old → SetsTask conn None old new → AreOnWay t new
-out_on_way t conn old new w s = set_on_way t conn None old new w s (λ a m e h. absurd (none_some a e))
+out_on_way t conn old new w s = set_on_way t conn None old new w s (λ a m e h. absurd (none-some a e))
 
 -- set twice
 pub sets_twice : (conn : ℕ) (v w : Option Asked) (old mid new : Tasks) → SetsTask conn v old mid → SetsTask conn w mid new → SetsTask conn w old new
@@ -114,7 +106,7 @@ both k conn p place n e = ap (λ b. not b && eqb p place) (other k conn n) ∙ a
 
 -- what another connection has of the tenant is found
 found : (conn place q : ℕ) (a : Asked) (es : List (ℕ × Asked)) → lookup (is_at (nat_cmp q)) es ≡ Some a → q ≢ conn → a.place ≡ place → list_any (is_other place conn) es ≡ true
-found conn place q a [] h n p = absurd (none_some a h)
+found conn place q a [] h n p = absurd (none-some a h)
 found conn place q a (e ∷ es) h n p = by (is_at (nat_cmp q) e.0) refl (λ h. found conn place q a es h n p)
   where
     rest : Bool
@@ -126,7 +118,7 @@ found conn place q a (e ∷ es) h n p = by (is_at (nat_cmp q) e.0) refl (λ h. f
 
     by : (b : Bool) → is_at (nat_cmp q) e.0 ≡ b → (lookup (is_at (nat_cmp q)) es ≡ Some a → rest ≡ true) → (is_other place conn e || rest) ≡ true
     by true r again =
-        let same : e.1 ≡ a = same_some e.1 a (sym (ap (λ b. cond b (Some e.1) (lookup (is_at (nat_cmp q)) es)) r) ∙ h) in
+        let same : e.1 ≡ a = same_Some e.1 a (sym (ap (λ b. cond b (Some e.1) (lookup (is_at (nat_cmp q)) es)) r) ∙ h) in
         let key : e.0 ≡ q = at_same q e.0 r in
         ap (λ b. b || rest) (both e.0 conn e.1.place place (λ k. n (sym key ∙ k)) (ap (λ (x : Asked). x.place) same ∙ p))
     by false r again = ap (λ b. is_other place conn e || b) (again (sym (ap (λ b. cond b (Some e.1) (lookup (is_at (nat_cmp q)) es)) r) ∙ h)) ∙ or_true (is_other place conn e)
@@ -136,7 +128,7 @@ pub served_on_way : (conn : ℕ) (t t' : Tenancy) (body before after : List ℕ)
 served_on_way conn t t' body before after old new w free s served q a m k h = by (is_at (nat_cmp conn) q) refl
   where
     by : (b : Bool) → is_at (nat_cmp conn) q ≡ b → Goes a.collection.items a.query.items m a.task
-    by true e = absurd (none_some a (sym (s q ∙ ap (λ b. cond b None (task_at q old)) e) ∙ k))
+    by true e = absurd (none-some a (sym (s q ∙ ap (λ b. cond b None (task_at q old)) e) ∙ k))
     by false e =
         let was : task_at q old ≡ Some a = sym (s q ∙ ap (λ b. cond b None (task_at q old)) e) ∙ k in
         w q a m was (sym (serves_elsewhere t t' body before after served a.place (λ p.
@@ -174,12 +166,12 @@ goes_on conn place old mid new collection text asked task to out was same less (
 pub kept_on_way : (t : Tenancy) (m : Map) (conn place : ℕ) (collection text : List ℕ) (old mid new : Tasks) (to : QueryTask) → AreOnWay t old → slice_get t.maps place ≡ Some m → SetsTask conn None old mid → Goes collection text m to
     → ((a : Asked) × IsOf a place collection text × (a.task ≡ to) × SetsTask conn (Some a) mid new) → AreOnWay t new
 kept_on_way t m conn place collection text old mid new to w h out g (a, i, e, put) =
-    set_on_way t conn (Some a) mid new (out_on_way t conn old mid w out) put (λ b n s k. on b n (same_some a b s) k)
+    set_on_way t conn (Some a) mid new (out_on_way t conn old mid w out) put (λ b n s k. on b n (same_Some a b s) k)
   where
     on : (b : Asked) (n : Map) → a ≡ b → slice_get t.maps b.place ≡ Some n → Goes b.collection.items b.query.items n b.task
     on b n s k =
         let p : b.place ≡ place = ap (λ (x : Asked). x.place) (sym s) ∙ i.0 in
-        let same : m ≡ n = same_map m n (sym h ∙ ap (λ j. slice_get t.maps j) (sym p) ∙ k) in
+        let same : m ≡ n = same_Some m n (sym h ∙ ap (λ j. slice_get t.maps j) (sym p) ∙ k) in
         let c : collection ≡ b.collection.items = sym i.1 ∙ ap (λ (x : Asked). x.collection.items) s in
         let q : text ≡ b.query.items = sym i.2 ∙ ap (λ (x : Asked). x.query.items) s in
         let task : to ≡ b.task = sym e ∙ ap (λ (x : Asked). x.task) s in

@@ -7,8 +7,8 @@ use Rattle.path_hub.specs.declared.event.Event.{Event}
 use Rattle.path_hub.specs.declared.event.Reply.{Reply}
 use Rattle.path_hub.specs.declared.fault.RunFault.{RunFault}
 use Rattle.path_hub.specs.declared.fault.RunFault.TheVariants as fault
-use Rattle.path_hub.specs.Answers.{Alone}
-use Rattle.path_hub.specs.Tenants.{fresh}
+use Rattle.request_replies.specs.Answers.{Alone}
+use Rattle.request_replies.specs.Tenants.{fresh}
 use Rattle.path_hub.specs.Items.{Item, items, items_at, no_streams, streams_after}
 use Rattle.path_hub.specs.Runs.{Told, Run, own_requests, own_replies}
 use Rattle.path_hub.specs.Pending.{told}

@@ -3,8 +3,8 @@ use Rattle.std.specs.Prelude.{◌≡◌, ℕ, List, [], ◌∷◌, ◌++◌, map
 use Rattle.path_hub.specs.declared.wire.ConnEnd.TheVariants.{Done}
 use Rattle.tenant_map.specs.Maps.{Map}
 use Rattle.tenant_map.specs.Tenancy.{Tenancy}
-use Rattle.path_hub.specs.Answers.{Alone, is_no_memory}
-use Rattle.path_hub.specs.Tenants.{map_of}
+use Rattle.request_replies.specs.Answers.{Alone, is_no_memory}
+use Rattle.request_replies.specs.Tenants.{map_of}
 use Rattle.path_hub.specs.Items.{Item}
 use Rattle.path_hub.specs.Runs.{Told, Run, own_requests, own_replies}
 use Rattle.path_hub.specs.Into.{sent, joined}

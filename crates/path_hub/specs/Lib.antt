@@ -1,5 +1,3 @@
-pub mod Answers
-pub mod Tenants
 pub mod Items
 pub mod Runs
 pub mod Pending

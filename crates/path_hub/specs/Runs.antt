@@ -4,8 +4,8 @@ use Rattle.wire_frames.specs.Requests.{key_of}
 use Rattle.wire_frames.specs.Replies.{reply}
 use Rattle.std.specs.Cmp.Lexicographic.{pointwise}
 use Rattle.tenant_map.specs.Tenancy.{Tenancy}
-use Rattle.path_hub.specs.Tenants.{Step}
-use Rattle.path_hub.specs.Answers.{is_no_memory}
+use Rattle.request_replies.specs.Tenants.{Step}
+use Rattle.request_replies.specs.Answers.{is_no_memory}
 use Rattle.path_hub.specs.Items.{Item}
 
 -- a reply and its connection

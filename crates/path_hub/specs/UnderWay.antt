@@ -21,8 +21,8 @@ use Rattle.path_hub.specs.declared.tasks.Asked.{Asked}
 use Rattle.path_hub.specs.declared.tasks.Tasks.{Tasks}
 use Rattle.path_hub.specs.declared.tasks.Share.{Share}
 use Rattle.path_hub.specs.declared.tasks.Share.TheVariants as share
-use Rattle.path_hub.specs.Answers.{Gives}
-use Rattle.path_hub.specs.Tenants.{Serves, is_short}
+use Rattle.request_replies.specs.Answers.{Gives}
+use Rattle.request_replies.specs.Tenants.{Serves, is_short}
 use Rattle.path_hub.specs.Pending.{Answered, IsIdle}
 use Rattle.path_hub.specs.Sessions.{session}
 use Rattle.path_hub.specs.HubState.{HubState}

@@ -1,22 +1,9 @@
 //! What follows from the contracts of the hub: each function does nothing, and its contract is the law.
-ghost use Rattle.std.specs.Prelude.{◌≡◌, ℕ, List};
-ghost use Rattle.tenant_map.specs.Maps.{Map};
-ghost use Rattle.path_hub.specs.Answers.{Alone};
 ghost use Rattle.path_hub.specs.Laws.{ServedBytes, ServedOnce, RunsApart};
 ghost use Rattle.path_hub.specs.Standing.{Standing};
 
-use path_grammar::queries_have_one_tree;
-use tenant_store::laws::{puts_answer_once, queries_answer_once};
+use request_replies::told_once;
 use wire_frames::splits_from_the_front;
-
-/// A tenant's requests have one list of replies: if its requests are equal in two runs, so are its replies.
-pub fn told_once()
-    ensures { (m : Map) (bodies first second : List (List ℕ)) → Alone m bodies first → Alone m bodies second → first ≡ second }
-{
-    puts_answer_once();
-    queries_answer_once();
-    queries_have_one_tree();
-}
 
 /// A tenant's replies, without those for which memory ran out, are those that its own requests get from its map. The tenants at the start
 /// and the order of the answers do not matter.
@@ -40,7 +27,5 @@ pub fn served_bytes()
 pub fn cuts_do_not_matter()
     ensures { ServedOnce }
 {
-    puts_answer_once();
-    queries_answer_once();
-    queries_have_one_tree();
+    told_once();
 }

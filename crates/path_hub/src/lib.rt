@@ -6,7 +6,6 @@ mod fault;
 mod hub;
 mod laws;
 mod memory_wire;
-mod replies;
 mod sending;
 mod serving;
 mod sharing;
@@ -17,9 +16,7 @@ mod wire;
 pub use event::{Event, Reply};
 pub use fault::{ConnectFault, HubFault, RunFault, TakeFault};
 pub use hub::{Hub, run};
-pub use laws::{
-    cuts_do_not_matter, runs_apart, served_bytes, sessions_stand_in_streams, told_once,
-};
+pub use laws::{cuts_do_not_matter, runs_apart, served_bytes, sessions_stand_in_streams};
 pub use memory_wire::{Call, MemoryWire, Moved};
 pub use serving::serve_connection;
 pub use tasks::{Share, Tasks};

@@ -10,18 +10,18 @@ ghost use Rattle.tenant_store.specs.Payloads.{RefusesQuery};
 ghost use Rattle.tenant_store.specs.Walks.{IsOnWay, Reaches, left_in, work_left};
 ghost use Rattle.wire_frames.specs.NextFrame.{next_of};
 ghost use Rattle.wire_frames.specs.Requests.{Query};
-ghost use Rattle.path_hub.specs.Answers.{Gives};
+ghost use Rattle.request_replies.specs.Answers.{Gives};
 ghost use Rattle.path_hub.specs.Pending.{IsDue};
 ghost use Rattle.path_hub.specs.UnderWay.{AreOnWay, Goes, IsCharge, SharesBody, SharesFirst, SharesQuery, is_held, is_next_held, tenant_asked};
 
-use crate::replies::{
-    NO_MEMORY, begin, finish, serve_body, status_of_query, take_back, write_small,
-};
-use crate::step::{FRAME_FAULT, SHORT_REPLY};
+use crate::step::FRAME_FAULT;
 use crate::tasks::{Share, Tasks, task_of};
 use path_grammar::queries_have_one_tree;
 use path_types::{QueryFault, ValidQuery};
 use query_cache::Cache;
+use request_replies::{
+    NO_MEMORY, SHORT_REPLY, begin, finish, serve_body, status_of_query, take_back, write_small,
+};
 use std::alloc::{AllocError, Global};
 use tape_select::BUDGET;
 use tenant_store::{CollName, Progress, QueryTask, StoreFault, Tenant, Tenants};

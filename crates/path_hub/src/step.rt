@@ -4,14 +4,11 @@ ghost use Rattle.std.specs.Bool.{MatchBool};
 ghost use Rattle.path_hub.specs.Pending.{Answered, IsIdle, IsDue, AnswersSome, pending};
 
 use crate::event::Reply;
-use crate::replies::{serve_body, write_small};
 use query_cache::Cache;
+use request_replies::{SHORT_REPLY, serve_body, write_small};
 use std::alloc::{AllocError, Global};
 use tenant_store::Tenants;
 use wire_frames::{Framer, Front, splits_from_the_front};
-
-/// A short reply fits into so many bytes, as does that to a request for the usage.
-pub const SHORT_REPLY: usize = 21;
 
 pub const FRAME_FAULT: u8 = 255;
 

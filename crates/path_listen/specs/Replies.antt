@@ -4,8 +4,8 @@ use Rattle.wire_frames.specs.Frames.{Front, Whole, Wait, Fault}
 use Rattle.wire_frames.specs.Requests.{Asked, reading, Asks, key_of}
 use Rattle.tenant_map.specs.Maps.{Map}
 use Rattle.tenant_map.specs.Tenancy.{Tenancy}
-use Rattle.path_hub.specs.Answers.{Does}
-use Rattle.path_hub.specs.Tenants.{map_of}
+use Rattle.request_replies.specs.Answers.{Does}
+use Rattle.request_replies.specs.Tenants.{map_of}
 use Rattle.path_hub.specs.HubState.{HubState}
 use Rattle.path_listen.specs.Answering.{Answers}
 

@@ -6,8 +6,8 @@ use Rattle.tenant_map.specs.Maps.{Map}
 use Rattle.path_hub.specs.HubState.{HubState}
 use Rattle.path_hub.specs.Items.{Item}
 use Rattle.path_hub.specs.Runs.{Told, Run, own_requests, own_replies}
-use Rattle.path_hub.specs.Answers.{Alone}
-use Rattle.path_hub.specs.Tenants.{map_of}
+use Rattle.request_replies.specs.Answers.{Alone}
+use Rattle.request_replies.specs.Tenants.{map_of}
 use Rattle.path_hub.specs.Pending.{item}
 use Rattle.path_hub.specs.Into.{joined}
 use Rattle.path_hub.specs.Serving.{items_in}

@@ -6,7 +6,7 @@ ghost use Rattle.path_listen.specs.Answering.{Opens, Closes};
 ghost use Rattle.path_listen.specs.Needs.{IsPart, IsNoPart};
 ghost use Rattle.path_listen.specs.Replies.{body_at, IsMostReply};
 ghost use Rattle.path_listen.specs.Asking.{asks};
-ghost use Rattle.path_hub.specs.Tenants.{map_of};
+ghost use Rattle.request_replies.specs.Tenants.{map_of};
 ghost use Rattle.tenant_map.specs.Quotas.{usage_of};
 ghost use Rattle.wire_frames.specs.Frames.{front};
 

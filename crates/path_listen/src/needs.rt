@@ -7,7 +7,7 @@ ghost use Rattle.wire_frames.specs.Readings.{asked_of};
 ghost use Rattle.tenant_map.specs.Tenancy.{place_in};
 ghost use Rattle.tenant_map.specs.Maps.{text_at, documents_of};
 ghost use Rattle.tenant_map.specs.Listings.{listing};
-ghost use Rattle.path_hub.specs.Tenants.{map_of};
+ghost use Rattle.request_replies.specs.Tenants.{map_of};
 ghost use Rattle.path_listen.specs.Needs.{IsPart, IsNoPart};
 ghost use Rattle.path_listen.specs.Replies.{body_at, IsMostFor, IsMostBy, IsMostTo};
 

@@ -1,14 +1,11 @@
-use Rattle.std.proofs.Common.{◌≡◌, Bool, true, false, Some, Err, sym, ap, subst, refl}
+use Rattle.std.proofs.Common.{◌≡◌, false, Some, Err, sym, ap, subst}
 use Rattle.std.specs.Option.{is_some}
 use Rattle.std.proofs.lemmas.Result.{on_err_weaker, on_ok_weaker}
 use Rattle.wire_frames.specs.Framing.{Framing}
 use Rattle.path_hub.specs.Sessions.{session, Sets}
+use Rattle.path_hub.proofs.Calls.{not_closed}
 use Rattle.path_hub.proofs.Feeding.{feeds_closed, feeds_none, feeds_open, feeds_some}
 use Rattle.path_hub.proofs.hub.feed.Goals as goal
-
-not_closed : (b : Bool) → (b ≡ true → ⊥) → b ≡ false
-not_closed true h = absurd (h refl)
-not_closed false h = refl
 
 pub returns-in-Err-Closed-clause-ok : goal.returns-in-Err-Closed-clause-ok
 returns-in-Err-Closed-clause-ok c =

@@ -1,6 +1,6 @@
 use Rattle.std.proofs.Common.{refl, subst, inl, inr, ℕ, List}
 use Rattle.tenant_map.specs.Tenancy.{Tenancy, AcceptsKeys, RefusesKeys}
-use Rattle.path_hub.specs.Tenants.{fresh}
+use Rattle.request_replies.specs.Tenants.{fresh}
 use Rattle.path_hub.proofs.Running.{so_far_more, so_far_all, stops_at}
 use Rattle.path_hub.proofs.hub.run.Goals as goal
 

@@ -1,4 +1,4 @@
-use Rattle.path_hub.specs.Tenants.{fresh}
+use Rattle.request_replies.specs.Tenants.{fresh}
 use Rattle.path_hub.proofs.Running.{IsSoFar}
 use Rattle.path_hub.proofs.hub.run.Given as goal
 

@@ -1,4 +1,4 @@
-use Rattle.path_hub.proofs.Alone.{at_true, at_false}
+use Rattle.request_replies.proofs.Steps.{at_true, at_false}
 use Rattle.path_hub.proofs.Calls.{left_at_falls}
 use Rattle.path_hub.proofs.Sent.{sending_starts, sending_answers, sending_sends, sends_all, sends_some}
 use Rattle.path_hub.proofs.sending.send_replies.Goals as goal

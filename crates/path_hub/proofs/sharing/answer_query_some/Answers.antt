@@ -4,7 +4,7 @@ use Rattle.path_types.specs.Verdict.{IsValidQuery}
 use Rattle.tenant_store.specs.Payloads.{payload}
 use Rattle.wire_frames.specs.Requests.{Query}
 use Rattle.wire_frames.specs.Replies.{reply}
-use Rattle.path_hub.proofs.Steps.{gives_done, gives_fault, gives_query_fault, query_may_want, taken_back, begun_and_done}
+use Rattle.request_replies.proofs.Steps.{gives_done, gives_fault, gives_query_fault, query_may_want, taken_back, begun_and_done}
 use Rattle.path_hub.proofs.sharing.answer_query_some.Goals as goal
 
 pub returns-in-Ok-Complete-clause-answered : goal.returns-in-Ok-Complete-clause-answered

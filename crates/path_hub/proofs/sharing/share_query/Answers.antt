@@ -1,7 +1,7 @@
 use Rattle.std.proofs.Common.{[], ◌++◌, ap, ◌∙◌, refl}
 use Rattle.wire_frames.specs.Requests.{Query}
 use Rattle.wire_frames.specs.Replies.{reply}
-use Rattle.path_hub.proofs.Steps.{gives_memory, query_may_want}
+use Rattle.request_replies.proofs.Steps.{gives_memory, query_may_want}
 use Rattle.path_hub.proofs.UnderWay.{goes_on, kept_on_way, out_on_way, resumed, sets_still}
 use Rattle.path_hub.proofs.sharing.share_query.Goals as goal
 

@@ -1,6 +1,6 @@
 use Rattle.wire_frames.specs.Requests.{Asks}
 use Rattle.wire_frames.specs.Readings.{asked_of}
-use Rattle.path_hub.proofs.Steps.{shape_at}
+use Rattle.request_replies.proofs.Steps.{shape_at}
 use Rattle.path_listen.proofs.Bounds.{of_request, of_refusal}
 use Rattle.path_listen.proofs.needs.most_to.Goals as goal
 

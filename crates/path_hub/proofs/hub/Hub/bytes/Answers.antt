@@ -1,4 +1,4 @@
-use Rattle.path_hub.proofs.Alone.{at_true, at_false}
+use Rattle.request_replies.proofs.Steps.{at_true, at_false}
 use Rattle.path_hub.proofs.Calls.{taken_none, taken_more, taken_all, taken_stays, left_at_falls}
 use Rattle.path_hub.proofs.hub.Hub.bytes.Goals as goal
 
