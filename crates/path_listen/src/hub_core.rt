@@ -13,24 +13,31 @@ ghost use Rattle.wire_frames.specs.Frames.{front};
 use crate::asked::{Asked, asked_of};
 use crate::needs::{Part, most_of, part_of};
 use outbox::{Core, Step};
-use path_hub::{ConnectFault, Hub};
+use path_hub::{ConnectFault, Hub, Share, Tasks};
 use std::alloc::Global;
 use std::marker::Model;
 use tenant_map::Usage;
 
-/// A hub that answers one request at a time, as [`outbox::turn`] needs it. Its value is the hub's.
+/// The units for which a query goes on before others are served.
+const SHARE: u64 = 10_000;
+
+/// A hub that answers one request at a time, and a query a share at a time, as [`outbox::turn`] needs it. Its value is the hub's.
 #[derive(Drop)]
 pub struct HubCore {
     hub: Hub,
     alloc: Global,
+    tasks: Tasks,
 }
 
 impl Model for HubCore {
     ghost use Rattle.path_hub.specs.HubState.{HubState};
+    ghost use Rattle.path_hub.specs.UnderWay.{AreOnWay};
 
     ghost Value = { HubState };
 
     ghost view = { λ core. core.hub };
+
+    ghost invariant = { λ core. AreOnWay core.hub.tenants core.tasks };
 }
 
 impl HubCore {
@@ -38,7 +45,11 @@ impl HubCore {
     pub fn new(alloc: Global, hub: Hub) -> HubCore
         ensures { result ≡ hub }
     {
-        HubCore { hub, alloc }
+        HubCore {
+            hub,
+            alloc,
+            tasks: Tasks::new(alloc),
+        }
     }
 
     /// Opens a connection's session.
@@ -59,6 +70,7 @@ impl HubCore {
         ensures was { result ≡ is_some (session conn self.old.sessions) }
         ensures closes { Closes conn self.old self.new }
     {
+        self.tasks.abandon(conn);
         self.hub.disconnect(conn)
     }
 
@@ -123,18 +135,28 @@ impl Core for HubCore {
         }
     }
 
-    // The reply to a framing fault is the last.
+    // The reply to a framing fault is the last. Nothing goes on for a connection of which no further request is answered.
     fn answer_next(&mut self, conn: u32, out: &mut Vec<u8>) -> Step {
-        match self.hub.answer_next(self.alloc, conn, out) {
-            Ok(true) => {
+        if self.hub.waits(conn, &self.tasks) {
+            return Step::Working;
+        }
+        match self
+            .hub
+            .answer_some(self.alloc, conn, SHARE, &mut self.tasks, out)
+        {
+            Ok(Share::Replied { .. }) => {
                 if self.hub.is_closed(conn) {
                     Step::Last
                 } else {
                     Step::Replied
                 }
             }
-            Ok(false) => Step::Idle,
-            Err(_) => Step::Refused,
+            Ok(Share::Idle) => Step::Idle,
+            Ok(Share::Working) => Step::Working,
+            Err(_) => {
+                self.tasks.abandon(conn);
+                Step::Refused
+            }
         }
     }
 }
