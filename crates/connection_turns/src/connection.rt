@@ -83,6 +83,10 @@ pub struct Connection<S: Peer> {
     pub is_due: bool,
     /// A frame came in part, or is not answered.
     pub has_part: bool,
+    /// The place of the last tenant that asked on it.
+    pub tenant: Option<usize>,
+    /// The microseconds that the request which is answered next took so far.
+    pub worked: u64,
 }
 
 impl<S: Peer> Connection<S> {
@@ -108,6 +112,8 @@ impl<S: Peer> Connection<S> {
             is_known: false,
             is_due: false,
             has_part: false,
+            tenant: None,
+            worked: 0,
         }
     }
 

@@ -23,7 +23,7 @@ pub struct Counted<C: Core, T: Time + Drop> {
     has_heard: bool,
     // When this turn began, where the clock tells it.
     began: Option<Duration>,
-    // This turn answers one request.
+    // This turn does no more than one step: it answers one request, or a query is under way.
     is_single: bool,
     // How many it answered.
     answered: u32,
@@ -80,6 +80,20 @@ impl<C: Core, T: Time + Drop> Counted<C, T> {
         self.answered
     }
 
+    /// The microseconds since this turn began, told once. 0 where the clock does not tell them.
+    pub fn take_micros(&mut self) -> u64
+        ensures { self.new ≡ self.old }
+    {
+        let began = self.began;
+        self.began = None;
+        match (began, self.time.now()) {
+            (Some(began), Some(now)) => {
+                u64::try_from(now.saturating_sub(began).as_micros()).unwrap_or(u64::MAX)
+            }
+            _ => 0,
+        }
+    }
+
     /// Whether a tenant was answered in this turn.
     pub(crate) fn has_heard(&self) -> bool {
         self.has_heard
@@ -114,6 +128,7 @@ impl<C: Core, T: Time + Drop> Core for Counted<C, T> {
             self.answered = self.answered.saturating_add(1);
         }
         self.has_faulted = self.has_faulted || matches!(step, Step::Last);
+        self.is_single = self.is_single || matches!(step, Step::Working);
         step
     }
 

@@ -1,3 +1,4 @@
 pub mod Looping
 pub mod Opened
 pub mod Shares
+pub mod Times

@@ -7,7 +7,9 @@ mod budgets;
 mod laws;
 mod needs;
 mod open;
+mod turn_times;
 
 pub use budgets::LEAST_MEMORY;
 pub use laws::loop_is_served;
-pub use open::Open;
+pub use hub_metrics::Slow;
+pub use open::{Due, Open};

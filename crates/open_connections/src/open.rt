@@ -1,5 +1,5 @@
 //! The connections that are open, the hub that answers them, and the memory that they share.
-ghost use Rattle.std.specs.Prelude.{◌≡◌, ◌<◌, ◌≤◌, ◌^◌, ℕ, None, IfOk, IsFalse, MatchOption};
+ghost use Rattle.std.specs.Prelude.{◌≡◌, ◌<◌, ◌≤◌, ◌^◌, ◌++◌, ◌∷◌, [], ℕ, None, IfOk, OnOk, IsFalse, MatchOption, replicate};
 ghost use Rattle.slab.specs.Slab.{slab_len};
 ghost use Rattle.open_connections.specs.Looping.{Stays, Does, DoesAtMost, TakenIn, HasTurn, LetGo};
 ghost use Rattle.std.specs.Bool.{MatchBool};
@@ -13,11 +13,12 @@ ghost use Rattle.open_connections.specs.Shares.{fresh_budgets, IsWithin, StayFre
 
 use crate::budgets::Budgets;
 use crate::needs::{After, covers, left_of, need, piece_of};
+use crate::turn_times::{TurnTimes, party_of};
 use admin_pages::Metrics;
 use connection_turns::{
     Claim, Connection, Counted, Counts, End, Ending, Limits, Outcome, Phase, Plan, Pool, Purpose,
 };
-use hub_metrics::MeasuredHub;
+use hub_metrics::{MeasuredHub, Slow};
 use memory_budget::Answer;
 use outbox::CAP;
 use path_listen::{HubCore, MOST_REPLY};
@@ -34,6 +35,15 @@ pub(crate) const PIECE: usize = 65_536;
 /// The room in which a turn may answer whatever waits: it answers while less than the cap is owed.
 const ROOM: usize = CAP + MOST_REPLY;
 
+/// A connection that gets a turn.
+#[derive(Clone, Copy)]
+pub struct Due {
+    /// Its key.
+    pub key: usize,
+    // Whose time its turns take.
+    party: usize,
+}
+
 /// The connections that are open.
 #[derive(Drop)]
 pub struct Open<S: Peer, T: Time + Drop> {
@@ -45,8 +55,10 @@ pub struct Open<S: Peer, T: Time + Drop> {
     // No key was above it.
     bound: usize,
     // The connections that get a turn, and room for the next ones.
-    due: Vec<usize>,
-    next_due: Vec<usize>,
+    due: Vec<Due>,
+    next_due: Vec<Due>,
+    // The time that the turns of each tenant took in this round.
+    times: TurnTimes,
     // Those that make room for others, the longest idle last, each with the second since which it is, and when they were looked for.
     idle: Vec<(u64, usize)>,
     looked: Option<u64>,
@@ -83,6 +95,7 @@ impl<S: Peer, T: Time + Drop> Open<S, T> {
             bound: 0,
             due: Vec::new(alloc),
             next_due: Vec::new(alloc),
+            times: TurnTimes::new(),
             idle: Vec::new(alloc),
             looked: None,
             read: 0,
@@ -119,6 +132,20 @@ impl<S: Peer, T: Time + Drop> Open<S, T> {
         ensures { Stays (lanes_of self.old) (lanes_of self.new) }
     {
         measure(&mut self.core, clock);
+    }
+
+    /// Tells queries that took longer than so many microseconds from now on.
+    pub fn tell_slow(&mut self, micros: u64)
+        ensures { Stays (lanes_of self.old) (lanes_of self.new) }
+    {
+        tell_slow(&mut self.core, micros);
+    }
+
+    /// The last slow query, which is told once.
+    pub fn take_slow(&mut self) -> Option<Slow>
+        ensures { Stays (lanes_of self.old) (lanes_of self.new) }
+    {
+        take_slow(&mut self.core)
     }
 
     /// What was counted of requests.
@@ -217,16 +244,33 @@ impl<S: Peer, T: Time + Drop> Open<S, T> {
         self.schedule(report.key)
     }
 
-    /// The keys of those that get a turn now. They come back by [`Open::give_back`].
-    pub fn take_due(&mut self) -> Vec<usize>
-        ensures { Stays (lanes_of self.old) (lanes_of self.new) }
+    /// Begins a round, and returns those that get a turn in it. They come back by [`Open::give_back`].
+    pub fn take_due(&mut self) -> Vec<Due>
+        ensures lanes { Stays (lanes_of self.old) (lanes_of self.new) }
+        ensures all { result.items ≡ self.old.due.items }
+        ensures round { self.new.times.micros ≡ replicate 257 0 }
     {
+        self.times = TurnTimes::new();
         let next = mem::replace(&mut self.next_due, Vec::new(self.alloc));
         mem::replace(&mut self.due, next)
     }
 
+    /// Whether a connection gets its turn in this round. Where the turns of its tenant took long in it, that comes in the next round: before
+    /// those that get one since.
+    pub fn has_time(&self, due: Due) -> bool {
+        self.times.has_time(due.party.min(256))
+    }
+
+    /// Has a turn come in the next round.
+    pub fn put_off(&mut self, due: Due) -> Result<(), AllocError>
+        ensures lanes { Stays (lanes_of self.old) (lanes_of self.new) }
+        ensures last { OnOk result (self.new.due.items ≡ self.old.due.items ++ (due ∷ [])) }
+    {
+        self.due.extend_from_slice(&[due])
+    }
+
     /// The list that the keys were in.
-    pub fn give_back(&mut self, mut keys: Vec<usize>)
+    pub fn give_back(&mut self, mut keys: Vec<Due>)
         ensures { Stays (lanes_of self.old) (lanes_of self.new) }
     {
         keys.clear();
@@ -272,6 +316,12 @@ impl<S: Peer, T: Time + Drop> Open<S, T> {
         let Some(plan) = self.plan(key) else {
             return Err(Outcome::Closed);
         };
+        if self.stands_by(key, plan) {
+            return match self.yield_reply(key, now) {
+                Ok(()) => Ok(Plan::Write),
+                Err(_) => Err(Outcome::Over(End::Memory)),
+            };
+        }
         if plan != Plan::Answer {
             return Ok(plan);
         }
@@ -282,14 +332,45 @@ impl<S: Peer, T: Time + Drop> Open<S, T> {
         }
     }
 
-    // What a connection's turn would do. It is due no more.
+    // What a connection's turn would do, which begins. It is due no more. A query that is under way goes on with a share of memory only.
     fn plan(&mut self, key: usize) -> Option<Plan>
         ensures { Stays (lanes_of self.old) (lanes_of self.new) }
     {
-        let has_room = self.budgets.has_room(ROOM);
+        let conn = conn_of(key)?;
+        let has_room = self.budgets.has_room(ROOM) && !self.is_under_way(conn);
         let connection = self.connections.get_mut(key)?;
         connection.is_due = false;
+        begin(&mut self.core, connection.worked);
         Some(connection.plan(has_room))
+    }
+
+    fn is_under_way(&self, conn: u32) -> bool {
+        self.core.inner().hub().is_under_way(conn)
+    }
+
+    // Whether a turn would answer a request that waits for a query of its tenant, which another connection has under way.
+    fn stands_by(&self, key: usize, plan: Plan) -> bool {
+        match conn_of(key) {
+            Some(conn) => {
+                matches!(plan, Plan::Answer | Plan::All) && self.core.inner().hub().waits(conn)
+            }
+            None => false,
+        }
+    }
+
+    // Gives up a share for a reply: a connection that waits for a query holds none.
+    fn yield_reply(&mut self, key: usize, now: u64) -> Result<(), AllocError>
+        ensures { Stays (lanes_of self.old) (lanes_of self.new) }
+    {
+        let Some(connection) = self.connections.get_mut(key) else {
+            return Ok(());
+        };
+        let claim = connection.claim;
+        if !is_for_reply(claim) {
+            return Ok(());
+        }
+        connection.claim = None;
+        self.give_up(claim, now)
     }
 
     // One turn by a plan.
@@ -339,6 +420,7 @@ impl<S: Peer, T: Time + Drop> Open<S, T> {
         let Some(conn) = conn_of(key) else {
             return Ok(());
         };
+        self.count_turn(key, conn);
         let waiting = self.core.inner().hub().waiting(conn);
         let Some(connection) = self.connections.get_mut(key) else {
             return Ok(());
@@ -348,6 +430,23 @@ impl<S: Peer, T: Time + Drop> Open<S, T> {
             Some(claim) => self.settle_claim(key, &claim, now),
             None => self.ask(key, conn, now),
         }
+    }
+
+    // Counts the time that a turn took.
+    fn count_turn(&mut self, key: usize, conn: u32)
+        ensures { Stays (lanes_of self.old) (lanes_of self.new) }
+    {
+        let micros = take_micros(&mut self.core);
+        let is_under_way = self.is_under_way(conn);
+        let Some(connection) = self.connections.get_mut(key) else {
+            return;
+        };
+        connection.worked = self.core.inner().worked();
+        if let Some(tenant) = self.core.inner().heard() {
+            connection.tenant = Some(tenant);
+        }
+        let party = party_of(connection.tenant);
+        self.times.count(party, micros, is_under_way);
     }
 
     // Gives back what is done with of a share.
@@ -446,7 +545,7 @@ impl<S: Peer, T: Time + Drop> Open<S, T> {
         self.schedule(key)
     }
 
-    /// A connection that can go on gets a further turn.
+    /// A connection that can go on gets a further turn. One that can't has no query under way: so nobody waits for one that waits.
     pub fn schedule(&mut self, key: usize) -> Result<(), AllocError>
         ensures lanes { Stays (lanes_of self.old) (lanes_of self.new) }
         ensures budgets { self.new.budgets ≡ self.old.budgets }
@@ -455,11 +554,16 @@ impl<S: Peer, T: Time + Drop> Open<S, T> {
         let Some(connection) = self.connections.get_mut(key) else {
             return Ok(());
         };
-        if connection.is_due || !connection.can_go_on(has_room) {
+        if connection.is_due {
+            return Ok(());
+        }
+        if !connection.can_go_on(has_room) {
+            give_up_query(&mut self.core, key);
             return Ok(());
         }
         connection.is_due = true;
-        self.due.extend_from_slice(&[key])
+        let party = party_of(connection.tenant);
+        self.due.extend_from_slice(&[Due { key, party }])
     }
 
     /// A connection that ended, as a journal is told of it.
@@ -634,6 +738,49 @@ fn measure<T: Time + Drop>(counted: &mut Counted<MeasuredHub<T>, T>, clock: T)
     ensures { counted.new ≡ counted.old }
 {
     counted.core.measure(clock);
+}
+
+fn tell_slow<T: Time + Drop>(counted: &mut Counted<MeasuredHub<T>, T>, micros: u64)
+    ensures { counted.new ≡ counted.old }
+{
+    counted.core.tell_slow(micros);
+}
+
+fn take_slow<T: Time + Drop>(counted: &mut Counted<MeasuredHub<T>, T>) -> Option<Slow>
+    ensures { counted.new ≡ counted.old }
+{
+    counted.core.take_slow()
+}
+
+// A turn begins, before which so many microseconds were spent on the request.
+fn begin<T: Time + Drop>(counted: &mut Counted<MeasuredHub<T>, T>, worked: u64)
+    ensures { counted.new ≡ counted.old }
+{
+    counted.core.begin(worked);
+}
+
+// The microseconds of a turn.
+fn take_micros<T: Time + Drop>(counted: &mut Counted<MeasuredHub<T>, T>) -> u64
+    ensures { counted.new ≡ counted.old }
+{
+    counted.take_micros()
+}
+
+// Gives up the work on the query that a connection has under way.
+fn give_up_query<T: Time + Drop>(counted: &mut Counted<MeasuredHub<T>, T>, key: usize)
+    ensures { counted.new ≡ counted.old }
+{
+    if let Some(conn) = conn_of(key) {
+        counted.core.give_up(conn);
+    }
+}
+
+// Whether a share is for a reply that is to be given.
+fn is_for_reply(claim: Option<Claim>) -> bool {
+    match claim {
+        Some(claim) => matches!(claim.purpose, Purpose::Reply),
+        None => false,
+    }
 }
 
 // Whether a connection waits for memory.

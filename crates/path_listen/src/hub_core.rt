@@ -27,6 +27,8 @@ pub struct HubCore {
     hub: Hub,
     alloc: Global,
     tasks: Tasks,
+    // The units of the request that was answered last, where hits are its reply.
+    charge: Option<u64>,
 }
 
 impl Model for HubCore {
@@ -49,6 +51,7 @@ impl HubCore {
             hub,
             alloc,
             tasks: Tasks::new(alloc),
+            charge: None,
         }
     }
 
@@ -72,6 +75,28 @@ impl HubCore {
     {
         self.tasks.abandon(conn);
         self.hub.disconnect(conn)
+    }
+
+    /// Whether the request that is answered next on a connection waits for a query of its tenant, which another connection has under way.
+    pub fn waits(&self, conn: u32) -> bool {
+        self.hub.waits(conn, &self.tasks)
+    }
+
+    /// Whether a connection has a query under way.
+    pub fn is_under_way(&self, conn: u32) -> bool {
+        self.tasks.is_under_way(conn)
+    }
+
+    /// Gives up the work on the query that a connection has under way, so that no request waits for it. It begins anew where it is answered next.
+    pub fn give_up(&mut self, conn: u32)
+        ensures { self.new ≡ self.old }
+    {
+        self.tasks.abandon(conn);
+    }
+
+    /// The units that the request was charged which was answered last, where hits are its reply.
+    pub fn charge(&self) -> Option<u64> {
+        self.charge
     }
 
     /// The number of bytes that came on a connection and are not answered.
@@ -144,7 +169,8 @@ impl Core for HubCore {
             .hub
             .answer_some(self.alloc, conn, SHARE, &mut self.tasks, out)
         {
-            Ok(Share::Replied { .. }) => {
+            Ok(Share::Replied { charge }) => {
+                self.charge = charge;
                 if self.hub.is_closed(conn) {
                     Step::Last
                 } else {
