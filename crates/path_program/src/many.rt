@@ -41,6 +41,9 @@ fn serve<R: Print + Eprint + Net + Clock + AllocGlobal>(
     if let Some(address) = wanted.admin {
         administer(rt, address, &mut server, keys)?;
     }
+    if wanted.log {
+        tell_slow(rt, wanted, &mut server)?;
+    }
     let lines = lines(rt, wanted)?;
     run(rt, wanted, &mut server, lines)?;
     end(rt, &server.totals())
@@ -79,6 +82,18 @@ fn administer<'r, R: Print + Net + Clock + AllocGlobal>(
             Err(_) => Err(Failure::Write),
         },
         Err(fault) => Err(failure_of(rt.alloc(), address, fault)),
+    }
+}
+
+// Has slow queries told.
+fn tell_slow<'r, R: Net + Clock + AllocGlobal>(
+    rt: &'r R,
+    wanted: &Listening<'_>,
+    server: &mut Bound<'r, R>,
+) -> Result<(), Failure> {
+    match server.tell_slow(rt, wanted.slow) {
+        Ok(()) => Ok(()),
+        Err(fault) => Err(failure_of(rt.alloc(), wanted.address, fault)),
     }
 }
 
