@@ -367,11 +367,11 @@ impl<S: System + Drop, T: Time + Drop> Rounds<S, T> {
     fn take_turns<J: Journal>(&mut self, journal: &mut J) -> Result<(), LoopFault>
         ensures { DoesSome (lanes_of self.old.opened) (lanes_of self.new.opened) }
     {
-        let keys = self.opened.take_due();
-        'turns: for due in &keys {
+        let list = self.opened.take_due()?;
+        'turns: for due in &list {
             self.serve(*due, journal)?;
         }
-        self.opened.give_back(keys);
+        self.opened.give_back(list);
         Ok(())
     }
 

@@ -4,12 +4,14 @@
 #![tactic(auto)]
 
 mod budgets;
+mod core_calls;
+mod due;
 mod laws;
 mod needs;
 mod open;
-mod turn_times;
 
 pub use budgets::LEAST_MEMORY;
+pub use due::Due;
 pub use laws::loop_is_served;
 pub use hub_metrics::Slow;
-pub use open::{Due, Open};
+pub use open::Open;

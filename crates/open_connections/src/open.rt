@@ -1,5 +1,5 @@
 //! The connections that are open, the hub that answers them, and the memory that they share.
-ghost use Rattle.std.specs.Prelude.{◌≡◌, ◌<◌, ◌≤◌, ◌^◌, ◌++◌, ◌∷◌, [], ℕ, None, IfOk, OnOk, IsFalse, MatchOption, replicate};
+ghost use Rattle.std.specs.Prelude.{◌≡◌, ◌<◌, ◌≤◌, ◌^◌, ◌++◌, ◌∷◌, [], ℕ, None, IfOk, OnOk, IsFalse, MatchOption};
 ghost use Rattle.slab.specs.Slab.{slab_len};
 ghost use Rattle.open_connections.specs.Looping.{Stays, Does, DoesAtMost, TakenIn, HasTurn, LetGo};
 ghost use Rattle.std.specs.Bool.{MatchBool};
@@ -12,8 +12,9 @@ ghost use Rattle.open_connections.specs.Opened.{lanes_of, bytes_of, IsMarked};
 ghost use Rattle.open_connections.specs.Shares.{fresh_budgets, IsWithin, StayFree, IsGivenBack, claim_at};
 
 use crate::budgets::Budgets;
-use crate::needs::{After, covers, left_of, need, piece_of};
-use crate::turn_times::{TurnTimes, party_of};
+use crate::core_calls::{begin, give_up_query, take_micros, take_slow, tell_slow};
+use crate::due::{Due, DueList};
+use crate::needs::{After, covers, is_for_reply, left_of, need, piece_of};
 use admin_pages::Metrics;
 use connection_turns::{
     Claim, Connection, Counted, Counts, End, Ending, Limits, Outcome, Phase, Plan, Pool, Purpose,
@@ -25,7 +26,6 @@ use path_listen::{HubCore, MOST_REPLY};
 use slab::Slab;
 use socket_poll::{Peer, Report, Time};
 use std::alloc::{AllocError, Global};
-use std::mem;
 use std::net::SocketAddr;
 use tenant_map::Usage;
 
@@ -34,15 +34,6 @@ pub(crate) const PIECE: usize = 65_536;
 
 /// The room in which a turn may answer whatever waits: it answers while less than the cap is owed.
 const ROOM: usize = CAP + MOST_REPLY;
-
-/// A connection that gets a turn.
-#[derive(Clone, Copy)]
-pub struct Due {
-    /// Its key.
-    pub key: usize,
-    // Whose time its turns take.
-    party: usize,
-}
 
 /// The connections that are open.
 #[derive(Drop)]
@@ -54,11 +45,8 @@ pub struct Open<S: Peer, T: Time + Drop> {
     buffer: Box<[u8; PIECE]>,
     // No key was above it.
     bound: usize,
-    // The connections that get a turn, and room for the next ones.
-    due: Vec<Due>,
-    next_due: Vec<Due>,
-    // The time that the turns of each tenant took in this round.
-    times: TurnTimes,
+    // Those that get a turn.
+    due: DueList,
     // Those that make room for others, the longest idle last, each with the second since which it is, and when they were looked for.
     idle: Vec<(u64, usize)>,
     looked: Option<u64>,
@@ -93,9 +81,7 @@ impl<S: Peer, T: Time + Drop> Open<S, T> {
             budgets: Budgets::new(alloc, memory),
             buffer,
             bound: 0,
-            due: Vec::new(alloc),
-            next_due: Vec::new(alloc),
-            times: TurnTimes::new(),
+            due: DueList::new(alloc),
             idle: Vec::new(alloc),
             looked: None,
             read: 0,
@@ -197,9 +183,7 @@ impl<S: Peer, T: Time + Drop> Open<S, T> {
         ensures { Stays (lanes_of self.old) (lanes_of self.new) }
     {
         let room = self.count().saturating_add(1);
-        let has_room = self.due.reserve(room).is_ok()
-            && self.next_due.reserve(room).is_ok()
-            && self.connections.reserve(1).is_ok();
+        let has_room = self.due.reserve(room) && self.connections.reserve(1).is_ok();
         if has_room {
             Some(self.connections.vacant_key())
         } else {
@@ -244,37 +228,32 @@ impl<S: Peer, T: Time + Drop> Open<S, T> {
         self.schedule(report.key)
     }
 
-    /// Begins a round, and returns those that get a turn in it. They come back by [`Open::give_back`].
-    pub fn take_due(&mut self) -> Vec<Due>
+    /// Begins a round, and hands out those that get a turn in it, in order. The list comes back by [`Open::give_back`].
+    pub fn take_due(&mut self) -> Result<Vec<Due>, AllocError>
         ensures lanes { Stays (lanes_of self.old) (lanes_of self.new) }
-        ensures all { result.items ≡ self.old.due.items }
-        ensures round { self.new.times.micros ≡ replicate 257 0 }
+        ensures all { IfOk result (λ list. list.items ≡ self.old.due.first.items ++ self.old.due.rest.items) }
     {
-        self.times = TurnTimes::new();
-        let next = mem::replace(&mut self.next_due, Vec::new(self.alloc));
-        mem::replace(&mut self.due, next)
+        self.due.take()
     }
 
-    /// Whether a connection gets its turn in this round. Where the turns of its tenant took long in it, that comes in the next round: before
-    /// those that get one since.
+    /// Whether a connection gets its turn in this round. Where the turns of its tenant took long in it, it is put off.
     pub fn has_time(&self, due: Due) -> bool {
-        self.times.has_time(due.party.min(256))
+        self.due.has_time(due)
     }
 
-    /// Has a turn come in the next round.
+    /// Has a turn come in the next round, before the turns of those that had one in this round.
     pub fn put_off(&mut self, due: Due) -> Result<(), AllocError>
         ensures lanes { Stays (lanes_of self.old) (lanes_of self.new) }
-        ensures last { OnOk result (self.new.due.items ≡ self.old.due.items ++ (due ∷ [])) }
+        ensures kept { OnOk result (self.new.due.first.items ≡ self.old.due.first.items ++ (due ∷ [])) }
     {
-        self.due.extend_from_slice(&[due])
+        self.due.put_off(due)
     }
 
-    /// The list that the keys were in.
-    pub fn give_back(&mut self, mut keys: Vec<Due>)
+    /// The list of a round.
+    pub fn give_back(&mut self, list: Vec<Due>)
         ensures { Stays (lanes_of self.old) (lanes_of self.new) }
     {
-        keys.clear();
-        self.next_due = keys;
+        self.due.give_back(list);
     }
 
     // Whether there is room for the reply to the first request that waits; where it takes a share, that is asked for. The reply's length is
@@ -336,16 +315,19 @@ impl<S: Peer, T: Time + Drop> Open<S, T> {
     fn plan(&mut self, key: usize) -> Option<Plan>
         ensures { Stays (lanes_of self.old) (lanes_of self.new) }
     {
-        let conn = conn_of(key)?;
-        let has_room = self.budgets.has_room(ROOM) && !self.is_under_way(conn);
+        let has_room = self.budgets.has_room(ROOM) && !self.is_under_way(key);
         let connection = self.connections.get_mut(key)?;
         connection.is_due = false;
         begin(&mut self.core, connection.worked);
         Some(connection.plan(has_room))
     }
 
-    fn is_under_way(&self, conn: u32) -> bool {
-        self.core.inner().hub().is_under_way(conn)
+    // Whether a connection has a query under way.
+    fn is_under_way(&self, key: usize) -> bool {
+        match conn_of(key) {
+            Some(conn) => self.core.inner().hub().is_under_way(conn),
+            None => false,
+        }
     }
 
     // Whether a turn would answer a request that waits for a query of its tenant, which another connection has under way.
@@ -420,7 +402,7 @@ impl<S: Peer, T: Time + Drop> Open<S, T> {
         let Some(conn) = conn_of(key) else {
             return Ok(());
         };
-        self.count_turn(key, conn);
+        self.count_turn(key);
         let waiting = self.core.inner().hub().waiting(conn);
         let Some(connection) = self.connections.get_mut(key) else {
             return Ok(());
@@ -433,11 +415,11 @@ impl<S: Peer, T: Time + Drop> Open<S, T> {
     }
 
     // Counts the time that a turn took.
-    fn count_turn(&mut self, key: usize, conn: u32)
+    fn count_turn(&mut self, key: usize)
         ensures { Stays (lanes_of self.old) (lanes_of self.new) }
     {
         let micros = take_micros(&mut self.core);
-        let is_under_way = self.is_under_way(conn);
+        let is_under_way = self.is_under_way(key);
         let Some(connection) = self.connections.get_mut(key) else {
             return;
         };
@@ -445,8 +427,8 @@ impl<S: Peer, T: Time + Drop> Open<S, T> {
         if let Some(tenant) = self.core.inner().heard() {
             connection.tenant = Some(tenant);
         }
-        let party = party_of(connection.tenant);
-        self.times.count(party, micros, is_under_way);
+        let tenant = connection.tenant;
+        self.due.count(tenant, micros, is_under_way);
     }
 
     // Gives back what is done with of a share.
@@ -551,6 +533,7 @@ impl<S: Peer, T: Time + Drop> Open<S, T> {
         ensures budgets { self.new.budgets ≡ self.old.budgets }
     {
         let has_room = self.budgets.has_room(ROOM);
+        let is_under_way = self.is_under_way(key);
         let Some(connection) = self.connections.get_mut(key) else {
             return Ok(());
         };
@@ -558,12 +541,22 @@ impl<S: Peer, T: Time + Drop> Open<S, T> {
             return Ok(());
         }
         if !connection.can_go_on(has_room) {
-            give_up_query(&mut self.core, key);
+            self.give_up_query(key);
             return Ok(());
         }
         connection.is_due = true;
-        let party = party_of(connection.tenant);
-        self.due.extend_from_slice(&[Due { key, party }])
+        let tenant = connection.tenant;
+        self.due.add(key, tenant, is_under_way)
+    }
+
+    // A connection that gets no turn has no query under way.
+    fn give_up_query(&mut self, key: usize)
+        ensures lanes { Stays (lanes_of self.old) (lanes_of self.new) }
+        ensures budgets { self.new.budgets ≡ self.old.budgets }
+    {
+        if let Some(conn) = conn_of(key) {
+            give_up_query(&mut self.core, conn);
+        }
     }
 
     /// A connection that ended, as a journal is told of it.
@@ -738,49 +731,6 @@ fn measure<T: Time + Drop>(counted: &mut Counted<MeasuredHub<T>, T>, clock: T)
     ensures { counted.new ≡ counted.old }
 {
     counted.core.measure(clock);
-}
-
-fn tell_slow<T: Time + Drop>(counted: &mut Counted<MeasuredHub<T>, T>, micros: u64)
-    ensures { counted.new ≡ counted.old }
-{
-    counted.core.tell_slow(micros);
-}
-
-fn take_slow<T: Time + Drop>(counted: &mut Counted<MeasuredHub<T>, T>) -> Option<Slow>
-    ensures { counted.new ≡ counted.old }
-{
-    counted.core.take_slow()
-}
-
-// A turn begins, before which so many microseconds were spent on the request.
-fn begin<T: Time + Drop>(counted: &mut Counted<MeasuredHub<T>, T>, worked: u64)
-    ensures { counted.new ≡ counted.old }
-{
-    counted.core.begin(worked);
-}
-
-// The microseconds of a turn.
-fn take_micros<T: Time + Drop>(counted: &mut Counted<MeasuredHub<T>, T>) -> u64
-    ensures { counted.new ≡ counted.old }
-{
-    counted.take_micros()
-}
-
-// Gives up the work on the query that a connection has under way.
-fn give_up_query<T: Time + Drop>(counted: &mut Counted<MeasuredHub<T>, T>, key: usize)
-    ensures { counted.new ≡ counted.old }
-{
-    if let Some(conn) = conn_of(key) {
-        counted.core.give_up(conn);
-    }
-}
-
-// Whether a share is for a reply that is to be given.
-fn is_for_reply(claim: Option<Claim>) -> bool {
-    match claim {
-        Some(claim) => matches!(claim.purpose, Purpose::Reply),
-        None => false,
-    }
 }
 
 // Whether a connection waits for memory.
