@@ -2,7 +2,7 @@
 use Rattle.std.proofs.Common.{◌≡◌, ℕ, Bool, true, false, List, [], ◌∷◌, ◌++◌, Option, Some, None, sym, ap, ◌∙◌, subst, refl, inl, inr}
 use Rattle.std.specs.Prelude.{◌==◌, if◌then◌else◌, MatchBool}
 use Rattle.std.proofs.lemmas.Bool.{cases_Bool, eqb-true, eqb-false}
-use Rattle.outbox.specs.Lines.{Line, Event, Readable, Declined, Answered, Writable, Ends, Fails, after, fresh, run}
+use Rattle.outbox.specs.Lines.{Line, Event, Readable, Declined, Answered, Writable, Ends, Fails, Worked, after, fresh, run}
 use Rattle.outbox.specs.Turns.{DoesAll}
 use Rattle.path_listen.specs.Answering as listen
 use Rattle.path_listen.specs.Acts as told
@@ -79,6 +79,7 @@ hub_does conn line (Answered reply ∷ es) old new d = (d.0.hub, (d.1.0, d.1.1.a
 hub_does conn line (Writable room ∷ es) old new d = (d.0.hub, ap (λ (m : Measured). m.hub) d.1, hub_does conn (after line (Writable room)) es d.0 new d.2)
 hub_does conn line (Ends ∷ es) old new d = (d.0.hub, ap (λ (m : Measured). m.hub) d.1, hub_does conn (after line Ends) es d.0 new d.2)
 hub_does conn line (Fails ∷ es) old new d = (d.0.hub, ap (λ (m : Measured). m.hub) d.1, hub_does conn (after line Fails) es d.0 new d.2)
+hub_does conn line (Worked ∷ es) old new d = (d.0.hub, ap (λ (m : Measured). m.hub) d.1, hub_does conn line es d.0 new d.2)
 
 all_happen : (lines : ℕ → Line) (done : List Act) (old new : Measured) → AllHappen lines done old new → told.AllHappen lines done old.hub new.hub
 all_happen lines [] old new d = ap (λ (m : Measured). m.hub) d

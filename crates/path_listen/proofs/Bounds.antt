@@ -26,12 +26,11 @@ use Rattle.tenant_map.proofs.Counts.{usage-dropped}
 use Rattle.tenant_store.specs.Payloads.{Text, found_in, found_bytes, hit_count, query_fault, AnswersQuery}
 use Rattle.tenant_store.proofs.FourBytes.{length-number}
 use Rattle.path_hub.specs.Answers.{IsAnswer, AnswersReading, is_no_memory, usage_payload}
-use Rattle.path_hub.specs.Tenants.{Step, ServesBody, ServesBy, BodyMayWant, map_of, is_short, short_number}
+use Rattle.path_hub.specs.Tenants.{ServesBody, ServesBy, BodyMayWant, map_of, is_short, short_number}
 use Rattle.path_hub.specs.Runs.{StepItem}
 use Rattle.path_hub.specs.Pending.{Takes}
 use Rattle.path_hub.specs.Sessions.{session}
 use Rattle.path_hub.specs.HubState.{HubState}
-use Rattle.path_listen.specs.Answering.{Answers}
 use Rattle.path_listen.specs.Replies.{body_at, IsMostFor, IsMostBy, IsMostTo, IsMostReply}
 
 -- ---- Payloads
