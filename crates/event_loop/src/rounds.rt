@@ -1,8 +1,8 @@
 //! The rounds of a loop: each waits for what is ready, takes connections in, and gives turns.
-ghost use Rattle.std.specs.Prelude.{◌≡◌, ℕ, None, IfOk, IsFalse, IsTrue};
+ghost use Rattle.std.specs.Prelude.{◌≡◌, ℕ, None, IfOk, OnOk, IsFalse, IsTrue};
 ghost use Rattle.hub_metrics.specs.Measuring.{measured};
 ghost use Rattle.open_connections.specs.Looping.{Stays, DoesSome, DoesAtMost, HasTurn, LetGo};
-ghost use Rattle.open_connections.specs.Opened.{lanes_of, connected_in};
+ghost use Rattle.open_connections.specs.Opened.{lanes_of, connected_in, has_time, IsPutOff};
 ghost use Rattle.open_connections.specs.Shares.{fresh_budgets};
 ghost use Rattle.event_loop.specs.Clocked.{IsNoted, NotesMoved};
 
@@ -377,7 +377,8 @@ impl<S: System + Drop, T: Time + Drop> Rounds<S, T> {
 
     // One turn for a connection that is due, where there is time for it in this round.
     fn serve<J: Journal>(&mut self, due: Due, journal: &mut J) -> Result<(), LoopFault>
-        ensures { DoesSome (lanes_of self.old.opened) (lanes_of self.new.opened) }
+        ensures lanes { DoesSome (lanes_of self.old.opened) (lanes_of self.new.opened) }
+        ensures kept { IsFalse (has_time due self.old.opened) → OnOk result (IsPutOff due self.old.opened self.new.opened) }
     {
         if self.opened.has_time(due) {
             self.take_turn(due.key, journal)
@@ -388,7 +389,8 @@ impl<S: System + Drop, T: Time + Drop> Rounds<S, T> {
 
     // Its turn comes in the next round.
     fn put_off(&mut self, due: Due) -> Result<(), LoopFault>
-        ensures { Stays (lanes_of self.old.opened) (lanes_of self.new.opened) }
+        ensures lanes { Stays (lanes_of self.old.opened) (lanes_of self.new.opened) }
+        ensures kept { OnOk result (IsPutOff due self.old.opened self.new.opened) }
     {
         Ok(self.opened.put_off(due)?)
     }

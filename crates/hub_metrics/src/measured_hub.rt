@@ -185,7 +185,7 @@ impl<T: Time + Drop> MeasuredHub<T> {
         self.worked = 0;
         if asked.command == QUERY && is_above(micros, self.bound) {
             self.slow = Some(Slow {
-                tenant: asked.tenant,
+                tenant: self.heard,
                 units: self.core.charge(),
                 micros,
             });

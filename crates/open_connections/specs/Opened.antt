@@ -1,10 +1,11 @@
 -- The connections that a loop has open, as its steps see them: this project's own.
-use Rattle.std.specs.Prelude.{◌≡◌, ℕ, List, map, Option, IfSome}
+use Rattle.std.specs.Prelude.{◌≡◌, ℕ, List, [], ◌∷◌, ◌++◌, map, Option, IfSome, Bool, nat_lt, slice_index}
 use Rattle.std.specs.Option.{option_and_then}
 use Rattle.slab.specs.Slab.{Slab, get, slab_len}
 use Rattle.outbox.specs.Lines.{Line}
 use Rattle.connection_turns.specs.declared.connection.Connection.{Connection}
 use Rattle.open_connections.specs.declared.open.Open.{Open}
+use Rattle.open_connections.specs.declared.due.Due.{Due}
 use Rattle.connection_turns.specs.Owed.{line_of}
 use Rattle.open_connections.specs.Looping.{Lanes}
 use Rattle.open_connections.specs.Shares.{limits_in}
@@ -18,6 +19,14 @@ bytes_of o = (o.read, o.written)
 
 abbrev pub lanes_of : {S T : Type 0} → Open S T → Lanes
 lanes_of o = record { hub = o.core; lines = lines_in o.connections; limits = limits_in o.budgets; bytes = bytes_of o }
+
+-- whether the turns of the connection's tenant took less than a span in this round
+abbrev pub has_time : {S T : Type 0} → Due → Open S T → Bool
+has_time due o = nat_lt (slice_index o.due.micros due.party) 1000
+
+-- its turn comes in the next round
+abbrev pub IsPutOff : {S T : Type 0} → Due → Open S T → Open S T → Type 0
+IsPutOff due old new = new.due.first.items ≡ old.due.first.items ++ (due ∷ [])
 
 -- how many are open
 abbrev pub connected_in : {S T : Type 0} → Open S T → ℕ

@@ -1,5 +1,5 @@
 //! The connections that are open, the hub that answers them, and the memory that they share.
-ghost use Rattle.std.specs.Prelude.{◌≡◌, ◌<◌, ◌≤◌, ◌^◌, ◌++◌, ◌∷◌, [], ℕ, None, IfOk, OnOk, IsFalse, MatchOption};
+ghost use Rattle.std.specs.Prelude.{◌≡◌, ◌<◌, ◌≤◌, ◌^◌, ◌++◌, ℕ, None, IfOk, OnOk, IsFalse, MatchOption};
 ghost use Rattle.slab.specs.Slab.{slab_len};
 ghost use Rattle.open_connections.specs.Looping.{Stays, Does, DoesAtMost, TakenIn, HasTurn, LetGo};
 ghost use Rattle.std.specs.Bool.{MatchBool};
@@ -8,7 +8,7 @@ ghost use Rattle.hub_metrics.specs.Measuring.{Opens, Closes, measured};
 ghost use Rattle.path_hub.specs.Tenants.{map_of};
 ghost use Rattle.tenant_map.specs.Quotas.{usage_of};
 ghost use Rattle.connection_turns.specs.Owed.{line_of};
-ghost use Rattle.open_connections.specs.Opened.{lanes_of, bytes_of, IsMarked};
+ghost use Rattle.open_connections.specs.Opened.{lanes_of, bytes_of, has_time, IsMarked, IsPutOff};
 ghost use Rattle.open_connections.specs.Shares.{fresh_budgets, IsWithin, StayFree, IsGivenBack, claim_at};
 
 use crate::budgets::Budgets;
@@ -237,14 +237,16 @@ impl<S: Peer, T: Time + Drop> Open<S, T> {
     }
 
     /// Whether a connection gets its turn in this round. Where the turns of its tenant took long in it, it is put off.
-    pub fn has_time(&self, due: Due) -> bool {
+    pub fn has_time(&self, due: Due) -> bool
+        ensures { result ≡ has_time due self.now }
+    {
         self.due.has_time(due)
     }
 
     /// Has a turn come in the next round, before the turns of those that had one in this round.
     pub fn put_off(&mut self, due: Due) -> Result<(), AllocError>
         ensures lanes { Stays (lanes_of self.old) (lanes_of self.new) }
-        ensures kept { OnOk result (self.new.due.first.items ≡ self.old.due.first.items ++ (due ∷ [])) }
+        ensures kept { OnOk result (IsPutOff due self.old self.new) }
     {
         self.due.put_off(due)
     }
