@@ -304,6 +304,23 @@ mod tests {
     }
 
     #[test]
+    fn slow_lines(rt: HostRuntime) -> Result<(), Fail> {
+        for (units, line) in [
+            (Some(5_107_334), "query of tenant 3: 412 ms, 5107334 units"),
+            (None, "query of tenant 3: 412 ms, refused"),
+        ] {
+            let slow = Slow {
+                tenant: Some(3),
+                units,
+                micros: 412_900,
+            };
+            let printed = format!(in rt.alloc(); "{}", Line::Slow(slow))?;
+            assert_eq!(rt; printed.as_str(), line);
+        }
+        Ok(())
+    }
+
+    #[test]
     fn names(rt: HostRuntime) -> Result<(), Fail> {
         for (how, name) in [
             (End::ReadFault, "ReadFault"),
