@@ -103,9 +103,12 @@ impl<T: Time + Drop> MeasuredHub<T> {
         self.worked = worked;
     }
 
-    /// The tenant that asked last in this turn.
-    pub fn heard(&self) -> Option<usize> {
-        self.heard
+    /// The tenant that asked last: in this turn, or before it.
+    pub fn heard(&self, before: Option<usize>) -> Option<usize> {
+        match self.heard {
+            Some(tenant) => Some(tenant),
+            None => before,
+        }
     }
 
     /// The microseconds that turns took for the request that is answered next.

@@ -421,16 +421,20 @@ impl<S: Peer, T: Time + Drop> Open<S, T> {
         ensures { Stays (lanes_of self.old) (lanes_of self.new) }
     {
         let micros = take_micros(&mut self.core);
+        let tenant = self.note_turn(key);
         let is_under_way = self.is_under_way(key);
-        let Some(connection) = self.connections.get_mut(key) else {
-            return;
-        };
-        connection.worked = self.core.inner().worked();
-        if let Some(tenant) = self.core.inner().heard() {
-            connection.tenant = Some(tenant);
-        }
-        let tenant = connection.tenant;
         self.due.count(tenant, micros, is_under_way);
+    }
+
+    // Notes what the hub tells of a turn, and returns the tenant that asked last on the connection.
+    fn note_turn(&mut self, key: usize) -> Option<usize>
+        ensures { Stays (lanes_of self.old) (lanes_of self.new) }
+    {
+        let hub = self.core.inner();
+        let connection = self.connections.get_mut(key)?;
+        connection.worked = hub.worked();
+        connection.tenant = hub.heard(connection.tenant);
+        connection.tenant
     }
 
     // Gives back what is done with of a share.
