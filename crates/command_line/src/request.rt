@@ -179,7 +179,9 @@ fn listen<'a>(alloc: Global) -> Result<Command<'a>, AllocError> {
         .arg(
             Arg::new(alloc, "log")
                 .long("log")
-                .help("Prints a line of counts to standard error each minute, and one for each slow query")
+                .help(
+                    "Prints a line of counts to standard error each minute, and one for each slow query",
+                )
                 .action(ArgAction::SetTrue),
         )?
         .arg(

@@ -12,6 +12,6 @@ mod open;
 
 pub use budgets::LEAST_MEMORY;
 pub use due::Due;
-pub use laws::loop_is_served;
 pub use hub_metrics::Slow;
+pub use laws::loop_is_served;
 pub use open::Open;
