@@ -40,6 +40,8 @@ pub struct MeasuredHub<T: Time + Drop> {
     heard: Option<usize>,
     // The microseconds that earlier turns took for the request that is answered next.
     worked: u64,
+    // The query of the turn's connection is under way.
+    is_working: bool,
     // The microseconds above which a query is slow, if that is told.
     bound: Option<u64>,
     // The slow query that was not told yet.
@@ -66,6 +68,7 @@ impl<T: Time + Drop> MeasuredHub<T> {
             latest: None,
             heard: None,
             worked: 0,
+            is_working: false,
             bound: None,
             slow: None,
         }
@@ -94,13 +97,14 @@ impl<T: Time + Drop> MeasuredHub<T> {
         slow
     }
 
-    /// A turn begins at a connection, for whose next request earlier ones took so many microseconds.
-    pub fn begin(&mut self, worked: u64)
+    /// A turn begins at a connection, for whose next request earlier ones took so many microseconds. A query of it is under way, or none is.
+    pub fn begin(&mut self, worked: u64, is_working: bool)
         ensures { self.new ≡ self.old }
     {
         self.latest = self.now();
         self.heard = None;
         self.worked = worked;
+        self.is_working = is_working;
     }
 
     /// The tenant that asked last: in this turn, or before it.
@@ -114,6 +118,11 @@ impl<T: Time + Drop> MeasuredHub<T> {
     /// The microseconds that turns took for the request that is answered next.
     pub fn worked(&self) -> u64 {
         self.worked
+    }
+
+    /// Whether a query of the turn's connection is under way.
+    pub fn is_working(&self) -> bool {
+        self.is_working
     }
 
     /// The hub.
@@ -156,6 +165,13 @@ impl<T: Time + Drop> MeasuredHub<T> {
         self.core.give_up(conn);
     }
 
+    /// Has a query go on for so many units from now on, as [`HubCore::share`] does.
+    pub fn share(&mut self, units: u64)
+        ensures { self.new ≡ self.old }
+    {
+        self.core.share(units);
+    }
+
     // Counts a reply to what was asked.
     fn count(&mut self, asked: Asked, reply: &[u8])
         ensures { Counts asked reply.now self.old self.new }
@@ -186,6 +202,7 @@ impl<T: Time + Drop> MeasuredHub<T> {
     {
         self.heard = asked.tenant;
         self.worked = 0;
+        self.is_working = false;
         if asked.command == QUERY && is_above(micros, self.bound) {
             self.slow = Some(Slow {
                 tenant: self.heard,
@@ -201,6 +218,7 @@ impl<T: Time + Drop> MeasuredHub<T> {
     {
         self.heard = asked.tenant;
         self.worked = self.lap();
+        self.is_working = self.core.has_gone_on();
     }
 
     fn now(&self) -> Option<Duration> {

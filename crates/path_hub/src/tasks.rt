@@ -1,6 +1,6 @@
 //! Queries under way, which are no part of a hub's state.
 
-ghost use Rattle.std.specs.Prelude.{◌≡◌, IfSome, OnOk, OnErr, None, Some, [], is_some};
+ghost use Rattle.std.specs.Prelude.{◌≡◌, IfSome, OnOk, OnErr, None, Some, []};
 ghost use Rattle.tenant_map.specs.Tenancy.{Tenancy};
 ghost use Rattle.path_hub.specs.declared.tasks.Asked.{Asked};
 ghost use Rattle.path_hub.specs.UnderWay.{AreOnWay, IsOf, SetsTask, has_other, task_at};
@@ -58,13 +58,6 @@ impl Tasks {
         ensures on_way { (t : Tenancy) → AreOnWay t self.old → AreOnWay t self.new }
     {
         self.take(conn);
-    }
-
-    /// Whether the connection has a query under way.
-    pub fn is_under_way(&self, conn: u32) -> bool
-        ensures { result ≡ is_some (task_at conn self.now) }
-    {
-        self.asked.contains_key(&conn)
     }
 
     /// Whether no more can be under way.

@@ -1,11 +1,11 @@
 //! The hub as the core of turns.
-ghost use Rattle.std.specs.Prelude.{◌≡◌, ◌↔◌, [], OnOk, OnErr, IsErrOf, IsSome, is_some, length, MatchOption};
+ghost use Rattle.std.specs.Prelude.{◌≡◌, ◌↔◌, [], OnOk, OnErr, IsErrOf, IsSome, IsTrue, is_some, length, MatchOption};
 ghost use Rattle.std.specs.Option.{option_map, option_map_or};
 ghost use Rattle.path_hub.specs.Sessions.{session};
 ghost use Rattle.path_listen.specs.Answering.{Opens, Closes};
 ghost use Rattle.path_listen.specs.Needs.{IsPart, IsNoPart};
 ghost use Rattle.path_listen.specs.Replies.{body_at, IsMostReply};
-ghost use Rattle.path_listen.specs.Asking.{asks};
+ghost use Rattle.path_listen.specs.Asking.{asks, is_first_tenants};
 ghost use Rattle.path_hub.specs.Tenants.{map_of};
 ghost use Rattle.tenant_map.specs.Quotas.{usage_of};
 ghost use Rattle.wire_frames.specs.Frames.{front};
@@ -18,7 +18,7 @@ use std::alloc::Global;
 use std::marker::Model;
 use tenant_map::Usage;
 
-/// The units for which a query goes on before others are served.
+/// The units for which a query goes on, unless another number is told.
 const SHARE: u64 = 10_000;
 
 /// A hub that answers one request at a time, and a query a share at a time, as [`outbox::turn`] needs it. Its value is the hub's.
@@ -27,6 +27,10 @@ pub struct HubCore {
     hub: Hub,
     alloc: Global,
     tasks: Tasks,
+    // The units for which a query goes on before others are served.
+    share: u64,
+    // The last step went on with a query.
+    has_gone_on: bool,
     // The units of the request that was answered last, where hits are its reply.
     charge: Option<u64>,
 }
@@ -51,6 +55,8 @@ impl HubCore {
             hub,
             alloc,
             tasks: Tasks::new(alloc),
+            share: SHARE,
+            has_gone_on: false,
             charge: None,
         }
     }
@@ -73,18 +79,27 @@ impl HubCore {
         ensures was { result ≡ is_some (session conn self.old.sessions) }
         ensures closes { Closes conn self.old self.new }
     {
-        self.tasks.abandon(conn);
+        self.give_up(conn);
         self.hub.disconnect(conn)
     }
 
     /// Whether the request that is answered next on a connection waits for a query of its tenant, which another connection has under way.
-    pub fn waits(&self, conn: u32) -> bool {
+    pub fn waits(&self, conn: u32) -> bool
+        ensures { IsTrue result → IsTrue (is_first_tenants conn self.now) }
+    {
         self.hub.waits(conn, &self.tasks)
     }
 
-    /// Whether a connection has a query under way.
-    pub fn is_under_way(&self, conn: u32) -> bool {
-        self.tasks.is_under_way(conn)
+    /// Has a query go on for so many units from now on before others are served.
+    pub fn share(&mut self, units: u64)
+        ensures { self.new ≡ self.old }
+    {
+        self.share = units;
+    }
+
+    /// Whether the step that was done last went on with a query, which is under way.
+    pub fn has_gone_on(&self) -> bool {
+        self.has_gone_on
     }
 
     /// Gives up the work on the query that a connection has under way, so that no request waits for it. It begins anew where it is answered next.
@@ -162,12 +177,13 @@ impl Core for HubCore {
 
     // The reply to a framing fault is the last. Nothing goes on for a connection of which no further request is answered.
     fn answer_next(&mut self, conn: u32, out: &mut Vec<u8>) -> Step {
+        self.has_gone_on = false;
         if self.hub.waits(conn, &self.tasks) {
             return Step::Working;
         }
         match self
             .hub
-            .answer_some(self.alloc, conn, SHARE, &mut self.tasks, out)
+            .answer_some(self.alloc, conn, self.share, &mut self.tasks, out)
         {
             Ok(Share::Replied { charge }) => {
                 self.charge = charge;
@@ -178,9 +194,12 @@ impl Core for HubCore {
                 }
             }
             Ok(Share::Idle) => Step::Idle,
-            Ok(Share::Working) => Step::Working,
+            Ok(Share::Working) => {
+                self.has_gone_on = true;
+                Step::Working
+            }
             Err(_) => {
-                self.tasks.abandon(conn);
+                self.give_up(conn);
                 Step::Refused
             }
         }
