@@ -447,7 +447,7 @@ impl<S: System + Drop, T: Time + Drop> Rounds<S, T> {
     {
         self.tell_slow(journal);
         match self.opened.settle(key, self.seconds.last()) {
-            Ok(()) => Ok(self.opened.schedule(key)?),
+            Ok(()) => Ok(()),
             Err(_) => self.finish(key, End::Memory, journal),
         }
     }

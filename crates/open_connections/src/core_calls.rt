@@ -5,6 +5,12 @@ use connection_turns::Counted;
 use hub_metrics::{MeasuredHub, Slow};
 use socket_poll::Time;
 
+/// The units for which a query goes on where others wait for turns.
+const SHARE: u64 = 1_000;
+
+/// The units for which it goes on where nobody does.
+const LONG_SHARE: u64 = 10_000;
+
 /// Tells queries that took longer than so many microseconds from now on.
 pub(crate) fn tell_slow<T: Time + Drop>(counted: &mut Counted<MeasuredHub<T>, T>, micros: u64)
     ensures { counted.new ≡ counted.old }
@@ -19,11 +25,25 @@ pub(crate) fn take_slow<T: Time + Drop>(counted: &mut Counted<MeasuredHub<T>, T>
     counted.core.take_slow()
 }
 
-/// A turn begins, before which so many microseconds were spent on the request.
-pub(crate) fn begin<T: Time + Drop>(counted: &mut Counted<MeasuredHub<T>, T>, worked: u64)
+/// A turn begins, before which so many microseconds were spent on the request, of which a query may be under way.
+pub(crate) fn begin<T: Time + Drop>(
+    counted: &mut Counted<MeasuredHub<T>, T>,
+    worked: u64,
+    is_working: bool,
+)
     ensures { counted.new ≡ counted.old }
 {
-    counted.core.begin(worked);
+    counted.core.begin(worked, is_working);
+}
+
+/// Where others wait for turns, a query goes on for few units at a time, and its turn ends behind them.
+pub(crate) fn share<T: Time + Drop>(counted: &mut Counted<MeasuredHub<T>, T>, is_shared: bool)
+    ensures { counted.new ≡ counted.old }
+{
+    counted.share(is_shared);
+    counted
+        .core
+        .share(if is_shared { SHARE } else { LONG_SHARE });
 }
 
 /// The microseconds of a turn.

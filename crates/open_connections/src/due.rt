@@ -9,6 +9,9 @@ use tenant_map::TENANT_LIMIT;
 /// The microseconds of turns behind which a tenant's further connections wait for the next round.
 const SPAN: u64 = 1_000;
 
+/// The rounds with connections of one party alone after which nobody else is expected.
+const LONE_ROUNDS: u32 = 16;
+
 /// The tenants, and one for all connections on which none asked.
 const PARTIES: usize = 257;
 
@@ -32,6 +35,8 @@ pub(crate) struct DueList {
     spare: Vec<Due>,
     // The microseconds that the turns of each party took in this round.
     micros: [u64; PARTIES],
+    // The rounds since one in which connections of several parties had a turn.
+    since_shared: u32,
 }
 
 impl DueList {
@@ -45,6 +50,7 @@ impl DueList {
             rest: Vec::new(alloc),
             spare: Vec::new(alloc),
             micros: [0; PARTIES],
+            since_shared: LONE_ROUNDS,
         }
     }
 
@@ -100,9 +106,20 @@ impl DueList {
         self.first.extend_from_slice(self.rest.as_slice())?;
         self.rest.clear();
         self.micros = [0; PARTIES];
+        self.since_shared = if are_apart(self.first.as_slice()) {
+            0
+        } else {
+            self.since_shared.saturating_add(1)
+        };
         let mut room = mem::replace(&mut self.spare, Vec::new(self.alloc));
         room.clear();
         Ok(mem::replace(&mut self.first, room))
+    }
+
+    /// Whether connections of several parties have a turn in this round, or had one shortly before: who asks again has none while its next
+    /// request is on its way.
+    pub fn is_shared(&self) -> bool {
+        self.since_shared < LONE_ROUNDS
     }
 
     /// Takes the room of a list back.
@@ -129,6 +146,18 @@ impl DueList {
         let more = if is_under_way { SPAN } else { micros };
         self.micros[party] = self.micros[party].saturating_add(more);
     }
+}
+
+// Whether these are of several parties.
+fn are_apart(list: &[Due]) -> bool {
+    let Some(first) = list.first() else {
+        return false;
+    };
+    let mut are_apart = false;
+    for due in list {
+        are_apart |= due.party != first.party;
+    }
+    are_apart
 }
 
 // Whose time the turns of a connection take, on which this tenant asked last.

@@ -1,6 +1,6 @@
 //! The connections that are open, the hub that answers them, and the memory that they share.
-ghost use Rattle.std.specs.Prelude.{◌≡◌, ◌<◌, ◌≤◌, ◌^◌, ◌++◌, ℕ, None, IfOk, OnOk, IsFalse, MatchOption};
-ghost use Rattle.slab.specs.Slab.{slab_len};
+ghost use Rattle.std.specs.Prelude.{◌≡◌, ◌<◌, ◌≤◌, ◌^◌, ◌++◌, ℕ, None, IfOk, OnOk, IfSome, IsFalse, MatchOption};
+ghost use Rattle.slab.specs.Slab.{get, slab_len};
 ghost use Rattle.open_connections.specs.Looping.{Stays, Does, DoesAtMost, TakenIn, HasTurn, LetGo};
 ghost use Rattle.std.specs.Bool.{MatchBool};
 ghost use Rattle.std.specs.Option.{option_map};
@@ -8,11 +8,11 @@ ghost use Rattle.hub_metrics.specs.Measuring.{Opens, Closes, measured};
 ghost use Rattle.path_hub.specs.Tenants.{map_of};
 ghost use Rattle.tenant_map.specs.Quotas.{usage_of};
 ghost use Rattle.connection_turns.specs.Owed.{line_of};
-ghost use Rattle.open_connections.specs.Opened.{lanes_of, bytes_of, has_time, IsMarked, IsPutOff};
+ghost use Rattle.open_connections.specs.Opened.{lanes_of, bytes_of, has_time, IsMarked, IsPutOff, IsStanding, IsListed, IsAsDue};
 ghost use Rattle.open_connections.specs.Shares.{fresh_budgets, IsWithin, StayFree, IsGivenBack, claim_at};
 
 use crate::budgets::Budgets;
-use crate::core_calls::{begin, give_up_query, take_micros, take_slow, tell_slow};
+use crate::core_calls::{begin, give_up_query, share, take_micros, take_slow, tell_slow};
 use crate::due::{Due, DueList};
 use crate::needs::{After, covers, is_for_reply, left_of, need, piece_of};
 use admin_pages::Metrics;
@@ -313,23 +313,16 @@ impl<S: Peer, T: Time + Drop> Open<S, T> {
         }
     }
 
-    // What a connection's turn would do, which begins. It is due no more. A query that is under way goes on with a share of memory only.
+    // What a connection's turn would do, which begins. It is due no more.
     fn plan(&mut self, key: usize) -> Option<Plan>
         ensures { Stays (lanes_of self.old) (lanes_of self.new) }
     {
-        let has_room = self.budgets.has_room(ROOM) && !self.is_under_way(key);
+        let has_room = self.budgets.has_room(ROOM);
         let connection = self.connections.get_mut(key)?;
         connection.is_due = false;
-        begin(&mut self.core, connection.worked);
+        begin(&mut self.core, connection.worked, connection.is_working);
+        share(&mut self.core, self.due.is_shared());
         Some(connection.plan(has_room))
-    }
-
-    // Whether a connection has a query under way.
-    fn is_under_way(&self, key: usize) -> bool {
-        match conn_of(key) {
-            Some(conn) => self.core.inner().hub().is_under_way(conn),
-            None => false,
-        }
     }
 
     // Whether a turn would answer a request that waits for a query of its tenant, which another connection has under way.
@@ -397,14 +390,24 @@ impl<S: Peer, T: Time + Drop> Open<S, T> {
         connection.moved = now;
     }
 
-    /// After a turn: what is done with is given back, and what the next step needs is asked for.
+    /// After a turn: what is done with is given back, and what the next step needs is asked for. If the connection can go on, it gets a further
+    /// turn; if not, it has no query under way.
     pub fn settle(&mut self, key: usize, now: u64) -> Result<(), AllocError>
+        ensures lanes { Stays (lanes_of self.old) (lanes_of self.new) }
+        ensures standing { OnOk result (IsStanding key self.new) }
+    {
+        self.settle_memory(key, now)?;
+        self.give_turn(key)
+    }
+
+    // What is done with is given back, and what the next step needs is asked for.
+    fn settle_memory(&mut self, key: usize, now: u64) -> Result<(), AllocError>
         ensures { Stays (lanes_of self.old) (lanes_of self.new) }
     {
         let Some(conn) = conn_of(key) else {
             return Ok(());
         };
-        self.count_turn(key);
+        self.count_turn(key, now);
         let waiting = self.core.inner().hub().waiting(conn);
         let Some(connection) = self.connections.get_mut(key) else {
             return Ok(());
@@ -417,24 +420,31 @@ impl<S: Peer, T: Time + Drop> Open<S, T> {
     }
 
     // Counts the time that a turn took.
-    fn count_turn(&mut self, key: usize)
+    fn count_turn(&mut self, key: usize, now: u64)
         ensures { Stays (lanes_of self.old) (lanes_of self.new) }
     {
         let micros = take_micros(&mut self.core);
-        let tenant = self.note_turn(key);
-        let is_under_way = self.is_under_way(key);
-        self.due.count(tenant, micros, is_under_way);
+        self.note_turn(key, now);
+        if let Some(connection) = self.connections.get(key) {
+            self.due
+                .count(connection.tenant, micros, connection.is_working);
+        }
     }
 
-    // Notes what the hub tells of a turn, and returns the tenant that asked last on the connection.
-    fn note_turn(&mut self, key: usize) -> Option<usize>
+    // Notes what the hub tells of a turn.
+    fn note_turn(&mut self, key: usize, now: u64)
         ensures { Stays (lanes_of self.old) (lanes_of self.new) }
     {
         let hub = self.core.inner();
-        let connection = self.connections.get_mut(key)?;
+        let Some(connection) = self.connections.get_mut(key) else {
+            return;
+        };
         connection.worked = hub.worked();
         connection.tenant = hub.heard(connection.tenant);
-        connection.tenant
+        connection.is_working = hub.is_working();
+        if connection.is_working && self.core.has_worked() {
+            connection.renew(now);
+        }
     }
 
     // Gives back what is done with of a share.
@@ -533,13 +543,22 @@ impl<S: Peer, T: Time + Drop> Open<S, T> {
         self.schedule(key)
     }
 
-    /// A connection that can go on gets a further turn. One that can't has no query under way: so nobody waits for one that waits.
-    pub fn schedule(&mut self, key: usize) -> Result<(), AllocError>
+    // What [`Open::give_turn`] does, of which no more is said here than that nothing else changes.
+    fn schedule(&mut self, key: usize) -> Result<(), AllocError>
         ensures lanes { Stays (lanes_of self.old) (lanes_of self.new) }
         ensures budgets { self.new.budgets ≡ self.old.budgets }
     {
+        self.give_turn(key)
+    }
+
+    // A connection that can go on gets a further turn. One that can't has no query under way: so nobody waits for one that waits.
+    fn give_turn(&mut self, key: usize) -> Result<(), AllocError>
+        ensures lanes { Stays (lanes_of self.old) (lanes_of self.new) }
+        ensures budgets { self.new.budgets ≡ self.old.budgets }
+        ensures standing { OnOk result (IsStanding key self.new) }
+        ensures listed { OnOk result (IsListed key self.old self.new) }
+    {
         let has_room = self.budgets.has_room(ROOM);
-        let is_under_way = self.is_under_way(key);
         let Some(connection) = self.connections.get_mut(key) else {
             return Ok(());
         };
@@ -551,15 +570,21 @@ impl<S: Peer, T: Time + Drop> Open<S, T> {
             return Ok(());
         }
         connection.is_due = true;
-        let tenant = connection.tenant;
-        self.due.add(key, tenant, is_under_way)
+        let (tenant, is_working) = (connection.tenant, connection.is_working);
+        self.due.add(key, tenant, is_working)
     }
 
     // A connection that gets no turn has no query under way.
     fn give_up_query(&mut self, key: usize)
         ensures lanes { Stays (lanes_of self.old) (lanes_of self.new) }
         ensures budgets { self.new.budgets ≡ self.old.budgets }
+        ensures due { IsAsDue key self.old self.new }
+        ensures given_up { IfSome (get self.new.connections key) (λ c. IsFalse c.is_working) }
     {
+        let Some(connection) = self.connections.get_mut(key) else {
+            return;
+        };
+        connection.is_working = false;
         if let Some(conn) = conn_of(key) {
             give_up_query(&mut self.core, conn);
         }
