@@ -3,8 +3,8 @@
 
 It compiles bench/many_echo.c and bench/many_load.c (cc), starts the program as `path_server listen`, the loop in C and, where it is
 installed, Redis, and loads them in turns. Each line has for each of them the middle one of five rates and the times of a request. Then come
-the bytes that an idle connection takes in the process, and the times of requests beside others that take long or come without a pause
-(bench/many_flood.c). The program is the one that bin/build makes, or the one that the environment's PATH_SERVER names.
+the bytes that an idle connection takes in the process, and the times of requests beside others that take long or come without a pause,
+also of another tenant (bench/many_flood.c). The program is the one that bin/build makes, or the one that the environment's PATH_SERVER names.
 """
 import contextlib
 import resource
@@ -15,7 +15,7 @@ import tempfile
 import time
 from pathlib import Path
 
-from running import compiled, get, listening, need_program, put, query, read_exactly, redis, redis_words, reply, request, resident, started, USAGE
+from running import KEY, OTHER, compiled, get, listening, need_program, put, query, read_exactly, redis, redis_words, reply, request, resident, started, USAGE
 
 TURNS = 5
 COUNTS = (1, 100, 1_000, 10_000)
@@ -29,6 +29,17 @@ STILL = {"is idle after a request": (request(USAGE), 21), "announces the longest
 # other connections: what they ask, how many they are, and how many requests each has on its way; 0 as many as there is room for
 BESIDE = {"nothing else": None, "one connection that repeats a query on 1 MiB": (query(COSTLY, b"q"), 1, 1),
           "four that send GET without a pause": (get(b"n"), 4, 0), "four with 64 queries on 1 MiB on their way": (query(COSTLY, b"q"), 4, 64)}
+# another tenant's connections, each with one query on its way: on many documents of 64 KiB, and on one as long as may be; Redis does the same by a script
+PART = LARGE[: LARGE.rindex(b",", 0, 65_535)] + b"]"
+PARTS = 150
+WHOLE = b"[" + b",".join(b'{"id":%d,"price":%d,"stock":%d}' % (at, at % 97, at % 1_009) for at in range(113_000)) + b"]"
+OF_ANOTHER = {"one connection that repeats a query on 150 documents of 64 KiB": (b"p", 1), "10 such connections": (b"p", 10),
+              "100 such connections": (b"p", 100), "one connection that repeats a query on a document of 4 MiB": (b"w", 1)}
+SCRIPT = b"""local n = 0
+for _, text in ipairs(redis.call('LRANGE', ARGV[1], 0, -1)) do
+    for _, it in ipairs(cjson.decode(text)) do if it.price < 10 and it.stock > 250 then n = n + 1 end end
+end
+return n"""
 
 
 def times(load, port, count, seconds, asked=OURS):
@@ -110,6 +121,46 @@ def beside(seconds, turns=TURNS):
                 yield name, count, middle(rows)
 
 
+def stored(port, requests):
+    """Sends each request once, and returns the last reply, which has fewer bytes than one read gives."""
+    with socket.create_connection(("127.0.0.1", port)) as connection:
+        for request in requests:
+            connection.sendall(request)
+            last = connection.recv(64)
+    return last
+
+
+def beside_another(seconds, turns=TURNS):
+    """The times of requests on one connection, alone and beside another tenant's queries, and the same of Redis where it is installed."""
+    texts = [*((b"d%d" % at, PART, b"p") for at in range(PARTS)), (b"d", WHOLE, b"w")]
+    with contextlib.ExitStack() as stack:
+        folder = stack.enter_context(tempfile.TemporaryDirectory())
+        load, flood = compiled(folder, "many_load.c"), compiled(folder, "many_flood.c")
+        port, theirs = stack.enter_context(listening(f"{KEY.hex()},{OTHER.hex()}"))[1], stack.enter_context(redis())[1]
+        stored(port, [put(*words, OTHER) for words in texts])
+        servers = {"path_server": (port, OURS, lambda to: (query(COSTLY, to, OTHER), []))}
+        if theirs:
+            stored(theirs, [redis_words(b"RPUSH", to, text) for _, text, to in texts])
+            asked = {to: redis_words(b"EVAL", SCRIPT, b"0", to) for to in (b"p", b"w")}
+            lengths = {to: len(stored(theirs, [it])) for to, it in asked.items()}
+            servers["Redis"] = (theirs, OF_REDIS, lambda to: (asked[to], [str(lengths[to])]))
+        for name, others in [("nothing else", None), *OF_ANOTHER.items()]:
+            rows = {it: [] for it in servers}
+            for _ in range(turns):
+                for it, (port, ask, query_on) in servers.items():
+                    if others:
+                        request, more = query_on(others[0])
+                        words = [flood, str(port), str(others[1]), str(seconds + 1), "1", *more]
+                        flooding = subprocess.Popen(words, stdin=subprocess.PIPE, stdout=subprocess.DEVNULL)
+                        flooding.stdin.write(request)
+                        flooding.stdin.close()
+                        time.sleep(0.5)
+                    rows[it].append(rates(load, port, 1, seconds, ask))
+                    if others:
+                        flooding.wait()
+            yield name, {it: middle(them) for it, them in rows.items()}
+
+
 def main():
     need_program()
     allow_descriptors()
@@ -121,6 +172,8 @@ def main():
         print(f"a connection that {name}: {idle(sent, replies):.0f} bytes in the process", flush=True)
     for name, count, row in beside(seconds):
         print(told.format(f"{count} beside {name}", *row), flush=True)
+    for name, rows in beside_another(seconds):
+        print(f"one of another tenant beside {name}:", "; ".join(told.format(it, *row) for it, row in rows.items()), flush=True)
 
 
 if __name__ == "__main__":

@@ -1,6 +1,6 @@
-/* Sends one request over and over on some connections: many_flood PORT CONNECTIONS SECONDS AHEAD, the request on standard input. Where
-   AHEAD is 0, it sends without a pause and throws away what comes; else so many requests are on their way on each connection. One thread,
-   by epoll. Prints how many replies' bytes came. */
+/* Sends one request over and over on some connections: many_flood PORT CONNECTIONS SECONDS AHEAD [LENGTH], the request on standard input. Where
+   AHEAD is 0, it sends without a pause and throws away what comes; else so many requests are on their way on each connection. A reply is a frame, or
+   has LENGTH bytes. One thread, by epoll. Prints how many replies' bytes came. */
 #include <arpa/inet.h>
 #include <netinet/tcp.h>
 #include <stdint.h>
@@ -25,7 +25,7 @@ struct peer {
 
 static unsigned char request[MOST], piece[PIECE];
 static size_t size;
-static long ahead, bytes;
+static long ahead, bytes, fixed;
 
 static double now(void)
 {
@@ -57,7 +57,13 @@ static void join(struct peer *peer, int port, int poll)
 static void count(struct peer *peer, const unsigned char *from, size_t some)
 {
     for (size_t at = 0; at < some;) {
-        if (peer->came < 4) {
+        if (fixed) {
+            at++;
+            if (++peer->came == (size_t)fixed) {
+                peer->came = 0;
+                peer->on_the_way--;
+            }
+        } else if (peer->came < 4) {
             peer->length = peer->length << 8 | from[at++];
             peer->came++;
         } else {
@@ -65,7 +71,7 @@ static void count(struct peer *peer, const unsigned char *from, size_t some)
             at += step;
             peer->came += step;
         }
-        if (peer->came >= 4 && peer->came == 4 + (size_t)peer->length) {
+        if (!fixed && peer->came >= 4 && peer->came == 4 + (size_t)peer->length) {
             peer->came = peer->length = 0;
             peer->on_the_way--;
         }
@@ -99,8 +105,9 @@ static int reads(struct peer *peer)
 
 int main(int count_of_words, char **words)
 {
-    if (count_of_words != 5)
+    if (count_of_words != 5 && count_of_words != 6)
         return 2;
+    fixed = count_of_words == 6 ? atol(words[5]) : 0;
     int port = atoi(words[1]), connections = atoi(words[2]), poll = epoll_create1(0);
     double stop = now() + atof(words[3]);
     ahead = atol(words[4]);

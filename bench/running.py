@@ -15,6 +15,7 @@ TOP = Path(__file__).resolve().parent.parent
 PROGRAM = os.environ.get("PATH_SERVER") or str(TOP / "crates/path_program/out/path_program")
 LIBRARY = os.environ.get("PATH_BENCH") or str(TOP / "crates/path_bench/out/libpath_bench.a")
 KEY = bytes.fromhex("00112233445566778899aabbccddeeff")
+OTHER = bytes.fromhex("ffeeddccbbaa99887766554433221100")
 PUT, GET, QUERY, USAGE = 1, 2, 5, 7
 PATIENCE = 30
 
@@ -43,8 +44,8 @@ def get(document, collection=b"c"):
     return request(GET, name(collection) + name(document))
 
 
-def query(text, collection=b"c"):
-    return request(QUERY, name(collection) + text)
+def query(text, collection=b"c", key=KEY):
+    return request(QUERY, name(collection) + text, key)
 
 
 def reply(payload=b""):

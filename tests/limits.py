@@ -3,7 +3,7 @@
 
 Memory: many clients that put large texts at once, with ample memory and with the least; peers that read nothing of what they asked for, with
 a key and without one; half frames, with a key and without one; peers that stall, and peers that send a byte at a time, while others wait for what
-they hold. Connections: idle ones and half frames at the limit on connections and at that of descriptors. Standard error and standard input of
+they hold; queries that take longer than `--frame-time` side by side. Connections: idle ones and half frames at the limit on connections and at that of descriptors. Standard error and standard input of
 each kind. Time: a long reply that is read slowly beside an idle limit, and requests that came while the server was busy for longer than it.
 In each case those that can go on do, within a bound. NAMEs are those of the cases to run, all where there is none. long/long_limits.py has
 the same with larger numbers.
@@ -25,6 +25,7 @@ from path_client import parse_address
 
 LEAST = 14_680_072
 """The least limit on memory: what a longest request and a longest reply take, with their lengths."""
+LONGEST_REPLY = 8_388_612
 BESIDE = 65_536
 """What a connection may hold beside the limit on memory."""
 STRANGER = bytes([77]) * 16
@@ -37,14 +38,15 @@ def put(name, text, key=KEY):
     return frame(1, b"\x01c" + bytes([len(name)]) + name + text, key)
 
 
-def query(text):
-    return frame(5, b"\x01c" + text)
+def query(text, key=KEY):
+    return frame(5, b"\x01c" + text, key)
 
 
 LONG_QUERY = query(b"$['b','b']")
 """A reply of 8,000,000 bytes and a few: twice a value of 4,000,000 bytes."""
 TOO_LONG_QUERY = query(b"$['b','b','b']")
 TOO_LONG_REPLY = bytes.fromhex("000000051400000001")
+NO_HITS = bytes.fromhex("00000009000000000100000000")
 
 
 def at_most(report, name, most, got):
@@ -265,6 +267,28 @@ def stalled(report):
             for connection in holders:
                 connection.close()
             server.finish(report)
+
+
+def side_by_side(report, tenants):
+    """Queries of so many tenants at once, of which two wait for what the others hold, are all answered, although each takes longer than the frame time."""
+    keys = [bytes([97 + place]) * 16 for place in range(tenants)]
+    text = b"[" + b",".join(b'{"a":%d}' % at for at in range(600)) + b"]"
+    dear = b"$[?" + b"||".join([b"count(@.*)>9"] * 26) + b"]"
+    memory = LEAST + (tenants - 3) * LONGEST_REPLY
+    with Listening(keys, "--memory", str(memory), "--frame-time", "1") as server:
+        opened = [open_connection(server.address) for _ in keys]
+        for connection, key in zip(opened, keys):
+            texts = [put(b"%d" % at, text, key) for at in range(180)]
+            report.case("texts for queries side by side", "", PUT_REPLY * 180, exchange(connection, b"".join(texts), 9 * 180))
+        began = time.monotonic()
+        for connection, key in zip(opened, keys):
+            connection.sendall(query(dear, key))
+        for connection in opened:
+            report.case("a reply to a query side by side", "", NO_HITS, exchange(connection, b"", len(NO_HITS)))
+            connection.close()
+        report.case("the ends of queries side by side", "", [], names_of(server))
+        print(f"{tenants} queries side by side took {time.monotonic() - began:.1f} s", flush=True)
+        server.finish(report)
 
 
 def held_without_others(report):
@@ -512,6 +536,7 @@ def cases(is_short):
     yield strangers, 50 if is_short else 300
     yield deaf_strangers, 20 if is_short else 100
     yield (stalled,)
+    yield side_by_side, 14
     yield (held_without_others,)
     yield spare, 200 if is_short else 10_000
     yield parts_at_the_limit, 50 if is_short else 1_000

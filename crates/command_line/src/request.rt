@@ -23,6 +23,9 @@ const MOST_BYTES: u64 = 1 << 50;
 /// The longest time in seconds, a year.
 const MOST_SECONDS: u64 = 31_536_000;
 
+/// The longest time in milliseconds, a little more than an hour.
+const MOST_MILLISECONDS: u64 = 4_000_000;
+
 const KEYS_HELP: &str = "The tenants' keys, 32 hexadecimal digits each, separated by commas";
 
 const ADDRESS_HELP: &str = "Host and port, such as 127.0.0.1:7000 or [::1]:7000";
@@ -67,8 +70,10 @@ pub struct Listening<'a> {
     pub frame_time: u64,
     /// The seconds that a connection must have been idle to make room for a new one.
     pub spare: u64,
-    /// Whether a line of counts is printed each minute.
+    /// Whether a line of counts is printed each minute, and one for each slow query.
     pub log: bool,
+    /// The milliseconds above which a query is slow.
+    pub slow: u32,
     /// The administration address.
     pub admin: Option<&'a str>,
 }
@@ -174,8 +179,20 @@ fn listen<'a>(alloc: Global) -> Result<Command<'a>, AllocError> {
         .arg(
             Arg::new(alloc, "log")
                 .long("log")
-                .help("Prints a line of counts to standard error each minute")
+                .help(
+                    "Prints a line of counts to standard error each minute, and one for each slow query",
+                )
                 .action(ArgAction::SetTrue),
+        )?
+        .arg(
+            option(
+                alloc,
+                "slow",
+                "MILLISECONDS",
+                "With --log, prints a line for each query that takes longer than this",
+            )
+            .default_value("100")
+            .value_parser(ValueParser::Unsigned(1, MOST_MILLISECONDS)),
         )
 }
 
@@ -264,6 +281,7 @@ fn listen_of<'a>(words: &ArgMatches<'a>) -> Option<Listening<'a>> {
         frame_time: words.get_one("frame-time")?,
         spare: words.get_one("spare")?,
         log: words.get_flag("log"),
+        slow: words.get_one("slow")?,
         admin: words.get_str("admin"),
     })
 }

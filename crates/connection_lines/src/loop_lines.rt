@@ -1,6 +1,6 @@
 //! The lines on standard error that a server of many connections prints.
 
-use event_loop::{End, Ending, Gate, Held, Journal, Totals};
+use event_loop::{End, Ending, Gate, Held, Journal, Slow, Totals};
 use jiff::Timestamp;
 use std::fmt;
 use std::time::{Clock, SystemTime, UNIX_EPOCH};
@@ -115,6 +115,10 @@ impl<'a, R: Eprint + Clock> Journal for LoopLines<'a, R> {
         }
     }
 
+    fn slow(&mut self, slow: &Slow) {
+        self.tell(Line::Slow(*slow));
+    }
+
     fn held(&mut self, limit: Held, totals: &Totals) {
         self.tell(Line::Held(limit, totals.connected));
     }
@@ -162,6 +166,8 @@ enum Line<'a> {
     Held(Held, usize),
     /// What was done so far.
     Counts(&'a Totals),
+    /// A query took long.
+    Slow(Slow),
 }
 
 impl<'a> fmt::Display for Line<'a> {
@@ -180,6 +186,27 @@ impl<'a> fmt::Display for Line<'a> {
                 write!(f, "{what}, open {count}")
             }
             Line::Counts(totals) => write!(f, "{}", CountLine(totals)),
+            Line::Slow(slow) => write!(f, "{}", SlowLine(*slow)),
+        }
+    }
+}
+
+/// The line of a slow query, without its line feed. It has nothing that was sent.
+#[derive(Clone, Copy)]
+struct SlowLine(Slow);
+
+impl fmt::Display for SlowLine {
+    fn fmt<W: fmt::Write>(&self, f: &mut fmt::Formatter<W>) -> fmt::Result {
+        write!(f, "query of ")?;
+        match self.0.tenant {
+            Some(tenant) => write!(f, "tenant {tenant}")?,
+            None => write!(f, "no tenant")?,
+        }
+        let millis = self.0.micros / 1_000;
+        write!(f, ": {millis} ms, ")?;
+        match self.0.units {
+            Some(units) => write!(f, "{units} units"),
+            None => write!(f, "refused"),
         }
     }
 }
@@ -273,6 +300,23 @@ mod tests {
         let printed = format!(in rt.alloc(); "{} {}", Time(1_764_155_575), Line::Ended(ending))?;
         let wanted = "2025-11-26T11:12:55Z connection 7 from 127.0.0.1:40001: FrameFault";
         assert_eq!(rt; printed.as_str(), wanted);
+        Ok(())
+    }
+
+    #[test]
+    fn slow_lines(rt: HostRuntime) -> Result<(), Fail> {
+        for (units, line) in [
+            (Some(5_107_334), "query of tenant 3: 412 ms, 5107334 units"),
+            (None, "query of tenant 3: 412 ms, refused"),
+        ] {
+            let slow = Slow {
+                tenant: Some(3),
+                units,
+                micros: 412_900,
+            };
+            let printed = format!(in rt.alloc(); "{}", Line::Slow(slow))?;
+            assert_eq!(rt; printed.as_str(), line);
+        }
         Ok(())
     }
 

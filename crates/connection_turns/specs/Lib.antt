@@ -2,3 +2,4 @@ pub mod Counting
 pub mod Turning
 pub mod Sockets
 pub mod Owed
+pub mod Held

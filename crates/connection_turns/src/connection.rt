@@ -1,6 +1,7 @@
 //! One connection and what is known of it.
 ghost use Rattle.std.specs.Prelude.{◌≡◌, ◌<◌, ◌≤◌, length, Some, None};
 ghost use Rattle.outbox.specs.Lines.{fresh};
+ghost use Rattle.connection_turns.specs.Held.{renewed};
 ghost use Rattle.connection_turns.specs.Owed.{line_of};
 ghost use Rattle.connection_turns.specs.Turning.{TakesTurn};
 
@@ -83,6 +84,12 @@ pub struct Connection<S: Peer> {
     pub is_due: bool,
     /// A frame came in part, or is not answered.
     pub has_part: bool,
+    /// The place of the last tenant that asked on it.
+    pub tenant: Option<usize>,
+    /// The microseconds that the request which is answered next took so far.
+    pub worked: u64,
+    /// A query of it is under way.
+    pub is_working: bool,
 }
 
 impl<S: Peer> Connection<S> {
@@ -108,6 +115,9 @@ impl<S: Peer> Connection<S> {
             is_known: false,
             is_due: false,
             has_part: false,
+            tenant: None,
+            worked: 0,
+            is_working: false,
         }
     }
 
@@ -128,12 +138,21 @@ impl<S: Peer> Connection<S> {
         self.claim = granted(self.claim, ticket, now);
     }
 
+    /// Its query went on in this second: the time for which it may hold its share begins anew.
+    pub fn renew(&mut self, now: u64)
+        ensures line { line_of self.new ≡ line_of self.old }
+        ensures claim { self.new.claim ≡ renewed now self.old.claim }
+    {
+        self.claim = renewed(self.claim, now);
+    }
+
     /// What its next turn does: all where there is room for any reply and its peer takes what it is owed, and else one thing after the other.
+    /// While a query of it is under way, it goes on with a share of memory only.
     pub fn plan(&self, has_room: bool) -> Plan {
         match &self.claim {
             Some(claim) => self.plan_with(claim),
             None => {
-                if has_room && self.outbox.owed().len() < ALLOWANCE {
+                if has_room && !self.is_working && self.outbox.owed().len() < ALLOWANCE {
                     Plan::All
                 } else {
                     self.plan_without()
@@ -312,6 +331,7 @@ impl<S: Peer> Connection<S> {
     {
         self.socket.stream.end_writing();
         self.claim = None;
+        self.is_working = false;
         self.moved = now;
         self.phase = Phase::Lingering;
     }
@@ -410,5 +430,18 @@ fn granted(claim: Option<Claim>, ticket: u64, now: u64) -> Option<Claim> {
             ..claim
         }),
         _ => claim,
+    }
+}
+
+// A share that is held since this second.
+fn renewed(claim: Option<Claim>, now: u64) -> Option<Claim>
+    ensures { result ≡ renewed now claim }
+{
+    match claim {
+        Some(claim) => Some(Claim {
+            since: now,
+            ..claim
+        }),
+        None => None,
     }
 }

@@ -23,8 +23,12 @@ pub struct Counted<C: Core, T: Time + Drop> {
     has_heard: bool,
     // When this turn began, where the clock tells it.
     began: Option<Duration>,
-    // This turn answers one request.
+    // This turn answers one request at most.
     is_single: bool,
+    // A share of work on a query was done in this turn.
+    has_worked: bool,
+    // Others wait for a turn: this one ends behind a share of work on a query.
+    is_shared: bool,
     // How many it answered.
     answered: u32,
 }
@@ -48,6 +52,8 @@ impl<C: Core, T: Time + Drop> Counted<C, T> {
             has_heard: false,
             began: None,
             is_single: false,
+            has_worked: false,
+            is_shared: false,
             answered: 0,
         }
     }
@@ -64,6 +70,13 @@ impl<C: Core, T: Time + Drop> Counted<C, T> {
         &self.counts
     }
 
+    /// From now on a turn ends behind a share of work on a query where others wait for one, and else behind its time.
+    pub fn share(&mut self, is_shared: bool)
+        ensures { self.new ≡ self.old }
+    {
+        self.is_shared = is_shared;
+    }
+
     /// A turn begins, which answers one request or as many as there is time for.
     pub(crate) fn begin(&mut self, is_single: bool)
         ensures { self.new ≡ self.old }
@@ -72,12 +85,37 @@ impl<C: Core, T: Time + Drop> Counted<C, T> {
         self.has_heard = false;
         self.began = self.time.now();
         self.is_single = is_single;
+        self.has_worked = false;
         self.answered = 0;
     }
 
     /// How many requests were answered in this turn.
     pub fn answered(&self) -> u32 {
         self.answered
+    }
+
+    /// Whether a share of work on a query was done in this turn.
+    pub fn has_worked(&self) -> bool {
+        self.has_worked
+    }
+
+    /// The microseconds since this turn began, told once. 0 where the clock does not tell them.
+    pub fn take_micros(&mut self) -> u64
+        ensures { self.new ≡ self.old }
+    {
+        let began = self.began;
+        self.began = None;
+        match (began, self.time.now()) {
+            (Some(began), Some(now)) => {
+                u64::try_from(now.saturating_sub(began).as_micros()).unwrap_or(u64::MAX)
+            }
+            _ => 0,
+        }
+    }
+
+    // Whether this turn did what it may do, however long it took.
+    fn is_done(&self) -> bool {
+        self.is_single && self.answered > 0 || self.is_shared && self.has_worked
     }
 
     /// Whether a tenant was answered in this turn.
@@ -114,11 +152,12 @@ impl<C: Core, T: Time + Drop> Core for Counted<C, T> {
             self.answered = self.answered.saturating_add(1);
         }
         self.has_faulted = self.has_faulted || matches!(step, Step::Last);
+        self.has_worked = self.has_worked || matches!(step, Step::Working);
         step
     }
 
     fn rests(&self) -> bool {
-        if self.is_single {
+        if self.is_done() {
             return true;
         }
         match (self.began, self.time.now()) {

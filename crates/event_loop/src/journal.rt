@@ -1,6 +1,7 @@
 //! What a server reports while it runs.
 
 use connection_turns::{Counts, Ending};
+use open_connections::Slow;
 
 /// The totals of a server.
 #[derive(Clone, Copy, Debug)]
@@ -41,6 +42,13 @@ pub trait Journal {
 
     /// A second passed.
     fn ticked(&mut self);
+
+    /// A query took longer than [`Server::tell_slow`] was told.
+    ///
+    /// [`Server::tell_slow`]: crate::Server::tell_slow
+    fn slow(&mut self, slow: &Slow) {
+        let _ = slow;
+    }
 
     /// How many lines it dropped so far.
     fn dropped(&self) -> u64 {

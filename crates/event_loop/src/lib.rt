@@ -14,6 +14,6 @@ mod told;
 pub use connection_turns::{Counts, End, Ending, Limits};
 pub use fault::LoopFault;
 pub use journal::{Held, Journal, Totals};
-pub use open_connections::{LEAST_MEMORY, loop_is_served};
+pub use open_connections::{LEAST_MEMORY, Slow, loop_is_served};
 pub use server::Server;
 pub use socket_poll::{Accepted, Gate, Peer, Report, Since, Sockets, System, Time, Woken};

@@ -1,8 +1,8 @@
 //! The rounds of a loop: each waits for what is ready, takes connections in, and gives turns.
-ghost use Rattle.std.specs.Prelude.{◌≡◌, ℕ, None, IfOk, IsFalse, IsTrue};
+ghost use Rattle.std.specs.Prelude.{◌≡◌, ℕ, None, IfOk, OnOk, IsFalse, IsTrue};
 ghost use Rattle.hub_metrics.specs.Measuring.{measured};
 ghost use Rattle.open_connections.specs.Looping.{Stays, DoesSome, DoesAtMost, HasTurn, LetGo};
-ghost use Rattle.open_connections.specs.Opened.{lanes_of, connected_in};
+ghost use Rattle.open_connections.specs.Opened.{lanes_of, connected_in, has_time, IsPutOff};
 ghost use Rattle.open_connections.specs.Shares.{fresh_budgets};
 ghost use Rattle.event_loop.specs.Clocked.{IsNoted, NotesMoved};
 
@@ -12,7 +12,7 @@ use crate::seconds::Seconds;
 use crate::told::{Holding, Told};
 use admin_desk::Desk;
 use connection_turns::{End, Limits, Outcome};
-use open_connections::Open;
+use open_connections::{Due, Open};
 use path_listen::HubCore;
 use socket_poll::{Accepted, System, Time, Woken};
 use std::alloc::Global;
@@ -367,12 +367,32 @@ impl<S: System + Drop, T: Time + Drop> Rounds<S, T> {
     fn take_turns<J: Journal>(&mut self, journal: &mut J) -> Result<(), LoopFault>
         ensures { DoesSome (lanes_of self.old.opened) (lanes_of self.new.opened) }
     {
-        let keys = self.opened.take_due();
-        'turns: for key in &keys {
-            self.take_turn(*key, journal)?;
+        let list = self.opened.take_due()?;
+        'turns: for due in &list {
+            self.serve(*due, journal)?;
         }
-        self.opened.give_back(keys);
+        self.opened.give_back(list);
         Ok(())
+    }
+
+    // One turn for a connection that is due, where there is time for it in this round.
+    fn serve<J: Journal>(&mut self, due: Due, journal: &mut J) -> Result<(), LoopFault>
+        ensures lanes { DoesSome (lanes_of self.old.opened) (lanes_of self.new.opened) }
+        ensures kept { IsFalse (has_time due self.old.opened) → OnOk result (IsPutOff due self.old.opened self.new.opened) }
+    {
+        if self.opened.has_time(due) {
+            self.take_turn(due.key, journal)
+        } else {
+            self.put_off(due)
+        }
+    }
+
+    // Its turn comes in the next round.
+    fn put_off(&mut self, due: Due) -> Result<(), LoopFault>
+        ensures lanes { Stays (lanes_of self.old.opened) (lanes_of self.new.opened) }
+        ensures kept { OnOk result (IsPutOff due self.old.opened self.new.opened) }
+    {
+        Ok(self.opened.put_off(due)?)
     }
 
     // One turn for a connection, and what follows from it.
@@ -425,9 +445,19 @@ impl<S: System + Drop, T: Time + Drop> Rounds<S, T> {
     fn go_on<J: Journal>(&mut self, key: usize, journal: &mut J) -> Result<(), LoopFault>
         ensures { DoesAtMost (LetGo key) (lanes_of self.old.opened) (lanes_of self.new.opened) }
     {
+        self.tell_slow(journal);
         match self.opened.settle(key, self.seconds.last()) {
-            Ok(()) => Ok(self.opened.schedule(key)?),
+            Ok(()) => Ok(()),
             Err(_) => self.finish(key, End::Memory, journal),
+        }
+    }
+
+    // Tells the journal of a slow query.
+    fn tell_slow<J: Journal>(&mut self, journal: &mut J)
+        ensures { Stays (lanes_of self.old.opened) (lanes_of self.new.opened) }
+    {
+        if let Some(slow) = self.opened.take_slow() {
+            journal.slow(&slow);
         }
     }
 

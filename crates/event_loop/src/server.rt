@@ -76,6 +76,18 @@ impl<'r, R: Net + Clock + AllocGlobal> Server<Sockets, Since<'r, R>> {
         self.rounds.keys = keys;
         Ok(bound)
     }
+
+    /// Tells the journal of each query that takes longer than so many milliseconds of work.
+    ///
+    /// # Errors
+    ///
+    /// `Net` if the clock fails.
+    pub fn tell_slow(&mut self, rt: &'r R, millis: u32) -> Result<(), LoopFault> {
+        let clock = Since::new(rt)?;
+        self.rounds.opened.measure(clock);
+        self.rounds.opened.tell_slow(u64::from(millis) * 1_000);
+        Ok(())
+    }
 }
 
 impl<S: System + Drop, T: Time + Drop> Server<S, T> {

@@ -13,6 +13,20 @@ use std::time::Duration;
 /// The place of the status in a reply, behind its length.
 const STATUS: usize = 4;
 
+/// The command that a query has.
+const QUERY: u8 = 5;
+
+/// A query that took long.
+#[derive(Clone, Copy, Debug, PartialEq, Eq)]
+pub struct Slow {
+    /// The place of the tenant that asked it.
+    pub tenant: Option<usize>,
+    /// The units that it was charged, unless it was refused.
+    pub units: Option<u64>,
+    /// The microseconds that it took.
+    pub micros: u64,
+}
+
 /// A hub whose answers are counted. Its value is the hub and the counts.
 #[derive(Drop)]
 pub struct MeasuredHub<T: Time + Drop> {
@@ -20,8 +34,18 @@ pub struct MeasuredHub<T: Time + Drop> {
     metrics: Metrics,
     // None if no time is measured: each answer then counts as one that took none.
     clock: Option<T>,
-    // When a piece was last taken, or an answer given.
+    // When a turn began, a piece was last taken, or an answer given.
     latest: Option<Duration>,
+    // The tenant that asked last in this turn.
+    heard: Option<usize>,
+    // The microseconds that earlier turns took for the request that is answered next.
+    worked: u64,
+    // The query of the turn's connection is under way.
+    is_working: bool,
+    // The microseconds above which a query is slow, if that is told.
+    bound: Option<u64>,
+    // The slow query that was not told yet.
+    slow: Option<Slow>,
 }
 
 impl<T: Time + Drop> Model for MeasuredHub<T> {
@@ -42,6 +66,11 @@ impl<T: Time + Drop> MeasuredHub<T> {
             metrics: Metrics::new(),
             clock: None,
             latest: None,
+            heard: None,
+            worked: 0,
+            is_working: false,
+            bound: None,
+            slow: None,
         }
     }
 
@@ -50,6 +79,50 @@ impl<T: Time + Drop> MeasuredHub<T> {
         ensures { self.new ≡ self.old }
     {
         self.clock = Some(clock);
+    }
+
+    /// Tells queries that took longer than so many microseconds from now on.
+    pub fn tell_slow(&mut self, micros: u64)
+        ensures { self.new ≡ self.old }
+    {
+        self.bound = Some(micros);
+    }
+
+    /// The last slow query, which is told once.
+    pub fn take_slow(&mut self) -> Option<Slow>
+        ensures { self.new ≡ self.old }
+    {
+        let slow = self.slow;
+        self.slow = None;
+        slow
+    }
+
+    /// A turn begins at a connection, for whose next request earlier ones took so many microseconds. A query of it is under way, or none is.
+    pub fn begin(&mut self, worked: u64, is_working: bool)
+        ensures { self.new ≡ self.old }
+    {
+        self.latest = self.now();
+        self.heard = None;
+        self.worked = worked;
+        self.is_working = is_working;
+    }
+
+    /// The tenant that asked last: in this turn, or before it.
+    pub fn heard(&self, before: Option<usize>) -> Option<usize> {
+        match self.heard {
+            Some(tenant) => Some(tenant),
+            None => before,
+        }
+    }
+
+    /// The microseconds that turns took for the request that is answered next.
+    pub fn worked(&self) -> u64 {
+        self.worked
+    }
+
+    /// Whether a query of the turn's connection is under way.
+    pub fn is_working(&self) -> bool {
+        self.is_working
     }
 
     /// The hub.
@@ -85,11 +158,26 @@ impl<T: Time + Drop> MeasuredHub<T> {
         self.core.disconnect(conn);
     }
 
+    /// Gives up the work on the query that a connection has under way, as [`HubCore::give_up`] does.
+    pub fn give_up(&mut self, conn: u32)
+        ensures { self.new ≡ self.old }
+    {
+        self.core.give_up(conn);
+    }
+
+    /// Has a query go on for so many units from now on, as [`HubCore::share`] does.
+    pub fn share(&mut self, units: u64)
+        ensures { self.new ≡ self.old }
+    {
+        self.core.share(units);
+    }
+
     // Counts a reply to what was asked.
     fn count(&mut self, asked: Asked, reply: &[u8])
         ensures { Counts asked reply.now self.old self.new }
     {
         let micros = self.lap();
+        self.note(asked, micros);
         self.metrics.count(&Served {
             command: asked.command,
             status: status_of(reply),
@@ -98,14 +186,39 @@ impl<T: Time + Drop> MeasuredHub<T> {
         });
     }
 
-    // The microseconds since the clock was last read, and reads it.
+    // The microseconds that the request which is answered next took so far. The clock is read.
     fn lap(&mut self) -> u64
         ensures { self.new ≡ self.old }
     {
         let now = self.now();
-        let micros = between(self.latest, now);
+        let micros = self.worked.saturating_add(between(self.latest, now));
         self.latest = now;
         micros
+    }
+
+    // Notes who asked what was answered, and whether it was a slow query.
+    fn note(&mut self, asked: Asked, micros: u64)
+        ensures { self.new ≡ self.old }
+    {
+        self.heard = asked.tenant;
+        self.worked = 0;
+        self.is_working = false;
+        if asked.command == QUERY && is_above(micros, self.bound) {
+            self.slow = Some(Slow {
+                tenant: self.heard,
+                units: self.core.charge(),
+                micros,
+            });
+        }
+    }
+
+    // Notes who asked what is under way, and the time that it took so far.
+    fn go_on(&mut self, asked: Asked)
+        ensures { self.new ≡ self.old }
+    {
+        self.heard = asked.tenant;
+        self.worked = self.lap();
+        self.is_working = self.core.has_gone_on();
     }
 
     fn now(&self) -> Option<Duration> {
@@ -144,7 +257,10 @@ impl<T: Time + Drop> Core for MeasuredHub<T> {
                 self.count(asked, behind(out.as_slice(), before));
                 Step::Last
             }
-            Step::Working => Step::Working,
+            Step::Working => {
+                self.go_on(asked);
+                Step::Working
+            }
             Step::Idle => Step::Idle,
             Step::Refused => Step::Refused,
         }
@@ -155,6 +271,13 @@ fn status_of(reply: &[u8]) -> u8
     ensures { result ≡ slice_index reply.now 4 }
 {
     reply.get(STATUS).copied().unwrap_or(0)
+}
+
+fn is_above(micros: u64, bound: Option<u64>) -> bool {
+    match bound {
+        Some(bound) => micros > bound,
+        None => false,
+    }
 }
 
 // What follows so many bytes.

@@ -1,3 +1,4 @@
 pub mod Looping
 pub mod Opened
+pub mod Rounds
 pub mod Shares

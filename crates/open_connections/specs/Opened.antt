@@ -1,12 +1,14 @@
 -- The connections that a loop has open, as its steps see them: this project's own.
-use Rattle.std.specs.Prelude.{◌≡◌, ℕ, List, map, Option, IfSome}
+use Rattle.std.specs.Prelude.{◌≡◌, ℕ, List, [], ◌∷◌, ◌++◌, map, Option, IfSome, IsTrue, IsFalse, Bool, nat_lt, slice_index}
 use Rattle.std.specs.Option.{option_and_then}
 use Rattle.slab.specs.Slab.{Slab, get, slab_len}
 use Rattle.outbox.specs.Lines.{Line}
 use Rattle.connection_turns.specs.declared.connection.Connection.{Connection}
 use Rattle.open_connections.specs.declared.open.Open.{Open}
+use Rattle.open_connections.specs.declared.due.Due.{Due}
 use Rattle.connection_turns.specs.Owed.{line_of}
 use Rattle.open_connections.specs.Looping.{Lanes}
+use Rattle.open_connections.specs.Rounds.{IsLast, due_at}
 use Rattle.open_connections.specs.Shares.{limits_in}
 
 abbrev pub lines_in : {S : Type 0} → Slab (Connection S) → ℕ → Option Line
@@ -19,6 +21,14 @@ bytes_of o = (o.read, o.written)
 abbrev pub lanes_of : {S T : Type 0} → Open S T → Lanes
 lanes_of o = record { hub = o.core; lines = lines_in o.connections; limits = limits_in o.budgets; bytes = bytes_of o }
 
+-- whether the turns of the connection's tenant took less than a span in this round
+abbrev pub has_time : {S T : Type 0} → Due → Open S T → Bool
+has_time due o = nat_lt (slice_index o.due.micros due.party) 1000
+
+-- its turn comes in the next round
+abbrev pub IsPutOff : {S T : Type 0} → Due → Open S T → Open S T → Type 0
+IsPutOff due old new = new.due.first.items ≡ old.due.first.items ++ (due ∷ [])
+
 -- how many are open
 abbrev pub connected_in : {S T : Type 0} → Open S T → ℕ
 connected_in o = slab_len o.connections
@@ -30,3 +40,15 @@ listed slab = map (λ slot. option_and_then (λ c. line_of c) slot) slab.slots
 -- the second by which the connection with this key is idle is this one, if it is there
 abbrev pub IsMarked : {S T : Type 0} → Open S T → (key second : ℕ) → Type 0
 IsMarked o key second = IfSome (get o.connections key) (λ c. c.moved ≡ second)
+
+-- a query of the connection with this key is under way only if it gets a further turn
+abbrev pub IsStanding : {S T : Type 0} → (key : ℕ) → Open S T → Type 0
+IsStanding key o = IfSome (get o.connections key) (λ c. IsTrue c.is_working → IsTrue c.is_due)
+
+-- if it gets one now and did not before, it is the last of those that get one
+abbrev pub IsListed : {S T : Type 0} → (key : ℕ) → Open S T → Open S T → Type 0
+IsListed key old new = IfSome (get old.connections key) (λ c. IfSome (get new.connections key) (λ d. IsFalse c.is_due → IsTrue d.is_due → IsLast d.is_working (due_at key d.tenant) old.due new.due))
+
+-- it gets one just if it did
+abbrev pub IsAsDue : {S T : Type 0} → (key : ℕ) → Open S T → Open S T → Type 0
+IsAsDue key old new = IfSome (get old.connections key) (λ c. IfSome (get new.connections key) (λ d. d.is_due ≡ c.is_due))

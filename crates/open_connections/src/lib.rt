@@ -4,10 +4,14 @@
 #![tactic(auto)]
 
 mod budgets;
+mod core_calls;
+mod due;
 mod laws;
 mod needs;
 mod open;
 
 pub use budgets::LEAST_MEMORY;
+pub use due::Due;
+pub use hub_metrics::Slow;
 pub use laws::loop_is_served;
 pub use open::Open;

@@ -17,6 +17,14 @@ pub(crate) fn covers(claim: Option<Claim>, reply: usize) -> bool {
     }
 }
 
+/// Whether a share is for a reply that is to be given.
+pub(crate) fn is_for_reply(claim: Option<Claim>) -> bool {
+    match claim {
+        Some(claim) => matches!(claim.purpose, Purpose::Reply),
+        None => false,
+    }
+}
+
 /// The most bytes that a turn reads: what is left of a frame that there is room for, and else what each may have.
 pub(crate) fn piece_of<S: Peer>(
     connection: &Connection<S>,

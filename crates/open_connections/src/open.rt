@@ -1,6 +1,6 @@
 //! The connections that are open, the hub that answers them, and the memory that they share.
-ghost use Rattle.std.specs.Prelude.{◌≡◌, ◌<◌, ◌≤◌, ◌^◌, ℕ, None, IfOk, IsFalse, MatchOption};
-ghost use Rattle.slab.specs.Slab.{slab_len};
+ghost use Rattle.std.specs.Prelude.{◌≡◌, ◌<◌, ◌≤◌, ◌^◌, ◌++◌, ℕ, None, IfOk, OnOk, IfSome, IsFalse, MatchOption};
+ghost use Rattle.slab.specs.Slab.{get, slab_len};
 ghost use Rattle.open_connections.specs.Looping.{Stays, Does, DoesAtMost, TakenIn, HasTurn, LetGo};
 ghost use Rattle.std.specs.Bool.{MatchBool};
 ghost use Rattle.std.specs.Option.{option_map};
@@ -8,23 +8,24 @@ ghost use Rattle.hub_metrics.specs.Measuring.{Opens, Closes, measured};
 ghost use Rattle.request_replies.specs.Tenants.{map_of};
 ghost use Rattle.tenant_map.specs.Quotas.{usage_of};
 ghost use Rattle.connection_turns.specs.Owed.{line_of};
-ghost use Rattle.open_connections.specs.Opened.{lanes_of, bytes_of, IsMarked};
+ghost use Rattle.open_connections.specs.Opened.{lanes_of, bytes_of, has_time, IsMarked, IsPutOff, IsStanding, IsListed, IsAsDue};
 ghost use Rattle.open_connections.specs.Shares.{fresh_budgets, IsWithin, StayFree, IsGivenBack, claim_at};
 
 use crate::budgets::Budgets;
-use crate::needs::{After, covers, left_of, need, piece_of};
+use crate::core_calls::{begin, give_up_query, share, take_micros, take_slow, tell_slow};
+use crate::due::{Due, DueList};
+use crate::needs::{After, covers, is_for_reply, left_of, need, piece_of};
 use admin_pages::Metrics;
 use connection_turns::{
     Claim, Connection, Counted, Counts, End, Ending, Limits, Outcome, Phase, Plan, Pool, Purpose,
 };
-use hub_metrics::MeasuredHub;
+use hub_metrics::{MeasuredHub, Slow};
 use memory_budget::Answer;
 use outbox::CAP;
 use path_listen::{HubCore, MOST_REPLY};
 use slab::Slab;
 use socket_poll::{Peer, Report, Time};
 use std::alloc::{AllocError, Global};
-use std::mem;
 use std::net::SocketAddr;
 use tenant_map::Usage;
 
@@ -44,9 +45,8 @@ pub struct Open<S: Peer, T: Time + Drop> {
     buffer: Box<[u8; PIECE]>,
     // No key was above it.
     bound: usize,
-    // The connections that get a turn, and room for the next ones.
-    due: Vec<usize>,
-    next_due: Vec<usize>,
+    // Those that get a turn.
+    due: DueList,
     // Those that make room for others, the longest idle last, each with the second since which it is, and when they were looked for.
     idle: Vec<(u64, usize)>,
     looked: Option<u64>,
@@ -81,8 +81,7 @@ impl<S: Peer, T: Time + Drop> Open<S, T> {
             budgets: Budgets::new(alloc, memory),
             buffer,
             bound: 0,
-            due: Vec::new(alloc),
-            next_due: Vec::new(alloc),
+            due: DueList::new(alloc),
             idle: Vec::new(alloc),
             looked: None,
             read: 0,
@@ -119,6 +118,20 @@ impl<S: Peer, T: Time + Drop> Open<S, T> {
         ensures { Stays (lanes_of self.old) (lanes_of self.new) }
     {
         measure(&mut self.core, clock);
+    }
+
+    /// Tells queries that took longer than so many microseconds from now on.
+    pub fn tell_slow(&mut self, micros: u64)
+        ensures { Stays (lanes_of self.old) (lanes_of self.new) }
+    {
+        tell_slow(&mut self.core, micros);
+    }
+
+    /// The last slow query, which is told once.
+    pub fn take_slow(&mut self) -> Option<Slow>
+        ensures { Stays (lanes_of self.old) (lanes_of self.new) }
+    {
+        take_slow(&mut self.core)
     }
 
     /// What was counted of requests.
@@ -170,9 +183,7 @@ impl<S: Peer, T: Time + Drop> Open<S, T> {
         ensures { Stays (lanes_of self.old) (lanes_of self.new) }
     {
         let room = self.count().saturating_add(1);
-        let has_room = self.due.reserve(room).is_ok()
-            && self.next_due.reserve(room).is_ok()
-            && self.connections.reserve(1).is_ok();
+        let has_room = self.due.reserve(room) && self.connections.reserve(1).is_ok();
         if has_room {
             Some(self.connections.vacant_key())
         } else {
@@ -217,20 +228,34 @@ impl<S: Peer, T: Time + Drop> Open<S, T> {
         self.schedule(report.key)
     }
 
-    /// The keys of those that get a turn now. They come back by [`Open::give_back`].
-    pub fn take_due(&mut self) -> Vec<usize>
-        ensures { Stays (lanes_of self.old) (lanes_of self.new) }
+    /// Begins a round, and hands out those that get a turn in it, in order. The list comes back by [`Open::give_back`].
+    pub fn take_due(&mut self) -> Result<Vec<Due>, AllocError>
+        ensures lanes { Stays (lanes_of self.old) (lanes_of self.new) }
+        ensures all { IfOk result (λ list. list.items ≡ self.old.due.first.items ++ self.old.due.rest.items) }
     {
-        let next = mem::replace(&mut self.next_due, Vec::new(self.alloc));
-        mem::replace(&mut self.due, next)
+        self.due.take()
     }
 
-    /// The list that the keys were in.
-    pub fn give_back(&mut self, mut keys: Vec<usize>)
+    /// Whether a connection gets its turn in this round. Where the turns of its tenant took long in it, it is put off.
+    pub fn has_time(&self, due: Due) -> bool
+        ensures { result ≡ has_time due self.now }
+    {
+        self.due.has_time(due)
+    }
+
+    /// Has a turn come in the next round, before the turns of those that had one in this round.
+    pub fn put_off(&mut self, due: Due) -> Result<(), AllocError>
+        ensures lanes { Stays (lanes_of self.old) (lanes_of self.new) }
+        ensures kept { OnOk result (IsPutOff due self.old self.new) }
+    {
+        self.due.put_off(due)
+    }
+
+    /// The list of a round.
+    pub fn give_back(&mut self, list: Vec<Due>)
         ensures { Stays (lanes_of self.old) (lanes_of self.new) }
     {
-        keys.clear();
-        self.next_due = keys;
+        self.due.give_back(list);
     }
 
     // Whether there is room for the reply to the first request that waits; where it takes a share, that is asked for. The reply's length is
@@ -272,6 +297,12 @@ impl<S: Peer, T: Time + Drop> Open<S, T> {
         let Some(plan) = self.plan(key) else {
             return Err(Outcome::Closed);
         };
+        if self.stands_by(key, plan) {
+            return match self.yield_reply(key, now) {
+                Ok(()) => Ok(Plan::Write),
+                Err(_) => Err(Outcome::Over(End::Memory)),
+            };
+        }
         if plan != Plan::Answer {
             return Ok(plan);
         }
@@ -282,14 +313,41 @@ impl<S: Peer, T: Time + Drop> Open<S, T> {
         }
     }
 
-    // What a connection's turn would do. It is due no more.
+    // What a connection's turn would do, which begins. It is due no more.
     fn plan(&mut self, key: usize) -> Option<Plan>
         ensures { Stays (lanes_of self.old) (lanes_of self.new) }
     {
         let has_room = self.budgets.has_room(ROOM);
         let connection = self.connections.get_mut(key)?;
         connection.is_due = false;
+        begin(&mut self.core, connection.worked, connection.is_working);
+        share(&mut self.core, self.due.is_shared());
         Some(connection.plan(has_room))
+    }
+
+    // Whether a turn would answer a request that waits for a query of its tenant, which another connection has under way.
+    fn stands_by(&self, key: usize, plan: Plan) -> bool {
+        match conn_of(key) {
+            Some(conn) => {
+                matches!(plan, Plan::Answer | Plan::All) && self.core.inner().hub().waits(conn)
+            }
+            None => false,
+        }
+    }
+
+    // Gives up a share for a reply: a connection that waits for a query holds none.
+    fn yield_reply(&mut self, key: usize, now: u64) -> Result<(), AllocError>
+        ensures { Stays (lanes_of self.old) (lanes_of self.new) }
+    {
+        let Some(connection) = self.connections.get_mut(key) else {
+            return Ok(());
+        };
+        let claim = connection.claim;
+        if !is_for_reply(claim) {
+            return Ok(());
+        }
+        connection.claim = None;
+        self.give_up(claim, now)
     }
 
     // One turn by a plan.
@@ -332,13 +390,24 @@ impl<S: Peer, T: Time + Drop> Open<S, T> {
         connection.moved = now;
     }
 
-    /// After a turn: what is done with is given back, and what the next step needs is asked for.
+    /// After a turn: what is done with is given back, and what the next step needs is asked for. If the connection can go on, it gets a further
+    /// turn; if not, it has no query under way.
     pub fn settle(&mut self, key: usize, now: u64) -> Result<(), AllocError>
+        ensures lanes { Stays (lanes_of self.old) (lanes_of self.new) }
+        ensures standing { OnOk result (IsStanding key self.new) }
+    {
+        self.settle_memory(key, now)?;
+        self.give_turn(key)
+    }
+
+    // What is done with is given back, and what the next step needs is asked for.
+    fn settle_memory(&mut self, key: usize, now: u64) -> Result<(), AllocError>
         ensures { Stays (lanes_of self.old) (lanes_of self.new) }
     {
         let Some(conn) = conn_of(key) else {
             return Ok(());
         };
+        self.count_turn(key, now);
         let waiting = self.core.inner().hub().waiting(conn);
         let Some(connection) = self.connections.get_mut(key) else {
             return Ok(());
@@ -347,6 +416,34 @@ impl<S: Peer, T: Time + Drop> Open<S, T> {
         match connection.claim {
             Some(claim) => self.settle_claim(key, &claim, now),
             None => self.ask(key, conn, now),
+        }
+    }
+
+    // Counts the time that a turn took.
+    fn count_turn(&mut self, key: usize, now: u64)
+        ensures { Stays (lanes_of self.old) (lanes_of self.new) }
+    {
+        let micros = take_micros(&mut self.core);
+        self.note_turn(key, now);
+        if let Some(connection) = self.connections.get(key) {
+            self.due
+                .count(connection.tenant, micros, connection.is_working);
+        }
+    }
+
+    // Notes what the hub tells of a turn.
+    fn note_turn(&mut self, key: usize, now: u64)
+        ensures { Stays (lanes_of self.old) (lanes_of self.new) }
+    {
+        let hub = self.core.inner();
+        let Some(connection) = self.connections.get_mut(key) else {
+            return;
+        };
+        connection.worked = hub.worked();
+        connection.tenant = hub.heard(connection.tenant);
+        connection.is_working = hub.is_working();
+        if connection.is_working && self.core.has_worked() {
+            connection.renew(now);
         }
     }
 
@@ -446,20 +543,51 @@ impl<S: Peer, T: Time + Drop> Open<S, T> {
         self.schedule(key)
     }
 
-    /// A connection that can go on gets a further turn.
-    pub fn schedule(&mut self, key: usize) -> Result<(), AllocError>
+    // What [`Open::give_turn`] does, of which no more is said here than that nothing else changes.
+    fn schedule(&mut self, key: usize) -> Result<(), AllocError>
         ensures lanes { Stays (lanes_of self.old) (lanes_of self.new) }
         ensures budgets { self.new.budgets ≡ self.old.budgets }
+    {
+        self.give_turn(key)
+    }
+
+    // A connection that can go on gets a further turn. One that can't has no query under way: so nobody waits for one that waits.
+    fn give_turn(&mut self, key: usize) -> Result<(), AllocError>
+        ensures lanes { Stays (lanes_of self.old) (lanes_of self.new) }
+        ensures budgets { self.new.budgets ≡ self.old.budgets }
+        ensures standing { OnOk result (IsStanding key self.new) }
+        ensures listed { OnOk result (IsListed key self.old self.new) }
     {
         let has_room = self.budgets.has_room(ROOM);
         let Some(connection) = self.connections.get_mut(key) else {
             return Ok(());
         };
-        if connection.is_due || !connection.can_go_on(has_room) {
+        if connection.is_due {
+            return Ok(());
+        }
+        if !connection.can_go_on(has_room) {
+            self.give_up_query(key);
             return Ok(());
         }
         connection.is_due = true;
-        self.due.extend_from_slice(&[key])
+        let (tenant, is_working) = (connection.tenant, connection.is_working);
+        self.due.add(key, tenant, is_working)
+    }
+
+    // A connection that gets no turn has no query under way.
+    fn give_up_query(&mut self, key: usize)
+        ensures lanes { Stays (lanes_of self.old) (lanes_of self.new) }
+        ensures budgets { self.new.budgets ≡ self.old.budgets }
+        ensures due { IsAsDue key self.old self.new }
+        ensures given_up { IfSome (get self.new.connections key) (λ c. IsFalse c.is_working) }
+    {
+        let Some(connection) = self.connections.get_mut(key) else {
+            return;
+        };
+        connection.is_working = false;
+        if let Some(conn) = conn_of(key) {
+            give_up_query(&mut self.core, conn);
+        }
     }
 
     /// A connection that ended, as a journal is told of it.

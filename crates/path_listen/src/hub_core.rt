@@ -1,11 +1,11 @@
 //! The hub as the core of turns.
-ghost use Rattle.std.specs.Prelude.{◌≡◌, ◌↔◌, [], OnOk, OnErr, IsErrOf, IsSome, is_some, length, MatchOption};
+ghost use Rattle.std.specs.Prelude.{◌≡◌, ◌↔◌, [], OnOk, OnErr, IsErrOf, IsSome, IsTrue, is_some, length, MatchOption};
 ghost use Rattle.std.specs.Option.{option_map, option_map_or};
 ghost use Rattle.path_hub.specs.Sessions.{session};
 ghost use Rattle.path_listen.specs.Answering.{Opens, Closes};
 ghost use Rattle.path_listen.specs.Needs.{IsPart, IsNoPart};
 ghost use Rattle.path_listen.specs.Replies.{body_at, IsMostReply};
-ghost use Rattle.path_listen.specs.Asking.{asks};
+ghost use Rattle.path_listen.specs.Asking.{asks, is_first_tenants};
 ghost use Rattle.request_replies.specs.Tenants.{map_of};
 ghost use Rattle.tenant_map.specs.Quotas.{usage_of};
 ghost use Rattle.wire_frames.specs.Frames.{front};
@@ -13,24 +13,37 @@ ghost use Rattle.wire_frames.specs.Frames.{front};
 use crate::asked::{Asked, asked_of};
 use crate::needs::{Part, most_of, part_of};
 use outbox::{Core, Step};
-use path_hub::{ConnectFault, Hub};
+use path_hub::{ConnectFault, Hub, Share, Tasks};
 use std::alloc::Global;
 use std::marker::Model;
 use tenant_map::Usage;
 
-/// A hub that answers one request at a time, as [`outbox::turn`] needs it. Its value is the hub's.
+/// The units for which a query goes on, unless another number is told.
+const SHARE: u64 = 10_000;
+
+/// A hub that answers one request at a time, and a query a share at a time, as [`outbox::turn`] needs it. Its value is the hub's.
 #[derive(Drop)]
 pub struct HubCore {
     hub: Hub,
     alloc: Global,
+    tasks: Tasks,
+    // The units for which a query goes on before others are served.
+    share: u64,
+    // The last step went on with a query.
+    has_gone_on: bool,
+    // The units of the request that was answered last, where hits are its reply.
+    charge: Option<u64>,
 }
 
 impl Model for HubCore {
     ghost use Rattle.path_hub.specs.HubState.{HubState};
+    ghost use Rattle.path_hub.specs.UnderWay.{AreOnWay};
 
     ghost Value = { HubState };
 
     ghost view = { λ core. core.hub };
+
+    ghost invariant = { λ core. AreOnWay core.hub.tenants core.tasks };
 }
 
 impl HubCore {
@@ -38,7 +51,14 @@ impl HubCore {
     pub fn new(alloc: Global, hub: Hub) -> HubCore
         ensures { result ≡ hub }
     {
-        HubCore { hub, alloc }
+        HubCore {
+            hub,
+            alloc,
+            tasks: Tasks::new(alloc),
+            share: SHARE,
+            has_gone_on: false,
+            charge: None,
+        }
     }
 
     /// Opens a connection's session.
@@ -59,7 +79,39 @@ impl HubCore {
         ensures was { result ≡ is_some (session conn self.old.sessions) }
         ensures closes { Closes conn self.old self.new }
     {
+        self.give_up(conn);
         self.hub.disconnect(conn)
+    }
+
+    /// Whether the request that is answered next on a connection waits for a query of its tenant, which another connection has under way.
+    pub fn waits(&self, conn: u32) -> bool
+        ensures { IsTrue result → IsTrue (is_first_tenants conn self.now) }
+    {
+        self.hub.waits(conn, &self.tasks)
+    }
+
+    /// Has a query go on for so many units from now on before others are served.
+    pub fn share(&mut self, units: u64)
+        ensures { self.new ≡ self.old }
+    {
+        self.share = units;
+    }
+
+    /// Whether the step that was done last went on with a query, which is under way.
+    pub fn has_gone_on(&self) -> bool {
+        self.has_gone_on
+    }
+
+    /// Gives up the work on the query that a connection has under way, so that no request waits for it. It begins anew where it is answered next.
+    pub fn give_up(&mut self, conn: u32)
+        ensures { self.new ≡ self.old }
+    {
+        self.tasks.abandon(conn);
+    }
+
+    /// The units that the request was charged which was answered last, where hits are its reply.
+    pub fn charge(&self) -> Option<u64> {
+        self.charge
     }
 
     /// The number of bytes that came on a connection and are not answered.
@@ -123,18 +175,33 @@ impl Core for HubCore {
         }
     }
 
-    // The reply to a framing fault is the last.
+    // The reply to a framing fault is the last. Nothing goes on for a connection of which no further request is answered.
     fn answer_next(&mut self, conn: u32, out: &mut Vec<u8>) -> Step {
-        match self.hub.answer_next(self.alloc, conn, out) {
-            Ok(true) => {
+        self.has_gone_on = false;
+        if self.hub.waits(conn, &self.tasks) {
+            return Step::Working;
+        }
+        match self
+            .hub
+            .answer_some(self.alloc, conn, self.share, &mut self.tasks, out)
+        {
+            Ok(Share::Replied { charge }) => {
+                self.charge = charge;
                 if self.hub.is_closed(conn) {
                     Step::Last
                 } else {
                     Step::Replied
                 }
             }
-            Ok(false) => Step::Idle,
-            Err(_) => Step::Refused,
+            Ok(Share::Idle) => Step::Idle,
+            Ok(Share::Working) => {
+                self.has_gone_on = true;
+                Step::Working
+            }
+            Err(_) => {
+                self.give_up(conn);
+                Step::Refused
+            }
         }
     }
 }

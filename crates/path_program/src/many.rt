@@ -38,6 +38,9 @@ fn serve<R: Print + Eprint + Net + Clock + AllocGlobal>(
 ) -> Result<(), Failure> {
     let mut server = bind(rt, wanted, keys)?;
     let administration = administer(rt, wanted, &mut server, keys)?;
+    if wanted.log {
+        tell_slow(rt, wanted, &mut server)?;
+    }
     let lines = lines(rt, wanted)?;
     begin(rt, wanted, &server)?;
     if let Some(bound) = administration {
@@ -80,6 +83,18 @@ fn administer<'r, R: Net + Clock + AllocGlobal>(
     match server.administer(rt, addr, known) {
         Ok(bound) => Ok(Some(bound)),
         Err(fault) => Err(failure_of(rt.alloc(), address, fault)),
+    }
+}
+
+// Has slow queries told.
+fn tell_slow<'r, R: Net + Clock + AllocGlobal>(
+    rt: &'r R,
+    wanted: &Listening<'_>,
+    server: &mut Bound<'r, R>,
+) -> Result<(), Failure> {
+    match server.tell_slow(rt, wanted.slow) {
+        Ok(()) => Ok(()),
+        Err(fault) => Err(failure_of(rt.alloc(), wanted.address, fault)),
     }
 }
 

@@ -30,6 +30,9 @@ const LONG: usize = 100_000;
 /// The letters of the longest text.
 const LONGEST: usize = 4_194_302;
 
+/// The selectors of a query that selects nothing. Each costs a unit for each text, so that it takes more than a share of work.
+const SELECTORS: usize = 2_040;
+
 const NOT_FOUND: u8 = 15;
 
 /// How a peer behaves on one connection.
@@ -500,11 +503,22 @@ impl Peer {
         self.say(b'$');
     }
 
-    // A text, all names, or all texts.
+    // A query that selects nothing, and is cut behind each text.
+    fn ask_at_length(&mut self) {
+        self.begin(5, None, 2 * SELECTORS + 2, Wanted::Hits([None; TEXTS]));
+        self.say_all(b"$[0");
+        'selectors: for _ in 1..SELECTORS {
+            self.say_all(b",0");
+        }
+        self.say(b']');
+    }
+
+    // A text, all names, all texts, or none of them by a query that takes long.
     fn look_up(&mut self, chance: &mut Chance, place: usize) {
         match chance.below(8) {
             0 => self.begin(4, None, 0, Wanted::Names(self.texts)),
             1 => self.ask_for_all(),
+            2 => self.ask_at_length(),
             _ => {
                 let wanted = match self.text(place) {
                     Some(text) => Wanted::Found(text),

@@ -5,10 +5,13 @@ pub turns-init : goal.turns-init
 turns-init g c = no_step _ _ (stays _)
 
 pub turns-preserved : goal.turns-preserved
-turns-preserved g c = some_then _ _ _ c.turns.invariant c.take_turn.ensures
+turns-preserved g c = some_then _ _ _ c.turns.invariant c.serve.ensures.lanes
 
-pub returns-in_err-take_turn : goal.returns-in_err-take_turn
-returns-in_err-take_turn g c = some_then _ _ _ (no_step _ _ c.take_due-keys.ensures) (some_then _ _ _ c.turns.invariant c.take_turn.ensures)
+pub returns-in_err-list : goal.returns-in_err-list
+returns-in_err-list g c = no_step _ _ c.in_err-list.ensures.lanes
+
+pub returns-in_err-serve : goal.returns-in_err-serve
+returns-in_err-serve g c = some_then _ _ _ (no_step _ _ c.in_ok-list.ensures.lanes) (some_then _ _ _ c.turns.invariant c.serve.ensures.lanes)
 
 pub returns : goal.returns
-returns g c = some_then _ _ _ (no_step _ _ c.take_due-keys.ensures) (some_then _ _ _ c.turns.invariant (no_step _ _ c.give_back.ensures))
+returns g c = some_then _ _ _ (no_step _ _ c.in_ok-list.ensures.lanes) (some_then _ _ _ c.turns.invariant (no_step _ _ c.give_back.ensures))

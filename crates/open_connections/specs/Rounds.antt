@@ -1,0 +1,25 @@
+-- The connections that get a turn in a round, and the time of each tenant in it: this project's own.
+use Rattle.std.specs.Prelude.{◌≡◌, ℕ, ◌+◌, ◌-◌, ◌^◌, List, [], ◌∷◌, ◌++◌, min, slice_index, slice_set, Option, Bool, true, false, if◌then◌else◌}
+use Rattle.std.specs.Option.{option_map_or}
+use Rattle.open_connections.specs.declared.due.Due.{Due}
+use Rattle.open_connections.specs.declared.due.DueList.{DueList}
+
+-- whose time the turns of a connection take: the place of the tenant that asked on it last, and 256 where none did
+abbrev pub party_of : Option ℕ → ℕ
+party_of tenant = option_map_or (λ place. min place 256) tenant 256
+
+abbrev pub due_at : ℕ → Option ℕ → Due
+due_at key tenant = record { key = key; party = party_of tenant }
+
+-- it is the last of those whose turns come first, or of the others, and nothing else changes
+abbrev pub IsLast : Bool → Due → DueList → DueList → Type 0
+IsLast true due old new = (new.first.items ≡ old.first.items ++ (due ∷ [])) × (new.rest.items ≡ old.rest.items)
+IsLast false due old new = (new.first.items ≡ old.first.items) × (new.rest.items ≡ old.rest.items ++ (due ∷ []))
+
+-- a sum, up to the greatest number of 64 bits
+abbrev pub added : ℕ → ℕ → ℕ
+added n more = min (n + more) (2 ^ 64 - 1)
+
+-- a turn takes so many microseconds of its party's time, or a whole span behind which a query is under way; that of others stays
+abbrev pub after_turn : List ℕ → Option ℕ → (micros : ℕ) → Bool → List ℕ
+after_turn times tenant micros is_under_way = slice_set times (party_of tenant) (added (slice_index times (party_of tenant)) (if is_under_way then 1000 else micros))

@@ -1,0 +1,169 @@
+//! The connections that get a turn, and the time that each tenant's turns took in a round.
+ghost use Rattle.std.specs.Prelude.{◌≡◌, ◌<◌, ◌++◌, ◌∷◌, [], IfOk, OnOk, nat_lt, replicate, slice_index};
+ghost use Rattle.open_connections.specs.Rounds.{IsLast, after_turn, due_at, party_of};
+
+use std::alloc::{AllocError, Global};
+use std::mem;
+use tenant_map::TENANT_LIMIT;
+
+/// The microseconds of turns behind which a tenant's further connections wait for the next round.
+const SPAN: u64 = 1_000;
+
+/// The rounds with connections of one party alone after which nobody else is expected.
+const LONE_ROUNDS: u32 = 16;
+
+/// The tenants, and one for all connections on which none asked.
+const PARTIES: usize = 257;
+
+/// A connection that gets a turn.
+#[derive(Clone, Copy)]
+pub struct Due {
+    /// Its key.
+    pub key: usize,
+    // Whose time its turns take.
+    party: usize,
+}
+
+/// The connections that get a turn. Each has at most one to come.
+#[derive(Drop)]
+pub(crate) struct DueList {
+    alloc: Global,
+    // Those whose turn was put off, and those of which a query is under way: their turns come first.
+    first: Vec<Due>,
+    rest: Vec<Due>,
+    // Room for those of a round.
+    spare: Vec<Due>,
+    // The microseconds that the turns of each party took in this round.
+    micros: [u64; PARTIES],
+    // The rounds since one in which connections of several parties had a turn.
+    since_shared: u32,
+}
+
+impl DueList {
+    /// None gets one.
+    pub fn new(alloc: Global) -> DueList
+        ensures { (result.first.items ≡ []) × (result.rest.items ≡ []) }
+    {
+        DueList {
+            alloc,
+            first: Vec::new(alloc),
+            rest: Vec::new(alloc),
+            spare: Vec::new(alloc),
+            micros: [0; PARTIES],
+            since_shared: LONE_ROUNDS,
+        }
+    }
+
+    /// Whether none gets one.
+    pub fn is_empty(&self) -> bool {
+        self.first.is_empty() && self.rest.is_empty()
+    }
+
+    /// Makes room for so many, and tells whether there is.
+    pub fn reserve(&mut self, count: usize) -> bool
+        ensures { (self.new.first.items ≡ self.old.first.items) × (self.new.rest.items ≡ self.old.rest.items) }
+    {
+        self.first.reserve(count).is_ok()
+            && self.rest.reserve(count).is_ok()
+            && self.spare.reserve(count).is_ok()
+    }
+
+    /// A connection gets a turn in the next round, behind those that have one to come. One of which a query is under way is in front of those
+    /// that are put off since.
+    pub fn add(
+        &mut self,
+        key: usize,
+        tenant: Option<usize>,
+        is_under_way: bool,
+    ) -> Result<(), AllocError>
+        ensures { OnOk result (IsLast is_under_way (due_at key tenant) self.old self.new) }
+    {
+        let due = Due {
+            key,
+            party: party_of(tenant),
+        };
+        if is_under_way {
+            self.first.extend_from_slice(&[due])
+        } else {
+            self.rest.extend_from_slice(&[due])
+        }
+    }
+
+    /// Has a turn come in the next round, before the turns of those that had one in this round.
+    pub fn put_off(&mut self, due: Due) -> Result<(), AllocError>
+        ensures first { OnOk result (self.new.first.items ≡ self.old.first.items ++ (due ∷ [])) }
+        ensures rest { self.new.rest.items ≡ self.old.rest.items }
+    {
+        self.first.extend_from_slice(&[due])
+    }
+
+    /// Begins a round, and hands out all that get a turn, in order. The list comes back by [`DueList::give_back`].
+    pub fn take(&mut self) -> Result<Vec<Due>, AllocError>
+        ensures all { IfOk result (λ list. list.items ≡ self.old.first.items ++ self.old.rest.items) }
+        ensures none_left { OnOk result ((self.new.first.items ≡ []) × (self.new.rest.items ≡ [])) }
+        ensures times { OnOk result (self.new.micros ≡ replicate 257 0) }
+    {
+        self.first.extend_from_slice(self.rest.as_slice())?;
+        self.rest.clear();
+        self.micros = [0; PARTIES];
+        self.since_shared = if are_apart(self.first.as_slice()) {
+            0
+        } else {
+            self.since_shared.saturating_add(1)
+        };
+        let mut room = mem::replace(&mut self.spare, Vec::new(self.alloc));
+        room.clear();
+        Ok(mem::replace(&mut self.first, room))
+    }
+
+    /// Whether connections of several parties have a turn in this round, or had one shortly before: who asks again has none while its next
+    /// request is on its way.
+    pub fn is_shared(&self) -> bool {
+        self.since_shared < LONE_ROUNDS
+    }
+
+    /// Takes the room of a list back.
+    pub fn give_back(&mut self, list: Vec<Due>)
+        ensures { (self.new.first.items ≡ self.old.first.items) × (self.new.rest.items ≡ self.old.rest.items) }
+    {
+        self.spare = list;
+    }
+
+    /// Whether there is time for a turn in this round: the turns of its tenant took less than a span.
+    pub fn has_time(&self, due: Due) -> bool
+        ensures { result ≡ nat_lt (slice_index self.now.micros due.party) 1000 }
+    {
+        self.micros.get(due.party).copied().unwrap_or(0) < SPAN
+    }
+
+    /// Counts a turn that took so long. One behind which a query is under way takes a span: others of its tenant can do nothing in this round.
+    pub fn count(&mut self, tenant: Option<usize>, micros: u64, is_under_way: bool)
+        ensures times { self.new.micros ≡ after_turn self.old.micros tenant micros is_under_way }
+        ensures first { self.new.first.items ≡ self.old.first.items }
+        ensures rest { self.new.rest.items ≡ self.old.rest.items }
+    {
+        let party = party_of(tenant);
+        let more = if is_under_way { SPAN } else { micros };
+        self.micros[party] = self.micros[party].saturating_add(more);
+    }
+}
+
+// Whether these are of several parties.
+fn are_apart(list: &[Due]) -> bool {
+    let Some(first) = list.first() else {
+        return false;
+    };
+    let mut are_apart = false;
+    for due in list {
+        are_apart |= due.party != first.party;
+    }
+    are_apart
+}
+
+// Whose time the turns of a connection take, on which this tenant asked last.
+fn party_of(tenant: Option<usize>) -> usize
+    ensures party { result ≡ party_of tenant }
+    ensures within { result < 257 }
+{
+    tenant.unwrap_or(TENANT_LIMIT).min(TENANT_LIMIT)
+}
