@@ -4,7 +4,8 @@ A crate exports what its src/lib.rt declares or brings out as `pub`, and of an e
 not private. The contract of such an item is its `requires` and `ensures`, the ghost fields of a type, the ghost members of a trait or an impl, and the
 `Value` of a model. The `view` and the `invariant` of a model speak of private fields, which no clause of a caller can name: they are left out.
 
-A name in a contract is that of a definition where a `ghost use` of its file or its impl has it from a file in specs/, and so on in that file.
+A name in a contract is that of a definition where a `ghost use` of its file or its impl has it from a file in specs/, and so on in that file. A
+crate hands on files of another one by `pub use` lines of its specs/Lib.antt.
 """
 import re
 from functools import lru_cache
@@ -15,6 +16,8 @@ from edits import type_name
 ITEM = re.compile(r" *(pub )?(?:pub\([a-z]+\) )?(?:(?:const |unsafe |extern \S+ )*(fn)|(impl|trait|mod|struct|enum|ghost use|ghost|use|const|static|type))\b ?(\w*)")
 CLAUSES = re.compile(r"^ *(?:requires|ensures)\b", re.M)
 IMPORT = re.compile(r"(pub )?use Rattle\.(\w+)\.specs\.([A-Z]\w*)(?: as (\w+))?(?:\.\{([^}]*)\})?")
+# what a crate hands on of another one's files, in its specs/Lib.antt
+HANDED_ON = re.compile(r"^pub use Rattle\.(\w+)\.specs\.(\w+)$", re.M)
 # a definition's first line, which gives its name
 HEAD = re.compile(r" *(?:(?:abbrev )?(?:mutual|module)\b|(?:(?:abbrev|unfoldable|pub|record|data) )+([^\s:({]+))")
 # the first line of a function of one argument that gives data
@@ -208,6 +211,9 @@ class Sources:
         folders = sorted((root / "crates").iterdir())
         self.crates = {it.name: Crate(it) for it in folders if (it / "src/lib.rt").is_file()}
         self.files = {(it.name, path.stem): File(path) for it in folders for path in sorted((it / "specs").glob("*.antt")) if path.stem != "Lib"}
+        for it in filter(Path.is_file, (folder / "specs/Lib.antt" for folder in folders)):
+            for crate, module in HANDED_ON.findall(it.read_text(encoding="utf-8")):
+                self.files[it.parent.parent.name, module] = self.files[crate, module]
 
     def definition(self, crate, module, name):
         """The definition that a file gives this name, wherever the file has it from; None where the file is not one of ours."""

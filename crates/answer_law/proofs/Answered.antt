@@ -2,8 +2,8 @@
 use Rattle.std.proofs.Common.{◌≡◌, ◌≢◌, ◌⊎◌, inl, inr, ℕ, ◌+◌, List, [], ◌∷◌, length, Bool, true, false, cond, nat_lt, Option, Some, None, refl, sym, ap, ◌∙◌, subst}
 use Rattle.std.specs.Map.{lookup}
 use Rattle.json_tape.specs.Verdict.{IsRefused}
-use Rattle.json_tape.specs.declared.tape.TextFault.{TextFault}
-use Rattle.json_tape.specs.declared.tape.TextFault.TheVariants as verdict
+use Rattle.json_text.specs.declared.tape.TextFault.{TextFault}
+use Rattle.json_text.specs.declared.tape.TextFault.TheVariants as verdict
 use Rattle.path_grammar.specs.Tree.{Segments}
 use Rattle.tape_select.specs.Budget.{budget}
 use Rattle.tape_select.specs.Charge.{charge}

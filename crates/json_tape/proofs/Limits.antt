@@ -1,17 +1,17 @@
 -- Numbers beyond the limits, in the entries and in the tree.
 use Rattle.std.proofs.Common.{ℕ, ◌<◌, inl, inr, List, length, get_or, refl, sym, subst, arith}
 use Rattle.std.proofs.lemmas.Bool.{cases_lt}
-use Rattle.json_tape.specs.Tree.{Num, Tree, Leaf}
+use Rattle.json_text.specs.Tree.{Num, Tree, Leaf}
 use Rattle.decimal_order.specs.Value.{exponent_size}
 use Rattle.decimal_order.specs.Limits.{IsWithinLimits, length_limit, exponent_limit}
-use Rattle.json_tape.specs.Grammar.{IsText}
-use Rattle.json_tape.specs.Tape.{Label, Stands, entry_of}
-use Rattle.json_tape.specs.Verdict.{BreaksLimit}
-use Rattle.json_tape.specs.Limits.{IsLimited, IsBadNumber}
-use Rattle.json_tape.specs.Parts.{HasPart}
-use Rattle.json_tape.specs.declared.tape.Entry.{Entry}
-use Rattle.json_tape.proofs.Fits.{Fits, text_fits, part_fits}
-use Rattle.json_tape.proofs.Judging.{part_found, part_none}
+use Rattle.json_text.specs.Grammar.{IsText}
+use Rattle.json_text.specs.Tape.{Label, Stands, entry_of}
+use Rattle.json_text.specs.Verdict.{BreaksLimit}
+use Rattle.json_text.specs.Limits.{IsLimited, IsBadNumber}
+use Rattle.json_text.specs.Parts.{HasPart}
+use Rattle.json_text.specs.declared.tape.Entry.{Entry}
+use Rattle.json_text.proofs.Fits.{Fits, text_fits, part_fits}
+use Rattle.json_text.proofs.Judging.{part_found, part_none}
 
 module _ (text : List ℕ) where
   bad_part : (s : Tree) (up n : ℕ) (label : Label) → Fits text s → IsBadNumber text (entry_of s up label n) → BreaksLimit s

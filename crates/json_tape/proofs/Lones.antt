@@ -1,21 +1,21 @@
 -- Entries with a lone surrogate, and the parts of the tree.
 use Rattle.std.proofs.Common.{◌≡◌, ℕ, ◌+◌, ◌<◌, inl, inr, true, List, length, get_or, refl, sym, ap, ◌∙◌, subst}
-use Rattle.json_tape.specs.Tree.{Str, Tree, Leaf, Obj}
-use Rattle.json_tape.specs.Grammar.{IsText}
-use Rattle.json_tape.specs.Tape.{Label, Top, Named, Stands, IsAt, in_object, entry_of, extent, role_of}
-use Rattle.json_tape.specs.Limits.{bytes_at}
-use Rattle.json_tape.specs.Verdict.{SpellsLone}
-use Rattle.json_tape.specs.Parts.{HasPart}
-use Rattle.json_tape.specs.Surrogates.{lone, IsLoneValue, IsLoneName}
-use Rattle.json_tape.specs.declared.tape.Entry.{Entry}
-use Rattle.json_tape.specs.declared.tape.Role.TheVariants as roles
-use Rattle.json_tape.proofs.Parts.{part_of_at, placed}
-use Rattle.json_tape.proofs.Numbers.{entry_at, at_trans}
-use Rattle.json_tape.proofs.Fits.{Fits, text_fits, part_fits}
-use Rattle.json_tape.proofs.Judging.{part_with, number_below}
-use Rattle.json_tape.proofs.Entries.{role_is, label_is}
+use Rattle.json_text.specs.Tree.{Str, Tree, Leaf, Obj}
+use Rattle.json_text.specs.Grammar.{IsText}
+use Rattle.json_text.specs.Tape.{Label, Top, Named, Stands, IsAt, in_object, entry_of, extent, role_of}
+use Rattle.json_text.specs.Limits.{bytes_at}
+use Rattle.json_text.specs.Verdict.{SpellsLone}
+use Rattle.json_text.specs.Parts.{HasPart}
+use Rattle.json_strings.specs.Surrogates.{lone, IsLoneValue, IsLoneName}
+use Rattle.json_text.specs.declared.tape.Entry.{Entry}
+use Rattle.json_text.specs.declared.tape.Role.TheVariants as roles
+use Rattle.json_text.proofs.Parts.{part_of_at, placed}
+use Rattle.json_text.proofs.Numbers.{entry_at, at_trans}
+use Rattle.json_text.proofs.Fits.{Fits, text_fits, part_fits}
+use Rattle.json_text.proofs.Judging.{part_with, number_below}
+use Rattle.json_text.proofs.Entries.{role_is, label_is}
 use Rattle.json_tape.proofs.Holders.{holder, held, name_fits}
-use Rattle.json_tape.proofs.LoneLaw.{lone_sound, lone_complete}
+use Rattle.json_strings.proofs.LoneLaw.{lone_sound, lone_complete}
 
 -- some part of the tree has a lone surrogate
 abbrev pub HasLonePart : Tree → Type 0

@@ -1,20 +1,21 @@
 -- The members of an object, from one node to the next.
 use Rattle.std.proofs.Common.{◌≡◌, ℕ, suc, ◌+◌, ◌<◌, ◌≤◌, true, false, List, [], ◌∷◌, ◌++◌, length, get_or, refl, sym, ap, ◌∙◌, subst, arith, append_assoc, length-append}
 use Rattle.std.specs.Prelude.{bytes_eq}
-use Rattle.json_tape.specs.Tree.{Name, Tree, Leaf, Arr, Obj, Elements, NoElement, Element, Members, NoMember, Member}
-use Rattle.json_tape.specs.Letters.{IsString}
-use Rattle.json_tape.specs.Meaning.{meaning}
-use Rattle.json_tape.specs.Nodes.{Node, Step, key, size, size_of_members, children, children_of, elements_from, members_from, is_named, first_where}
-use Rattle.json_tape.specs.Tape.{Label, Named, extent}
-use Rattle.json_tape.specs.Document.{Doc, Spot, IsDocument, spots, spot_at, spots_from, spots_members, kind_of, node_at, count}
-use Rattle.json_tape.specs.declared.tape.Kind.TheVariants as kinds
-use Rattle.json_tape.specs.declared.tape.Entry.{Entry}
-use Rattle.json_tape.proofs.Entries as entries
-use Rattle.json_tape.proofs.Entries.{size_positive}
-use Rattle.json_tape.proofs.Fits.{Lies, Fits, FitMembers}
+use Rattle.json_text.specs.Tree.{Name, Tree, Leaf, Arr, Obj, Elements, NoElement, Element, Members, NoMember, Member}
+use Rattle.json_text.specs.Letters.{IsString}
+use Rattle.json_text.specs.Meaning.{meaning}
+use Rattle.json_text.specs.Nodes.{Node, Step, key, size, size_of_members, children, children_of, elements_from, members_from, is_named, first_where}
+use Rattle.json_text.specs.Tape.{Label, Named, extent}
+use Rattle.json_tape.specs.Document.{Doc, Spot, IsDocument, spots, spot_at, spots_from, spots_members, node_at, count}
+use Rattle.json_text.specs.Tape.{kind_of}
+use Rattle.json_text.specs.declared.tape.Kind.TheVariants as kinds
+use Rattle.json_text.specs.declared.tape.Entry.{Entry}
+use Rattle.json_text.proofs.Entries as entries
+use Rattle.json_text.proofs.Entries.{size_positive}
+use Rattle.json_text.proofs.Fits.{Lies, Fits, FitMembers}
 use Rattle.json_tape.proofs.Spots.{entry_at, top, inner, one_of, place_is, spot_count}
 use Rattle.json_tape.proofs.Readers.{good, spot_is, entry_is, after_is, count_is, none_there}
-use Rattle.json_tape.proofs.One.{no_object_kind}
+use Rattle.json_text.proofs.One.{no_object_kind}
 
 -- the members from the node k on, the first of this name among which is the object's first
 pub record Rest (d : Doc) (name : List ℕ) (n k end : ℕ) : Type 0 where

@@ -4,28 +4,29 @@ use Rattle.std.proofs.lemmas.List.Elements.{Contains-append_right}
 use Rattle.std.proofs.lemmas.List.{take-append-drop, append-nil, get_or-map, length-map}
 use Rattle.std.proofs.lemmas.Bool.{cases_lt}
 use Rattle.std.proofs.Common.{false, take, drop, ◌≡◌, ℕ, suc, ◌+◌, ◌-◌, ◌≤◌, ◌<◌, ◌^◌, ◌⊎◌, inl, inr, List, [], ◌∷◌, ◌++◌, length, map, get_or, Some, None, refl, sym, ap, ◌∙◌, subst, arith, append_assoc, length-append}
-use Rattle.json_tape.specs.Tree.{Spelt, Source, Name, Num, Str, Tree, source_of, Leaf, Arr, Obj, Element, Member}
-use Rattle.json_tape.specs.Meaning.{meaning}
-use Rattle.json_tape.specs.Nodes.{Node, Step, key, place, size, children, children_of, elements_from, members_from, visit, is_named, key_is}
-use Rattle.json_tape.specs.Letters.{IsString}
-use Rattle.json_tape.specs.Parts.{HasPart, itself}
-use Rattle.json_tape.specs.Tape.{Label, Top, Index, Named, role_of, label_spot, extent}
-use Rattle.json_tape.specs.Limits.{bytes_at, IsLimited}
-use Rattle.json_tape.specs.Verdict.{text_limit}
-use Rattle.json_tape.specs.declared.tape.TextFault.TheVariants.{TooLong, NumberLimit}
+use Rattle.json_text.specs.Tree.{Spelt, Source, Name, Num, Str, Tree, source_of, Leaf, Arr, Obj, Element, Member}
+use Rattle.json_text.specs.Meaning.{meaning}
+use Rattle.json_text.specs.Nodes.{Node, Step, key, place, size, children, children_of, elements_from, members_from, visit, is_named, key_is}
+use Rattle.json_text.specs.Letters.{IsString}
+use Rattle.json_text.specs.Parts.{HasPart, itself}
+use Rattle.json_text.specs.Tape.{Label, Top, Index, Named, role_of, label_spot, extent}
+use Rattle.json_text.specs.Limits.{bytes_at, IsLimited}
+use Rattle.json_text.specs.Verdict.{text_limit}
+use Rattle.json_text.specs.declared.tape.TextFault.TheVariants.{TooLong, NumberLimit}
 use Rattle.json_tape.proofs.Limits.{within_unless}
-use Rattle.json_tape.specs.Document.{HasName, IsMember, StandsIn, string_meaning, Doc, Spot, IsDocument, spots, spot_at, spots_from, spots_elements, spots_members, counting, kind_of, length_of, node_at, later, count, seen, root_of, tree_of}
-use Rattle.json_tape.specs.declared.tape.Kind.TheVariants as kinds
-use Rattle.json_tape.specs.declared.tape.Role.TheVariants as roles
-use Rattle.json_tape.specs.declared.tape.Entry.{Entry}
-use Rattle.json_tape.proofs.Entries as entries
-use Rattle.json_tape.proofs.Entries.{size_positive, child_count}
-use Rattle.json_tape.proofs.Fits.{Lies, Fits, text_fits}
+use Rattle.json_tape.specs.Document.{HasName, IsMember, StandsIn, string_meaning, Doc, Spot, IsDocument, spots, spot_at, spots_from, spots_elements, spots_members, counting, length_of, node_at, later, count, seen, root_of, tree_of}
+use Rattle.json_text.specs.Tape.{kind_of}
+use Rattle.json_text.specs.declared.tape.Kind.TheVariants as kinds
+use Rattle.json_text.specs.declared.tape.Role.TheVariants as roles
+use Rattle.json_text.specs.declared.tape.Entry.{Entry}
+use Rattle.json_text.proofs.Entries as entries
+use Rattle.json_text.proofs.Entries.{size_positive, child_count}
+use Rattle.json_text.proofs.Fits.{Lies, Fits, text_fits}
 use Rattle.json_tape.proofs.Shown.{part_ends}
-use Rattle.json_tape.specs.declared.tape.Extent.{Extent}
+use Rattle.json_text.specs.declared.tape.Extent.{Extent}
 use Rattle.json_tape.proofs.Spots.{entry_at, node_of, tape_is, visit_is, spot_count, top, inner, top_first, end_of, NextIn, own, one_of, Good, walk, place_is, WayIn}
 use Rattle.std.proofs.Math.Seq.{get_or-append_seam}
-use Rattle.json_tape.proofs.One.{no_array_kind, no_object_kind}
+use Rattle.json_text.proofs.One.{no_array_kind, no_object_kind}
 
 -- each of a part of a list, by its place
 counted : {A B : Type 0} (f : A → B) (pre mid post : List A) (d : A) (k : ℕ) → length pre ≡ k → map (λ j. f (get_or (pre ++ (mid ++ post)) j d)) (counting k (length mid)) ≡ map f mid

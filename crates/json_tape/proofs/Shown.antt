@@ -1,12 +1,12 @@
 -- Each part of a text's tree has a byte at least, so it ends within the text.
 use Rattle.std.proofs.Common.{◌≡◌, ℕ, ◌+◌, ◌<◌, ◌≤◌, List, length, drop, refl, ap, arith}
 use Rattle.std.proofs.lemmas.List.{length-take, length-drop}
-use Rattle.json_tape.specs.Tree.{Scalar, Num, Str, Tree, Leaf, Arr, Obj, Elements, NoElement, Element, Members, NoMember, Member, Name, source_of, then_element, then_member}
-use Rattle.json_tape.specs.Grammar.{IsScalarText, IsValue, scalar, array, object, IsElements, one_element, next_element, IsMembers, one_member, next_member, IsMember, member, IsText}
-use Rattle.json_tape.specs.Parts.{IsElementOf, first_element, later_element, IsValueOf, first_value, later_value, HasPart, itself, element, value}
-use Rattle.json_tape.proofs.Chars.{number_some}
-use Rattle.json_tape.proofs.Fits.{Lies}
-use Rattle.json_tape.proofs.TokensAt.{long_enough}
+use Rattle.json_text.specs.Tree.{Scalar, Num, Str, Tree, Leaf, Arr, Obj, Elements, NoElement, Element, Members, NoMember, Member, Name, source_of, then_element, then_member}
+use Rattle.json_text.specs.Grammar.{IsScalarText, IsValue, scalar, array, object, IsElements, one_element, next_element, IsMembers, one_member, next_member, IsMember, member, IsText}
+use Rattle.json_text.specs.Parts.{IsElementOf, first_element, later_element, IsValueOf, first_value, later_value, HasPart, itself, element, value}
+use Rattle.json_text.proofs.Chars.{number_some}
+use Rattle.json_text.proofs.Fits.{Lies}
+use Rattle.json_walk.proofs.TokensAt.{long_enough}
 
 abbrev mutual
   Shown : Tree → Type 0

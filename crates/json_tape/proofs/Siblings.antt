@@ -4,13 +4,13 @@ use Rattle.std.specs.List.{All}
 use Rattle.std.proofs.lemmas.Bool.Decides.{nat_tests}
 use Rattle.std.proofs.lemmas.Grind.{common_steps}
 use Rattle.std.proofs.lemmas.List.{get_or_default}
-use Rattle.json_tape.specs.Tree.{Tree, Leaf, Arr, Obj, Elements, NoElement, Element, Members, NoMember, Member}
-use Rattle.json_tape.specs.Nodes.{Node, Step, size, size_of_elements, size_of_members, children, children_of, visit, elements_from, members_from}
+use Rattle.json_text.specs.Tree.{Tree, Leaf, Arr, Obj, Elements, NoElement, Element, Members, NoMember, Member}
+use Rattle.json_text.specs.Nodes.{Node, Step, size, size_of_elements, size_of_members, children, children_of, visit, elements_from, members_from}
 use Rattle.json_tape.specs.Document.{Doc, Spot, IsDocument, count, node_at, later, seen, counting, spots, spot_at}
 use Rattle.json_tape.specs.Siblings.{AreBetween, siblings, numbers_of, numbered}
-use Rattle.json_tape.specs.declared.tape.Entry.{Entry}
-use Rattle.json_tape.proofs.Entries.{size_positive}
-use Rattle.json_tape.proofs.MembersLeft.{no_entry}
+use Rattle.json_text.specs.declared.tape.Entry.{Entry}
+use Rattle.json_text.proofs.Entries.{size_positive}
+use Rattle.json_text.proofs.MembersLeft.{no_entry}
 use Rattle.json_tape.proofs.Spots.{NextIn, end_of}
 use Rattle.json_tape.proofs.Readers.{good, spot_is, number_is, after_is, after_in, visit_of, child_is, childless_is, none_there, shown}
 

@@ -1,16 +1,16 @@
 -- Where each number stands among the spots of a tree.
 use Rattle.std.proofs.Common.{◌≡◌, ℕ, suc, ◌+◌, ◌≤◌, ◌<◌, ◌⊎◌, inl, inr, List, [], ◌∷◌, ◌++◌, length, map, get_or, refl, sym, ap, ◌∙◌, subst, arith, append_assoc, length-append, add-one}
 use Rattle.std.proofs.lemmas.Bool.{cases_lt}
-use Rattle.json_tape.specs.Tree.{Name, Tree, Leaf, Arr, Obj, Elements, NoElement, Element, Members, NoMember, Member}
-use Rattle.json_tape.specs.Meaning.{meaning}
-use Rattle.json_tape.specs.Nodes.{Node, Step, key, place, size, size_of_elements, size_of_members, children, children_of, elements_from, members_from, visit_from, visit_elements, visit_members}
-use Rattle.json_tape.specs.Letters.{IsString}
-use Rattle.json_tape.specs.Parts.{HasPart, element, value, IsElementOf, first_element, later_element, IsValueOf, first_value, later_value}
-use Rattle.json_tape.specs.Tape.{Label, Top, Index, Named, entry_of, tape_of, tape_of_elements, tape_of_members, extent}
+use Rattle.json_text.specs.Tree.{Name, Tree, Leaf, Arr, Obj, Elements, NoElement, Element, Members, NoMember, Member}
+use Rattle.json_text.specs.Meaning.{meaning}
+use Rattle.json_text.specs.Nodes.{Node, Step, key, place, size, size_of_elements, size_of_members, children, children_of, elements_from, members_from, visit_from, visit_elements, visit_members}
+use Rattle.json_text.specs.Letters.{IsString}
+use Rattle.json_text.specs.Parts.{HasPart, element, value, IsElementOf, first_element, later_element, IsValueOf, first_value, later_value}
+use Rattle.json_text.specs.Tape.{Label, Top, Index, Named, entry_of, tape_of, tape_of_elements, tape_of_members, extent}
 use Rattle.json_tape.specs.Document.{Spot, spots_from, spots_elements, spots_members}
-use Rattle.json_tape.proofs.Entries.{size_positive}
-use Rattle.json_tape.proofs.Fits.{Lies, Fits, FitElements, FitMembers}
-use Rattle.json_tape.specs.declared.tape.Entry.{Entry}
+use Rattle.json_text.proofs.Entries.{size_positive}
+use Rattle.json_text.proofs.Fits.{Lies, Fits, FitElements, FitMembers}
+use Rattle.json_text.specs.declared.tape.Entry.{Entry}
 use Rattle.std.proofs.lemmas.List.{map-append}
 use Rattle.std.proofs.Math.Seq.{get_or-append_seam}
 

@@ -4,19 +4,19 @@ use Rattle.std.proofs.lemmas.Bool.{cases_lt}
 use Rattle.std.proofs.lemmas.List.{get_or_past, get_or_default, length-drop, get_or-drop, get_or-take}
 use Rattle.structural_index.specs.Places.{AreSlashBlocks}
 use Rattle.memchr.specs.Find.{OccursAt, FindsNeedle}
-use Rattle.json_tape.specs.Tree.{Spelt, Plain, Short, Unit4, Tree, Leaf, Obj, Str}
-use Rattle.json_tape.specs.Letters.{IsHexDigit, IsChar, AreChars, IsString}
-use Rattle.json_tape.specs.Meaning.{Means, nothing, plain, short, unit, HasLone}
-use Rattle.json_tape.specs.Grammar.{IsText}
-use Rattle.json_tape.specs.Tape.{extent}
-use Rattle.json_tape.specs.Limits.{bytes_at}
-use Rattle.json_tape.specs.Surrogates.{HasNoSurrogates, NoneInBlock}
-use Rattle.json_tape.specs.Verdict.{SpellsLone}
-use Rattle.json_tape.specs.declared.tape.Extent.{Extent}
-use Rattle.json_tape.proofs.Fits.{Fits, text_fits, part_fits}
+use Rattle.json_text.specs.Tree.{Spelt, Plain, Short, Unit4, Tree, Leaf, Obj, Str}
+use Rattle.json_text.specs.Letters.{IsHexDigit, IsChar, AreChars, IsString}
+use Rattle.json_text.specs.Meaning.{Means, nothing, plain, short, unit, HasLone}
+use Rattle.json_text.specs.Grammar.{IsText}
+use Rattle.json_text.specs.Tape.{extent}
+use Rattle.json_text.specs.Limits.{bytes_at}
+use Rattle.json_strings.specs.Surrogates.{HasNoSurrogates, NoneInBlock}
+use Rattle.json_text.specs.Verdict.{SpellsLone}
+use Rattle.json_text.specs.declared.tape.Extent.{Extent}
+use Rattle.json_text.proofs.Fits.{Fits, text_fits, part_fits}
 use Rattle.json_tape.proofs.Holders.{name_fits}
 use Rattle.json_tape.proofs.Lones.{HasLonePart}
-use Rattle.json_tape.proofs.Parts.{placed}
+use Rattle.json_text.proofs.Parts.{placed}
 
 -- ---- In parts of the bytes
 

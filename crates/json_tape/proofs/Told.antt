@@ -1,17 +1,17 @@
 -- The tree told from the entries of a text's tree is that tree.
 use Rattle.std.proofs.Common.{◌≡◌, ◌<◌, ◌^◌, ℕ, suc, ◌+◌, List, [], ◌∷◌, ◌++◌, length, Option, Some, None, refl, sym, ap, ◌∙◌, subst, append_assoc}
 use Rattle.std.proofs.lemmas.List.{take_at, drop_at, append-nil}
-use Rattle.json_tape.specs.Tree.{Source, Name, Scalar, Str, Tree, Leaf, Arr, Obj, Elements, NoElement, Element, Members, NoMember, Member}
-use Rattle.json_tape.specs.Letters.{IsString}
-use Rattle.json_tape.specs.Grammar.{IsScalarText, IsText}
-use Rattle.json_tape.specs.Nodes.{size}
-use Rattle.json_tape.specs.Tape.{Label, Top, Index, Named, role_of, label_spot, extent, kind_of_scalar, element_count, member_count, tape_of, tape_of_elements, tape_of_members}
-use Rattle.json_tape.specs.Answer.{IsJson, StandsForAll}
-use Rattle.json_tape.specs.Verdict.{IsFaultless, IsAccepted}
+use Rattle.json_text.specs.Tree.{Source, Name, Scalar, Str, Tree, Leaf, Arr, Obj, Elements, NoElement, Element, Members, NoMember, Member}
+use Rattle.json_text.specs.Letters.{IsString}
+use Rattle.json_text.specs.Grammar.{IsScalarText, IsText}
+use Rattle.json_text.specs.Nodes.{size}
+use Rattle.json_text.specs.Tape.{Label, Top, Index, Named, role_of, label_spot, extent, kind_of_scalar, element_count, member_count, tape_of, tape_of_elements, tape_of_members}
+use Rattle.json_text.specs.Answer.{IsJson, StandsForAll}
+use Rattle.json_text.specs.Verdict.{IsFaultless, IsAccepted}
 use Rattle.json_tape.specs.Document.{IsDocument, Built, elements_built, members_built, source_in, tree_built, name_built, built, first_built, tree_of}
-use Rattle.json_tape.specs.declared.tape.Entry.{Entry}
-use Rattle.json_tape.proofs.Fits.{Lies, Fits, FitElements, FitMembers, text_fits}
-use Rattle.json_tape.proofs.Spelled.{spelt_is}
+use Rattle.json_text.specs.declared.tape.Entry.{Entry}
+use Rattle.json_text.proofs.Fits.{Lies, Fits, FitElements, FitMembers, text_fits}
+use Rattle.json_strings.proofs.Spelled.{spelt_is}
 
 source_told : (text : List ℕ) (s : Source) → Lies text s → source_in text (extent s) ≡ s
 source_told text s l = ap (λ b. record { place = s.place; bytes = b }) (sym l)

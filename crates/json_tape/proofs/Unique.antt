@@ -3,16 +3,16 @@ use Rattle.std.proofs.Common.{◌≡◌, ℕ, zero, suc, ◌+◌, ◌<◌, Bool,
 use Rattle.std.specs.Prelude.{bytes_eq}
 use Rattle.std.specs.List.{Contains, list_any}
 use Rattle.std.specs.Cmp.Lexicographic.{bytes_decides}
-use Rattle.json_tape.specs.Tree.{Source, Tree, Leaf, Arr, Obj, Elements, NoElement, Element, Members, NoMember, Member}
-use Rattle.json_tape.specs.Meaning.{meaning}
-use Rattle.json_tape.specs.Nodes.{Node, Step, size, elements_from, members_from, children_of, children, is_named, first_where}
-use Rattle.json_tape.specs.Parts.{HasPart}
-use Rattle.json_tape.specs.Repeats.{is_same, repeats, meanings}
+use Rattle.json_text.specs.Tree.{Source, Tree, Leaf, Arr, Obj, Elements, NoElement, Element, Members, NoMember, Member}
+use Rattle.json_text.specs.Meaning.{meaning}
+use Rattle.json_text.specs.Nodes.{Node, Step, size, elements_from, members_from, children_of, children, is_named, first_where}
+use Rattle.json_text.specs.Parts.{HasPart}
+use Rattle.json_text.specs.Repeats.{is_same, repeats, meanings}
 use Rattle.json_tape.specs.Document.{Doc, IsDocument, node_at, count, tree_of}
-use Rattle.json_tape.specs.declared.tape.TextFault.TheVariants.{LoneSurrogate, DuplicateName}
+use Rattle.json_text.specs.declared.tape.TextFault.TheVariants.{LoneSurrogate, DuplicateName}
 use Rattle.json_tape.proofs.Readers.{part_is}
-use Rattle.json_tape.proofs.Repeats.{or_right}
-use Rattle.json_tape.proofs.TwinNames.{twins_of}
+use Rattle.json_text.proofs.Repeats.{or_right}
+use Rattle.name_order.proofs.TwinNames.{twins_of}
 use Rattle.std.proofs.lemmas.Bool.{or_parts}
 
 -- a node of the name, so a name among the members

@@ -1,13 +1,13 @@
 -- The steps that lead to a node take no more bytes than the text has.
 use Rattle.std.proofs.Common.{◌≡◌, ℕ, zero, suc, ◌+◌, ◌<◌, ◌≤◌, List, [], ◌∷◌, ◌++◌, length, get_or, refl, ap, arith, length-append}
-use Rattle.json_tape.specs.Tree.{Name, Tree, source_of, Leaf, Arr, Obj, Elements, NoElement, Element, Members, NoMember, Member, then_element, then_member}
-use Rattle.json_tape.specs.Meaning.{meaning}
-use Rattle.json_tape.specs.Nodes.{Node, Step, key, place, way_size, size, elements_from, members_from}
-use Rattle.json_tape.specs.Grammar.{IsValue, array, object, IsElements, one_element, next_element, IsMembers, one_member, next_member, IsMember, member, IsText}
-use Rattle.json_tape.specs.Tape.{Label, Top, Index, Named, element_count, extent}
+use Rattle.json_text.specs.Tree.{Name, Tree, source_of, Leaf, Arr, Obj, Elements, NoElement, Element, Members, NoMember, Member, then_element, then_member}
+use Rattle.json_text.specs.Meaning.{meaning}
+use Rattle.json_text.specs.Nodes.{Node, Step, key, place, way_size, size, elements_from, members_from}
+use Rattle.json_text.specs.Grammar.{IsValue, array, object, IsElements, one_element, next_element, IsMembers, one_member, next_member, IsMember, member, IsText}
+use Rattle.json_text.specs.Tape.{Label, Top, Index, Named, element_count, extent}
 use Rattle.json_tape.specs.Document.{Doc, Spot, IsDocument, spots, spots_from, spots_elements, spots_members, tree_of, root_of, node_at, count}
 use Rattle.json_tape.proofs.Shown.{value_bytes, value_some}
-use Rattle.json_tape.proofs.Spelled.{string_room}
+use Rattle.json_strings.proofs.Spelled.{string_room}
 use Rattle.json_tape.proofs.Readers.{count_is}
 
 -- each child and the step to it have room in their container

@@ -7,20 +7,21 @@ use Rattle.std.specs.List.Sorted.{IsPermutation}
 use Rattle.std.proofs.lemmas.List.Elements.{All-contains}
 use Rattle.std.proofs.lemmas.List.Sorted.{IsPermutation-sym, Contains-permutation}
 use Rattle.std.specs.Cmp.Lexicographic.{bytes_decides}
-use Rattle.json_tape.specs.Tree.{Tree, Arr, Obj, Elements, Members, NoMember, Member}
-use Rattle.json_tape.specs.Meaning.{meaning}
-use Rattle.json_tape.specs.Nodes.{Node, Step, key, place, size, elements_from, members_from, children, is_named, first_where}
-use Rattle.json_tape.specs.Tape.{Label, Top, Index, Named, extent, IsAt, itself, in_array, in_object, IsInElements, in_element, in_later_element, IsInMembers, in_member, in_later_member}
-use Rattle.json_tape.specs.Document.{Doc, Spot, IsDocument, spots, spots_from, spots_elements, spots_members, node_at, count, tree_of, kind_of}
-use Rattle.json_tape.specs.declared.tape.Kind.TheVariants as kinds
-use Rattle.json_tape.specs.Repeats.{IsObject}
-use Rattle.json_tape.specs.Ordered.{Keyed, keyed, key_number, name_at, entry_in, nothing_there, AreNamed, IsOrderOf}
+use Rattle.json_text.specs.Tree.{Tree, Arr, Obj, Elements, Members, NoMember, Member}
+use Rattle.json_text.specs.Meaning.{meaning}
+use Rattle.json_text.specs.Nodes.{Node, Step, key, place, size, elements_from, members_from, children, is_named, first_where}
+use Rattle.json_text.specs.Tape.{Label, Top, Index, Named, extent, IsAt, itself, in_array, in_object, IsInElements, in_element, in_later_element, IsInMembers, in_member, in_later_member, kind_of, entry_in, nothing_there}
+use Rattle.json_tape.specs.Document.{Doc, Spot, IsDocument, spots, spots_from, spots_elements, spots_members, node_at, count, tree_of}
+use Rattle.json_text.specs.declared.tape.Kind.TheVariants as kinds
+use Rattle.json_text.specs.Repeats.{IsObject}
+use Rattle.json_strings.specs.Keys.{Keyed, key_number}
+use Rattle.name_order.specs.Ordered.{keyed, name_at, AreNamed, IsOrderOf}
 use Rattle.json_tape.proofs.Spots.{top, inner, one_of, place_is, spot_count}
 use Rattle.json_tape.proofs.Readers.{none_there, kind_is}
 use Rattle.json_tape.proofs.Told.{tree_told}
-use Rattle.json_tape.proofs.KeysLeft.{IsGood, all_good}
-use Rattle.json_tape.proofs.Halving.{one_place}
-use Rattle.json_tape.proofs.TwinNames.{object_of}
+use Rattle.name_order.proofs.KeysLeft.{IsGood, all_good}
+use Rattle.name_order.proofs.Halving.{one_place}
+use Rattle.name_order.proofs.TwinNames.{object_of}
 
 -- where the spots of a part stand
 record Stands (all : List Spot) (k n up : ℕ) (label : Label) (t : Tree) : Type 0 where

@@ -1,20 +1,21 @@
 -- What a document stands for: the tree that its text spells, and the node of each number.
 use Rattle.std.specs.Prelude.{◌≡◌, ℕ, zero, suc, ◌+◌, ◌<◌, ◌^◌, List, [], ◌∷◌, ◌++◌, length, map, take, drop, get_or, Option, Some, None, true, false}
-use Rattle.json_tape.specs.Tree.{Source, Name, Scalar, Null, True, False, Num, Str, Tree, Leaf, Arr, Obj, Elements, NoElement, Element, Members, NoMember, Member}
-use Rattle.json_tape.specs.Meaning.{meaning}
-use Rattle.json_tape.specs.Nodes.{Node, Step, key, place, size, elements_from, members_from}
-use Rattle.json_tape.specs.Spelling.{spelt}
-use Rattle.json_tape.specs.Tape.{Label, Top, Index, Named, extent, element_count, member_count, kind_of_scalar, tape_of}
-use Rattle.json_tape.specs.Verdict.{IsAccepted}
-use Rattle.json_tape.specs.declared.tape.Kind.{Kind}
-use Rattle.json_tape.specs.declared.tape.Kind.TheVariants as kinds
-use Rattle.json_tape.specs.declared.tape.Role.{Role}
-use Rattle.json_tape.specs.declared.tape.Role.TheVariants as roles
-use Rattle.json_tape.specs.declared.tape.Lead.{Lead}
-use Rattle.json_tape.specs.declared.tape.Lead.TheVariants as leads
-use Rattle.json_tape.specs.declared.tape.Extent.{Extent}
-use Rattle.json_tape.specs.declared.tape.Entry.{Entry}
-use Rattle.json_tape.specs.declared.tape.NodeId.{NodeId}
+use Rattle.json_text.specs.Tree.{Source, Name, Scalar, Null, True, False, Num, Str, Tree, Leaf, Arr, Obj, Elements, NoElement, Element, Members, NoMember, Member}
+use Rattle.json_text.specs.Meaning.{meaning}
+use Rattle.json_text.specs.Nodes.{Node, Step, key, place, size, elements_from, members_from}
+use Rattle.json_strings.specs.Spelling.{spelt}
+use Rattle.json_text.specs.Tape.{Label, Top, Index, Named, extent, element_count, member_count, tape_of}
+use Rattle.json_text.specs.Verdict.{IsAccepted}
+use Rattle.json_text.specs.declared.tape.Kind.{Kind}
+use Rattle.json_text.specs.declared.tape.Kind.TheVariants as kinds
+use Rattle.json_text.specs.declared.tape.Role.{Role}
+use Rattle.json_text.specs.declared.tape.Role.TheVariants as roles
+use Rattle.json_text.specs.declared.tape.Lead.{Lead}
+use Rattle.json_text.specs.declared.tape.Lead.TheVariants as leads
+use Rattle.json_text.specs.declared.tape.Extent.{Extent}
+use Rattle.json_text.specs.declared.tape.Entry.{Entry}
+use Rattle.json_text.specs.declared.tape.NodeId.{NodeId}
+pub use Rattle.json_text.specs.Tape.{kind_of}
 
 -- the bytes of the text, and the entries of its tape
 pub record Doc : Type 0 where
@@ -144,11 +145,6 @@ counting k zero = []
 counting k (suc n) = k ∷ counting (suc k) n
 
 -- ---- The facts of a node
-
-abbrev pub kind_of : Tree → Kind
-kind_of (Leaf s c) = kind_of_scalar c
-kind_of (Arr s es) = kinds.Array
-kind_of (Obj s ms) = kinds.Object
 
 -- the scalar values of a string, the elements of an array, the members of an object
 abbrev pub length_of : Tree → Option ℕ

@@ -1,8 +1,8 @@
 -- The children of a node from one number up to an end.
 use Rattle.std.specs.Prelude.{◌≡◌, ℕ, ◌+◌, ltb, List, [], ◌∷◌, map, cond}
-use Rattle.json_tape.specs.Nodes.{Node, size}
+use Rattle.json_text.specs.Nodes.{Node, size}
 use Rattle.json_tape.specs.Document.{Doc, node_at, later}
-use Rattle.json_tape.specs.declared.tape.NodeId.{NodeId}
+use Rattle.json_text.specs.declared.tape.NodeId.{NodeId}
 
 -- the numbers of nodes
 abbrev pub numbers_of : List Node → List NodeId

@@ -3,11 +3,11 @@
 ghost use Rattle.std.specs.Prelude.{◌≡◌, ◌<◌};
 ghost use Rattle.std.specs.List.{All};
 ghost use Rattle.json_tape.specs.Document.{count, node_at};
-ghost use Rattle.json_tape.specs.Nodes.{children};
+ghost use Rattle.json_text.specs.Nodes.{children};
 ghost use Rattle.json_tape.specs.Siblings.{numbered};
 
 use crate::document::Document;
-use crate::tape::NodeId;
+use json_text::NodeId;
 use std::marker::Model;
 
 /// The elements of an array or the values of an object's members, in the order of the text. Other values have none.
@@ -22,7 +22,7 @@ impl<'a> Model for Children<'a> {
     ghost use Rattle.std.specs.Prelude.{List, ◌≤◌};
     ghost use Rattle.json_tape.specs.Document.{count};
     ghost use Rattle.json_tape.specs.Siblings.{AreBetween, siblings, numbers_of};
-    ghost use Rattle.json_tape.specs.declared.tape.NodeId.{NodeId};
+    ghost use Rattle.json_text.specs.declared.tape.NodeId.{NodeId};
 
     // The children that are left.
     ghost Value = { List NodeId };

@@ -3,31 +3,34 @@
 ghost use Rattle.std.specs.Prelude.{false, IfSome, ◌≡◌, ◌∷◌, [], ℕ, List, ◌^◌, ◌<◌, ◌≤◌, ◌+◌, ◌-◌, ◌↔◌, length, MatchResult, MatchOption, IsUtf8, IsTrue, slice_index_or};
 ghost use Rattle.std.specs.List.{Contains, All};
 ghost use Rattle.std.specs.Str.{chars};
-ghost use Rattle.json_tape.specs.Spelling.{scalars_in, AreWordsOf};
+ghost use Rattle.json_strings.specs.Spelling.{scalars_in, AreWordsOf};
 ghost use Rattle.decimal_order.specs.Number.{IsNumber};
 ghost use Rattle.decimal_order.specs.Limits.{IsWithinLimits};
 ghost use Rattle.structural_index.specs.Answer.{IsIndexOf};
-ghost use Rattle.json_tape.specs.Answer.{Explains, IsJson, StandsForAll};
-ghost use Rattle.json_tape.specs.Tree.{source_of};
-ghost use Rattle.json_tape.specs.Verdict.{text_limit, IsAccepted, IsFaultless};
-ghost use Rattle.json_tape.specs.Nodes.{size, children, visit, is_named, first_where};
-ghost use Rattle.json_tape.specs.Tape.{Top, tape_of};
+ghost use Rattle.json_text.specs.Answer.{Explains, IsJson, StandsForAll};
+ghost use Rattle.json_text.specs.Tree.{source_of};
+ghost use Rattle.json_text.specs.Verdict.{text_limit, IsAccepted, IsFaultless};
+ghost use Rattle.json_text.specs.Nodes.{size, children, visit, is_named, first_where};
+ghost use Rattle.json_text.specs.Tape.{Top, tape_of, entry_in, kind_of};
 ghost use Rattle.json_tape.specs.Siblings.{numbered};
-ghost use Rattle.json_tape.specs.Ordered.{AreKept, IsOrderOf, IsWide, entry_in, sought_name};
-ghost use Rattle.json_tape.specs.Document.{tree_of, count, node_at, later, seen, following, single, root_of, counting, IsIn, IsDocument, IsMember, HasName, LeadIs, ParentIs, StandsIn, kind_of, length_of, string_meaning};
+ghost use Rattle.name_order.specs.Ordered.{AreKept, IsOrderOf};
+ghost use Rattle.json_text.specs.Sifted.{IsWide};
+ghost use Rattle.json_strings.specs.Keys.{sought_name};
+ghost use Rattle.json_tape.specs.Document.{tree_of, count, node_at, later, seen, following, single, root_of, counting, IsIn, IsDocument, IsMember, HasName, LeadIs, ParentIs, StandsIn, length_of, string_meaning};
 
 use crate::children::Children;
-use crate::compact::Tape;
-use crate::judge::{judge_tape, part_at};
-use crate::order::{NameOrder, Run, is_wide, member_in};
-use crate::plain::{Words, is_meant_by, is_meant_plainly, words_of};
-use crate::scalars::{Scalars, count_of, unquoted};
-use crate::second_stage::walk;
-use crate::sought::{Sought, is_sought};
-use crate::tape::{BuildFault, Entry, Kind, Lead, NodeId, Role, TextFault};
+use crate::judge::judge_tape;
+use json_strings::{
+    Scalars, Sought, Words, count_of, is_meant_by, is_meant_plainly, is_sought, part_at, unquoted,
+    words_of,
+};
+use json_text::{BuildFault, Entry, Kind, Lead, NodeId, Role, TextFault};
+use json_walk::walk;
+use name_order::{NameOrder, Run, is_wide, member_in};
 use std::alloc::Global;
 use std::marker::Model;
 use structural_index::{Index, Looks, index, index_and_copy};
+use tape_cells::Tape;
 
 /// The most bytes of a text.
 pub const TEXT_LIMIT: usize = 4_194_304;
@@ -44,7 +47,7 @@ impl Model for Document {
     ghost use Rattle.std.specs.String.{string_bytes};
     ghost use Rattle.std.specs.Prelude.{length};
     ghost use Rattle.json_tape.specs.Document.{Doc, IsDocument};
-    ghost use Rattle.json_tape.specs.Ordered.{AreKept};
+    ghost use Rattle.name_order.specs.Ordered.{AreKept};
 
     ghost Value = { Doc };
 

@@ -11,35 +11,15 @@
 //! they are read from the text when they are asked for. Repeated names are found by hashes, and compared if two hashes are equal.
 #![tactic(auto)]
 
-mod apart;
-mod builder;
-mod cells;
-mod characters;
 mod children;
-mod compact;
 mod document;
-mod duplicates;
-mod escapes;
-mod growth;
-mod hashes;
 mod judge;
-mod keys;
 pub mod laws;
-mod lexing;
-mod names;
-mod order;
-mod plain;
-mod scalars;
-mod scan;
-mod second_stage;
-mod slashes;
-mod sought;
-mod tape;
 
 pub use children::Children;
-pub use compact::Tape;
 pub use document::{Document, TEXT_LIMIT};
+pub use json_strings::Scalars;
+pub use json_text::{BuildFault, Kind, Lead, NodeId, TextFault};
+pub use json_walk::build;
 pub use judge::DEPTH_LIMIT;
-pub use scalars::Scalars;
-pub use second_stage::build;
-pub use tape::{BuildFault, Kind, Lead, NodeId, TextFault};
+pub use tape_cells::Tape;

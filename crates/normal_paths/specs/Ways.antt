@@ -3,7 +3,7 @@ use Rattle.std.specs.Prelude.{◌≡◌, ℕ, ◌<◌, ◌++◌, List, [], ◌�
 use Rattle.std.specs.List.{All}
 use Rattle.json_tape.specs.Nodes.{Node, Step}
 use Rattle.json_tape.specs.Document.{Doc, node_at, count}
-use Rattle.json_tape.specs.declared.tape.NodeId.{NodeId}
+use Rattle.json_text.specs.declared.tape.NodeId.{NodeId}
 use Rattle.normal_paths.specs.NormalPath.{step_text, normal_path}
 
 -- the text of the last of these steps, which stand innermost first

@@ -6,7 +6,7 @@ use Rattle.json_tape.specs.Tree.{Tree}
 use Rattle.json_tape.specs.Nodes.{Node}
 use Rattle.json_tape.specs.Grammar.{IsText}
 use Rattle.json_tape.specs.Verdict.{IsAccepted}
-use Rattle.json_tape.specs.declared.tape.TextFault.TheVariants as text
+use Rattle.json_text.specs.declared.tape.TextFault.TheVariants as text
 use Rattle.path_grammar.specs.Tree.{Segments}
 use Rattle.path_grammar.specs.Laws.{HaveOneTree}
 use Rattle.path_types.specs.Validity.{is_valid}

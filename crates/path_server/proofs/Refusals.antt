@@ -3,8 +3,8 @@ use Rattle.std.proofs.Common.{List, ℕ}
 use Rattle.json_tape.specs.Tree.{Tree}
 use Rattle.json_tape.specs.Verdict.{IsAccepted}
 use Rattle.json_tape.specs.Answer.{Explains}
-use Rattle.json_tape.specs.declared.tape.TextFault.{TextFault}
-use Rattle.json_tape.specs.declared.tape.TextFault.TheVariants as text
+use Rattle.json_text.specs.declared.tape.TextFault.{TextFault}
+use Rattle.json_text.specs.declared.tape.TextFault.TheVariants as text
 use Rattle.path_server.specs.QueryText.{Refuses}
 use Rattle.path_server.specs.Faults.{of_text}
 use Rattle.path_server.specs.declared.fault.QueryTextFault.TheVariants.{Memory}

@@ -4,7 +4,7 @@ use Rattle.std.specs.Prelude.{IfSome}
 use Rattle.std.specs.Io.KnownBytes.{Appends}
 use Rattle.std.proofs.lemmas.List.{length-take, take_all}
 use Rattle.json_tape.specs.Verdict.{text_limit, IsRefused}
-use Rattle.json_tape.specs.declared.tape.TextFault.TheVariants as text
+use Rattle.json_text.specs.declared.tape.TextFault.TheVariants as text
 use Rattle.standard_streams.specs.Fronts.{StopsShort}
 use Rattle.path_server.specs.QueryText.{Refuses, Answers}
 use Rattle.path_server.specs.QueryStream.{AnswersStream, BreaksOff}

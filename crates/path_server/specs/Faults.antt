@@ -1,6 +1,6 @@
 -- The refusals of the parts as refusals of the whole: this project's own.
-use Rattle.json_tape.specs.declared.tape.TextFault.{TextFault}
-use Rattle.json_tape.specs.declared.tape.TextFault.TheVariants as text
+use Rattle.json_text.specs.declared.tape.TextFault.{TextFault}
+use Rattle.json_text.specs.declared.tape.TextFault.TheVariants as text
 use Rattle.path_types.specs.declared.query_text.QueryFault.{QueryFault}
 use Rattle.path_types.specs.declared.query_text.QueryFault.TheVariants as query
 use Rattle.tape_select.specs.declared.fault.SelectFault.{SelectFault}

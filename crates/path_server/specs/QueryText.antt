@@ -3,7 +3,7 @@ use Rattle.std.specs.Prelude.{◌≡◌, ◌<◌, ◌≤◌, ℕ, ◌++◌, List
 use Rattle.json_tape.specs.Tree.{Tree}
 use Rattle.json_tape.specs.Verdict.{IsRefused, IsAccepted}
 use Rattle.json_tape.specs.Answer.{NoneApplies}
-use Rattle.json_tape.specs.declared.tape.TextFault.TheVariants as text
+use Rattle.json_text.specs.declared.tape.TextFault.TheVariants as text
 use Rattle.path_grammar.specs.Tree.{Segments}
 use Rattle.path_types.specs.Verdict.{IsValidQuery, RefusesQueryText}
 use Rattle.path_types.specs.declared.query_text.QueryFault.TheVariants as verdict

@@ -12,7 +12,7 @@ use Rattle.tenant_map.specs.Tenancy.{Tenancy, place_in, with_map}
 use Rattle.tape_select.specs.Budget.{budget}
 use Rattle.tape_select.specs.Charge.{charge}
 use Rattle.json_tape.specs.Answer.{NoneApplies}
-use Rattle.json_tape.specs.declared.tape.TextFault.TheVariants as verdict
+use Rattle.json_text.specs.declared.tape.TextFault.TheVariants as verdict
 use Rattle.path_grammar.specs.Tree.{Segments}
 use Rattle.path_types.specs.Verdict.{RefusesQueryText}
 use Rattle.path_types.specs.declared.query_text.QueryFault.{QueryFault}

@@ -12,7 +12,7 @@ use Rattle.path_grammar.specs.declared.ast.IntLit.TheVariants.{Within, Beyond}
 use Rattle.json_tape.specs.Tree.{Tree, Leaf, Arr, Obj}
 use Rattle.json_tape.specs.Nodes.{Node, Step, children, children_of, elements, elements_of, visit}
 use Rattle.json_tape.specs.Document.{Doc, node_at, seen, counting}
-use Rattle.json_tape.specs.declared.tape.NodeId.{NodeId}
+use Rattle.json_text.specs.declared.tape.NodeId.{NodeId}
 use Rattle.tape_values.specs.Selection.{at_index, nth_if, position_in, step_of, in_order, sliced}
 use Rattle.tape_values.specs.Functions.{value_argued, length_value}
 use Rattle.tape_select.specs.Evaluation.{evaluated, selected, selected_by, holds, some_hold, all_hold, is_empty, result, argued}

@@ -7,7 +7,7 @@ use Rattle.path_grammar.specs.declared.ast.Segment.{Segment}
 use Rattle.path_types.specs.Validity.{is_valid, are_valid}
 use Rattle.json_tape.specs.Document.{Doc, node_at, IsIn}
 use Rattle.json_tape.specs.Nodes.{Node}
-use Rattle.json_tape.specs.declared.tape.NodeId.{NodeId}
+use Rattle.json_text.specs.declared.tape.NodeId.{NodeId}
 use Rattle.tape_values.specs.Functions.{only_value}
 use Rattle.tape_select.specs.Evaluation.{evaluated, selected, from_starts}
 use Rattle.tape_select.specs.Charge.{charge_from}

@@ -6,8 +6,8 @@ use Rattle.path_grammar.specs.Tree.{Selector, selector, no_selectors, name, wild
 use Rattle.json_tape.specs.Tree.{Tree, Leaf, Arr, Obj, Elements, NoElement, Element}
 use Rattle.json_tape.specs.Nodes.{Node, Step, size, children, children_of, elements_from, visit, is_named, first_where}
 use Rattle.json_tape.specs.Document.{Doc, kind_of}
-use Rattle.json_tape.specs.declared.tape.Kind.TheVariants as kinds
-use Rattle.json_tape.specs.declared.tape.NodeId.{NodeId}
+use Rattle.json_text.specs.declared.tape.Kind.TheVariants as kinds
+use Rattle.json_text.specs.declared.tape.NodeId.{NodeId}
 use Rattle.tape_select.specs.Charge.{total_of}
 use Rattle.tape_select.specs.Extra.{extra_in}
 use Rattle.tape_select.specs.Paying.{Adds, Holds}

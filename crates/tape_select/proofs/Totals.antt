@@ -4,10 +4,10 @@ use Rattle.json_tape.specs.Tree.{Null, True, False, Num, Str, Tree, Leaf, Arr, O
 use Rattle.json_tape.specs.Nodes.{Node, Step, size, elements_from, members_from, children_of, children}
 use Rattle.json_tape.specs.Document.{Doc, kind_of, length_of}
 use Rattle.json_tape.specs.Tape.{element_count, member_count}
-use Rattle.json_tape.specs.declared.tape.NodeId.{NodeId}
+use Rattle.json_text.specs.declared.tape.NodeId.{NodeId}
 use Rattle.tape_values.specs.Functions.{only_value}
 use Rattle.tape_select.specs.Nodelists.{nodes_of}
-use Rattle.json_tape.specs.declared.tape.Kind.TheVariants as kinds
+use Rattle.json_text.specs.declared.tape.Kind.TheVariants as kinds
 
 length_elements : (up : List Step) (i k : ℕ) (es : Elements) → length (elements_from up i k es) ≡ element_count es
 length_elements up i k NoElement = refl

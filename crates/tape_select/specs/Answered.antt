@@ -1,7 +1,7 @@
 -- Comparisons that were made.
 use Rattle.std.specs.Prelude.{◌≡◌, List, [], ◌∷◌, Option, Some, None}
 use Rattle.json_tape.specs.Document.{Doc, node_at}
-use Rattle.json_tape.specs.declared.tape.NodeId.{NodeId}
+use Rattle.json_text.specs.declared.tape.NodeId.{NodeId}
 use Rattle.tape_values.specs.Comparison.{value_of, equal_results, less_results}
 use Rattle.tape_select.specs.declared.answers.Answer.{Answer}
 

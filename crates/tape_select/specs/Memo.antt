@@ -3,7 +3,7 @@ use Rattle.std.specs.Prelude.{◌≡◌, ℕ, suc, ◌+◌, List, [], ◌∷◌,
 use Rattle.path_grammar.specs.Tree.{Segments, Nested, nested}
 use Rattle.json_tape.specs.Nodes.{Node}
 use Rattle.json_tape.specs.Document.{Doc, node_at, IsIn}
-use Rattle.json_tape.specs.declared.tape.NodeId.{NodeId}
+use Rattle.json_text.specs.declared.tape.NodeId.{NodeId}
 use Rattle.tape_values.specs.Comparison.{Value, value_of}
 use Rattle.tape_values.specs.Functions.{only_value}
 use Rattle.tape_select.specs.Evaluation.{evaluated, start}

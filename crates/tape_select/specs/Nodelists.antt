@@ -2,7 +2,7 @@
 use Rattle.std.specs.Prelude.{ℕ, ◌-◌, List, map, flat_map}
 use Rattle.json_tape.specs.Nodes.{Node, children}
 use Rattle.json_tape.specs.Document.{Doc, node_at, seen, counting}
-use Rattle.json_tape.specs.declared.tape.NodeId.{NodeId}
+use Rattle.json_text.specs.declared.tape.NodeId.{NodeId}
 
 -- the nodes of these numbers
 abbrev pub nodes_of : Doc → List NodeId → List Node

@@ -5,7 +5,7 @@ use Rattle.std.specs.declared.vec.Vec.{Vec}
 use Rattle.std.specs.declared.alloc.Global.{Global}
 use Rattle.json_tape.specs.Nodes.{Node}
 use Rattle.json_tape.specs.Document.{Doc, count, single, IsIn}
-use Rattle.json_tape.specs.declared.tape.NodeId.{NodeId}
+use Rattle.json_text.specs.declared.tape.NodeId.{NodeId}
 use Rattle.tape_select.specs.Nodelists.{nodes_of}
 use Rattle.tape_select.specs.declared.fault.SelectFault.{SelectFault}
 use Rattle.tape_select.specs.declared.fault.SelectFault.TheVariants.{Costly, Memory}

@@ -4,7 +4,7 @@ use Rattle.json_tape.specs.Tree.{Null, True, False, Num, Str, Tree, Leaf, Arr, O
 use Rattle.json_tape.specs.Nodes.{Node, Step, elements_from, elements_of, children_of, children, elements, size}
 use Rattle.json_tape.specs.Document.{kind_of, length_of}
 use Rattle.json_tape.specs.Tape.{element_count}
-use Rattle.json_tape.specs.declared.tape.Kind.TheVariants as kinds
+use Rattle.json_text.specs.declared.tape.Kind.TheVariants as kinds
 use Rattle.tape_values.specs.Selection.{nth}
 
 length_elements : (up : List Step) (i k : ℕ) (es : Elements) → length (elements_from up i k es) ≡ element_count es

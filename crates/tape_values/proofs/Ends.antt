@@ -7,7 +7,7 @@ use Rattle.json_tape.specs.Tree.{Tree, Leaf, Arr, Obj, Elements, NoElement, Elem
 use Rattle.json_tape.specs.Nodes.{Node, Step, key, place, size, size_of_elements, size_of_members, elements_from, elements_of, elements, children_of, children, visit, visit_from, visit_elements, visit_members}
 use Rattle.json_tape.specs.Meaning.{meaning}
 use Rattle.json_tape.specs.Document.{Doc, node_at, later, following, single, seen, counting}
-use Rattle.json_tape.specs.declared.tape.NodeId.{NodeId}
+use Rattle.json_text.specs.declared.tape.NodeId.{NodeId}
 use Rattle.tape_values.specs.Selection.{nth}
 use Rattle.tape_values.specs.Ends.{number_at}
 

@@ -5,7 +5,7 @@ use Rattle.json_tape.specs.Tree.{Null, True, False, Num, Str, Name, Tree, Leaf, 
 use Rattle.json_tape.specs.Meaning.{meaning}
 use Rattle.json_tape.specs.Nodes.{Node, Step, key, size, elements_from, members_from, children_of, children}
 use Rattle.json_tape.specs.Document.{kind_of}
-use Rattle.json_tape.specs.declared.tape.Kind.TheVariants as kinds
+use Rattle.json_text.specs.declared.tape.Kind.TheVariants as kinds
 use Rattle.tape_values.specs.Comparison.{Value, value_of, equal_values, equal_results, equal_trees, equal_elements, each_in, has_member}
 use Rattle.tape_values.specs.Pairs.{equal_each, has_twin, each_has_twin}
 use Rattle.tape_values.proofs.Sizes.{length_members, children_smaller}

@@ -4,7 +4,7 @@ use Rattle.json_tape.specs.Tree.{Null, True, False, Num, Str, Tree, Leaf, Arr, O
 use Rattle.json_tape.specs.Nodes.{Node, Step, size, size_of_elements, size_of_members, elements_from, members_from, children_of, children}
 use Rattle.json_tape.specs.Document.{kind_of, length_of}
 use Rattle.json_tape.specs.Tape.{member_count}
-use Rattle.json_tape.specs.declared.tape.Kind.TheVariants as kinds
+use Rattle.json_text.specs.declared.tape.Kind.TheVariants as kinds
 use Rattle.tape_values.specs.Pairs.{total_size}
 use Rattle.tape_values.specs.Comparison.{Value, a_null, a_boolean, a_number, a_text, a_container, value_of}
 

@@ -5,7 +5,7 @@ use Rattle.std.specs.Option.{option_or}
 use Rattle.std.specs.Prelude.{IfSome, MatchOption}
 use Rattle.json_tape.specs.Nodes.{Node, first_where}
 use Rattle.json_tape.specs.Document.{Doc, node_at, later, following, single}
-use Rattle.json_tape.specs.declared.tape.NodeId.{NodeId}
+use Rattle.json_text.specs.declared.tape.NodeId.{NodeId}
 use Rattle.tape_values.specs.Pairs.{are_twins, has_twin, IsEnd, IsAmong}
 
 or_false : (a : Bool) → a || false ≡ a

@@ -4,8 +4,8 @@ use Rattle.decimal_order.specs.Number.{IsNumber}
 use Rattle.decimal_order.specs.Limits.{IsWithinLimits}
 use Rattle.json_tape.specs.Nodes.{Node}
 use Rattle.json_tape.specs.Document.{Doc, count, node_at, following, kind_of}
-use Rattle.json_tape.specs.declared.tape.Kind.TheVariants as kinds
-use Rattle.json_tape.specs.declared.tape.NodeId.{NodeId}
+use Rattle.json_text.specs.declared.tape.Kind.TheVariants as kinds
+use Rattle.json_text.specs.declared.tape.NodeId.{NodeId}
 use Rattle.tape_values.specs.Comparison.{Value, a_null, a_boolean, a_number, a_text, a_container}
 use Rattle.tape_values.specs.Pairs.{has_twin, IsEnd}
 use Rattle.tape_values.specs.declared.values.Content.{Content}

@@ -3,7 +3,7 @@ use Rattle.std.specs.Prelude.{◌≡◌, ℕ, ◌<◌, List, Option, Some, None,
 use Rattle.path_grammar.specs.View.{literal_view}
 use Rattle.path_types.specs.Validity.{is_literal}
 use Rattle.json_tape.specs.Document.{Doc, node_at, count, single}
-use Rattle.json_tape.specs.declared.tape.NodeId.{NodeId}
+use Rattle.json_text.specs.declared.tape.NodeId.{NodeId}
 use Rattle.tape_values.specs.Comparison.{Value, a_number, value_of, literal_value}
 use Rattle.tape_values.specs.Contents.{digits_text, AreDigits, IsNumberText}
 use Rattle.tape_values.specs.Functions.{whole_number, only_value}

@@ -10,7 +10,7 @@ use Rattle.std.specs.declared.alloc.Global.{Global}
 use Rattle.json_tape.specs.Document.{Doc, tree_of}
 use Rattle.json_tape.specs.Tree.{Tree}
 use Rattle.json_tape.specs.Verdict.{text_limit, IsAccepted}
-use Rattle.json_tape.specs.declared.tape.TextFault.TheVariants.{TooLong}
+use Rattle.json_text.specs.declared.tape.TextFault.TheVariants.{TooLong}
 use Rattle.store_names.specs.Names.{is_document_name, is_name_byte}
 use Rattle.tenant_map.specs.Kept.{AreKept, texts}
 use Rattle.tenant_map.specs.Maps.{Documents, bytes_of}

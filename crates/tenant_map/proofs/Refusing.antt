@@ -3,8 +3,8 @@ use Rattle.std.proofs.Common.{◌≡◌, ◌⊎◌, inl, inr, ℕ, List, Bool, t
 use Rattle.json_tape.specs.Tree.{Tree}
 use Rattle.json_tape.specs.Verdict.{IsAccepted}
 use Rattle.json_tape.specs.Answer.{Explains, NoneApplies}
-use Rattle.json_tape.specs.declared.tape.TextFault.{TextFault}
-use Rattle.json_tape.specs.declared.tape.TextFault.TheVariants as verdict
+use Rattle.json_text.specs.declared.tape.TextFault.{TextFault}
+use Rattle.json_text.specs.declared.tape.TextFault.TheVariants as verdict
 use Rattle.tenant_map.specs.declared.faults.StoreFault.{StoreFault}
 use Rattle.tenant_map.specs.declared.faults.StoreFault.TheVariants as faults
 use Rattle.tenant_map.specs.declared.usage.Usage.{Usage}

@@ -1,8 +1,8 @@
 -- Each put has one answer.
 use Rattle.std.proofs.Common.{◌≡◌, ◌≢◌, ◌⊎◌, inl, inr, ◌<◌, ℕ, List, [], ◌∷◌, Option, Some, None, refl, sym, ap, ◌∙◌, get_or, arith}
 use Rattle.json_tape.specs.Verdict.{rank, IsRefused}
-use Rattle.json_tape.specs.declared.tape.TextFault.{TextFault}
-use Rattle.json_tape.specs.declared.tape.TextFault.TheVariants as verdict
+use Rattle.json_text.specs.declared.tape.TextFault.{TextFault}
+use Rattle.json_text.specs.declared.tape.TextFault.TheVariants as verdict
 use Rattle.tenant_map.specs.declared.faults.StoreFault.{StoreFault}
 use Rattle.tenant_map.specs.declared.faults.StoreFault.TheVariants as faults
 use Rattle.tenant_map.specs.Maps.{Map, put_text}

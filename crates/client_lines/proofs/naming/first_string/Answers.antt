@@ -2,7 +2,7 @@ use Rattle.std.proofs.Common.{◌≡◌, ℕ, List, [], ◌∷◌, Some, map, sl
 use Rattle.std.proofs.lemmas.Result.{IfOk-weaker}
 use Rattle.json_tape.specs.Document.{Doc, node_at}
 use Rattle.json_tape.specs.Nodes.{Node}
-use Rattle.json_tape.specs.declared.tape.NodeId.{NodeId}
+use Rattle.json_text.specs.declared.tape.NodeId.{NodeId}
 use Rattle.tape_select.specs.Nodelists.{nodes_of}
 use Rattle.client_lines.proofs.naming.first_string.Goals as goal
 

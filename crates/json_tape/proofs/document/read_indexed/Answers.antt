@@ -1,5 +1,5 @@
 use Rattle.std.proofs.Common.{◌∙◌, ap, subst, Err}
-use Rattle.json_tape.specs.Answer.{IsNoJson}
+use Rattle.json_text.specs.Answer.{IsNoJson}
 use Rattle.json_tape.proofs.Verdicts.{refused_json}
 use Rattle.json_tape.proofs.document.read_indexed.Goals as goal
 

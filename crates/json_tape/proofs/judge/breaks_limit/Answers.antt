@@ -1,5 +1,5 @@
 use Rattle.json_tape.proofs.Limits.{bad_none}
-use Rattle.json_tape.proofs.Marks.{none_beyond}
+use Rattle.json_walk.proofs.Marks.{none_beyond}
 use Rattle.json_tape.proofs.judge.breaks_limit.Goals as goal
 
 pub returns-else-reading : goal.returns-else-reading

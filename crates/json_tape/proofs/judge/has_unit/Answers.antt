@@ -1,7 +1,7 @@
 use Rattle.std.proofs.Common.{◌≡◌, ◌+◌, ◌-◌, ◌<◌, get_or, ap, ◌∙◌, suc, arith}
 use lib.Lanes.{chunk}
 use Rattle.structural_index.proofs.Lanes.{none, loaded}
-use Rattle.json_tape.proofs.StopBits.{clear_mask, no_unit_lane}
+use Rattle.json_strings.proofs.StopBits.{clear_mask, no_unit_lane}
 use Rattle.json_tape.proofs.judge.has_unit.Goals as goal
 
 pub returns : goal.returns

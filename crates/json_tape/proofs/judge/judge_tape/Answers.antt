@@ -1,4 +1,4 @@
-use Rattle.json_tape.specs.declared.tape.TextFault.TheVariants.{NumberLimit, LoneSurrogate}
+use Rattle.json_text.specs.declared.tape.TextFault.TheVariants.{NumberLimit, LoneSurrogate}
 use Rattle.json_tape.proofs.Verdicts.{refused_deep, not_deep, refused_number, refused_lone, refused_twice, faultless, applies_at, applies_not}
 use Rattle.json_tape.proofs.judge.judge_tape.Goals as goal
 

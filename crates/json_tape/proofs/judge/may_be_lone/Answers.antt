@@ -1,6 +1,6 @@
 use Rattle.std.proofs.Common.{◌≡◌, inl, inr, get_or, subst, arith}
 use Rattle.std.proofs.lemmas.Bool.{cases_lt}
-use Rattle.json_tape.specs.Surrogates.{NoneInBlock}
+use Rattle.json_strings.specs.Surrogates.{NoneInBlock}
 use Rattle.json_tape.proofs.Surrogateless.{none_in_blocks, block_inside}
 use Rattle.json_tape.proofs.judge.may_be_lone.Goals as goal
 

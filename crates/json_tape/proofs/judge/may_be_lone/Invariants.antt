@@ -1,5 +1,5 @@
 use Rattle.std.proofs.Common.{ℕ, ◌<◌, get_or}
-use Rattle.json_tape.specs.Surrogates.{NoneInBlock}
+use Rattle.json_strings.specs.Surrogates.{NoneInBlock}
 use Rattle.json_tape.proofs.judge.may_be_lone.Given as goal
 
 abbrev pub invariant-loop-n : goal.invariant-loop-n

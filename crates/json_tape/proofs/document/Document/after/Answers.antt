@@ -1,6 +1,6 @@
 use Rattle.std.proofs.Common.{arith}
 use Rattle.json_tape.specs.Document.{node_at}
-use Rattle.json_tape.proofs.Entries.{size_positive}
+use Rattle.json_text.proofs.Entries.{size_positive}
 use Rattle.json_tape.proofs.Siblings.{visit_to}
 use Rattle.json_tape.proofs.document.Document.after.Goals as goal
 

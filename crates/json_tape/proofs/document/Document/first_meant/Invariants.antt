@@ -1,5 +1,5 @@
 use Rattle.std.proofs.Common.{◌-◌}
-use Rattle.json_tape.specs.Ordered.{sought_name}
+use Rattle.json_strings.specs.Keys.{sought_name}
 use Rattle.json_tape.proofs.MembersSeen.{Rest}
 use Rattle.json_tape.proofs.document.Document.first_meant.Given as goal
 

@@ -1,7 +1,7 @@
 use Rattle.std.proofs.Common.{◌+◌, ◌<◌, ◌^◌, ◌∙◌, sym, ap, arith, rules}
 use Rattle.std.specs.Prelude.{bytes_eq}
 use Rattle.json_tape.specs.Document.{Doc}
-use Rattle.json_tape.proofs.Spelled.{quoted_at, scalars_at}
+use Rattle.json_strings.proofs.Spelled.{quoted_at, scalars_at}
 use Rattle.json_tape.proofs.Readers.{small_count, past_is}
 use Rattle.json_tape.proofs.MembersSeen.{all_rest, next_seen, none_left}
 use Rattle.json_tape.proofs.document.Document.first_named.Goals as goal

@@ -1,6 +1,7 @@
 use Rattle.std.proofs.Common.{◌≡◌, ◌∙◌, ap, sym, refl, length, Some, arith}
-use Rattle.json_tape.specs.Document.{node_at, kind_of}
-use Rattle.json_tape.specs.declared.tape.Kind.TheVariants as kinds
+use Rattle.json_tape.specs.Document.{node_at}
+use Rattle.json_text.specs.Tape.{kind_of}
+use Rattle.json_text.specs.declared.tape.Kind.TheVariants as kinds
 use Rattle.json_tape.proofs.Readers.{kind_is, length_is, string_length, no_length}
 use Rattle.json_tape.proofs.document.Document.length.Goals as goal
 

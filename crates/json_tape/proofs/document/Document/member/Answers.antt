@@ -1,6 +1,6 @@
 use Rattle.std.proofs.Common.{◌≡◌, sym, ◌∙◌, arith}
 use Rattle.json_tape.specs.Document.{node_at}
-use Rattle.json_tape.specs.declared.tape.Kind.TheVariants as kinds
+use Rattle.json_text.specs.declared.tape.Kind.TheVariants as kinds
 use Rattle.json_tape.proofs.Readers.{kind_is}
 use Rattle.json_tape.proofs.MembersSeen.{unnamed}
 use Rattle.json_tape.proofs.document.Document.member.Goals as goal

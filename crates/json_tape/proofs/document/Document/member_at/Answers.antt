@@ -1,6 +1,6 @@
 use Rattle.std.proofs.Common.{◌≡◌, ◌+◌, ◌<◌, true, sym, ap, ◌∙◌, subst, arith}
 use Rattle.std.specs.List.{Contains}
-use Rattle.json_tape.specs.Nodes.{children, is_named, key_is}
+use Rattle.json_text.specs.Nodes.{children, is_named, key_is}
 use Rattle.json_tape.specs.Document.{count, node_at}
 use Rattle.json_tape.proofs.Readers.{root_lead, child_among}
 use Rattle.json_tape.proofs.Unique.{only_named}

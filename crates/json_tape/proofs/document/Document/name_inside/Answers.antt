@@ -1,9 +1,9 @@
 use Rattle.std.specs.Str.{chars}
-use Rattle.json_tape.specs.Spelling.{scalars_in}
+use Rattle.json_strings.specs.Spelling.{scalars_in}
 use Rattle.std.proofs.Common.{◌≡◌, length, arith, ap, sym, subst, ◌∙◌}
 use Rattle.json_tape.specs.Document.{Doc, IsMember, node_at}
-use Rattle.json_tape.specs.Meaning.{meaning}
-use Rattle.json_tape.proofs.Spelled.{quoted_at, scalars_at, string_short}
+use Rattle.json_text.specs.Meaning.{meaning}
+use Rattle.json_strings.proofs.Spelled.{quoted_at, scalars_at, string_short}
 use Rattle.json_tape.proofs.Readers.{member_role, member_lead, text_short}
 use Rattle.json_tape.proofs.document.Document.name_inside.Goals as goal
 

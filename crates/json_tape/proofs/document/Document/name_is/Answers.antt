@@ -1,8 +1,8 @@
 use Rattle.std.proofs.Common.{inl, inr, ◌∙◌, sym, ap}
 use Rattle.std.specs.Prelude.{bytes_eq}
-use Rattle.json_tape.specs.Nodes.{key_is}
+use Rattle.json_text.specs.Nodes.{key_is}
 use Rattle.json_tape.specs.Document.{Doc, node_at}
-use Rattle.json_tape.proofs.Spelled.{quoted_at, scalars_at}
+use Rattle.json_strings.proofs.Spelled.{quoted_at, scalars_at}
 use Rattle.json_tape.proofs.Readers.{nameless, member_role, member_lead}
 use Rattle.json_tape.proofs.document.Document.name_is.Goals as goal
 

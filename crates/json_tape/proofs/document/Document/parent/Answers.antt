@@ -1,5 +1,5 @@
 use Rattle.std.proofs.Common.{◌≡◌, inl, inr}
-use Rattle.json_tape.specs.declared.tape.Role.TheVariants as roles
+use Rattle.json_text.specs.declared.tape.Role.TheVariants as roles
 use Rattle.json_tape.proofs.Readers.{root_lead, parent_is, child_among, up_in}
 use Rattle.json_tape.proofs.document.Document.parent.Goals as goal
 

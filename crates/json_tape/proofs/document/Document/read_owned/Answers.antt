@@ -1,9 +1,9 @@
 use Rattle.std.specs.String.{string_bytes}
 use Rattle.std.proofs.Common.{◌∙◌, ap, sym, subst}
-use Rattle.json_tape.specs.Verdict.{IsAccepted}
+use Rattle.json_text.specs.Verdict.{IsAccepted}
 use Rattle.json_tape.specs.Document.{tree_of}
 use Rattle.json_tape.proofs.Told.{is_accepted, document}
-use Rattle.json_tape.proofs.Runs.{kept_of}
+use Rattle.name_order.proofs.Runs.{kept_of}
 use Rattle.json_tape.proofs.document.Document.read_owned.Goals as goal
 
 pub returns-in-Ok-read_indexed : goal.returns-in-Ok-read_indexed

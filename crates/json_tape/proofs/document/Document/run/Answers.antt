@@ -1,9 +1,10 @@
 use Rattle.std.proofs.Common.{refl, arith, ap}
 use Rattle.std.proofs.lemmas.List.{get_or_read}
-use Rattle.json_tape.specs.Ordered.{nothing_there}
-use Rattle.json_tape.specs.declared.tape.Entry.{Entry}
+use Rattle.json_text.specs.Tape.{nothing_there}
+use Rattle.json_text.specs.declared.tape.Entry.{Entry}
 use Rattle.json_tape.proofs.Readers.{told, within}
-use Rattle.json_tape.proofs.Runs.{kept_in, lost, place_of, run_is}
+use Rattle.json_tape.proofs.KeptOrders.{kept_in}
+use Rattle.name_order.proofs.Runs.{lost, place_of, run_is}
 use Rattle.json_tape.proofs.document.Document.run.Goals as goal
 
 pub returns-in_default : goal.returns-in_default

@@ -1,5 +1,5 @@
 use Rattle.std.proofs.Common.{◌∙◌, sym, refl}
-use Rattle.json_tape.specs.Ordered.{sought_name}
+use Rattle.json_strings.specs.Keys.{sought_name}
 use Rattle.json_tape.proofs.WideNodes.{found_first, found_none, object_in, found_in, same_name}
 use Rattle.json_tape.proofs.document.Document.sought_in.Goals as goal
 

@@ -1,9 +1,9 @@
 use Rattle.std.proofs.Common.{◌≡◌, length, arith, ap, sym, ◌∙◌}
 use Rattle.std.specs.Str.{chars}
-use Rattle.json_tape.specs.Spelling.{scalars_in}
-use Rattle.json_tape.specs.Meaning.{meaning}
+use Rattle.json_strings.specs.Spelling.{scalars_in}
+use Rattle.json_text.specs.Meaning.{meaning}
 use Rattle.json_tape.specs.Document.{Doc}
-use Rattle.json_tape.proofs.Spelled.{quoted_at, scalars_at, string_short}
+use Rattle.json_strings.proofs.Spelled.{quoted_at, scalars_at, string_short}
 use Rattle.json_tape.proofs.Readers.{string_is, text_short}
 use Rattle.json_tape.proofs.document.Document.string_scalars.Goals as goal
 

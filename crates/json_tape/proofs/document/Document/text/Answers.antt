@@ -1,6 +1,6 @@
 use Rattle.std.proofs.Common.{sym, subst}
 use Rattle.json_tape.specs.Document.{StandsIn}
-use Rattle.json_tape.specs.Limits.{IsLimited}
+use Rattle.json_text.specs.Limits.{IsLimited}
 use Rattle.json_tape.proofs.Readers.{text_is, text_ends, text_part, number_within, text_short, part_short}
 use Rattle.json_tape.proofs.document.Document.text.Goals as goal
 

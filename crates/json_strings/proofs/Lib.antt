@@ -1,0 +1,15 @@
+pub mod Steps
+pub mod PlainLanes
+pub mod LoneLaw
+pub mod EscapeSteps
+pub mod Spelled
+pub mod Comparing
+pub mod Utf8Order
+pub mod PlainNames
+pub mod PlainBytes
+pub mod ShortHashes
+pub mod PackedWords
+pub mod StopBits
+pub mod Beginnings
+pub mod PlainRuns
+pub mod LoneSteps

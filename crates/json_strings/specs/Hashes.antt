@@ -1,0 +1,57 @@
+-- Hashes of what names mean.
+use Rattle.std.specs.Prelude.{◌≡◌, ◌≢◌, ℕ, ◌+◌, ◌-◌, ◌*◌, ◌%◌, ◌^◌, ◌<◌, ◌≤◌, cond, ltb, eqb, List, [], ◌∷◌, length, take, drop, get_or}
+use Rattle.structural_index.specs.Known.{word_at}
+use Rattle.json_strings.specs.declared.hashes.Hashing.{Hashing}
+
+-- A hash of scalar values: eight of them at a time are a word, their number with the first as the highest digit of 256, and words
+-- are mixed. No fact of a text rests on which hash it is; only steps speak of it.
+unfoldable pub joined : ℕ → ℕ → ℕ
+joined hash word = ((hash * 0x9E3779B97F4A7C15) % (2 ^ 64) + word) % (2 ^ 64)
+
+unfoldable pub lengthened : ℕ → ℕ → ℕ
+lengthened word c = ((word * 256) % (2 ^ 64) + c) % (2 ^ 64)
+
+-- with room in its word
+abbrev pub roomy : Hashing → Hashing
+roomy s = cond (ltb s.count 8) s (record { hash = joined s.hash s.word; word = 0; count = 0 })
+
+-- with one more scalar value
+abbrev pub more : Hashing → ℕ → Hashing
+more s c = record { hash = (roomy s).hash; word = lengthened (roomy s).word c; count = (roomy s).count + 1 }
+
+abbrev pub finished : Hashing → ℕ
+finished s = cond (eqb s.count 0) s.hash (joined s.hash s.word)
+
+abbrev pub hash_from : Hashing → List ℕ → ℕ
+hash_from s [] = finished s
+hash_from s (c ∷ cs) = hash_from (more s c) cs
+
+-- of whole words with this hash
+abbrev pub after_words : ℕ → Hashing
+after_words hash = record { hash = hash; word = 0; count = 0 }
+
+abbrev pub hash_of : List ℕ → ℕ
+hash_of cs = hash_from (after_words 0) cs
+
+-- the number of these digits of 256 behind those of w
+abbrev pub digits : ℕ → List ℕ → ℕ
+digits w [] = w
+digits w (b ∷ bs) = digits (w * 256 + b) bs
+
+-- the four bytes from a place on, and those from another on, as one word
+abbrev pub fours_at : List ℕ → (i j : ℕ) → ℕ
+fours_at bs i j = word_at bs i * 2 ^ 32 + word_at bs j
+
+-- the first eight bytes and the last eight, or the first four and the last four of fewer, or the second one of fewer than four, as one
+-- word. No fact of a text rests on which word it is.
+abbrev pub word_of_bytes : List ℕ → ℕ
+word_of_bytes bs =
+    cond (ltb (length bs) 4) (get_or bs 1 0)
+    (cond (ltb (length bs) 8) (fours_at bs 0 (length bs - 4))
+    (joined (fours_at bs 0 (length bs - 4)) (fours_at bs 4 (length bs - 8))))
+
+-- so many bytes from a place on stand for themselves, and this is their word
+pub record IsPlainWord (text : List ℕ) (at len word : ℕ) : Type 0 where
+  pub value : word ≡ digits 0 (take len (drop at text))
+  pub fits : digits 0 (take len (drop at text)) < 2 ^ 64
+  pub plain : (k : ℕ) → at ≤ k → k < at + len → (get_or text k 0 < 128) × (get_or text k 0 ≢ 92)

@@ -1,6 +1,0 @@
-use Rattle.std.proofs.Common.{arith}
-use Rattle.json_tape.proofs.Sides.{entries_many}
-use Rattle.json_tape.proofs.compact.Tape.len.Goals as goal
-
-pub returns-clause-value : goal.returns-clause-value
-returns-clause-value c = let e = entries_many _ _ c.args.self.now c.self.view_is in omega (arith, e, c.len.ensures)

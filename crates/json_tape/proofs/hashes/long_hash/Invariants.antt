@@ -1,8 +1,0 @@
-use Rattle.std.proofs.Common.{◌≡◌, drop}
-use Rattle.std.specs.Str.{chars}
-use Rattle.json_tape.specs.Spelling.{scalars_in}
-use Rattle.json_tape.specs.Repeats.{hash_from, hash_of}
-use Rattle.json_tape.proofs.hashes.long_hash.Given as goal
-
-abbrev pub invariant-loop-i : goal.invariant-loop-i
-invariant-loop-i l = hash_from l.state (scalars_in (chars (drop l.i l.inside))) ≡ hash_of (scalars_in (chars l.inside))

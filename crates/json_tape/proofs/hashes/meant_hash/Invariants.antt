@@ -1,6 +1,0 @@
-use Rattle.std.proofs.Common.{◌≡◌, drop}
-use Rattle.json_tape.specs.Repeats.{hash_from, hash_of}
-use Rattle.json_tape.proofs.hashes.meant_hash.Given as goal
-
-abbrev pub invariant-loop-c : goal.invariant-loop-c
-invariant-loop-c l = hash_from l.state (drop l.c-index l.name) ≡ hash_of l.name

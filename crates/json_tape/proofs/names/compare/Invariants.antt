@@ -1,8 +1,0 @@
-use Rattle.std.proofs.Common.{◌≡◌}
-use Rattle.std.specs.Ordering.{nat_cmp}
-use Rattle.std.specs.Cmp.Lexicographic.{slice_cmp}
-use Rattle.json_tape.proofs.names.compare.Given as goal
-
-abbrev pub invariant-loop-a : goal.invariant-loop-a
-invariant-loop-a l =
-    (goal.iterator-loop-a).can_next l.left × (goal.iterator-loop-a).is_finite l.left × (slice_cmp nat_cmp l.left l.right ≡ slice_cmp nat_cmp l.initial.left l.initial.right)

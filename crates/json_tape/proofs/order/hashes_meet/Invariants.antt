@@ -1,9 +1,0 @@
-use Rattle.std.proofs.Common.{◌≡◌, ◌-◌, drop}
-use Rattle.std.specs.Prelude.{nat_eq}
-use Rattle.std.specs.Ordering.{on}
-use Rattle.json_tape.specs.Repeats.{repeats_next_by}
-use Rattle.json_tape.specs.Ordered.{high_half}
-use Rattle.json_tape.proofs.order.hashes_meet.Given as goal
-
-abbrev pub invariant-loop-i : goal.invariant-loop-i
-invariant-loop-i l = repeats_next_by (on high_half nat_eq) (drop (l.i - 1) l.words) ≡ repeats_next_by (on high_half nat_eq) l.words

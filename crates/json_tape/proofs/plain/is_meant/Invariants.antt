@@ -1,6 +1,0 @@
-use Rattle.std.proofs.Common.{◌≡◌, drop}
-use Rattle.std.specs.Prelude.{bytes_eq}
-use Rattle.json_tape.proofs.plain.is_meant.Given as goal
-
-abbrev pub invariant-loop-c : goal.invariant-loop-c
-invariant-loop-c l = bytes_eq (drop l.c-index l.name) l.scalars ≡ bytes_eq l.name l.fn.scalars

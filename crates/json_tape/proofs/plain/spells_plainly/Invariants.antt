@@ -1,8 +1,0 @@
-use Rattle.std.proofs.Common.{◌≡◌, drop}
-use Rattle.std.specs.Prelude.{bytes_eq}
-use Rattle.std.specs.Str.{chars}
-use Rattle.json_tape.specs.Spelling.{scalars_in}
-use Rattle.json_tape.proofs.plain.spells_plainly.Given as goal
-
-abbrev pub invariant-loop-i : goal.invariant-loop-i
-invariant-loop-i l = bytes_eq (drop l.i l.name) (scalars_in (chars (drop l.i l.inside))) ≡ bytes_eq l.name (scalars_in (chars l.inside))

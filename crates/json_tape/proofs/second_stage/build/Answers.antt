@@ -1,6 +1,0 @@
-use Rattle.std.proofs.Common.{◌≡◌, ap, Err}
-use Rattle.json_tape.specs.declared.tape.BuildFault.TheVariants.{NotJson}
-use Rattle.json_tape.proofs.second_stage.build.Goals as goal
-
-pub returns-in-Err-clause-refused : goal.returns-in-Err-clause-refused
-returns-in-Err-clause-refused c = λ e. c.in-Err.ensures.refused (let same : c.in-Err.fault ≡ NotJson = cc in ap Err same)

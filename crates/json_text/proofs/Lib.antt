@@ -1,0 +1,16 @@
+pub mod Snoc
+pub mod Complete
+pub mod Follows
+pub mod Lexed
+pub mod Numbers
+pub mod Fits
+pub mod One
+pub mod Strings
+pub mod Chars
+pub mod Entries
+pub mod Meanings
+pub mod LoneChars
+pub mod Judging
+pub mod Parts
+pub mod Repeats
+pub mod MembersLeft

@@ -1,0 +1,15 @@
+pub mod Tree
+pub mod Letters
+pub mod Grammar
+pub mod Meaning
+pub mod Nodes
+pub mod Parts
+pub mod Tape
+pub mod Verdict
+pub mod Answer
+pub mod Machine
+pub mod Scanning
+pub mod Limits
+pub mod Tokens
+pub mod Repeats
+pub mod Sifted

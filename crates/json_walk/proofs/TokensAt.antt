@@ -1,0 +1,133 @@
+-- The tokens that stand at a byte: strings by where they end, words by their run, and what no token is.
+use Rattle.std.proofs.Common.{◌≡◌, ◌≢◌, ℕ, ◌+◌, ◌-◌, ◌<◌, Bool, true, false, List, [], ◌∷◌, ◌++◌, length, take, drop, get_or, Some, None, refl, sym, ap, subst, ◌∙◌, arith, inl, inr}
+use Rattle.std.specs.Prelude.{Ok}
+use Rattle.std.proofs.lemmas.Bool.Decides.{nat_tests}
+use Rattle.std.proofs.lemmas.List.{drop_more}
+use Rattle.structural_index.specs.Places.{byte}
+use Rattle.structural_index.specs.Seams.{IsAtomRun}
+use Rattle.json_text.specs.declared.tape.Kind.{Kind}
+use Rattle.json_text.specs.declared.tape.Kind.TheVariants as kinds
+use Rattle.json_text.specs.declared.tape.Shape.TheVariants.{Array, Object}
+use Rattle.json_walk.specs.declared.lexing.Lexed.{Lexed}
+use Rattle.json_walk.specs.declared.lexing.Lexed.TheVariants as lexed
+use Rattle.json_text.specs.Machine.{Token, Opening, Closing, Comma, Between, Text, Word, run_at, step, start}
+use Rattle.json_text.specs.Tokens.{class, is_atom, sign_at, IsToken, sign, text, word, IsWord, WordIs}
+use Rattle.json_walk.specs.Lexing.{Marked}
+use Rattle.json_walk.specs.Placing.{StringEnds}
+use Rattle.json_walk.specs.Walked.{TokenAt, begins_value, is_text, NoneAt, token_of, end_of}
+use Rattle.json_walk.proofs.Bridge.{same_classes, same_default}
+use Rattle.json_walk.proofs.Calls.{no_string, word_is, atoms_here}
+use Rattle.json_text.proofs.Chars.{number_some}
+use Rattle.json_walk.proofs.Placing.{word_absent, run_ends}
+use Rattle.json_text.proofs.Complete.{atom_by_class}
+use Rattle.std.proofs.lemmas.Bool.{cases_Bool}
+
+-- ---- Strings
+
+pub text_at : (bytes : List ℕ) (i end : ℕ) → StringEnds bytes i (Some end) → TokenAt bytes i (Text (run_at i (end - i)))
+text_at bytes i end (j, e, x) =
+    let last = x.end in
+    let size : length x.bytes ≡ end - i = omega arith in
+    record { bytes = x.bytes; rest = x.rest; stands = x.stands; is_token = subst (λ n. IsToken i x.bytes (Text (run_at i n)) x.rest) size (text x.characters x.is_string) }
+
+-- where no string ends, no token stands at its quote
+pub none_at : (such : Token → Bool) (bytes : List ℕ) (i : ℕ) → i < length bytes → get_or bytes i 0 ≡ 34 → StringEnds bytes i None → NoneAt such bytes i
+none_at such bytes i h q e = λ tok at. absurd (no_string at.is_token (drop (i + 1) bytes) e (ap (λ b. b ∷ drop (i + 1) bytes) (sym q) ∙ sym (drop_more bytes i 0 h) ∙ at.stands))
+
+sign_no_text : (p b : ℕ) (tok : Token) → sign_at p b ≡ Some tok → is_text tok ≡ false
+sign_no_text p b (Text x) h = absurd (grind (arith, nat_tests))
+sign_no_text p b _ h = refl
+
+no_text : {p : ℕ} {vs rest : List ℕ} {tok : Token} → IsToken p vs tok rest → (b : ℕ) (cs : List ℕ) → b ∷ cs ≡ vs ++ rest → b ≢ 34 → is_text tok ≡ false
+no_text (sign {p = p} {b = b'} {tok = tok} h) b cs e n = sign_no_text p b' tok h
+no_text {rest = rest} (text cs' (inside, a, f)) b cs e n = absurd (n (let g = ap (λ l. l ++ rest) f in cc))
+no_text (word a n k) b cs e m = refl
+
+pub no_name_at : (bytes : List ℕ) (i : ℕ) → i < length bytes → get_or bytes i 0 ≢ 34 → NoneAt is_text bytes i
+no_name_at bytes i h n = λ tok at. no_text at.is_token (get_or bytes i 0) (drop (i + 1) bytes) (sym (drop_more bytes i 0 h) ∙ at.stands) n
+
+-- ---- Words
+
+word_some : (bs : List ℕ) (k : Kind) → IsWord bs k → bs ≢ []
+word_some bs kinds.Number h = number_some bs h
+word_some bs kinds.Null h = λ e. cc
+word_some bs (kinds.Bool true) h = λ e. cc
+word_some bs (kinds.Bool false) h = λ e. cc
+word_some bs kinds.Text h = absurd h
+word_some bs kinds.Array h = absurd h
+word_some bs kinds.Object h = absurd h
+
+pub long_enough : (bs : List ℕ) → bs ≢ [] → 0 < length bs
+long_enough [] n = absurd (n refl)
+long_enough (b ∷ bs) n = omega arith
+
+-- a word begins with a byte of words
+word_begins : (bytes bs : List ℕ) (i : ℕ) (k : Kind) → i < length bytes → IsAtomRun bytes i (i + length bs) → IsWord bs k → is_atom (get_or bytes i 0) ≡ true
+word_begins bytes bs i k h r w =
+    let some = long_enough bs (word_some bs k w) in
+    ap is_atom (same_default bytes i h) ∙ sym (same_classes (byte bytes i)).atom ∙ r.each i (omega arith) (omega arith)
+
+pub word_at : (bytes bs : List ℕ) (i : ℕ) (k : Kind) → i < length bytes → bs ≡ take (length bs) (drop i bytes) → IsAtomRun bytes i (i + length bs) → IsWord bs k → TokenAt bytes i (Word (run_at i (length bs)) k)
+word_at bytes bs i k h e r w =
+    let a = atoms_here bytes i (i + length bs) h (word_begins bytes bs i k h r w) (run_ends bytes i (length bs) r) in
+    let last = a.end in
+    let size : length a.vs ≡ length bs = omega arith in
+    let back : i + length bs - i ≡ length bs = omega arith in
+    let same : bs ≡ a.vs = e ∙ ap (λ n. take n (drop i bytes)) (sym back) ∙ a.taken in
+    record { bytes = a.vs; rest = a.rest; stands = a.stands; is_token = subst (λ n. IsToken i a.vs (Word (run_at i n) k) a.rest) size (word_is i a.vs a.rest k a.are a.over (subst (λ l. IsWord l k) same w) a.some) }
+
+-- what the machine refuses at first begins no value
+refused_begins : (tok : Token) → step tok start ≡ None → begins_value tok ≡ false
+refused_begins (Closing shape p) h = refl
+refused_begins Comma h = refl
+refused_begins Between h = refl
+refused_begins _ h = absurd (cc)
+
+sign_begins : (p b : ℕ) (tok : Token) → sign_at p b ≡ Some tok → b ≢ 91 → b ≢ 123 → begins_value tok ≡ false
+sign_begins p b (Opening Array q) h m n = absurd (m (grind (arith, nat_tests)))
+sign_begins p b (Opening Object q) h m n = absurd (n (grind (arith, nat_tests)))
+sign_begins p b (Text x) h m n = absurd (grind (arith, nat_tests))
+sign_begins p b (Word x kind) h m n = absurd (grind (arith, nat_tests))
+sign_begins p b _ h m n = refl
+
+no_value : {p : ℕ} {vs rest : List ℕ} {tok : Token} → IsToken p vs tok rest → (b : ℕ) (cs : List ℕ) → b ∷ cs ≡ vs ++ rest → b ≢ 34 → b ≢ 91 → b ≢ 123 → is_atom b ≡ false → begins_value tok ≡ false
+no_value (sign {p = p} {b = b'} {tok = tok} h) b cs e q m n a = let f : b ≡ b' = cc in sign_begins p b' tok h (λ x. m (f ∙ x)) (λ x. n (f ∙ x))
+no_value {rest = rest} (text cs' (inside, a, f)) b cs e q m n a' = absurd (q (let g = ap (λ l. l ++ rest) f in cc))
+no_value (word {b = b'} a o k) b cs e q m n a' = absurd (let f : b ≡ b' = cc in let y = atom_by_class b (ap class f ∙ a.0) in cc)
+
+-- where there is no word, no value begins, unless it is a string or a container
+pub no_value_at : (bytes bs : List ℕ) (i : ℕ) → i < length bytes → get_or bytes i 0 ≢ 34 → get_or bytes i 0 ≢ 91 → get_or bytes i 0 ≢ 123 → bs ≡ take (length bs) (drop i bytes) → IsAtomRun bytes i (i + length bs) → WordIs bs None → NoneAt begins_value bytes i
+no_value_at bytes bs i h q m n e r w = elim (cases_Bool (is_atom (get_or bytes i 0))) [
+  | inl a ↦ λ tok at. refused_begins tok (word_absent bytes bs i start h a e r w at.bytes at.rest tok at.stands at.is_token)
+  | inr a ↦ λ tok at. no_value at.is_token (get_or bytes i 0) (drop (i + 1) bytes) (sym (drop_more bytes i 0 h) ∙ at.stands) q m n a
+]
+
+-- ---- Signs
+
+pub sign_token : (bytes : List ℕ) (i : ℕ) (tok : Token) → i < length bytes → sign_at i (get_or bytes i 0) ≡ Some tok → TokenAt bytes i tok
+sign_token bytes i tok h a = record { bytes = get_or bytes i 0 ∷ []; rest = drop (i + 1) bytes; stands = drop_more bytes i 0 h; is_token = sign a }
+
+-- the bytes of a token
+abbrev pub size : Token → ℕ
+size (Text x) = x.len
+size (Word x kind) = x.len
+size _ = 1
+
+sign_size : (p b : ℕ) (tok : Token) → sign_at p b ≡ Some tok → size tok ≡ 1
+sign_size p b (Text x) h = absurd (grind (arith, nat_tests))
+sign_size p b (Word x kind) h = absurd (grind (arith, nat_tests))
+sign_size p b _ h = refl
+
+pub token_size : {p : ℕ} {vs rest : List ℕ} {tok : Token} → IsToken p vs tok rest → size tok ≡ length vs
+token_size (sign {p = p} {b = b} {tok = tok} h) = sign_size p b tok h
+token_size _ = refl
+
+pub ends_at : (i : ℕ) (l : Lexed) → end_of i l ≡ i + size (token_of i l)
+ends_at i (lexed.Text x) = refl
+ends_at i _ = refl
+
+-- ---- The mark
+
+-- a token that is no word leaves it
+pub no_word_marked : (bytes : List ℕ) (i b j : ℕ) (mark : Bool) → get_or bytes i 0 ≡ b → is_atom b ≡ false → Marked bytes i mark (Ok j) mark
+no_word_marked bytes i b j mark e a = λ n. (n, λ k. absurd (let f = ap is_atom e in cc))

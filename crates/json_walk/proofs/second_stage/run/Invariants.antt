@@ -1,0 +1,21 @@
+use Rattle.std.proofs.Common.{◌≡◌, ◌≤◌, ◌-◌, length, IsTrue, not, eqb}
+use Rattle.json_text.specs.Machine.{level_of}
+use Rattle.json_walk.specs.Placing.{HoldSlashes}
+use Rattle.json_walk.specs.Walked.{at}
+use Rattle.name_stamps.specs.Told.{AreTold, IsSeated}
+use Rattle.json_walk.proofs.Onward.{MayGrow}
+use Rattle.json_walk.proofs.second_stage.run.Given as goal
+
+abbrev pub invariant-loop-k : goal.invariant-loop-k
+invariant-loop-k g l = record {
+  same : l.looks.0 ≡ l.fn.looks.0;
+  slashes : HoldSlashes l.fn.looks.0 l.slashes;
+  level : level_of l.builder.opens ≡ level_of l.fn.builder.opens;
+  grows : MayGrow l.fn.looks.0 l.places (at l.fn.spot l.fn.builder l.fn.looks.1 l.fn.may_exceed) l.k (level_of l.fn.builder.opens) l.builder l.looks.1 l.may_exceed;
+  to : l.k ≤ length l.places;
+  told : AreTold l.fn.looks.0 l.builder l.met;
+  seated : IsTrue (not (eqb g.row.OBJECT 0)) → IsSeated l.builder l.owner l.met;
+}
+
+abbrev pub decreases-loop-k : goal.decreases-loop-k
+decreases-loop-k g l = length l.places - l.k

@@ -1,0 +1,94 @@
+use Rattle.std.proofs.Common.{◌≡◌, ◌∙◌, length, refl, sym, ap, subst, arith}
+use Rattle.std.specs.Prelude.{Ok, Err}
+use Rattle.json_text.specs.declared.tape.BuildFault.TheVariants.{NotJson}
+use Rattle.json_text.specs.Answer.{StandsForAll}
+use Rattle.json_text.specs.Limits.{AreWithinLimits}
+use Rattle.tape_cells.specs.Built.{nothing}
+use Rattle.json_walk.specs.Walked.{IsListed, Walked, at}
+use Rattle.name_stamps.specs.Told.{AreTold}
+use Rattle.json_text.specs.Sifted.{AreSifted}
+use Rattle.json_walk.proofs.Walking.{unclosed_none, control_none}
+use Rattle.json_walk.proofs.Onward.{walked_small, small_state, arrives_same}
+use Rattle.json_walk.proofs.Arrived.{Arrived, began, fault_none, more_none, arrived, first_point}
+use Rattle.name_stamps.proofs.NamesApart.{told_sifted}
+use Rattle.json_walk.proofs.second_stage.walk.Goals.{After-as_slice-places, In-Ok-containers, After-into_tape, then-index-via-then-index, then-index-via-else-index+then-index-2}
+use Rattle.json_walk.proofs.second_stage.walk.Goals as goal
+
+pub returns-then-index-clause-refused : goal.returns-then-index-clause-refused
+returns-then-index-clause-refused c = λ e t x. elim c.then-index.branch [
+  | then-index-via-then-index w ↦ unclosed_none c.args.looks.now.0 t x (c.requires.index.unclosed_is.0 w.if-index.true)
+  | then-index-via-else-index+then-index-2 w ↦ control_none c.args.looks.now.0 t x (c.requires.index.control_is.0 w.if-index-2.true)
+]
+
+-- the list that is walked
+listed : (c : After-as_slice-places) → IsListed c.args.looks.now.0 c.as_slice-places.result.now
+listed c = record {
+  list = c.as_slice-places.ensures.value ∙ c.requires.index.places_are;
+  short = c.requires.short;
+  utf8 = c.requires.utf8;
+  controls = λ h. absurd (let no = c.if-index-2.false in let yes = c.requires.index.control_is.1 h in cc);
+  closed = λ h. absurd (let no = c.if-index.false in let yes = c.requires.index.unclosed_is.1 h in cc);
+}
+
+pub returns-in-Err-clause-refused : goal.returns-in-Err-clause-refused
+returns-in-Err-clause-refused c = λ e.
+    fault_none _ _ (listed (goal.at.returns-in-Err-clause-refused c).After-as_slice-places) c.args.looks.now.1 _ c.in-Err.fault c.whole.new.builder c.whole.new.looks.1 c.whole.new.may_exceed c.in_ok-builder.ensures c.in-Err.ensures.arrives (let f : c.in-Err.fault ≡ NotJson = cc in f)
+
+pub containers-requires-clause-small : goal.containers-requires-clause-small
+containers-requires-clause-small c =
+    let list = listed (goal.at.containers-requires-clause-small c).After-as_slice-places in
+    small_state _ _ _ _ _ _ (walked_small _ _ list _ _ (began _ _ list _ _ _ c.in_ok-builder.ensures c.in-Ok.ensures.arrives) (record { entries = omega arith; opens = (omega arith, tt) }))
+
+pub containers-requires-clause-told : goal.containers-requires-clause-told
+containers-requires-clause-told c =
+    subst (λ b. AreTold b c.whole.new.builder c.new-met.result) (sym c.in-Ok.ensures.same)
+    (c.in-Ok.ensures.told c.new-met.result (subst (λ b. AreTold c.args.looks.now.0 b c.new-met.result) (sym c.in_ok-builder.ensures) (c.new-met.ensures c.args.looks.now.0)))
+
+pub returns-in-Err-containers-clause-refused : goal.returns-in-Err-containers-clause-refused
+returns-in-Err-containers-clause-refused c = λ e.
+    let list = listed (goal.at.returns-in-Err-containers-clause-refused c).After-as_slice-places in
+    let first = began _ _ list _ _ _ c.in_ok-builder.ensures c.in-Ok.ensures.arrives in
+    let halts = arrives_same _ _ list c.whole.new.looks.0 _ _ c.containers.new.looks.1 (Err c.in-Err-containers.fault) c.containers.new.builder c.containers.new.may_exceed c.in-Ok.ensures.same first c.in-Err-containers.ensures.arrives in
+    fault_none _ _ list c.args.looks.now.1 nothing c.in-Err-containers.fault c.containers.new.builder c.containers.new.looks.1 c.containers.new.may_exceed refl halts (let f : c.in-Err-containers.fault ≡ NotJson = cc in f)
+
+-- behind the outermost container
+ended : (c : In-Ok-containers) (list : IsListed c.args.looks.now.0 c.as_slice-places.result.now)
+    → Walked c.args.looks.now.0 c.as_slice-places.result.now (first_point _ _ list c.args.looks.now.1) (at c.in-Ok-containers.last c.containers.new.builder c.containers.new.looks.1 c.containers.new.may_exceed)
+ended c list =
+    arrives_same _ _ list c.whole.new.looks.0 _ _ c.containers.new.looks.1 (Ok c.in-Ok-containers.last) c.containers.new.builder c.containers.new.may_exceed c.in-Ok.ensures.same (began _ _ list _ _ _ c.in_ok-builder.ensures c.in-Ok.ensures.arrives) c.in-Ok-containers.ensures.arrives
+
+pub returns-then-last-places-clause-refused : goal.returns-then-last-places-clause-refused
+returns-then-last-places-clause-refused c = λ e.
+    let list = listed (goal.at.returns-then-last-places-clause-refused c).After-as_slice-places in
+    let over = c.in-Ok-containers.ensures.over in
+    more_none _ _ list _ c.in-Ok-containers.last _ _ _ (ended (goal.at.returns-then-last-places-clause-refused c).In-Ok-containers list) over.0 over.1 c.if-last-places.true
+
+found : (c : After-into_tape) (list : IsListed c.args.looks.now.0 c.as_slice-places.result.now)
+    → Arrived c.args.looks.now.0 c.as_slice-places.result.now list c.args.looks.now.1 c.containers.new.builder.entries c.containers.new.builder.deep c.containers.new.looks.1 c.containers.new.may_exceed
+found c list =
+    let over = c.in-Ok-containers.ensures.over in
+    let done = c.if-last-places.false in
+    arrived _ _ list _ c.in-Ok-containers.last _ _ _ (ended (goal.at.returns-clause-spelt c).In-Ok-containers list) over.0 over.1 (omega (arith, done))
+
+pub returns-clause-spelt : goal.returns-clause-spelt
+returns-clause-spelt c = (found c (listed (goal.at.returns-clause-spelt c).After-as_slice-places)).json
+
+pub returns-clause-stands : goal.returns-clause-stands
+returns-clause-stands c = subst (StandsForAll c.args.looks.now.0) (sym c.into_tape.ensures) (found c (listed (goal.at.returns-clause-stands c).After-as_slice-places)).stands
+
+pub returns-clause-few : goal.returns-clause-few
+returns-clause-few c = let short = (found c (listed (goal.at.returns-clause-few c).After-as_slice-places)).short in let same = ap length c.into_tape.ensures in omega (arith, short, same)
+
+pub returns-clause-depth : goal.returns-clause-depth
+returns-clause-depth c = λ t x. c.deepest-depth.ensures ∙ (found c (listed (goal.at.returns-clause-depth c).After-as_slice-places)).depth t x
+
+pub returns-clause-numbers : goal.returns-clause-numbers
+returns-clause-numbers c = λ m. subst (AreWithinLimits c.args.looks.now.0) (sym c.into_tape.ensures) ((found c (listed (goal.at.returns-clause-numbers c).After-as_slice-places)).numbers m)
+
+pub returns-clause-looked : goal.returns-clause-looked
+returns-clause-looked c = (found c (listed (goal.at.returns-clause-looked c).After-as_slice-places)).bounded
+
+pub returns-clause-sifted : goal.returns-clause-sifted
+returns-clause-sifted c =
+    subst (λ tape. AreSifted c.args.looks.now.0 tape c.containers.new.met.asked.items) (sym c.into_tape.ensures)
+    (told_sifted c.args.looks.now.0 c.containers.new.builder c.containers.new.met (subst (λ b. AreTold b c.containers.new.builder c.containers.new.met) c.in-Ok.ensures.same c.in-Ok-containers.ensures.told))

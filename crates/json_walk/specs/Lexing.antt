@@ -1,0 +1,46 @@
+-- What a reader is told of the bytes at a place: a word, a number, and whether it is within the limits.
+use Rattle.std.specs.Prelude.{◌≡◌, ℕ, ◌+◌, ◌-◌, ◌<◌, ◌≤◌, get_or, Bool, true, false, take, drop, Result, Ok, Err, List, length, None}
+use Rattle.decimal_order.specs.Number.{IsDigit, IsNumber}
+use Rattle.decimal_order.specs.Limits.{IsWithinLimits}
+use Rattle.decimal_order.specs.Value.{is_e}
+use Rattle.json_text.specs.declared.tape.Kind.TheVariants as kinds
+use Rattle.json_text.specs.declared.tape.BuildFault.{BuildFault}
+use Rattle.structural_index.specs.declared.looks.Known.{Known}
+use Rattle.structural_index.specs.declared.looks.Known.TheVariants as knowns
+use Rattle.json_walk.specs.declared.lexing.Told.{Told}
+use Rattle.json_walk.specs.declared.lexing.Told.TheVariants as tolds
+use Rattle.json_text.specs.Tokens.{IsWord, WordIs, is_atom}
+
+-- what bytes are said to be: a word, a number within the limits of numbers, any number, or neither
+abbrev pub IsTold : List ℕ → Told → Type 0
+IsTold bs tolds.Null = IsWord bs kinds.Null
+IsTold bs tolds.False = IsWord bs (kinds.Bool false)
+IsTold bs tolds.True = IsWord bs (kinds.Bool true)
+IsTold bs tolds.Number = IsNumber bs × IsWithinLimits bs
+IsTold bs tolds.LongNumber = IsNumber bs
+IsTold bs tolds.Nothing = WordIs bs None
+
+-- the same by what they are known to be
+abbrev pub AreKnown : List ℕ → Known → Type 0
+AreKnown bs knowns.Decimal = IsTold bs tolds.Number
+AreKnown bs knowns.Null = IsTold bs tolds.Null
+AreKnown bs knowns.False = IsTold bs tolds.False
+AreKnown bs knowns.True = IsTold bs tolds.True
+AreKnown bs knowns.Other = Unit {0}
+
+-- each byte from the first place to before the second is a digit
+abbrev pub DigitsStand : List ℕ → ℕ → ℕ → Type 0
+DigitsStand bytes from to = (k : ℕ) → from ≤ k → k < to → IsDigit (get_or bytes k 0)
+
+-- a point stands at that place, and digits from there to the end
+abbrev pub IsFraction : List ℕ → ℕ → Type 0
+IsFraction bytes point = (get_or bytes point 0 ≡ 46) × (point + 1 < length bytes) × DigitsStand bytes (point + 1) (length bytes)
+
+-- no byte begins an exponent
+abbrev pub HasNoExponent : List ℕ → Type 0
+HasNoExponent bytes = (k : ℕ) → k < length bytes → is_e (get_or bytes k 0) ≡ false
+
+-- a mark that only words within the limits of numbers were read, at this place too
+abbrev pub Marked : List ℕ → ℕ → Bool → Result ℕ BuildFault → Bool → Type 0
+Marked bytes i old (Ok j) new = new ≡ false → (old ≡ false) × (is_atom (get_or bytes i 0) ≡ true → IsWithinLimits (take (j - i) (drop i bytes)))
+Marked bytes i old (Err f) new = Unit {0}

@@ -1,0 +1,34 @@
+-- What a builder that goes from place to place asks of the text, and what it finds of a string.
+use Rattle.std.specs.Prelude.{◌≡◌, ◌<◌, ◌≤◌, ℕ, suc, ◌+◌, Bool, List, drop, length, Option, Some, None, IsUtf8}
+use Rattle.structural_index.specs.Places.{byte, HasControlInside, AreSlashBlocks}
+use Rattle.structural_index.specs.Seams.{IsSpan, AreSlashless}
+use Rattle.json_walk.specs.declared.slashes.Slashes.{Slashes}
+use Rattle.json_text.specs.Tokens.{quote_end}
+use Rattle.json_walk.specs.Bridge.{SpellsString}
+
+-- no backslash of a text stands in the gap, and all stand in these blocks
+pub record HoldSlashes (text : List ℕ) (slashes : Slashes) : Type 0 where
+  pub gap : AreSlashless text slashes.from slashes.to
+  pub blocks_are : AreSlashBlocks text slashes.blocks.now
+  pub next : slashes.next ≤ length slashes.blocks.now
+  pub long : slashes.long ≡ length text
+
+-- what has been shown of a text before its tokens are looked at
+pub record IsIndexed (text : List ℕ) (slashes : Slashes) : Type 0 where
+  pub utf8 : IsUtf8 text
+  pub controls : HasControlInside text → ⊥
+  pub escapes : HoldSlashes text slashes
+
+-- a quote right before the next place closes the string that begins at byte i
+abbrev pub ClosesBefore : List ℕ → (i next : ℕ) → Type 0
+ClosesBefore text i next = (m : ℕ) → next ≡ suc m → i < m → byte text i ≡ 0x22 → byte text m ≡ 0x22 → IsSpan text i m
+
+-- the place at which a string was found to end
+abbrev pub end_in : Option (ℕ × Bool) → Option ℕ
+end_in (Some (end, plain)) = Some end
+end_in None = None
+
+-- the string of the grammar that begins at byte i ends before this place, or there is none
+abbrev pub StringEnds : List ℕ → ℕ → Option ℕ → Type 0
+StringEnds text i (Some end) = (j : ℕ) × (end ≡ suc j) × SpellsString text i j
+StringEnds text i None = quote_end (i + 1) (drop (i + 1) text) ≡ None

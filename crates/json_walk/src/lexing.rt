@@ -1,0 +1,283 @@
+// The tokens of a text, by its places: names, and what a value begins with.
+
+ghost use Rattle.std.specs.Prelude.{◌≡◌, ◌≢◌, ◌+◌, ◌-◌, ◌≤◌, ◌<◌, ◌↔◌, Ok, length, slice_index, IfSome, IsTrue, true, false};
+ghost use Rattle.decimal_order.specs.Number.{IsNumber};
+ghost use Rattle.json_text.specs.Tokens.{is_blank as blank};
+ghost use Rattle.json_walk.specs.Lexing.{AreKnown, IsTold, Marked};
+ghost use Rattle.tape_cells.specs.Opened.{HasRoom};
+ghost use Rattle.json_walk.specs.Walked.{IsNameAt, IsValueAt, FitsTape, source_in, end_of, price_of};
+ghost use Rattle.json_text.specs.Verdict.{text_limit};
+ghost use Rattle.json_walk.specs.Placing.{IsIndexed, HoldSlashes, ClosesBefore, StringEnds, end_in};
+ghost use Rattle.name_stamps.specs.Told.{IsPlain};
+ghost use Rattle.structural_index.specs.Seams.{AreSlashless};
+
+use crate::exponents::has_short_exponent;
+use crate::slashes::Slashes;
+use decimal_order::{late_exponents_keep_limits, scan};
+use json_strings::{escapes_hold, quote_past};
+use json_text::{Extent, Kind, Shape};
+use name_stamps::Quoted;
+use structural_index::{Atoms, Known, Looks};
+
+/// What a value begins with: all of it, or the bracket or brace that opens it. Strings and numbers are told apart from other words, so that
+/// the compiler knows their kinds where their entries are made.
+#[derive(Clone, Copy)]
+pub enum Lexed {
+    Text(Extent),
+    Number(Extent),
+    Word(Kind, Extent),
+    Opens(Shape),
+}
+
+// Whether these bytes are these four.
+#[inline(always)]
+fn are_four(bytes: &[u8], four: [u8; 4]) -> bool
+    ensures { IsTrue result ↔ (bytes.now ≡ four) }
+{
+    bytes.len() == 4
+        && bytes[0] == four[0]
+        && bytes[1] == four[1]
+        && bytes[2] == four[2]
+        && bytes[3] == four[3]
+}
+
+#[inline(always)]
+fn is_number(bytes: &[u8]) -> bool
+    ensures { IsTrue result ↔ IsNumber bytes.now }
+{
+    scan(bytes).is_some()
+}
+
+// What the bytes of a word or a number are. A long number may be beyond the limits of numbers.
+#[derive(Clone, Copy)]
+pub enum Told {
+    Null,
+    False,
+    True,
+    Number,
+    LongNumber,
+    Nothing,
+}
+
+// What the bytes are. It stands out of line, since few words and numbers take it.
+#[inline(never)]
+fn told_slowly(bytes: &[u8]) -> Told
+    ensures { IsTold bytes.now result }
+{
+    if are_four(bytes, *b"null") {
+        return Told::Null;
+    }
+    if are_four(bytes, *b"true") {
+        return Told::True;
+    }
+    if bytes.len() == 5 && bytes[4] == b'e' && are_four(&bytes[..4], *b"fals") {
+        return Told::False;
+    }
+    if !is_number(bytes) {
+        return Told::Nothing;
+    }
+    if has_short_exponent(bytes) {
+        Told::Number
+    } else {
+        Told::LongNumber
+    }
+}
+
+// What the bytes are, by what they are known to be.
+#[inline(always)]
+fn told_by(bytes: &[u8], known: Known) -> Told
+    requires { AreKnown bytes.now known }
+    ensures { IsTold bytes.now result }
+{
+    match known {
+        Known::Decimal => Told::Number,
+        Known::Null => Told::Null,
+        Known::False => Told::False,
+        Known::True => Told::True,
+        Known::Other => told_slowly(bytes),
+    }
+}
+
+// Whether a quote other than the one at i stands right before this place.
+#[inline(always)]
+fn has_quote_before(looks: &mut Looks<'_>, i: usize, next: usize) -> bool
+    requires in_text { i < length looks.old.0 }
+    requires near { next ≤ length looks.old.0 }
+    requires short { length looks.old.0 ≤ text_limit }
+    ensures behind { IsTrue result → i + 1 < next }
+    ensures quote { IsTrue result → slice_index looks.old.0 (next - 1) ≡ 34 }
+    ensures same { looks.new.0 ≡ looks.old.0 }
+    ensures looked { looks.new.1 ≤ looks.old.1 + 1 }
+{
+    if i + 1 >= next {
+        return false;
+    }
+    looks.at(next - 1) == b'"'
+}
+
+// The place past the string that begins at i, where the place behind it is this one, and whether it is known to have no backslash.
+#[inline(always)]
+fn string_end(
+    looks: &mut Looks<'_>,
+    i: usize,
+    next: usize,
+    slashes: &mut Slashes<'_>,
+) -> Option<(usize, bool)>
+    requires in_text { i < length looks.old.0 }
+    requires near { next ≤ length looks.old.0 }
+    requires short { length looks.old.0 ≤ text_limit }
+    requires quote { slice_index looks.old.0 i ≡ 34 }
+    requires indexed { IsIndexed looks.old.0 slashes.old }
+    requires closes { ClosesBefore looks.old.0 i next }
+    ensures ends { StringEnds looks.old.0 i (end_in result) }
+    ensures bound { IfSome result (λ x. (i < x.0) × (x.0 ≤ length looks.old.0)) }
+    ensures plain { IfSome result (λ x. IsTrue x.1 → (i + 1 < x.0) × AreSlashless looks.old.0 (i + 1) x.0) }
+    ensures slashes { HoldSlashes looks.old.0 slashes.new }
+    ensures same { looks.new.0 ≡ looks.old.0 }
+    ensures looked { IfSome result (λ x. looks.new.1 + i ≤ looks.old.1 + x.0) }
+    ensures quick { IfSome result (λ x. IsTrue x.1 → looks.new.1 ≤ looks.old.1 + 1) }
+{
+    if !has_quote_before(looks, i, next) {
+        return match quote_past(looks, i + 1) {
+            Some(end) => Some((end, false)),
+            None => None,
+        };
+    }
+    if slashes.spare(i + 1, next) {
+        return Some((next, true));
+    }
+    slashes.advance(i + 1);
+    if slashes.spare(i + 1, next) {
+        return Some((next, true));
+    }
+    if escapes_hold(looks.part(i + 1, next - 1)) {
+        Some((next, false))
+    } else {
+        None
+    }
+}
+
+// The string that begins at i.
+#[inline(always)]
+fn string(looks: &mut Looks<'_>, i: usize, next: usize, slashes: &mut Slashes<'_>) -> Option<Quoted>
+    requires in_text { i < length looks.old.0 }
+    requires near { next ≤ length looks.old.0 }
+    requires short { length looks.old.0 ≤ text_limit }
+    requires quote { slice_index looks.old.0 i ≡ 34 }
+    requires indexed { IsIndexed looks.old.0 slashes.old }
+    requires closes { ClosesBefore looks.old.0 i next }
+    ensures string { IsNameAt looks.old.0 i (source_in result) }
+    ensures room { IfSome result (λ q. HasRoom q.source) }
+    ensures none { result ≡ None → IsValueAt looks.old.0 i None }
+    ensures plain { IfSome result (λ q. IsTrue q.plain → IsPlain looks.old.0 q.source × (2 ≤ q.source.len) × (q.source.start + q.source.len ≤ length looks.old.0)) }
+    ensures slashes { HoldSlashes looks.old.0 slashes.new }
+    ensures same { looks.new.0 ≡ looks.old.0 }
+    ensures looked { IfSome result (λ q. looks.new.1 ≤ looks.old.1 + q.source.len) }
+    ensures quick { IfSome result (λ q. IsTrue q.plain → looks.new.1 ≤ looks.old.1 + 1) }
+{
+    match string_end(looks, i, next, slashes) {
+        None => None,
+        Some((end, plain)) => Some(Quoted {
+            source: Extent {
+                start: i as u32,
+                len: (end - i) as u32,
+            },
+            plain,
+        }),
+    }
+}
+
+/// The name at place i, where the place behind it is this one.
+#[inline(always)]
+pub fn name(
+    looks: &mut Looks<'_>,
+    i: usize,
+    next: usize,
+    slashes: &mut Slashes<'_>,
+) -> Option<Quoted>
+    requires in_text { i < length looks.old.0 }
+    requires near { next ≤ length looks.old.0 }
+    requires short { length looks.old.0 ≤ text_limit }
+    requires indexed { IsIndexed looks.old.0 slashes.old }
+    requires closes { ClosesBefore looks.old.0 i next }
+    ensures name { IsNameAt looks.old.0 i (source_in result) }
+    ensures room { IfSome result (λ q. HasRoom q.source) }
+    ensures plain { IfSome result (λ q. IsTrue q.plain → IsPlain looks.old.0 q.source × (2 ≤ q.source.len) × (q.source.start + q.source.len ≤ length looks.old.0)) }
+    ensures slashes { HoldSlashes looks.old.0 slashes.new }
+    ensures same { looks.new.0 ≡ looks.old.0 }
+    ensures looked { IfSome result (λ q. looks.new.1 ≤ looks.old.1 + q.source.len + 1) }
+    ensures quick { IfSome result (λ q. IsTrue q.plain → looks.new.1 ≤ looks.old.1 + 2) }
+{
+    if looks.at(i) == b'"' {
+        string(looks, i, next, slashes)
+    } else {
+        None
+    }
+}
+
+// A word or a number. Marks where it may be beyond the limits of numbers.
+#[inline(always)]
+fn word(looks: &mut Looks<'_>, i: usize, may_exceed: &mut bool) -> Option<Lexed>
+    requires in_text { i < length looks.old.0 }
+    requires short { length looks.old.0 ≤ text_limit }
+    requires no_string { slice_index looks.old.0 i ≢ 34 }
+    requires no_array { slice_index looks.old.0 i ≢ 91 }
+    requires no_object { slice_index looks.old.0 i ≢ 123 }
+    requires no_blank { blank (slice_index looks.old.0 i) ≡ false }
+    ensures value { IsValueAt looks.old.0 i result }
+    ensures fits { IfSome result FitsTape }
+    ensures marked { IfSome result (λ l. Marked looks.old.0 i may_exceed.old (Ok (end_of i l)) may_exceed.new) }
+    ensures same { looks.new.0 ≡ looks.old.0 }
+    ensures looked { IfSome result (λ l. looks.new.1 + 1 ≤ looks.old.1 + price_of l) }
+{
+    late_exponents_keep_limits();
+    let Atoms { bytes, known } = looks.atoms(i);
+    let source = Extent {
+        start: i as u32,
+        len: bytes.len() as u32,
+    };
+    match told_by(bytes, known) {
+        Told::Null => Some(Lexed::Word(Kind::Null, source)),
+        Told::False => Some(Lexed::Word(Kind::Bool(false), source)),
+        Told::True => Some(Lexed::Word(Kind::Bool(true), source)),
+        Told::Number => Some(Lexed::Number(source)),
+        Told::LongNumber => {
+            *may_exceed = true;
+            Some(Lexed::Number(source))
+        }
+        Told::Nothing => None,
+    }
+}
+
+/// What the value at place i begins with, where the place behind it is this one. Marks where a number may be beyond the limits.
+#[inline(always)]
+pub fn value(
+    looks: &mut Looks<'_>,
+    i: usize,
+    next: usize,
+    slashes: &mut Slashes<'_>,
+    may_exceed: &mut bool,
+) -> Option<Lexed>
+    requires in_text { i < length looks.old.0 }
+    requires near { next ≤ length looks.old.0 }
+    requires short { length looks.old.0 ≤ text_limit }
+    requires indexed { IsIndexed looks.old.0 slashes.old }
+    requires closes { ClosesBefore looks.old.0 i next }
+    requires no_blank { blank (slice_index looks.old.0 i) ≡ false }
+    ensures value { IsValueAt looks.old.0 i result }
+    ensures fits { IfSome result FitsTape }
+    ensures marked { IfSome result (λ l. Marked looks.old.0 i may_exceed.old (Ok (end_of i l)) may_exceed.new) }
+    ensures slashes { HoldSlashes looks.old.0 slashes.new }
+    ensures same { looks.new.0 ≡ looks.old.0 }
+    ensures looked { IfSome result (λ l. looks.new.1 ≤ looks.old.1 + price_of l) }
+{
+    match looks.at(i) {
+        b'"' => match string(looks, i, next, slashes) {
+            None => None,
+            Some(quoted) => Some(Lexed::Text(quoted.source)),
+        },
+        b'{' => Some(Lexed::Opens(Shape::Object)),
+        b'[' => Some(Lexed::Opens(Shape::Array)),
+        _ => word(looks, i, may_exceed),
+    }
+}

@@ -1,0 +1,623 @@
+//! Builds the tape of a text from the places of its index (Langdale and Lemire, "Parsing Gigabytes of JSON per Second", section 3.2).
+//! The position in the code is the state of the walk, so that it looks only for what may come next. That is a child (in an object a name, a
+//! colon and a value), and after it the comma or the end.
+
+ghost use Rattle.std.specs.Prelude.{◌≡◌, ◌≢◌, ◌+◌, ◌-◌, ◌^◌, ◌<◌, ◌≤◌, ℕ, List, Bool, None, length, get_or, IfOk, OnOk, IfSome, IsUtf8, IsErrOf, IsTrue, true, false};
+ghost use Rattle.structural_index.specs.Answer.{IsIndexOf};
+ghost use Rattle.json_text.specs.Machine.{Closing, IsSmall, Took, step, level_of};
+ghost use Rattle.tape_cells.specs.Built.{Built, standing, nothing, top_of, children_of};
+ghost use Rattle.json_text.specs.Limits.{AreWithinLimits};
+ghost use Rattle.json_text.specs.Answer.{IsJson, StandsForAll, HasDepth, IsNoJson};
+ghost use Rattle.json_walk.specs.Building.{IsBounded};
+ghost use Rattle.tape_cells.specs.Opened.{HasRoom};
+ghost use Rattle.json_text.specs.Sifted.{AreSifted, narrow};
+ghost use Rattle.json_text.specs.Verdict.{text_limit};
+ghost use Rattle.json_walk.specs.Placing.{HoldSlashes};
+ghost use Rattle.name_stamps.specs.Told.{IsStamped, IsUnasked, AreTold, IsFresh, IsSameTop, IsSeated, HasTable};
+ghost use Rattle.json_walk.specs.Walked.{met_source, IsListed, FitsTape, token_of, behind, with_sign, no_more, spot_after, is_whole as whole_token, spot_behind, byte_at, ending as ending_of, width as width_of, shape_of, point, at, Arrives, Named, Grown, Entered, AsksName, AsksValue, AsksChild};
+
+use crate::lexing::{Lexed, name, value};
+use crate::slashes::Slashes;
+use json_text::{BuildFault, Extent, Kind, Level, Shape, Want};
+use name_stamps::{Met, NamesMet, Owner, stamped};
+use std::alloc::Global;
+use structural_index::{Index, Looks};
+use tape_cells::{Builder, Tape};
+
+/// How far a walk has come: the number of the next place, and whether a value stands before it. If none does, it is that of a first child.
+#[derive(Clone, Copy)]
+pub struct Spot {
+    pub number: usize,
+    pub behind: bool,
+}
+
+// An object or an array. The functions that are made for each of them take it as a constant, and are two copies each.
+#[inline(always)]
+fn shape<const OBJECT: bool>() -> Shape
+    ensures { result ≡ shape_of OBJECT }
+{
+    if OBJECT { Shape::Object } else { Shape::Array }
+}
+
+// How many places a child has up to its value's first.
+#[inline(always)]
+fn width<const OBJECT: bool>() -> usize
+    ensures value { result ≡ width_of (shape_of OBJECT) }
+    ensures some { 0 < result }
+    ensures few { result ≤ 3 }
+{
+    if OBJECT { 3 } else { 1 }
+}
+
+// The sign that ends a container.
+#[inline(always)]
+fn ending<const OBJECT: bool>() -> u8
+    ensures { result ≡ ending_of (shape_of OBJECT) }
+{
+    if OBJECT { b'}' } else { b']' }
+}
+
+// The place behind place number k, or the end of the text.
+#[inline(always)]
+fn place_behind(places: &[u32], k: usize, end: usize) -> usize
+    requires { k < length places.now }
+    ensures { result ≡ get_or places.now (k + 1) end }
+{
+    if k + 1 < places.len() {
+        places[k + 1] as usize
+    } else {
+        end
+    }
+}
+
+// The sign behind a value whose entry was made.
+#[inline(always)]
+fn signed(made: Result<(), BuildFault>, sign: u8) -> Result<Option<u8>, BuildFault>
+    ensures { result ≡ with_sign made sign }
+{
+    match made {
+        Ok(()) => Ok(Some(sign)),
+        Err(fault) => Err(fault),
+    }
+}
+
+// No sign behind a container that was opened, and no child in one that was closed.
+#[inline(always)]
+fn nothing_more<T>(made: Result<(), BuildFault>) -> Result<Option<T>, BuildFault>
+    ensures { result ≡ no_more made }
+{
+    match made {
+        Ok(()) => Ok(None),
+        Err(fault) => Err(fault),
+    }
+}
+
+// Makes the entry of a value that begins at this place.
+#[inline(always)]
+fn put(
+    builder: &mut Builder,
+    level: Level,
+    name: Option<Extent>,
+    i: u32,
+    lexed: Lexed,
+) -> Result<(), BuildFault>
+    requires small { IsSmall text_limit (standing builder.old Want.Next None) }
+    requires level { level ≡ level_of builder.old.opens }
+    requires name { IfSome name HasRoom }
+    requires near { i < 2 ^ 24 }
+    requires fits { FitsTape lexed }
+    ensures { Took (step (token_of i lexed) (standing builder.old Want.Value name)) result (standing builder.new (behind lexed) None) }
+{
+    match lexed {
+        Lexed::Text(source) => builder.leaf(level, name, source, Kind::Text),
+        Lexed::Number(source) => builder.leaf(level, name, source, Kind::Number),
+        Lexed::Word(kind, source) => builder.leaf(level, name, source, kind),
+        Lexed::Opens(shape) => builder.open(level, name, shape, i),
+    }
+}
+
+// The name at place number k and the colon behind it.
+#[inline(always)]
+fn named(looks: &mut Looks<'_>, places: &[u32], k: usize, slashes: &mut Slashes<'_>) -> Option<Met>
+    requires listed { IsListed looks.old.0 places.now }
+    requires inside { k + 1 < length places.now }
+    requires slashes { HoldSlashes looks.old.0 slashes.old }
+    ensures named { (b : Built) (w : Want) (exceeds : Bool) → AsksName looks.old.0 places.now k w
+        → Named looks.old.0 places.now (point k (standing b w None) looks.old.1 exceeds) b (k + 2) (met_source result) looks.new.1 exceeds }
+    ensures room { IfSome result (λ m. HasRoom m.source) }
+    ensures stamped { IfSome result (λ m. IsStamped looks.old.0 m.source m.stamp) }
+    ensures slashes { HoldSlashes looks.old.0 slashes.new }
+    ensures same { looks.new.0 ≡ looks.old.0 }
+{
+    let colon = places[k + 1] as usize;
+    match name(looks, places[k] as usize, colon, slashes) {
+        Some(name) if looks.at(colon) == b':' => Some(stamped(looks, name)),
+        _ => None,
+    }
+}
+
+// The value at place number k, which has one behind it: an element, or a member of this name. Gives the sign behind it, which is looked
+// at before the entry is written, or nothing where a container was opened.
+#[inline(always)]
+fn valued<const OBJECT: bool>(
+    looks: &mut Looks<'_>,
+    places: &[u32],
+    k: usize,
+    name: Option<Extent>,
+    slashes: &mut Slashes<'_>,
+    builder: &mut Builder,
+    may_exceed: &mut bool,
+) -> Result<Option<u8>, BuildFault>
+    requires listed { IsListed looks.old.0 places.now }
+    requires inside { k + 1 < length places.now }
+    requires slashes { HoldSlashes looks.old.0 slashes.old }
+    requires small { IsSmall k (standing builder.old Want.Next None) }
+    requires level { level_of builder.old.opens ≡ Level.Inside (shape_of OBJECT) }
+    requires name { IfSome name HasRoom }
+    ensures grown { (w : Want) → AsksValue looks.old.0 places.now k w
+        → Grown looks.old.0 places.now (point k (standing builder.old w name) looks.old.1 may_exceed.old) (shape_of OBJECT) (k + 1) result builder.new looks.new.1 may_exceed.new }
+    ensures told { IfOk result (λ made. (met : NamesMet) → AreTold looks.old.0 builder.old met → IsFresh looks.old.0 builder.old met name → AreTold looks.old.0 builder.new met) }
+    ensures top { IfOk result (λ made. IfSome made (λ sign. IsSameTop builder.old.opens builder.new.opens)) }
+    ensures slashes { HoldSlashes looks.old.0 slashes.new }
+    ensures same { looks.new.0 ≡ looks.old.0 }
+{
+    let i = places[k];
+    let next = places[k + 1] as usize;
+    let level = Level::Inside(shape::<OBJECT>());
+    match value(looks, i as usize, next, slashes, may_exceed) {
+        None => Err(BuildFault::NotJson),
+        Some(Lexed::Opens(shape)) => nothing_more(builder.open(level, name, shape, i)),
+        Some(Lexed::Text(source)) => {
+            let sign = looks.at(next);
+            signed(builder.leaf(level, name, source, Kind::Text), sign)
+        }
+        Some(Lexed::Number(source)) => {
+            let sign = looks.at(next);
+            signed(builder.leaf(level, name, source, Kind::Number), sign)
+        }
+        Some(Lexed::Word(kind, source)) => {
+            let sign = looks.at(next);
+            signed(builder.leaf(level, name, source, kind), sign)
+        }
+    }
+}
+
+// The child at place number k, which has as many places as one needs, and one behind them.
+#[inline(always)]
+fn child<const OBJECT: bool>(
+    looks: &mut Looks<'_>,
+    places: &[u32],
+    k: usize,
+    slashes: &mut Slashes<'_>,
+    builder: &mut Builder,
+    may_exceed: &mut bool,
+    met: &mut NamesMet,
+    owner: Owner,
+) -> Result<Option<u8>, BuildFault>
+    requires listed { IsListed looks.old.0 places.now }
+    requires inside { k + width_of (shape_of OBJECT) < length places.now }
+    requires slashes { HoldSlashes looks.old.0 slashes.old }
+    requires small { IsSmall k (standing builder.old Want.Next None) }
+    requires level { level_of builder.old.opens ≡ Level.Inside (shape_of OBJECT) }
+    requires told { AreTold looks.old.0 builder.old met.old }
+    requires seated { IsTrue OBJECT → IsSeated builder.old owner met.old }
+    requires table { HasTable owner }
+    ensures grown { (w : Want) → AsksChild looks.old.0 places.now k (shape_of OBJECT) w
+        → Grown looks.old.0 places.now (point k (standing builder.old w None) looks.old.1 may_exceed.old) (shape_of OBJECT) (k + width_of (shape_of OBJECT)) result builder.new looks.new.1 may_exceed.new }
+    ensures told { IfOk result (λ made. AreTold looks.old.0 builder.new met.new) }
+    ensures seated { IfOk result (λ made. IfSome made (λ sign. IsTrue OBJECT → IsSeated builder.new owner met.new)) }
+    ensures slashes { HoldSlashes looks.old.0 slashes.new }
+    ensures same { looks.new.0 ≡ looks.old.0 }
+{
+    if !OBJECT {
+        return valued::<OBJECT>(looks, places, k, None, slashes, builder, may_exceed);
+    }
+    let Some(name) = named(looks, places, k, slashes) else {
+        return Err(BuildFault::NotJson);
+    };
+    if met.meet(owner, name.stamp).is_err() {
+        return Err(BuildFault::Memory);
+    }
+    valued::<OBJECT>(
+        looks,
+        places,
+        k + 2,
+        Some(name.source),
+        slashes,
+        builder,
+        may_exceed,
+    )
+}
+
+// What stands behind a container that was closed at place number k.
+#[inline(always)]
+fn closed_at(closed: Result<(), BuildFault>, k: usize) -> Result<Spot, BuildFault>
+    requires { k < 2 ^ 63 }
+    ensures { result ≡ spot_behind closed k }
+{
+    match closed {
+        Ok(()) => Ok(Spot {
+            number: k + 1,
+            behind: true,
+        }),
+        Err(fault) => Err(fault),
+    }
+}
+
+// Asks about the innermost container if it is a wide object.
+#[inline(always)]
+fn ask_if_wide<const OBJECT: bool>(builder: &Builder, met: &mut NamesMet) -> Result<(), BuildFault>
+    ensures told { OnOk result ((text : List ℕ) → AreTold text builder.now met.old → AreTold text builder.now met.new) }
+    ensures few { OnOk result (shape_of OBJECT ≡ Shape.Object → IsUnasked met.new (top_of builder.now.opens) → children_of builder.now.opens ≤ narrow) }
+    ensures memory { IsErrOf result BuildFault.NotJson → ⊥ }
+{
+    if !OBJECT {
+        return Ok(());
+    }
+    match met.ask_if_wide(builder) {
+        Ok(()) => Ok(()),
+        Err(_) => Err(BuildFault::Memory),
+    }
+}
+
+// Closes the innermost container, which is asked about if it is a wide object.
+#[inline(always)]
+fn shut<const OBJECT: bool>(
+    builder: &mut Builder,
+    place: u32,
+    met: &mut NamesMet,
+) -> Result<(), BuildFault>
+    requires level { level_of builder.old.opens ≡ Level.Inside (shape_of OBJECT) }
+    requires near { place < 2 ^ 24 }
+    ensures took { Took (step (Closing (shape_of OBJECT) place) (standing builder.old Want.Next None)) result (standing builder.new Want.Next None) }
+    ensures told { OnOk result ((text : List ℕ) → AreTold text builder.old met.old → AreTold text builder.new met.new) }
+{
+    match ask_if_wide::<OBJECT>(builder, met) {
+        Ok(()) => builder.close(shape::<OBJECT>(), place),
+        Err(fault) => Err(fault),
+    }
+}
+
+// The end of the container, if this sign at place number k is its end. A comma is not.
+#[inline(always)]
+fn ended<const OBJECT: bool>(
+    places: &[u32],
+    k: usize,
+    sign: u8,
+    builder: &mut Builder,
+    met: &mut NamesMet,
+) -> Result<Spot, BuildFault>
+    requires inside { k < length places.now }
+    requires near { get_or places.now k 0 < 2 ^ 24 }
+    requires level { level_of builder.old.opens ≡ Level.Inside (shape_of OBJECT) }
+    requires no_comma { sign ≢ 44 }
+    ensures arrives { (text : List ℕ) (looked : ℕ) (exceeds : Bool) → IsListed text places.now → sign ≡ byte_at text places.now k
+        → Arrives text places.now (point k (standing builder.old Want.Next None) looked exceeds) result builder.new looked exceeds }
+    ensures behind { IfOk result (λ next. (next.number ≡ k + 1) × (next.behind ≡ true)) }
+    ensures told { IfOk result (λ next. (text : List ℕ) → AreTold text builder.old met.old → AreTold text builder.new met.new) }
+{
+    if sign != ending::<OBJECT>() {
+        return Err(BuildFault::NotJson);
+    }
+    closed_at(shut::<OBJECT>(builder, places[k], met), k)
+}
+
+// What the walk finds where it enters a container, or comes back to it: the number of the place at which the next child has to begin, or
+// nothing where the container ends here.
+#[inline(always)]
+fn entered<const OBJECT: bool>(
+    looks: &mut Looks<'_>,
+    places: &[u32],
+    spot: Spot,
+    builder: &mut Builder,
+    met: &mut NamesMet,
+) -> Result<Option<usize>, BuildFault>
+    requires listed { IsListed looks.old.0 places.now }
+    requires level { level_of builder.old.opens ≡ Level.Inside (shape_of OBJECT) }
+    ensures entered { (exceeds : Bool) → Entered looks.old.0 places.now (at spot builder.old looks.old.1 exceeds) (shape_of OBJECT) (spot.number + 1) result builder.new looks.new.1 exceeds }
+    ensures inside { IfOk result (λ next. spot.number < length places.now) }
+    ensures told { IfOk result (λ next. (text : List ℕ) → AreTold text builder.old met.old → AreTold text builder.new met.new) }
+    ensures same { looks.new.0 ≡ looks.old.0 }
+{
+    if spot.number >= places.len() {
+        return Err(BuildFault::NotJson);
+    }
+    let sign = looks.at(places[spot.number] as usize);
+    if sign == ending::<OBJECT>() {
+        return nothing_more(shut::<OBJECT>(builder, places[spot.number], met));
+    }
+    if !spot.behind {
+        return Ok(Some(spot.number));
+    }
+    if sign == b',' {
+        Ok(Some(spot.number + 1))
+    } else {
+        Err(BuildFault::NotJson)
+    }
+}
+
+// The table for the names of the innermost container, which an array does not use.
+#[inline(always)]
+fn seat<const OBJECT: bool>(builder: &Builder, met: &mut NamesMet) -> Result<Owner, BuildFault>
+    ensures seated { IfOk result (λ owner. IsTrue OBJECT → IsSeated builder.now owner met.new) }
+    ensures told { IfOk result (λ owner. (text : List ℕ) → AreTold text builder.now met.old → AreTold text builder.now met.new) }
+    ensures table { IfOk result HasTable }
+    ensures memory { IsErrOf result BuildFault.NotJson → ⊥ }
+{
+    if !OBJECT {
+        return Ok(Owner {
+            number: 0,
+            table: 0,
+        });
+    }
+    match met.seat(builder) {
+        Ok(owner) => Ok(owner),
+        Err(_) => Err(BuildFault::Memory),
+    }
+}
+
+// The children of the innermost container from here on, up to one that holds others or to the end of the container.
+#[inline(always)]
+fn run<const OBJECT: bool>(
+    looks: &mut Looks<'_>,
+    places: &[u32],
+    spot: Spot,
+    slashes: &mut Slashes<'_>,
+    builder: &mut Builder,
+    may_exceed: &mut bool,
+    met: &mut NamesMet,
+) -> Result<Spot, BuildFault>
+    requires listed { IsListed looks.old.0 places.now }
+    requires slashes { HoldSlashes looks.old.0 slashes.old }
+    requires small { IsSmall spot.number (standing builder.old Want.Next None) }
+    requires level { level_of builder.old.opens ≡ Level.Inside (shape_of OBJECT) }
+    requires told { AreTold looks.old.0 builder.old met.old }
+    ensures arrives { Arrives looks.old.0 places.now (at spot builder.old looks.old.1 may_exceed.old) result builder.new looks.new.1 may_exceed.new }
+    ensures further { IfOk result (λ next. (spot.number < next.number) × (next.number ≤ length places.now)) }
+    ensures opened { IfOk result (λ next. next.behind ≡ false → level_of builder.new.opens ≡ Level.Root → ⊥) }
+    ensures told { IfOk result (λ next. AreTold looks.old.0 builder.new met.new) }
+    ensures slashes { HoldSlashes looks.old.0 slashes.new }
+    ensures same { looks.new.0 ≡ looks.old.0 }
+{
+    let first = match entered::<OBJECT>(looks, places, spot, builder, met) {
+        Err(fault) => return Err(fault),
+        Ok(None) => {
+            return Ok(Spot {
+                number: spot.number + 1,
+                behind: true,
+            });
+        }
+        Ok(Some(first)) => first,
+    };
+    let owner = match seat::<OBJECT>(builder, met) {
+        Ok(owner) => owner,
+        Err(fault) => return Err(fault),
+    };
+    let mut k = first;
+    while k + width::<OBJECT>() < places.len() {
+        match child::<OBJECT>(looks, places, k, slashes, builder, may_exceed, met, owner) {
+            Err(fault) => return Err(fault),
+            Ok(None) => {
+                return Ok(Spot {
+                    number: k + width::<OBJECT>(),
+                    behind: false,
+                });
+            }
+            Ok(Some(b',')) => k += width::<OBJECT>() + 1,
+            Ok(Some(sign)) => {
+                return ended::<OBJECT>(places, k + width::<OBJECT>(), sign, builder, met);
+            }
+        }
+    }
+    Err(BuildFault::NotJson)
+}
+
+// The same for the shape that the container has.
+#[inline(always)]
+fn children(
+    looks: &mut Looks<'_>,
+    places: &[u32],
+    spot: Spot,
+    shape: Shape,
+    slashes: &mut Slashes<'_>,
+    builder: &mut Builder,
+    may_exceed: &mut bool,
+    met: &mut NamesMet,
+) -> Result<Spot, BuildFault>
+    requires listed { IsListed looks.old.0 places.now }
+    requires slashes { HoldSlashes looks.old.0 slashes.old }
+    requires small { IsSmall spot.number (standing builder.old Want.Next None) }
+    requires level { level_of builder.old.opens ≡ Level.Inside shape }
+    requires told { AreTold looks.old.0 builder.old met.old }
+    ensures arrives { Arrives looks.old.0 places.now (at spot builder.old looks.old.1 may_exceed.old) result builder.new looks.new.1 may_exceed.new }
+    ensures further { IfOk result (λ next. (spot.number < next.number) × (next.number ≤ length places.now)) }
+    ensures opened { IfOk result (λ next. next.behind ≡ false → level_of builder.new.opens ≡ Level.Root → ⊥) }
+    ensures told { IfOk result (λ next. AreTold looks.old.0 builder.new met.new) }
+    ensures slashes { HoldSlashes looks.old.0 slashes.new }
+    ensures same { looks.new.0 ≡ looks.old.0 }
+{
+    match shape {
+        Shape::Array => run::<false>(looks, places, spot, slashes, builder, may_exceed, met),
+        Shape::Object => run::<true>(looks, places, spot, slashes, builder, may_exceed, met),
+    }
+}
+
+// What lies in the containers that are open here, up to the end of the outermost one.
+#[inline(always)]
+fn containers(
+    looks: &mut Looks<'_>,
+    places: &[u32],
+    spot: Spot,
+    slashes: &mut Slashes<'_>,
+    builder: &mut Builder,
+    may_exceed: &mut bool,
+    met: &mut NamesMet,
+) -> Result<Spot, BuildFault>
+    requires listed { IsListed looks.old.0 places.now }
+    requires slashes { HoldSlashes looks.old.0 slashes.old }
+    requires inside { spot.number ≤ length places.now }
+    requires small { IsSmall spot.number (standing builder.old Want.Next None) }
+    requires opened { spot.behind ≡ false → level_of builder.old.opens ≡ Level.Root → ⊥ }
+    requires told { AreTold looks.old.0 builder.old met.old }
+    ensures arrives { Arrives looks.old.0 places.now (at spot builder.old looks.old.1 may_exceed.old) result builder.new looks.new.1 may_exceed.new }
+    ensures over { IfOk result (λ next. (level_of builder.new.opens ≡ Level.Root) × (next.behind ≡ true)) }
+    ensures told { IfOk result (λ next. AreTold looks.old.0 builder.new met.new) }
+    ensures slashes { HoldSlashes looks.old.0 slashes.new }
+    ensures same { looks.new.0 ≡ looks.old.0 }
+{
+    let mut next = spot;
+    while let Level::Inside(shape) = builder.level() {
+        match children(
+            looks, places, next, shape, slashes, builder, may_exceed, met,
+        ) {
+            Ok(spot) => next = spot,
+            Err(fault) => return Err(fault),
+        }
+    }
+    Ok(next)
+}
+
+// What stands behind the first token of a text, where its entry was made.
+#[inline(always)]
+fn first_spot(made: Result<(), BuildFault>, lexed: Lexed) -> Result<Spot, BuildFault>
+    ensures { result ≡ spot_after made lexed }
+{
+    match made {
+        Ok(()) => Ok(Spot {
+            number: 1,
+            behind: is_whole(lexed),
+        }),
+        Err(fault) => Err(fault),
+    }
+}
+
+// Whether it is a value that holds no other.
+#[inline(always)]
+fn is_whole(lexed: Lexed) -> bool
+    ensures { result ≡ whole_token lexed }
+{
+    match lexed {
+        Lexed::Text(_) | Lexed::Number(_) | Lexed::Word(..) => true,
+        Lexed::Opens(_) => false,
+    }
+}
+
+// The value of the whole text, or the bracket or brace that opens it.
+#[inline(always)]
+fn whole(
+    looks: &mut Looks<'_>,
+    places: &[u32],
+    slashes: &mut Slashes<'_>,
+    builder: &mut Builder,
+    may_exceed: &mut bool,
+) -> Result<Spot, BuildFault>
+    requires listed { IsListed looks.old.0 places.now }
+    requires slashes { HoldSlashes looks.old.0 slashes.old }
+    requires first { builder.old ≡ nothing }
+    ensures arrives { Arrives looks.old.0 places.now (point 0 (standing builder.old Want.Value None) looks.old.1 may_exceed.old) result builder.new looks.new.1 may_exceed.new }
+    ensures told { IfOk result (λ next. (met : NamesMet) → AreTold looks.old.0 builder.old met → AreTold looks.old.0 builder.new met) }
+    ensures further { IfOk result (λ next. next.number ≤ length places.now) }
+    ensures opened { IfOk result (λ next. next.behind ≡ false → level_of builder.new.opens ≡ Level.Root → ⊥) }
+    ensures slashes { HoldSlashes looks.old.0 slashes.new }
+    ensures same { looks.new.0 ≡ looks.old.0 }
+{
+    if places.is_empty() {
+        return Err(BuildFault::NotJson);
+    }
+    let i = places[0];
+    let next = place_behind(places, 0, looks.length());
+    let Some(lexed) = value(looks, i as usize, next, slashes, may_exceed) else {
+        return Err(BuildFault::NotJson);
+    };
+    first_spot(put(builder, Level::Root, None, i, lexed), lexed)
+}
+
+/// The result of a walk: the tape, its depth, and whether a number may be beyond the limits. `asked` has the numbers of the objects that
+/// may have a repeated name, in no order; all others have none.
+#[derive(Drop)]
+pub struct Reading {
+    pub tape: Tape,
+    pub depth: usize,
+    pub may_exceed: bool,
+    pub asked: Vec<u32>,
+}
+
+/// The tape of the text that is looked at and what else was found of it, from the places of its index, or why it has no tape.
+#[inline(never)]
+pub fn walk(alloc: Global, index: &Index, looks: &mut Looks<'_>) -> Result<Reading, BuildFault>
+    requires short { length looks.old.0 ≤ text_limit }
+    requires utf8 { IsUtf8 looks.old.0 }
+    requires index { IsIndexOf index.now looks.old.0 }
+    ensures same { looks.new.0 ≡ looks.old.0 }
+    // A tape is given only where the text is JSON.
+    ensures spelt { IfOk result (λ reading. IsJson looks.old.0) }
+    // It stands for each tree that the text spells, so there is only one.
+    ensures stands { IfOk result (λ reading. StandsForAll looks.old.0 reading.tape) }
+    ensures few { IfOk result (λ reading. length reading.tape < 2 ^ 31) }
+    ensures depth { IfOk result (λ reading. HasDepth looks.old.0 reading.depth) }
+    ensures numbers { IfOk result (λ reading. reading.may_exceed ≡ false → AreWithinLimits looks.old.0 reading.tape) }
+    // Unless memory runs out, a text is refused only where it spells no tree.
+    ensures refused { IsErrOf result BuildFault.NotJson → IsNoJson looks.old.0 }
+    ensures looked { IfOk result (λ reading. IsBounded looks.old.0 looks.old.1 looks.new.1) }
+    ensures sifted { IfOk result (λ reading. AreSifted looks.old.0 reading.tape reading.asked.items) }
+{
+    if index.unclosed || index.control_inside {
+        return Err(BuildFault::NotJson);
+    }
+    let places = index.places.as_slice();
+    let mut slashes = Slashes::new(index.slashes.as_slice(), looks.length());
+    let mut builder = Builder::new(alloc, places.len() / 2 + 1)?;
+    let mut may_exceed = false;
+    let mut met = NamesMet::new(alloc);
+    let first = match whole(looks, places, &mut slashes, &mut builder, &mut may_exceed) {
+        Ok(first) => first,
+        Err(fault) => return Err(fault),
+    };
+    let last = match containers(
+        looks,
+        places,
+        first,
+        &mut slashes,
+        &mut builder,
+        &mut may_exceed,
+        &mut met,
+    ) {
+        Ok(last) => last,
+        Err(fault) => return Err(fault),
+    };
+    if last.number < places.len() {
+        return Err(BuildFault::NotJson);
+    }
+    let depth = builder.deepest();
+    Ok(Reading {
+        tape: builder.into_tape(),
+        depth,
+        may_exceed,
+        asked: met.asked,
+    })
+}
+
+/// Builds the tape of a text from the places of its index.
+///
+/// # Errors
+///
+/// `NotJson` if the bytes are not a text of the grammar; `Memory` if an allocation failed.
+pub fn build(alloc: Global, index: &Index, looks: &mut Looks<'_>) -> Result<Tape, BuildFault>
+    requires short { length looks.old.0 ≤ text_limit }
+    requires utf8 { IsUtf8 looks.old.0 }
+    requires index { IsIndexOf index.now looks.old.0 }
+    ensures same { looks.new.0 ≡ looks.old.0 }
+    // A tape is given only where the text is JSON.
+    ensures spelt { IfOk result (λ tape. IsJson looks.old.0) }
+    // It stands for each tree that the text spells, so there is only one.
+    ensures stands { IfOk result (λ tape. StandsForAll looks.old.0 tape) }
+    // Unless memory runs out, a text is refused only where it spells no tree.
+    ensures refused { IsErrOf result BuildFault.NotJson → IsNoJson looks.old.0 }
+    // At most three looks for each place, and one for each source byte of a string, a number or a word.
+    ensures looked { IfOk result (λ tape. IsBounded looks.old.0 looks.old.1 looks.new.1) }
+{
+    match walk(alloc, index, looks) {
+        Ok(reading) => Ok(reading.tape),
+        Err(fault) => Err(fault),
+    }
+}

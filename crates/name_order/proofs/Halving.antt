@@ -1,0 +1,69 @@
+-- A name is found by halving among names that rise.
+use Rattle.std.proofs.Common.{◌≡◌, ℕ, ◌+◌, ◌<◌, ◌≤◌, List, length, get_or, inl, inr, sym, ap, ◌∙◌, subst, arith}
+use Rattle.std.proofs.lemmas.Bool.{cases_lt}
+use Rattle.std.proofs.lemmas.Cmp.{tied_itself}
+use Rattle.std.specs.Ordering.{ordering_reverse, is_eq}
+use Rattle.std.specs.Cmp.Lexicographic.{bytes_decides}
+use Rattle.std.specs.declared.cmp.Ordering.TheVariants.{Less, Equal, Greater}
+use Rattle.json_text.specs.declared.tape.Entry.{Entry}
+use Rattle.name_order.specs.Ordered.{AreNamed, name_at}
+use Rattle.json_strings.specs.Keys.{name_cmp}
+use Rattle.json_strings.specs.KeyOrder.{names_total, names_tie}
+
+-- the name stands neither before the first place nor from the second on
+pub record Between (text : List ℕ) (tape : List Entry) (members : List ℕ) (name : List ℕ) (low high : ℕ) : Type 0 where
+  pub inside : high ≤ length members
+  pub below : (k : ℕ) → k < low → name_cmp (name_at text tape (get_or members k 0)) name ≡ Less
+  pub above : (k : ℕ) → high ≤ k → k < length members → name_cmp (name_at text tape (get_or members k 0)) name ≡ Greater
+
+-- names that tie are the same
+pub tied : (x y : List ℕ) → name_cmp x y ≡ Equal → x ≡ y
+tied x y e = (bytes_decides x y).0 (names_tie x y ∙ ap is_eq e)
+
+module _ (text : List ℕ) (tape : List Entry) (hashes members : List ℕ) (name : List ℕ) (named : AreNamed text tape hashes members) where
+  abbrev at : ℕ → List ℕ
+  at k = name_at text tape (get_or members k 0)
+
+  pub higher : (low high middle : ℕ) → Between text tape members name low high → middle < high → name_cmp (at middle) name ≡ Less → Between text tape members name (middle + 1) high
+  higher low high middle b h e = record {
+    inside = b.inside;
+    below = λ k l. elim (cases_lt k middle) [
+      | inl g ↦ names_total.trans (at k) (at middle) name (named.rising k middle g (let i = b.inside in omega arith)) e
+      | inr g ↦ (let same : middle ≡ k = omega arith in subst (λ j. name_cmp (at j) name ≡ Less) same e)
+    ];
+    above = b.above;
+  }
+
+  pub lower : (low high middle : ℕ) → Between text tape members name low high → middle < high → name_cmp (at middle) name ≡ Greater → Between text tape members name low middle
+  lower low high middle b h e = record {
+    inside = (let i = b.inside in omega arith);
+    below = b.below;
+    above = λ k l m. elim (cases_lt middle k) [
+      | inl g ↦
+          (let first : name_cmp name (at middle) ≡ Less = names_total.antisymm name (at middle) ∙ ap ordering_reverse e in
+          let both = names_total.trans name (at middle) (at k) first (named.rising middle k g m) in
+          names_total.antisymm (at k) name ∙ ap ordering_reverse both)
+      | inr g ↦ (let same : middle ≡ k = omega arith in subst (λ j. name_cmp (at j) name ≡ Greater) same e)
+    ];
+  }
+
+  pub nowhere : (low high : ℕ) → Between text tape members name low high → high ≤ low → (k : ℕ) → k < length members → at k ≡ name → ⊥
+  nowhere low high b h k l e =
+      let tie : name_cmp (at k) name ≡ Equal = ap (λ x. name_cmp x name) e ∙ tied_itself names_total name in
+      elim (cases_lt k low) [
+        | inl g ↦ (let x = sym (b.below k g) ∙ tie in cc)
+        | inr g ↦ (let x = sym (b.above k (omega arith) l) ∙ tie in cc)
+      ]
+
+  -- members of one name are one
+  pub one_place : (j k : ℕ) → j < length members → k < length members → at j ≡ at k → get_or members j 0 ≡ get_or members k 0
+  one_place j k l m e = elim (cases_lt j k) [
+    | inl g ↦ absurd (apart j k g m e)
+    | inr g ↦ elim (cases_lt k j) [
+      | inl h ↦ absurd (apart k j h l (sym e))
+      | inr h ↦ (let same : j ≡ k = omega arith in ap (λ i. get_or members i 0) same)
+    ]
+  ]
+    where
+      apart : (j k : ℕ) → j < k → k < length members → at j ≡ at k → ⊥
+      apart j k h m e = let x = sym (named.rising j k h m) ∙ ap (λ y. name_cmp y (at k)) e ∙ tied_itself names_total (at k) in cc

@@ -1,0 +1,159 @@
+-- Members as words in the order of their hashes, no two of which meet.
+use Rattle.std.proofs.Common.{◌≡◌, ℕ, ◌+◌, ◌*◌, ◌^◌, ◌<◌, ◌≤◌, false, Bool, true, ◌||◌, cond, List, [], ◌∷◌, ◌++◌, length, map, get_or, refl, sym, ap, ◌∙◌, subst, arith}
+use Rattle.std.specs.Prelude.{nat_eq, nat_lt}
+use Rattle.std.proofs.lemmas.Bool.Decides.{nat_tests}
+use Rattle.std.proofs.lemmas.Nat.{mod-mul-add, div-mul-add}
+use Rattle.std.proofs.lemmas.List.{length-map, get_or_default, get_or-map}
+use Rattle.std.proofs.lemmas.List.Elements.{All-from_recursion, recursion_from_All}
+use Rattle.std.proofs.lemmas.List.Sorted.{IsPermutation-map, All-permutation, length_permutation}
+use Rattle.std.specs.List.{All, AllByRecursion}
+use Rattle.std.specs.List.Sorted.{IsPermutation, IsSorted}
+use Rattle.std.specs.Cmp.{nat_cmp_total, nat_eq_equiv, unsigned_ties}
+use Rattle.std.specs.Cmp.Lexicographic.{slice_cmp}
+use Rattle.std.specs.Ordering.{nat_cmp, on, is_lt, ordering_then}
+use Rattle.std.specs.declared.cmp.Ordering.TheVariants.{Less, Equal, Greater}
+use Rattle.json_text.specs.Tree.{Members, NoMember, Member}
+use Rattle.json_text.specs.Nodes.{size}
+use Rattle.json_text.specs.Meaning.{meaning}
+use Rattle.json_strings.specs.Spelling.{IsQuoted}
+use Rattle.json_text.specs.Repeats.{IsObject, repeats, meanings, repeats_by, repeats_next_by}
+use Rattle.json_strings.specs.Keys.{Keyed, key_number, key_hash, name_hash}
+use Rattle.name_order.specs.Ordered.{keyed, word_of, high_half, low_half, name_at, IsOrderOf, AreKept}
+use Rattle.json_text.specs.Tape.{entry_in, nothing_there}
+use Rattle.json_text.specs.declared.tape.Entry.{Entry}
+use Rattle.json_text.proofs.Numbers.{entry_at}
+use Rattle.json_text.proofs.Repeats.{strict, sorted_repeats, hashes_apart}
+use Rattle.name_order.proofs.KeysLeft.{IsGood, all_good, length_keyed}
+use Rattle.name_order.proofs.Runs.{in_order, kept_more}
+
+low_is : (hash number : ℕ) → number < 4294967296 → low_half (hash * 4294967296 + number) ≡ number
+unfolding low_half
+low_is hash number h = mod-mul-add hash 4294967296 number h
+
+high_is : (hash number : ℕ) → number < 4294967296 → high_half (hash * 4294967296 + number) ≡ hash
+unfolding high_half
+high_is hash number h = div-mul-add hash 4294967296 number h
+
+high_rises : (a b : ℕ) → a ≤ b → high_half a ≤ high_half b
+unfolding high_half
+high_rises a b h = omega arith
+
+-- what is not less
+less_is : (t u : Bool) → is_lt (cond t Less (cond u Equal Greater)) ≡ t
+less_is true u = refl
+less_is false true = refl
+less_is false false = refl
+
+at_least : (a b : ℕ) → is_lt (nat_cmp a b) ≡ false → b ≤ a
+at_least a b h = let e : nat_lt a b ≡ false = sym (less_is (nat_lt a b) (nat_eq a b)) ∙ h in grind (arith, nat_tests)
+
+not_less : (a b : ℕ) → b ≤ a → is_lt (nat_cmp a b) ≡ false
+not_less a b h = less_is (nat_lt a b) (nat_eq a b) ∙ grind (arith, nat_tests)
+
+highs_sorted : (ys : List ℕ) → IsSorted nat_cmp ys → IsSorted nat_cmp (map high_half ys)
+highs_sorted ys s k d z h =
+    let long = length-map ys high_half in
+    let a = at k (omega arith) in
+    let b = at (k + 1) h in
+    let r = high_rises (get_or ys k 0) (get_or ys (k + 1) 0) (at_least (get_or ys (k + 1) 0) (get_or ys k 0) (s k 0 z (omega arith))) in
+    not_less (get_or (map high_half ys) (k + 1) d) (get_or (map high_half ys) k d) (omega arith)
+  where
+    at : (i : ℕ) → i < length (map high_half ys) → get_or (map high_half ys) i d ≡ high_half (get_or ys i 0)
+    at i l = get_or_default (map high_half ys) i d 0 l ∙ get_or-map high_half ys i 0 0 (let long = length-map ys high_half in omega arith)
+
+next_map : (f : ℕ → ℕ) (ys : List ℕ) → repeats_next_by (on f nat_eq) ys ≡ repeats_next_by nat_eq (map f ys)
+next_map f (x ∷ y ∷ ys) = ap (λ b. nat_eq (f x) (f y) || b) (next_map f (y ∷ ys))
+next_map f _ = refl
+
+hashes_named : (ms : Members) (k : ℕ) → map key_hash (keyed ms k) ≡ map name_hash (meanings ms)
+hashes_named NoMember k = refl
+hashes_named (Member n t ms) k = ap (λ l. name_hash (meaning n.characters) ∷ l) (hashes_named ms (k + size t))
+
+-- the name of the member in a word stands where its entry says, and has the hash in it
+record IsGoodWord (text : List ℕ) (tape : List Entry) (word : ℕ) : Type 0 where
+  inside : low_half word < length tape
+  quoted : IsQuoted text (entry_in tape (low_half word)).label
+  hashed : high_half word ≡ name_hash (name_at text tape (low_half word))
+
+module _ (text : List ℕ) (tape : List Entry) (short : length tape < 2 ^ 31) where
+  good_word : (x : Keyed) → IsGood text tape x → IsGoodWord text tape (word_of x)
+  good_word x g =
+      let i = g.inside in
+      let l = low_is (key_hash x) x.number (omega arith) in
+      let h = high_is (key_hash x) x.number (omega arith) in
+      record {
+        inside = omega arith;
+        quoted = subst (λ k. IsQuoted text (entry_in tape k).label) (sym l) g.quoted;
+        hashed = h ∙ ap name_hash (sym g.named) ∙ ap (λ k. name_hash (name_at text tape k)) (sym l);
+      }
+
+  good_words : (ks : List Keyed) → AllByRecursion (IsGood text tape) ks → AllByRecursion (IsGoodWord text tape) (map word_of ks)
+  good_words [] h = tt
+  good_words (x ∷ ks) h = (good_word x h.0, good_words ks h.1)
+
+  lows : (ks : List Keyed) → AllByRecursion (IsGood text tape) ks → map low_half (map word_of ks) ≡ map key_number ks
+  lows [] h = refl
+  lows (x ∷ ks) h = let i = h.0.inside in ap (λ k. k ∷ map low_half (map word_of ks)) (low_is (key_hash x) x.number (omega arith)) ∙ ap (λ l. x.number ∷ l) (lows ks h.1)
+
+  highs : (ks : List Keyed) → AllByRecursion (IsGood text tape) ks → map high_half (map word_of ks) ≡ map key_hash ks
+  highs [] h = refl
+  highs (x ∷ ks) h = let i = h.0.inside in ap (λ k. k ∷ map high_half (map word_of ks)) (high_is (key_hash x) x.number (omega arith)) ∙ ap (λ l. key_hash x ∷ l) (highs ks h.1)
+
+  module _ (n : ℕ) (ys : List ℕ) (moved : (ms : Members) → IsObject text tape n ms → IsPermutation (map word_of (keyed ms (n + 1))) ys) (sorted : IsSorted nat_cmp ys) (apart : repeats_next_by (on high_half nat_eq) ys ≡ false) where
+    abbrev words : Members → List ℕ
+    words ms = map word_of (keyed ms (n + 1))
+
+    good_keys : (ms : Members) → IsObject text tape n ms → AllByRecursion (IsGood text tape) (keyed ms (n + 1))
+    good_keys ms o = recursion_from_All (IsGood text tape) (keyed ms (n + 1)) (all_good text tape n ms o)
+
+    highs_apart : repeats_next_by nat_eq (map high_half ys) ≡ false
+    highs_apart = sym (next_map high_half ys) ∙ apart
+
+    pub none_again : (ms : Members) → IsObject text tape n ms → false ≡ repeats (meanings ms)
+    none_again ms o =
+        let again = sorted_repeats nat_eq nat_cmp unsigned_ties (λ x y. nat_eq_equiv.symm x y) nat_cmp_total (map high_half (words ms)) (map high_half ys) (IsPermutation-map high_half (words ms) ys (moved ms o)) (highs_sorted ys sorted) in
+        let all : map high_half (words ms) ≡ map name_hash (meanings ms) = highs (keyed ms (n + 1)) (good_keys ms o) ∙ hashes_named ms (n + 1) in
+        sym (hashes_apart name_hash (meanings ms) (sym (ap (repeats_by nat_eq) all) ∙ sym again ∙ highs_apart))
+
+    counted : (ms : Members) → IsObject text tape n ms → length (map low_half ys) ≡ (entry_in tape n).children
+    counted ms o =
+        length-map ys low_half ∙ length_permutation (words ms) ys (moved ms o) ∙ length-map (keyed ms (n + 1)) word_of ∙ length_keyed ms (n + 1)
+        ∙ sym (ap (λ (e : Entry). e.children) (entry_at tape nothing_there o.stands o.is_at))
+
+    good : (ms : Members) → IsObject text tape n ms → All (IsGoodWord text tape) ys
+    good ms o =
+        All-permutation (IsGoodWord text tape) (words ms) ys (moved ms o) (All-from_recursion (IsGoodWord text tape) (words ms) (good_words (keyed ms (n + 1)) (good_keys ms o)))
+
+    ordered : (ms : Members) → IsObject text tape n ms → IsOrderOf text tape n (map high_half ys) (map low_half ys)
+    ordered ms o = record {
+      named = record {
+        long = length-map ys high_half ∙ sym (length-map ys low_half);
+        inside = λ k h. let l = inner k h in subst (λ m. m < length tape) (sym (get_or-map low_half ys k 0 0 l)) (good ms o k 0 l).inside;
+        quoted = λ k h. let l = inner k h in subst (λ m. IsQuoted text (entry_in tape m).label) (sym (get_or-map low_half ys k 0 0 l)) (good ms o k 0 l).quoted;
+        hashed = hash_is;
+        rising = λ j k h m.
+            (let i : j < length (map low_half ys) = omega arith in
+            ap (λ r. ordering_then r (slice_cmp nat_cmp (named j) (named k)))
+            (ap (λ x. nat_cmp x (name_hash (named k))) (sym (hash_is j i)) ∙ ap (nat_cmp (get_or (map high_half ys) j 0)) (sym (hash_is k m))
+            ∙ in_order nat_cmp (map high_half ys) 0 (strict nat_eq nat_cmp unsigned_ties (λ x y. nat_eq_equiv.symm x y) nat_cmp_total 0 (map high_half ys) (highs_sorted ys sorted) highs_apart) j k h (let a = length-map ys high_half in let b = length-map ys low_half in omega arith)));
+      };
+      all = λ ms' o'. subst (λ l. IsPermutation l (map low_half ys)) (lows (keyed ms' (n + 1)) (good_keys ms' o')) (IsPermutation-map low_half (words ms') ys (moved ms' o'));
+    }
+      where
+        inner : (k : ℕ) → k < length (map low_half ys) → k < length ys
+        inner k h = let e = length-map ys low_half in omega arith
+
+        named : ℕ → List ℕ
+        named k = name_at text tape (get_or (map low_half ys) k 0)
+
+        hash_is : (k : ℕ) → k < length (map low_half ys) → get_or (map high_half ys) k 0 ≡ name_hash (named k)
+        hash_is k h =
+            let l = inner k h in
+            get_or-map high_half ys k 0 0 l ∙ (good ms o k 0 l).hashed ∙ ap (λ m. name_hash (name_at text tape m)) (sym (get_or-map low_half ys k 0 0 l))
+
+    -- the lists with the members of one more object
+    pub kept_words : (objects starts hashes members : List ℕ) → AreKept text tape n objects starts hashes members → (ms : Members) × IsObject text tape n ms
+        → (objects' starts' hashes' members' : List ℕ) → objects' ≡ objects ++ n ∷ [] → starts' ≡ starts ++ length members ∷ [] → hashes' ≡ hashes ++ map high_half ys → members' ≡ members ++ map low_half ys
+        → AreKept text tape (n + 1) objects' starts' hashes' members'
+    kept_words objects starts hashes members kept (ms, o) objects' starts' hashes' members' a b c d =
+        rw (a, b, c, d) (kept_more text tape n objects starts hashes members (map high_half ys) (map low_half ys) kept (counted ms o) (ordered ms o))

@@ -1,0 +1,9 @@
+pub mod Sifted
+pub mod TwinNames
+pub mod Halving
+pub mod KeysLeft
+pub mod HashedWords
+pub mod Runs
+pub mod SameBytes
+pub mod Abreast
+pub mod Alike

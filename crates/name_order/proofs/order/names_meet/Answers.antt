@@ -1,0 +1,10 @@
+use Rattle.std.proofs.Common.{◌∙◌, ◌-◌, sym, arith}
+use Rattle.std.specs.Prelude.{nat_eq}
+use Rattle.std.specs.Ordering.{on}
+use Rattle.std.specs.Cmp.Lexicographic.{pointwise}
+use Rattle.json_strings.specs.Keys.{key_name}
+use Rattle.json_text.proofs.Repeats.{next_over}
+use Rattle.name_order.proofs.order.names_meet.Goals as goal
+
+pub returns : goal.returns
+returns c = sym (next_over (on key_name (pointwise nat_eq)) c.args.keys.now (c.loop-i.i - 1) (let t = c.loop-i-test.false in omega arith)) ∙ c.loop-i.invariant

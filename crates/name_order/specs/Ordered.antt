@@ -1,0 +1,97 @@
+-- The order of names in which objects of many members keep them: by a hash, and by the scalar values where hashes meet.
+use Rattle.std.specs.Prelude.{◌≡◌, ℕ, ◌+◌, ◌-◌, ◌*◌, ◌/◌, ◌%◌, ◌<◌, ◌≤◌, List, [], ◌∷◌, length, map, take, drop, get_or}
+use Rattle.std.specs.declared.cmp.Ordering.TheVariants.{Less}
+use Rattle.std.specs.List.Sorted.{IsPermutation}
+use Rattle.std.specs.Str.{chars}
+use Rattle.json_text.specs.Tree.{Members, NoMember, Member}
+use Rattle.json_text.specs.Meaning.{meaning}
+use Rattle.json_text.specs.Nodes.{size}
+use Rattle.json_strings.specs.Spelling.{scalars_in, unquoted, IsQuoted}
+use Rattle.json_text.specs.Limits.{bytes_at}
+use Rattle.json_text.specs.Repeats.{IsObject}
+use Rattle.json_text.specs.declared.tape.Entry.{Entry}
+use Rattle.json_strings.specs.Keys.{Keyed, key_number, key_hash, name_hash, name_cmp}
+use Rattle.json_text.specs.Tape.{entry_in}
+use Rattle.json_text.specs.Sifted.{IsWide}
+
+-- the members in document order, where the first has this number
+abbrev pub keyed : Members → ℕ → List Keyed
+keyed NoMember k = []
+keyed (Member n t ms) k = record { number = k; name = meaning n.characters } ∷ keyed ms (k + size t)
+
+-- the hash of a member's name in front of its number
+abbrev pub word_of : Keyed → ℕ
+word_of x = key_hash x * 4294967296 + x.number
+
+unfoldable pub high_half : ℕ → ℕ
+high_half word = word / 4294967296
+
+unfoldable pub low_half : ℕ → ℕ
+low_half word = word % 4294967296
+
+-- ---- By the entries
+
+-- what the name of the member with this number means
+abbrev pub name_at : List ℕ → List Entry → ℕ → List ℕ
+name_at text tape n = scalars_in (chars (unquoted (bytes_at text (entry_in tape n).label)))
+
+-- the numbers of members whose names rise, and the hashes of their names
+pub record AreNamed (text : List ℕ) (tape : List Entry) (hashes members : List ℕ) : Type 0 where
+  pub long : length hashes ≡ length members
+  pub inside : (k : ℕ) → k < length members → get_or members k 0 < length tape
+  pub quoted : (k : ℕ) → k < length members → IsQuoted text (entry_in tape (get_or members k 0)).label
+  pub hashed : (k : ℕ) → k < length members → get_or hashes k 0 ≡ name_hash (name_at text tape (get_or members k 0))
+  pub rising : (j k : ℕ) → j < k → k < length members → name_cmp (name_at text tape (get_or members j 0)) (name_at text tape (get_or members k 0)) ≡ Less
+
+-- all members of the object with this number, in the order of their names
+pub record IsOrderOf (text : List ℕ) (tape : List Entry) (n : ℕ) (hashes members : List ℕ) : Type 0 where
+  pub named : AreNamed text tape hashes members
+  pub all : (ms : Members) → IsObject text tape n ms → IsPermutation (map key_number (keyed ms (n + 1))) members
+
+-- so many from a place on
+abbrev pub part : ℕ → ℕ → List ℕ → List ℕ
+part start n xs = take n (drop start xs)
+
+-- of the objects below a number those of many members, and for each where its members begin in one list for all
+pub record AreKept (text : List ℕ) (tape : List Entry) (below : ℕ) (objects starts hashes members : List ℕ) : Type 0 where
+  pub rising : (i j : ℕ) → i ≤ j → j < length objects → get_or objects i 0 ≤ get_or objects j 0
+  pub under : (i : ℕ) → i < length objects → get_or objects i 0 < below
+  pub begun : length starts ≡ length objects
+  pub long : length hashes ≡ length members
+  pub room : (i : ℕ) → i < length objects → get_or starts i 0 + (entry_in tape (get_or objects i 0)).children ≤ length members
+  pub each : (i : ℕ) → i < length objects → (let n = get_or objects i 0 in let c = (entry_in tape n).children in
+      IsOrderOf text tape n (part (get_or starts i 0) c hashes) (part (get_or starts i 0) c members))
+  pub all : (n : ℕ) → n < below → IsWide (entry_in tape n) → (i : ℕ) × (i < length objects) × (get_or objects i 0 ≡ n)
+
+-- ---- An object like an earlier one
+
+-- so many bytes from one place on are those from another on
+abbrev pub AreSameFrom : List ℕ → ℕ → ℕ → ℕ → Type 0
+AreSameFrom bytes left right n = (i : ℕ) → i < n → get_or bytes (left + i) 0 ≡ get_or bytes (right + i) 0
+
+-- two values that hold no others stand under names of the same bytes
+abbrev pub IsLeafAlike : List ℕ → List Entry → ℕ → ℕ → Type 0
+IsLeafAlike text tape left right =
+    (bytes_at text (entry_in tape left).label ≡ bytes_at text (entry_in tape right).label) × ((entry_in tape left).after ≡ left + 1) × ((entry_in tape right).after ≡ right + 1)
+
+-- so many from two numbers on
+abbrev pub AreLeavesAlike : List ℕ → List Entry → ℕ → ℕ → ℕ → Type 0
+AreLeavesAlike text tape left right n = (i : ℕ) → i < n → IsLeafAlike text tape (left + i) (right + i)
+
+-- the name of an entry lies in the text
+abbrev pub IsNameInside : List ℕ → List Entry → ℕ → Type 0
+IsNameInside text tape n = (n < length tape) × ((entry_in tape n).label.start + (entry_in tape n).label.len ≤ length text)
+
+abbrev pub onward : ℕ → ℕ → ℕ
+onward shift k = k + shift
+
+-- the same name, so much further on
+abbrev pub moved : ℕ → Keyed → Keyed
+moved shift x = record { number = onward shift x.number; name = x.name }
+
+-- the members of an object stand as those of an earlier one do, under the same names
+pub record AreAlike (text : List ℕ) (tape : List Entry) (n earlier : ℕ) : Type 0 where
+  pub before : Members
+  pub was : IsObject text tape earlier before
+  pub behind : earlier < n
+  pub same : (ms : Members) → IsObject text tape n ms → keyed ms (n + 1) ≡ map (moved (n - earlier)) (keyed before (earlier + 1))

@@ -1,0 +1,541 @@
+// The members of an object in the order of their names: whether one comes again, and, of wide objects, that a name is found by halving.
+
+ghost use Rattle.std.specs.Prelude.{◌≡◌, ℕ, ◌+◌, ◌*◌, ◌<◌, ◌≤◌, ◌^◌, ◌++◌, ◌∷◌, [], length, map, IfSome, OnOk, get_or, IfOk, IsTrue, ◌↔◌, None, false, nat_eq};
+ghost use Rattle.std.specs.List.{Contains};
+ghost use Rattle.std.specs.List.Sorted.{IsPermutation, IsSorted};
+ghost use Rattle.std.specs.Ordering.{nat_cmp, on};
+ghost use Rattle.std.specs.Cmp.Lexicographic.{pointwise};
+ghost use Rattle.json_text.specs.Tree.{Members};
+ghost use Rattle.json_text.specs.Repeats.{repeats, repeats_next_by, meanings, IsObject};
+ghost use Rattle.json_text.specs.Limits.{bytes_at};
+ghost use Rattle.name_order.specs.Ordered.{AreNamed, IsOrderOf, AreKept, AreSameFrom, IsLeafAlike, AreLeavesAlike, IsNameInside, AreAlike, name_at, keyed, word_of, high_half, low_half, part, onward};
+ghost use Rattle.json_text.specs.Sifted.{IsWide};
+ghost use Rattle.json_text.specs.Tape.{entry_in};
+ghost use Rattle.json_strings.specs.Keys.{name_cmp, name_hash, key_name, key_number, key_hash, sought_name};
+
+use json_strings::{Key, Sought, compare_sought, hash, mixed, part_at, sought_hash};
+use json_text::{Entry, Extent, Kind};
+use std::alloc::{AllocError, Global};
+use std::cmp::Ordering;
+use std::simd::prelude::*;
+use structural_index::lanes_before;
+use tape_cells::{Tape, WORD_LIMIT, push};
+
+/// An object of more members keeps their order.
+pub const NARROW: u32 = 16;
+
+// The values of half of a word.
+const HALF: u64 = 4_294_967_296;
+
+/// For each wide object its members in the order of their names.
+#[derive(Drop)]
+pub struct NameOrder {
+    // the objects, ascending
+    pub objects: Vec<u32>,
+    // where the members of each begin
+    pub starts: Vec<usize>,
+    // of all members the hashes of their names
+    pub hashes: Vec<u32>,
+    // and their numbers
+    pub members: Vec<u32>,
+}
+
+/// The members of one object in the order of their names.
+#[derive(Clone, Copy)]
+pub struct Run<'a> {
+    pub hashes: &'a [u32],
+    pub members: &'a [u32],
+}
+
+/// Whether it is an object that keeps the order of its members.
+pub fn is_wide(entry: Entry) -> bool
+    ensures { IsTrue result ↔ IsWide entry }
+{
+    match entry.kind {
+        Kind::Object => entry.children > NARROW,
+        Kind::Null | Kind::Bool(_) | Kind::Number | Kind::Text | Kind::Array => false,
+    }
+}
+
+impl NameOrder {
+    /// Of no object, with room for so many members.
+    pub fn new(alloc: Global, room: usize) -> Result<NameOrder, AllocError>
+        ensures objects { IfOk result (λ order. order.objects.items ≡ []) }
+        ensures starts { IfOk result (λ order. order.starts.items ≡ []) }
+        ensures hashes { IfOk result (λ order. order.hashes.items ≡ []) }
+        ensures members { IfOk result (λ order. order.members.items ≡ []) }
+    {
+        let hashes = Vec::with_capacity(alloc, room)?;
+        let members = Vec::with_capacity(alloc, room)?;
+        Ok(NameOrder {
+            objects: Vec::new(alloc),
+            starts: Vec::new(alloc),
+            hashes,
+            members,
+        })
+    }
+
+    /// Gives back the room for more members.
+    pub fn shrink(&mut self)
+        ensures objects { self.new.objects.items ≡ self.old.objects.items }
+        ensures starts { self.new.starts.items ≡ self.old.starts.items }
+        ensures hashes { self.new.hashes.items ≡ self.old.hashes.items }
+        ensures members { self.new.members.items ≡ self.old.members.items }
+    {
+        self.hashes.shrink_to_fit();
+        self.members.shrink_to_fit();
+    }
+}
+
+// How the member at a place compares with a name of this hash.
+fn compare_at(
+    text: &str,
+    tape: &Tape,
+    run: Run<'_>,
+    place: usize,
+    hash: u32,
+    sought: Sought<'_>,
+) -> Ordering
+    requires named { AreNamed text.now tape.now run.hashes.now run.members.now }
+    requires inside { place < length run.members.now }
+    requires hash { hash ≡ name_hash (sought_name sought) }
+    ensures { result ≡ name_cmp (name_at text.now tape.now (get_or run.entry.members.now place 0)) (sought_name sought.entry) }
+{
+    match run.hashes[place].cmp(&hash) {
+        Ordering::Less => Ordering::Less,
+        Ordering::Greater => Ordering::Greater,
+        Ordering::Equal => {
+            let name = tape.entry(run.members[place]).label;
+            compare_sought(text, name, sought)
+        }
+    }
+}
+
+/// The member of this name, by halving.
+pub fn member_in(text: &str, tape: &Tape, run: Run<'_>, sought: Sought<'_>) -> Option<u32>
+    requires { AreNamed text.now tape.now run.hashes.now run.members.now }
+    ensures found { IfSome result (λ m. Contains run.entry.members.now m × (name_at text.now tape.now m ≡ sought_name sought.entry)) }
+    ensures none { result ≡ None → (k : ℕ) → k < length run.entry.members.now → name_at text.now tape.now (get_or run.entry.members.now k 0) ≡ sought_name sought.entry → ⊥ }
+{
+    let hash = sought_hash(sought);
+    let mut low = 0;
+    let mut high = run.members.len();
+    while low < high {
+        let middle = low + (high - low) / 2;
+        match compare_at(text, tape, run, middle, hash, sought) {
+            Ordering::Less => low = middle + 1,
+            Ordering::Greater => high = middle,
+            Ordering::Equal => return Some(run.members[middle]),
+        }
+    }
+    None
+}
+
+// The members of the object with this number in the order of their names.
+fn sorted_keys<'a>(
+    alloc: Global,
+    text: &'a str,
+    tape: &Tape,
+    n: u32,
+) -> Result<Vec<Key<'a>>, AllocError>
+    requires inside { n < length tape.now }
+    requires object { (ms : Members) × IsObject text.now tape.now n ms }
+    requires short { length tape.now < 2 ^ 31 }
+    ensures all { IfOk result (λ keys. (ms : Members) → IsObject text.now tape.now n ms → IsPermutation (keyed ms (n + 1)) keys.items) }
+    ensures sorted { IfOk result (λ keys. IsSorted (on key_name name_cmp) keys.items) }
+{
+    let mut keys = Vec::new(alloc);
+    let end = tape.entry(n).after;
+    let mut k = n + 1;
+    while k < end {
+        let entry = tape.entry(k);
+        keys.push(Key::new(k, text, entry.label))?;
+        k = entry.after;
+    }
+    keys.as_mut_slice().sort_unstable();
+    Ok(keys)
+}
+
+// Whether the name of one of the keys is that of the next one.
+fn names_meet(keys: &[Key<'_>]) -> bool
+    ensures { result ≡ repeats_next_by (on key_name (pointwise nat_eq)) keys.now }
+{
+    for i in 1..keys.len() {
+        if keys[i - 1] == keys[i] {
+            return true;
+        }
+    }
+    false
+}
+
+// A member as a word, in the order of the hashes.
+#[inline(always)]
+fn word(hash: u32, number: u32) -> u64
+    ensures { result ≡ hash * 4294967296 + number }
+{
+    u64::from(hash) * HALF + u64::from(number)
+}
+
+#[inline(always)]
+#[tactic(auto, unfolding(crate::specs::Ordered::high_half))]
+fn hash_in(word: u64) -> u32
+    ensures { result ≡ high_half word }
+{
+    (word / HALF) as u32
+}
+
+#[inline(always)]
+#[tactic(auto, unfolding(crate::specs::Ordered::low_half))]
+fn number_in(word: u64) -> u32
+    ensures { result ≡ low_half word }
+{
+    (word % HALF) as u32
+}
+
+// The members of the object with this number as words in the order of their hashes, in place of the words that were there.
+fn sort_words(text: &str, tape: &Tape, n: u32, words: &mut Vec<u64>) -> Result<(), AllocError>
+    requires inside { n < length tape.now }
+    requires object { (ms : Members) × IsObject text.now tape.now n ms }
+    requires short { length tape.now < 2 ^ 31 }
+    ensures all { OnOk result ((ms : Members) → IsObject text.now tape.now n ms → IsPermutation (map word_of (keyed ms (n + 1))) words.new.items) }
+    ensures sorted { OnOk result (IsSorted nat_cmp words.new.items) }
+{
+    words.clear();
+    let end = tape.after(n);
+    let mut k = n + 1;
+    while k < end {
+        push(words, word(mixed(hash(text, tape.label(k))), k))?;
+        k = tape.after(k);
+    }
+    words.as_mut_slice().sort_unstable();
+    Ok(())
+}
+
+// Whether the hash of one of the words is that of the next one.
+fn hashes_meet(words: &[u64]) -> bool
+    ensures { result ≡ repeats_next_by (on high_half nat_eq) words.now }
+{
+    for i in 1..words.len() {
+        if hash_in(words[i - 1]) == hash_in(words[i]) {
+            return true;
+        }
+    }
+    false
+}
+
+// Adds the hashes and numbers of members.
+fn add_words(words: &[u64], hashes: &mut Vec<u32>, members: &mut Vec<u32>) -> Result<(), AllocError>
+    ensures hashes { OnOk result (hashes.new.items ≡ hashes.old.items ++ map high_half words.now) }
+    ensures members { OnOk result (members.new.items ≡ members.old.items ++ map low_half words.now) }
+{
+    for word in words {
+        push(hashes, hash_in(*word))?;
+        push(members, number_in(*word))?;
+    }
+    Ok(())
+}
+
+// The same, of keys.
+fn add_all(
+    keys: &[Key<'_>],
+    hashes: &mut Vec<u32>,
+    members: &mut Vec<u32>,
+) -> Result<(), AllocError>
+    ensures hashes { OnOk result (hashes.new.items ≡ hashes.old.items ++ map key_hash keys.now) }
+    ensures members { OnOk result (members.new.items ≡ members.old.items ++ map key_number keys.now) }
+{
+    for key in keys {
+        hashes.push(key.hash())?;
+        members.push(key.number())?;
+    }
+    Ok(())
+}
+
+/// Whether two names of the object with this number mean the same. They are looked at only where hashes of theirs meet. The words are room
+/// to work in.
+#[inline(never)]
+pub fn repeats_in(
+    alloc: Global,
+    text: &str,
+    tape: &Tape,
+    n: u32,
+    words: &mut Vec<u64>,
+) -> Result<bool, AllocError>
+    requires inside { n < length tape.now }
+    requires object { (ms : Members) × IsObject text.now tape.now n ms }
+    requires short { length tape.now < 2 ^ 31 }
+    ensures { IfOk result (λ found. (ms : Members) → IsObject text.now tape.now n ms → found ≡ repeats (meanings ms)) }
+{
+    sort_words(text, tape, n, words)?;
+    if hashes_meet(words.as_slice()) {
+        let keys = sorted_keys(alloc, text, tape, n)?;
+        return Ok(names_meet(keys.as_slice()));
+    }
+    Ok(false)
+}
+
+// Keeps the order of the members of one more object by their names, or finds one that comes again.
+fn order_by_names(
+    alloc: Global,
+    text: &str,
+    tape: &Tape,
+    n: u32,
+    order: &mut NameOrder,
+) -> Result<bool, AllocError>
+    requires inside { n < length tape.now }
+    requires object { (ms : Members) × IsObject text.now tape.now n ms }
+    requires wide { IsWide (entry_in tape.now n) }
+    requires short { length tape.now < 2 ^ 31 }
+    requires kept { AreKept text.now tape.now n order.old.objects.items order.old.starts.items order.old.hashes.items order.old.members.items }
+    ensures found { IfOk result (λ found. (ms : Members) → IsObject text.now tape.now n ms → found ≡ repeats (meanings ms)) }
+    ensures kept { IfOk result (λ found. found ≡ false → AreKept text.now tape.now (n + 1) order.new.objects.items order.new.starts.items order.new.hashes.items order.new.members.items) }
+{
+    let keys = sorted_keys(alloc, text, tape, n)?;
+    if names_meet(keys.as_slice()) {
+        return Ok(true);
+    }
+    order.objects.push(n)?;
+    order.starts.push(order.members.len())?;
+    add_all(keys.as_slice(), &mut order.hashes, &mut order.members)?;
+    Ok(false)
+}
+
+// The same by their hashes, as far as none of them meet. The words are room to work in.
+fn order_by_hashes(
+    alloc: Global,
+    text: &str,
+    tape: &Tape,
+    n: u32,
+    words: &mut Vec<u64>,
+    order: &mut NameOrder,
+) -> Result<bool, AllocError>
+    requires inside { n < length tape.now }
+    requires object { (ms : Members) × IsObject text.now tape.now n ms }
+    requires wide { IsWide (entry_in tape.now n) }
+    requires short { length tape.now < 2 ^ 31 }
+    requires kept { AreKept text.now tape.now n order.old.objects.items order.old.starts.items order.old.hashes.items order.old.members.items }
+    ensures found { IfOk result (λ found. (ms : Members) → IsObject text.now tape.now n ms → found ≡ repeats (meanings ms)) }
+    ensures kept { IfOk result (λ found. found ≡ false → AreKept text.now tape.now (n + 1) order.new.objects.items order.new.starts.items order.new.hashes.items order.new.members.items) }
+{
+    sort_words(text, tape, n, words)?;
+    if hashes_meet(words.as_slice()) {
+        return order_by_names(alloc, text, tape, n, order);
+    }
+    order.objects.push(n)?;
+    order.starts.push(order.members.len())?;
+    add_words(words.as_slice(), &mut order.hashes, &mut order.members)?;
+    Ok(false)
+}
+
+// So many bytes are compared at once.
+const LANES: usize = 16;
+
+// How many bytes of two loads of 16, from their first, are the same.
+#[inline(always)]
+fn same_run(bytes: &[u8], left: usize, right: usize) -> usize
+    requires left { left + LANES ≤ length bytes.now }
+    requires right { right + LANES ≤ length bytes.now }
+    ensures few { result ≤ LANES }
+    ensures same { AreSameFrom bytes.now left right result }
+{
+    let here = u8x16::from_slice(&bytes[left..]);
+    let there = u8x16::from_slice(&bytes[right..]);
+    lanes_before(here.simd_ne(there).to_bitmask(), LANES)
+}
+
+// Whether so many bytes from one place on are those from another on, where a load stands at both. Most are no more than the loads.
+#[inline(always)]
+fn are_same(bytes: &[u8], left: usize, right: usize, len: usize) -> bool
+    requires left { (left + LANES ≤ length bytes.now) × (left + len ≤ length bytes.now) }
+    requires right { (right + LANES ≤ length bytes.now) × (right + len ≤ length bytes.now) }
+    ensures { IsTrue result → AreSameFrom bytes.now left right len }
+{
+    let run = same_run(bytes, left, right);
+    run >= len
+        || run >= LANES && bytes[left + LANES..left + len] == bytes[right + LANES..right + len]
+}
+
+// Whether two values that hold no others stand under the same name, as far as loads tell, none of which begins behind the last place.
+#[inline(always)]
+fn is_leaf_alike(text: &str, last: u32, tape: &Tape, left: usize, right: usize) -> bool
+    requires last { last + LANES ≤ length text.now }
+    requires small { last < 2 ^ 24 }
+    requires here { IsNameInside text.now tape.now left }
+    requires there { IsNameInside text.now tape.now right }
+    ensures { IsTrue result → IsLeafAlike text.now tape.now left right }
+{
+    match tape.leaf_names(left, right, last) {
+        None => false,
+        Some((first, second)) => are_same(
+            text.as_bytes(),
+            first.start as usize,
+            second.start as usize,
+            first.len as usize,
+        ),
+    }
+}
+
+// How many values from two numbers on, of at most so many, hold no others and stand under the same names.
+#[inline(always)]
+fn leaves_alike(text: &str, tape: &Tape, left: usize, right: usize, count: usize) -> usize
+    requires short { length tape.now < 2 ^ 31 }
+    requires named { (k : ℕ) → k < count → AreLeavesAlike text.now tape.now left right k → IsNameInside text.now tape.now (left + k) × IsNameInside text.now tape.now (right + k) }
+    ensures few { result ≤ count }
+    ensures alike { AreLeavesAlike text.now tape.now left right result }
+{
+    if text.len() < LANES {
+        return 0;
+    }
+    let last = (text.len() - LANES).min(WORD_LIMIT as usize - 1) as u32;
+    for k in 0..count {
+        if !is_leaf_alike(text, last, tape, left + k, right + k) {
+            return k;
+        }
+    }
+    count
+}
+
+// Whether the members of an object stand as those of an earlier one do, under names of the same bytes.
+#[inline(never)]
+fn are_alike(text: &str, tape: &Tape, n: u32, earlier: u32) -> bool
+    requires inside { n < length tape.now }
+    requires object { (ms : Members) × IsObject text.now tape.now n ms }
+    requires wide { IsWide (entry_in tape.now n) }
+    requires short { length tape.now < 2 ^ 31 }
+    requires before { earlier < n }
+    ensures { IsTrue result → AreAlike text.now tape.now n earlier }
+{
+    let bytes = text.as_bytes();
+    let shift = n - earlier;
+    let end = tape.after(n);
+    if tape.members(earlier) != tape.members(n) || tape.after(earlier) != end - shift {
+        return false;
+    }
+    let mut from = n + 1;
+    while from < end {
+        let count = (end - from) as usize;
+        let member = from
+            + leaves_alike(text, tape, from as usize, (from - shift) as usize, count) as u32;
+        if member >= end {
+            return true;
+        }
+        let other = member - shift;
+        if part_at(bytes, tape.label(member)) != part_at(bytes, tape.label(other)) {
+            return false;
+        }
+        from = tape.after(member);
+        if tape.after(other) != from - shift {
+            return false;
+        }
+    }
+    true
+}
+
+/// So many sizes of objects are told apart where one like the next is looked for.
+pub const SIZES: usize = 64;
+
+// The place in the list of an object whose members stand as those of this one do, where the latest one of its size is such. The place
+// that this one will have is left as the latest.
+#[inline(always)]
+fn find_alike(
+    text: &str,
+    tape: &Tape,
+    n: u32,
+    order: &NameOrder,
+    latest: &mut [usize; SIZES],
+) -> Option<usize>
+    requires inside { n < length tape.now }
+    requires object { (ms : Members) × IsObject text.now tape.now n ms }
+    requires wide { IsWide (entry_in tape.now n) }
+    requires short { length tape.now < 2 ^ 31 }
+    requires kept { AreKept text.now tape.now n order.now.objects.items order.now.starts.items order.now.hashes.items order.now.members.items }
+    ensures { IfSome result (λ place. (place < length order.now.objects.items) × AreAlike text.now tape.now n (get_or order.now.objects.items place 0)) }
+{
+    let slot = (tape.after(n) - n) as usize % SIZES;
+    let place = latest[slot];
+    latest[slot] = order.objects.len();
+    if place < order.objects.len() && are_alike(text, tape, n, order.objects[place]) {
+        Some(place)
+    } else {
+        None
+    }
+}
+
+// Sets a list to the numbers of another one, further on by the shift.
+fn set_onward(from: &[u32], to: &mut [u32], shift: u32)
+    requires len { length from.now ≡ length to.old }
+    requires small { (k : ℕ) → k < length from.now → get_or from.now k 0 + shift < 2 ^ 32 }
+    ensures { to.new ≡ map (onward shift) from.now }
+{
+    for k in 0..to.len() {
+        to[k] = from[k] + shift;
+    }
+}
+
+// Adds so many numbers from a place on once more, further on by the shift. Room that is filled first takes no test for each.
+fn add_part(list: &mut Vec<u32>, start: usize, count: usize, shift: u32) -> Result<(), AllocError>
+    requires inside { start + count ≤ length list.old.items }
+    requires small { (k : ℕ) → k < count → get_or (part start count list.old.items) k 0 + shift < 2 ^ 32 }
+    ensures { OnOk result (list.new.items ≡ list.old.items ++ map (onward shift) (part start count list.old.items)) }
+{
+    let len = list.len();
+    list.resize(len + count, 0)?;
+    let (old, new) = list.as_mut_slice().split_at_mut(len);
+    set_onward(&old[start..start + count], new, shift);
+    Ok(())
+}
+
+// Keeps the order of the members of an object which stand as those of the object at this place do.
+#[inline(never)]
+fn order_like(
+    text: &str,
+    tape: &Tape,
+    n: u32,
+    place: usize,
+    order: &mut NameOrder,
+) -> Result<bool, AllocError>
+    requires place { place < length order.old.objects.items }
+    requires alike { AreAlike text.now tape.now n (get_or order.old.objects.items place 0) }
+    requires inside { n < length tape.now }
+    requires object { (ms : Members) × IsObject text.now tape.now n ms }
+    requires wide { IsWide (entry_in tape.now n) }
+    requires short { length tape.now < 2 ^ 31 }
+    requires kept { AreKept text.now tape.now n order.old.objects.items order.old.starts.items order.old.hashes.items order.old.members.items }
+    ensures found { IfOk result (λ found. (ms : Members) → IsObject text.now tape.now n ms → found ≡ repeats (meanings ms)) }
+    ensures kept { IfOk result (λ found. found ≡ false → AreKept text.now tape.now (n + 1) order.new.objects.items order.new.starts.items order.new.hashes.items order.new.members.items) }
+{
+    let start = order.starts[place];
+    let shift = n - order.objects[place];
+    order.objects.push(n)?;
+    order.starts.push(order.members.len())?;
+    let count = tape.members(n) as usize;
+    add_part(&mut order.hashes, start, count, 0)?;
+    add_part(&mut order.members, start, count, shift)?;
+    Ok(false)
+}
+
+/// Keeps the order of the members of one more object, or finds a name that comes again. The words are room to work in, and the
+/// latest objects say where one like it is looked for.
+#[inline(never)]
+pub fn order_members(
+    alloc: Global,
+    text: &str,
+    tape: &Tape,
+    n: u32,
+    words: &mut Vec<u64>,
+    latest: &mut [usize; SIZES],
+    order: &mut NameOrder,
+) -> Result<bool, AllocError>
+    requires inside { n < length tape.now }
+    requires object { (ms : Members) × IsObject text.now tape.now n ms }
+    requires wide { IsWide (entry_in tape.now n) }
+    requires short { length tape.now < 2 ^ 31 }
+    requires kept { AreKept text.now tape.now n order.old.objects.items order.old.starts.items order.old.hashes.items order.old.members.items }
+    ensures found { IfOk result (λ found. (ms : Members) → IsObject text.now tape.now n ms → found ≡ repeats (meanings ms)) }
+    ensures kept { IfOk result (λ found. found ≡ false → AreKept text.now tape.now (n + 1) order.new.objects.items order.new.starts.items order.new.hashes.items order.new.members.items) }
+{
+    match find_alike(text, tape, n, order, latest) {
+        Some(place) => order_like(text, tape, n, place, order),
+        None => order_by_hashes(alloc, text, tape, n, words, order),
+    }
+}

@@ -1,0 +1,3 @@
+pub mod NamesTold
+pub mod PlainStamps
+pub mod NamesApart

@@ -1,0 +1,4 @@
+pub mod Joined
+pub mod Sides
+pub mod Keeping
+pub mod WideObjects
