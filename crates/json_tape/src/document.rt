@@ -165,6 +165,13 @@ impl Document {
         self.text.as_bytes()
     }
 
+    /// The bytes of memory that the text, its entries and the order of its names take.
+    pub fn memory(&self) -> usize {
+        let text = self.text.as_bytes().len();
+        let read = self.tape.memory().saturating_add(self.names.memory());
+        text.saturating_add(read)
+    }
+
     /// The number of values in the text. They are numbered from 0.
     pub fn node_count(&self) -> u32
         ensures value { result ≡ count self.now }

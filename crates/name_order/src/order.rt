@@ -58,6 +58,17 @@ pub fn is_wide(entry: Entry) -> bool
 }
 
 impl NameOrder {
+    /// The bytes of memory that it takes.
+    pub fn memory(&self) -> usize {
+        let numbers = self
+            .objects
+            .capacity()
+            .saturating_add(self.members.capacity());
+        let words = numbers.saturating_add(self.hashes.capacity());
+        let starts = self.starts.capacity().saturating_mul(8);
+        words.saturating_mul(4).saturating_add(starts)
+    }
+
     /// Of no object, with room for so many members.
     pub fn new(alloc: Global, room: usize) -> Result<NameOrder, AllocError>
         ensures objects { IfOk result (λ order. order.objects.items ≡ []) }

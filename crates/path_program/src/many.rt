@@ -37,31 +37,49 @@ fn serve<R: Print + Eprint + Net + Clock + AllocGlobal>(
     keys: &[[u8; 16]],
 ) -> Result<(), Failure> {
     let mut server = bind(rt, wanted, keys)?;
-    let administration = administer(rt, wanted, &mut server, keys)?;
-    if wanted.log {
-        tell_slow(rt, wanted, &mut server)?;
-    }
+    serve_at(rt, wanted, keys, &mut server)
+}
+
+// Serves at an address that is bound.
+fn serve_at<'r, R: Print + Eprint + Net + Clock + AllocGlobal>(
+    rt: &'r R,
+    wanted: &Listening<'_>,
+    keys: &[[u8; 16]],
+    server: &mut Bound<'r, R>,
+) -> Result<(), Failure> {
+    let administration = administer(rt, wanted, server, keys)?;
+    tell_slow(rt, wanted, server)?;
     let lines = lines(rt, wanted)?;
-    begin(rt, wanted, &server)?;
-    if let Some(bound) = administration {
-        print_line(rt, "administration", &bound)?;
-    }
-    run(rt, wanted, &mut server, lines)?;
+    serve_logged(rt, wanted, administration, server, lines)
+}
+
+// Prints the addresses, and serves until the end.
+fn serve_logged<R: Print + Eprint + Net + Clock + AllocGlobal>(
+    rt: &R,
+    wanted: &Listening<'_>,
+    administration: Option<SocketAddr>,
+    server: &mut Bound<'_, R>,
+    lines: LoopLines<'_, R>,
+) -> Result<(), Failure> {
+    begin(rt, wanted, administration, server)?;
+    run(rt, wanted, server, lines)?;
     end(rt, &server.totals())
 }
 
-// Prints the line with the bound address.
-fn begin<R: Print + AllocGlobal>(
+// Prints the lines with the bound addresses.
+fn begin<R: Print + Net + Clock + AllocGlobal>(
     rt: &R,
     wanted: &Listening<'_>,
+    administration: Option<SocketAddr>,
     server: &Bound<'_, R>,
-) -> Result<(), Failure>
-where
-    R: Net + Clock,
-{
+) -> Result<(), Failure> {
     match server.local_addr() {
-        Ok(bound) => print_line(rt, "listening", &bound),
-        Err(fault) => Err(failure_of(rt.alloc(), wanted.address, fault)),
+        Ok(bound) => print_line(rt, "listening", &bound)?,
+        Err(fault) => return Err(failure_of(rt.alloc(), wanted.address, fault)),
+    }
+    match administration {
+        Some(bound) => print_line(rt, "administration", &bound),
+        None => Ok(()),
     }
 }
 
@@ -86,12 +104,15 @@ fn administer<'r, R: Net + Clock + AllocGlobal>(
     }
 }
 
-// Has slow queries told.
+// Has slow queries told, where that is wanted.
 fn tell_slow<'r, R: Net + Clock + AllocGlobal>(
     rt: &'r R,
     wanted: &Listening<'_>,
     server: &mut Bound<'r, R>,
 ) -> Result<(), Failure> {
+    if !wanted.log {
+        return Ok(());
+    }
     match server.tell_slow(rt, wanted.slow) {
         Ok(()) => Ok(()),
         Err(fault) => Err(failure_of(rt.alloc(), wanted.address, fault)),

@@ -10,6 +10,11 @@ use json_text::{Entry, Extent, Kind, Seat, Shape};
 use std::alloc::{AllocError, Global};
 use std::marker::Model;
 
+// The bytes of a cell, and those of a side.
+const CELL_BYTES: usize = 16;
+
+const SIDE_BYTES: usize = 12;
+
 /// The entries of the values that were met, depth first, each found by its number in constant time.
 #[derive(Drop)]
 pub struct Tape {
@@ -50,6 +55,12 @@ impl Tape {
             cells,
             sides: Vec::new(alloc),
         })
+    }
+
+    /// The bytes of memory that the entries take.
+    pub fn memory(&self) -> usize {
+        let cells = self.cells.capacity().saturating_mul(CELL_BYTES);
+        cells.saturating_add(self.sides.capacity().saturating_mul(SIDE_BYTES))
     }
 
     /// How many entries there are.

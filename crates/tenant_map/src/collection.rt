@@ -22,6 +22,8 @@ use std::marker::Model;
 #[derive(Drop)]
 pub struct Collection {
     documents: BTreeMap<Vec<u8>, Document>,
+    // The bytes of memory that the documents take.
+    memory: u64,
 }
 
 impl Model for Collection {
@@ -43,6 +45,7 @@ impl Collection {
     {
         Collection {
             documents: BTreeMap::new(alloc),
+            memory: 0,
         }
     }
 
@@ -68,7 +71,14 @@ impl Collection {
         ensures ok { OnOk result (self.new ≡ upsert name.now document.text self.old) }
         ensures err { OnErr result (self.new ≡ self.old) }
     {
-        put_document(&mut self.documents, alloc, name, document)
+        let after = self.memory_after(name, &document);
+        match put_document(&mut self.documents, alloc, name, document) {
+            Ok(()) => {
+                self.memory = after;
+                Ok(())
+            }
+            Err(refused) => Err(refused),
+        }
     }
 
     /// Takes the document of this name out.
@@ -77,7 +87,22 @@ impl Collection {
         ensures rest { self.new ≡ remove_entry (at name.now) self.old }
         ensures short { IfSome result (λ d. length d.text ≤ text_limit) }
     {
+        let before = memory_of(self.documents.get(name));
+        self.memory = self.memory.saturating_sub(before);
         self.documents.remove(name)
+    }
+
+    /// The bytes of memory that the documents take.
+    pub fn memory(&self) -> u64 {
+        self.memory
+    }
+
+    // What the documents take once this one is put under the name.
+    fn memory_after(&self, name: &[u8], document: &Document) -> u64 {
+        let others = self
+            .memory
+            .saturating_sub(memory_of(self.documents.get(name)));
+        others.saturating_add(memory_of(Some(document)))
     }
 
     /// How many bytes the texts have.
@@ -105,6 +130,13 @@ impl Collection {
         ensures kept { AreKept result.now.entries }
     {
         &self.documents
+    }
+}
+
+fn memory_of(document: Option<&Document>) -> u64 {
+    match document {
+        Some(document) => document.memory() as u64,
+        None => 0,
     }
 }
 

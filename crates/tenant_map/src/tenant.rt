@@ -79,6 +79,15 @@ impl Tenant {
         }
     }
 
+    /// The bytes of memory that the documents take: their texts, entries and orders of names.
+    pub fn memory(&self) -> u64 {
+        let mut total = 0u64;
+        for (_, collection) in &self.collections {
+            total = total.saturating_add(collection.memory());
+        }
+        total
+    }
+
     /// The bytes of a document, as they were put. `NotFound` if there is none.
     pub fn get(&self, collection: CollName<'_>, document: DocName<'_>) -> Result<&[u8], StoreFault>
         ensures found { IfOk result (λ text. text_at collection.entry.bytes.now document.entry.bytes.now self.now ≡ Some text.now) }
