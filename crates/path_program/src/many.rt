@@ -38,7 +38,7 @@ fn serve<R: Print + Eprint + Net + Clock + AllocGlobal>(
 ) -> Result<(), Failure> {
     let mut server = bind(rt, wanted, keys)?;
     let administration = administer(rt, wanted, &mut server, keys)?;
-    if wanted.log {
+    if wanted.log || wanted.admin.is_some() {
         tell_slow(rt, wanted, &mut server)?;
     }
     let lines = lines(rt, wanted)?;
@@ -86,7 +86,7 @@ fn administer<'r, R: Net + Clock + AllocGlobal>(
     }
 }
 
-// Has slow queries told.
+// Has slow queries counted and told.
 fn tell_slow<'r, R: Net + Clock + AllocGlobal>(
     rt: &'r R,
     wanted: &Listening<'_>,
