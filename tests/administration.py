@@ -12,7 +12,8 @@ import sys
 import time
 from collections import Counter
 
-from lib.plain_model import STATUS, Server, counts
+from lib.plain_model import STATUS, Server, counts, field
+from lib.plain_queries import charge
 from lib.running_server import PATIENCE, Listening, Report, frames_of, open_connection, talk
 from lib.traffic import KEYS, Traffic
 from path_client import connect, parse_address
@@ -61,20 +62,29 @@ class Administered(Listening):
 
 
 def wanted_cells(model, streams):
-    """Requests by command and status, by tenant, and the bytes, as the model has them."""
-    cells, tenants, read, written = Counter(), Counter(), 0, 0
+    """Requests by command and status, by tenant, the bytes, and the units of queries that are answered by hits, as the model has them."""
+    cells, tenants, read, written, units = Counter(), Counter(), 0, 0, 0
     for conn, stream in enumerate(streams):
         model.open(conn)
-        replies = model.bytes(conn, stream)
-        bodies = [frame[4:] for frame in frames_of(stream)]
-        for body, reply in zip(bodies, replies):
-            status = STATUSES[reply[4]]
-            is_fault = status == "FrameFault"
-            cells[NAMES.get(body[0] if body and not is_fault else 0, "none"), status] += 1
-            if not is_fault and body[5:21] in KEYS:
-                tenants[KEYS.index(body[5:21])] += 1
-        read, written = read + len(stream), written + sum(map(len, replies))
-    return cells, tenants, read, written
+        for frame in frames_of(stream):
+            body = frame[4:]
+            for reply in model.bytes(conn, frame):
+                status = STATUSES[reply[4]]
+                is_fault = status == "FrameFault"
+                cells[NAMES.get(body[0] if body and not is_fault else 0, "none"), status] += 1
+                if not is_fault and body[5:21] in KEYS:
+                    tenants[KEYS.index(body[5:21])] += 1
+                if status == "Ok" and body[0] == 5:
+                    units += charged(model, body)
+                written += len(reply)
+        read += len(stream)
+    return cells, tenants, read, written, units
+
+
+def charged(model, body):
+    """The units of a query."""
+    collection, text = field(body[21:], 64)
+    return sum(charge(source, text.decode()) for source in model.tenants[body[5:21]].get(collection, {}).values())
 
 
 def tells_what_was_done(report, count, seed):
@@ -85,7 +95,7 @@ def tells_what_was_done(report, count, seed):
         for stream in streams:
             with open_connection(server.address) as connection:
                 talk(connection, traffic.pieces(stream))
-        cells, tenants, read, written = wanted_cells(model, streams)
+        cells, tenants, read, written, units = wanted_cells(model, streams)
         numbers = server.numbers()
         told = {tuple(re.findall(r'"(\w+)"', name)): number for name, number in numbers.items() if name.startswith("requests_total{")}
         report.case("requests by command and status", seed, dict(cells), {cell: int(number) for cell, number in told.items() if number})
@@ -98,6 +108,7 @@ def tells_what_was_done(report, count, seed):
             report.case(f"requests of tenant {place}", seed, tenants[place], numbers[f'tenant_requests_total{{tenant="{place}"}}'])
         faults = any(status == "FrameFault" for _, status in cells)
         report.case("connections", seed, (count, 0.0), (numbers["connections_total"], 0.0))
+        report.case("units", seed, units, numbers["charged_units_total"])
         report.case("bytes written", seed, written, numbers["written_bytes_total"])
         if not faults:
             report.case("bytes read", seed, read, numbers["read_bytes_total"])
@@ -108,11 +119,30 @@ def tells_what_was_done(report, count, seed):
 def is_ready_once_it_was_said(report):
     with Administered() as server:
         steps = [("GET", "/health", 200), ("GET", "/ready", 503), ("POST", "/ready", 200), ("GET", "/ready", 200), ("GET", "/nowhere", 404), ("DELETE", "/ready", 405)]
+        status, body = server.ask("GET", "/health")
+        report.case("health tells the seconds since the start", body, (200, True), (status, re.fullmatch(rb"healthy\nuptime_seconds [0-5]\n", body) is not None))
         for method, target, wanted in steps:
             report.case(f"{method} {target}", "", wanted, server.ask(method, target)[0])
         report.case("ready, in the page", "", 1.0, server.numbers()["ready"])
         with connect(server.address, KEYS[0]):
             report.case("a connection that is open", "", 1.0, server.numbers()["connections_open"])
+
+
+def counts_slow_queries(report):
+    """Queries that take longer than a millisecond are counted, with lines of them or without. A text that takes as long to read is no query."""
+    text = b"[" + b",".join([b'{"a":{"b":[1,2,3]}}'] * 20_000) + b"]"
+    query = b"$..[?@.b[?@>7]]"
+    for words in ((), ("--log",)):
+        with Administered("--slow", "1", *words) as server, connect(server.address, KEYS[1]) as client:
+            client.put(b"c", b"d", text)
+            report.case("no query is slow yet", words, (0, 0), tuple(server.numbers()[name] for name in ("slow_queries_total", "charged_units_total")))
+            for _ in range(3):
+                client.query(b"c", query)
+            client.query(b"none", query)
+            numbers = server.numbers()
+            report.case("slow queries", words, 3, numbers["slow_queries_total"])
+            report.case("and their units", words, 3 * charge(text, query.decode()), numbers["charged_units_total"])
+            report.case("lines of slow queries", words, 3 if words else 0, server.said().count(" query of tenant 1: "))
 
 
 def ends_of(address, sent, patience=TIME_LIMIT + 3):
@@ -208,6 +238,7 @@ def main():
     count, seed = [*map(int, sys.argv[1:3]), *[200, 1][len(sys.argv) - 1:]]
     is_ready_once_it_was_said(report)
     tells_what_was_done(report, count, seed)
+    counts_slow_queries(report)
     keeps_nobody_waiting(report)
     drains(report)
     report.close("the administration address of a running server")

@@ -31,13 +31,14 @@ SERIES = {
     'path_server_tenant_collections{tenant="0"}': ("15x20", "PathServerCollections"),
     'path_server_tenant_documents{tenant="0"}': ("901x20", "PathServerDocuments"),
     'path_server_tenant_text_bytes{tenant="0"}': ("15000001x20", "PathServerTexts"),
+    "path_server_slow_queries_total": ("0+3x20", "PathServerSlowQueries"),
     'path_server_request_seconds_bucket{le="0.1"}': ("0+98x20", "PathServerSlow"),
     'path_server_request_seconds_bucket{le="0.25"}': ("0+100x20", None),
     'path_server_request_seconds_bucket{le="+Inf"}': ("0+100x20", None),
 }
 CALM = {"up": "1x20", "path_server_ready": "1x20", "path_server_connections_open": "9000x20", "path_server_accept_refused": "0x20", "path_server_connections_waiting": "0x20",
-        "path_server_buffered_bytes": "90x20", "path_server_requests_total": "7x20", "path_server_dropped_lines_total": "7x20", "path_server_tenant_collections": "14x20",
-        "path_server_tenant_documents": "900x20", "path_server_tenant_text_bytes": "15000000x20"}
+        "path_server_buffered_bytes": "90x20", "path_server_requests_total": "7x20", "path_server_dropped_lines_total": "7x20", "path_server_slow_queries_total": "0+1x20",
+        "path_server_tenant_collections": "14x20", "path_server_tenant_documents": "900x20", "path_server_tenant_text_bytes": "15000000x20"}
 
 
 def named(report):

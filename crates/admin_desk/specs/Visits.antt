@@ -57,19 +57,19 @@ abbrev pub IsReadAs : List ℕ → Reading → Type 0
 IsReadAs bytes r = (h : RequestHead) (rest : List ℕ) → ReadsRequest bytes h rest → length h.fields ≤ 64 → r ≡ judged h
 
 -- a whole reply is owed, or the page is to be begun
-abbrev pub Owes : Reply → Visit → Visit → Type 0
-Owes r old new = MatchBool (is_page r) (new.stage ≡ stage.Figures) ((new.stage ≡ stage.Reply) × (new.reply.items ≡ old.reply.items ++ reply_text r (body_of r)))
+abbrev pub Owes : (uptime : ℕ) → Reply → Visit → Visit → Type 0
+Owes uptime r old new = MatchBool (is_page r) (new.stage ≡ stage.Figures) ((new.stage ≡ stage.Reply) × (new.reply.items ≡ old.reply.items ++ reply_text r (body_of r uptime)))
 
 -- the bytes so far are read, and answered as they are meant
-pub record Reads (bytes : List ℕ) (old : Visit) (standing : Standing) (new : Visit) (standing' : Standing) : Type 0 where
+pub record Reads (uptime : ℕ) (bytes : List ℕ) (old : Visit) (standing : Standing) (new : Visit) (standing' : Standing) : Type 0 where
   pub is : Reading
   pub read_as : IsReadAs bytes is
   pub said : standing' ≡ after_reading standing is
-  pub owed : MatchOption (replied standing is) (new.stage ≡ stage.Head) (λ r. Owes r old new)
+  pub owed : MatchOption (replied standing is) (new.stage ≡ stage.Head) (λ r. Owes uptime r old new)
 
 -- a piece counts only while the request is not whole
-abbrev pub Hears : Visit → Standing → (piece : List ℕ) → Visit → Standing → Type 0
-Hears old standing piece new standing' = MatchBool (is_head old.stage) (Reads (old.head.items ++ piece) old standing new standing') ((new ≡ old) × (standing' ≡ standing))
+abbrev pub Hears : (uptime : ℕ) → Visit → Standing → (piece : List ℕ) → Visit → Standing → Type 0
+Hears uptime old standing piece new standing' = MatchBool (is_head old.stage) (Reads uptime (old.head.items ++ piece) old standing new standing') ((new ≡ old) × (standing' ≡ standing))
 
 -- nothing is said, or what the bytes ask
 abbrev pub AtMostSays : List ℕ → Standing → Standing → Type 0

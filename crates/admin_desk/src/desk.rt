@@ -165,7 +165,7 @@ impl<S: Peer> Desk<S> {
     {
         match self.callers.get_mut(place) {
             Some(caller) if now.saturating_sub(caller.since) > PATIENCE => false,
-            Some(caller) => caller.step(&mut self.standing),
+            Some(caller) => caller.step(&mut self.standing, now),
             None => true,
         }
     }
@@ -188,14 +188,14 @@ impl<S: Peer> Caller<S> {
     }
 
     // One step, and whether it stays open.
-    fn step(&mut self, standing: &mut Standing) -> bool
+    fn step(&mut self, standing: &mut Standing, now: u64) -> bool
         ensures { SaysAtMost standing.old standing.new }
     {
         if !self.can_go_on() {
             return true;
         }
         match self.visit.stage {
-            Stage::Head | Stage::Done => self.read(standing),
+            Stage::Head | Stage::Done => self.read(standing, now),
             Stage::Figures => true,
             Stage::Lines => self.visit.go_on().is_ok(),
             Stage::Reply => self.write(),
@@ -203,7 +203,7 @@ impl<S: Peer> Caller<S> {
     }
 
     // Reads a piece. What comes behind the request is thrown away.
-    fn read(&mut self, standing: &mut Standing) -> bool
+    fn read(&mut self, standing: &mut Standing, now: u64) -> bool
         ensures { SaysAtMost standing.old standing.new }
     {
         let mut buffer = [0u8; PIECE];
@@ -211,7 +211,7 @@ impl<S: Peer> Caller<S> {
             Ok(0) => false,
             Ok(count) => {
                 let piece = buffer.get(..count).unwrap_or_default();
-                self.visit.hear(piece, standing).is_ok()
+                self.visit.hear(piece, standing, now).is_ok()
             }
             Err(error) if error.kind() == ErrorKind::WouldBlock => {
                 self.is_readable = false;

@@ -4,7 +4,9 @@ ghost use Rattle.admin_pages.specs.Pages.{left};
 ghost use Rattle.admin_pages.specs.Replies.{reply_text};
 ghost use Rattle.admin_desk.specs.Visits.{AtMostSays, Begins, GoesOn, Hears, IsFresh, Owes, after_reading, is_head, is_page, replied};
 
-use admin_pages::{Gauges, Metrics, Page, Reading, Reply, Standing, append_reply, read_request};
+use admin_pages::{
+    Gauges, Metrics, Page, Reading, Reply, Standing, append_body, append_reply, read_request,
+};
 use std::alloc::{AllocError, Global};
 use std::mem;
 
@@ -61,13 +63,19 @@ impl Visit {
         }
     }
 
-    /// Takes a piece of the request. If the request is whole, or cannot become so, it is answered; what follows is ignored.
+    /// Takes a piece of the request, so many seconds after the start. If the request is whole, or cannot become so, it is answered; what follows
+    /// is ignored.
     ///
     /// # Errors
     ///
     /// If an allocation failed. The connection is to be closed.
-    pub fn hear(&mut self, piece: &[u8], standing: &mut Standing) -> Result<(), AllocError>
-        ensures heard { OnOk result (Hears self.old standing.old piece.now self.new standing.new) }
+    pub fn hear(
+        &mut self,
+        piece: &[u8],
+        standing: &mut Standing,
+        uptime: u64,
+    ) -> Result<(), AllocError>
+        ensures heard { OnOk result (Hears uptime self.old standing.old piece.now self.new standing.new) }
         ensures said { AtMostSays (self.old.head.items ++ piece.now) standing.old standing.new }
         ensures bounded { length self.old.head.items < 8192 → length self.new.head.items < 8192 }
     {
@@ -77,14 +85,14 @@ impl Visit {
         self.head.extend_from_slice(piece)?;
         let reading = read_request(self.head.as_slice());
         match reply_to(standing, reading) {
-            Some(reply) => self.answer(reply),
+            Some(reply) => self.answer(reply, uptime),
             None => Ok(()),
         }
     }
 
     // Makes the reply, unless it is a page.
-    fn answer(&mut self, reply: Reply) -> Result<(), AllocError>
-        ensures owes { OnOk result (Owes reply self.old self.new) }
+    fn answer(&mut self, reply: Reply, uptime: u64) -> Result<(), AllocError>
+        ensures owes { OnOk result (Owes uptime reply self.old self.new) }
         ensures forgotten { length self.new.head.items ≡ 0 }
     {
         self.head = Vec::new(self.alloc);
@@ -92,7 +100,9 @@ impl Visit {
             self.stage = Stage::Figures;
             return Ok(());
         }
-        append_reply(reply, reply.body().as_bytes(), &mut self.reply)?;
+        let mut body = Vec::new(self.alloc);
+        append_body(reply, uptime, &mut body)?;
+        append_reply(reply, body.as_slice(), &mut self.reply)?;
         self.stage = Stage::Reply;
         Ok(())
     }

@@ -1,5 +1,5 @@
 -- What is counted of requests: this project's own.
-use Rattle.std.specs.Prelude.{ℕ, ◌+◌, ◌-◌, ◌*◌, ◌^◌, List, [], ◌∷◌, min, replicate, nat_lt, if◌then◌else◌, Option, Some, None, slice_index, slice_set}
+use Rattle.std.specs.Prelude.{Bool, ℕ, ◌+◌, ◌-◌, ◌*◌, ◌^◌, List, [], ◌∷◌, min, replicate, nat_lt, if◌then◌else◌, Option, Some, None, slice_index, slice_set}
 use Rattle.std.specs.List.{count_by}
 use Rattle.admin_pages.specs.declared.counted.Metrics.{Metrics}
 use Rattle.admin_pages.specs.declared.counted.Served.{Served}
@@ -19,6 +19,8 @@ none = record {
   tenants = replicate 256 0;
   times = replicate 17 0;
   micros = 0;
+  units = 0;
+  slow = 0;
 }
 
 -- commands have the bytes 1 to 8, statuses 0 to 23; what has no command counts under 0, and FrameFault (255) under 24
@@ -36,11 +38,16 @@ abbrev pub raised_of : List ℕ → Option ℕ → List ℕ
 raised_of counts None = counts
 raised_of counts (Some place) = raised counts place
 
--- one request more: under its command and status, its tenant if it has one, and its time
+abbrev pub bit : Bool → ℕ
+bit b = if b then 1 else 0
+
+-- one request more: under its command and status, its tenant if it has one, its time and its units, and as a slow query if it is one
 abbrev pub after_request : Metrics → Served → Metrics
 after_request m s = record m {
   requests = raised m.requests (cell s.command s.status);
   tenants = raised_of m.tenants s.tenant;
   times = raised m.times (time_place s.micros);
   micros = added m.micros s.micros;
+  units = added m.units s.units;
+  slow = added m.slow (bit s.is_slow);
 }

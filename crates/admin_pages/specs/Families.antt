@@ -3,7 +3,7 @@ use Rattle.std.specs.Prelude.{ℕ, ◌&&◌, not, Bool, true, List, [], ◌∷�
 use Rattle.std.specs.List.{list_any}
 use Rattle.std.specs.Str.{bytes_eq}
 use Rattle.admin_pages.specs.declared.families.Family.{Family}
-use Rattle.admin_pages.specs.declared.families.Family.TheVariants.{Uptime, Ready, Open, OpenLimit, Refused, Waiting, Buffered, Limit, Connections, Read, Written, Dropped, Requests, Times, TenantRequests, TenantCollections, TenantDocuments, TenantTexts}
+use Rattle.admin_pages.specs.declared.families.Family.TheVariants.{Uptime, Ready, Open, OpenLimit, Refused, Waiting, Buffered, Limit, Connections, Read, Written, Dropped, Requests, Times, Units, Slow, TenantRequests, TenantCollections, TenantDocuments, TenantTexts, TenantWaiting}
 use Rattle.admin_pages.specs.declared.families.Shape.{Shape}
 use Rattle.admin_pages.specs.declared.families.Shape.TheVariants as shape
 
@@ -22,10 +22,13 @@ name_of Written = codes "path_server_written_bytes_total"
 name_of Dropped = codes "path_server_dropped_lines_total"
 name_of Requests = codes "path_server_requests_total"
 name_of Times = codes "path_server_request_seconds"
+name_of Units = codes "path_server_charged_units_total"
+name_of Slow = codes "path_server_slow_queries_total"
 name_of TenantRequests = codes "path_server_tenant_requests_total"
 name_of TenantCollections = codes "path_server_tenant_collections"
 name_of TenantDocuments = codes "path_server_tenant_documents"
 name_of TenantTexts = codes "path_server_tenant_text_bytes"
+name_of TenantWaiting = codes "path_server_tenant_connections_waiting"
 
 abbrev pub help_of : Family → List ℕ
 help_of Uptime = codes "Seconds since the start."
@@ -42,10 +45,13 @@ help_of Written = codes "Bytes written."
 help_of Dropped = codes "Lines of the log that were dropped."
 help_of Requests = codes "Requests by command and status."
 help_of Times = codes "How long requests took."
+help_of Units = codes "Units that queries were charged."
+help_of Slow = codes "Queries that took longer than --slow."
 help_of TenantRequests = codes "Requests of a tenant, by its number in the list of keys."
 help_of TenantCollections = codes "Collections of a tenant."
 help_of TenantDocuments = codes "Documents of a tenant."
 help_of TenantTexts = codes "Bytes of texts of a tenant."
+help_of TenantWaiting = codes "Connections that wait for memory, of the tenant that was answered on each last."
 
 abbrev pub kind_of : Family → List ℕ
 kind_of Uptime = codes "gauge"
@@ -62,10 +68,13 @@ kind_of Written = codes "counter"
 kind_of Dropped = codes "counter"
 kind_of Requests = codes "counter"
 kind_of Times = codes "histogram"
+kind_of Units = codes "counter"
+kind_of Slow = codes "counter"
 kind_of TenantRequests = codes "counter"
 kind_of TenantCollections = codes "gauge"
 kind_of TenantDocuments = codes "gauge"
 kind_of TenantTexts = codes "gauge"
+kind_of TenantWaiting = codes "gauge"
 
 abbrev pub shape_of : Family → Shape
 shape_of Uptime = shape.One
@@ -82,14 +91,17 @@ shape_of Written = shape.One
 shape_of Dropped = shape.One
 shape_of Requests = shape.Cells
 shape_of Times = shape.Times
+shape_of Units = shape.One
+shape_of Slow = shape.One
 shape_of TenantRequests = shape.Tenants
 shape_of TenantCollections = shape.Tenants
 shape_of TenantDocuments = shape.Tenants
 shape_of TenantTexts = shape.Tenants
+shape_of TenantWaiting = shape.Tenants
 
 -- in the order in which they are told
 unfoldable pub families : List Family
-families = Uptime ∷ Ready ∷ Open ∷ OpenLimit ∷ Refused ∷ Waiting ∷ Buffered ∷ Limit ∷ Connections ∷ Read ∷ Written ∷ Dropped ∷ Requests ∷ Times ∷ TenantRequests ∷ TenantCollections ∷ TenantDocuments ∷ TenantTexts ∷ []
+families = Uptime ∷ Ready ∷ Open ∷ OpenLimit ∷ Refused ∷ Waiting ∷ Buffered ∷ Limit ∷ Connections ∷ Read ∷ Written ∷ Dropped ∷ Requests ∷ Times ∷ Units ∷ Slow ∷ TenantRequests ∷ TenantCollections ∷ TenantDocuments ∷ TenantTexts ∷ TenantWaiting ∷ []
 
 -- one sample, one for each command and status, one for each bound of the times and three more, one for each tenant
 abbrev pub rows_of : Shape → (tenants : ℕ) → ℕ

@@ -2,11 +2,12 @@
 use Rattle.std.specs.Prelude.{ℕ, zero, suc, ◌+◌, ◌-◌, ◌/◌, ◌%◌, ◌^◌, ◌==◌, Bool, List, [], ◌∷◌, ◌++◌, min, sum, take, drop, length, nat_lt, nat_le, if◌then◌else◌, codes, decimal, Option, Some, None, slice_get, slice_index}
 use Rattle.admin_pages.specs.declared.counted.Metrics.{Metrics}
 use Rattle.admin_pages.specs.declared.families.Family.{Family}
-use Rattle.admin_pages.specs.declared.families.Family.TheVariants.{Uptime, Ready, Open, OpenLimit, Refused, Waiting, Buffered, Limit, Connections, Read, Written, Dropped, Requests, Times, TenantRequests, TenantCollections, TenantDocuments, TenantTexts}
+use Rattle.admin_pages.specs.declared.families.Family.TheVariants.{Uptime, Ready, Open, OpenLimit, Refused, Waiting, Buffered, Limit, Connections, Read, Written, Dropped, Requests, Times, Units, Slow, TenantRequests, TenantCollections, TenantDocuments, TenantTexts, TenantWaiting}
 use Rattle.admin_pages.specs.declared.families.Shape.{Shape}
 use Rattle.admin_pages.specs.declared.families.Shape.TheVariants as shape
 use Rattle.admin_pages.specs.declared.page.Gauges.{Gauges}
 use Rattle.admin_pages.specs.declared.page.Page.{Page}
+use Rattle.admin_pages.specs.Counting.{bit}
 use Rattle.admin_pages.specs.Families.{name_of, help_of, kind_of, shape_of, families, rows_of}
 use Rattle.admin_pages.specs.Labels.{command_name, status_name, bound_name}
 
@@ -40,9 +41,6 @@ sample f place number =
 abbrev pub total : List ℕ → ℕ
 total counts = min (sum counts) (2 ^ 64 - 1)
 
-abbrev pub bit : Bool → ℕ
-bit b = if b then 1 else 0
-
 -- up to a bound are all that are up to a lower one, too
 abbrev pub time_value : Metrics → ℕ → ℕ
 time_value m place = if nat_lt place 17 then total (take (place + 1) m.times) else if place == 17 then m.micros else total m.times
@@ -63,10 +61,13 @@ value m g Written place = g.written
 value m g Dropped place = g.dropped
 value m g Requests place = slice_index m.requests place
 value m g Times place = time_value m place
+value m g Units place = m.units
+value m g Slow place = m.slow
 value m g TenantRequests place = slice_index m.tenants place
 value m g TenantCollections place = slice_index g.collections place
 value m g TenantDocuments place = slice_index g.documents place
 value m g TenantTexts place = slice_index g.texts place
+value m g TenantWaiting place = slice_index g.waiting_of place
 
 -- a metric's head stands before its first sample
 abbrev pub start : Family → ℕ → List ℕ

@@ -1,18 +1,19 @@
 -- Replies of HTTP (RFC 9112, section 4; RFC 9110, section 15), each the last of its connection (RFC 9112, section 9.6).
-use Rattle.std.specs.Prelude.{ℕ, List, ◌++◌, length, codes, decimal}
+use Rattle.std.specs.Prelude.{ℕ, List, [], ◌++◌, length, codes, decimal}
 use Rattle.admin_pages.specs.declared.replies.Reply.{Reply}
 use Rattle.admin_pages.specs.declared.replies.Reply.TheVariants.{Healthy, Ready, NotReady, Noted, Metrics, Draining, Refused}
 use Rattle.admin_pages.specs.declared.routes.Refusal.{Refusal}
 use Rattle.admin_pages.specs.declared.routes.Refusal.TheVariants.{BadRequest, NotFound, GetOnly, PostOnly, GetOrPostOnly, HasBody, HeadTooLarge}
 
-abbrev pub body_of : Reply → List ℕ
-body_of Healthy = codes "healthy\n"
-body_of Ready = codes "ready\n"
-body_of NotReady = codes "not ready\n"
-body_of Noted = codes "ready\n"
-body_of Metrics = codes ""
-body_of Draining = codes "draining\n"
-body_of (Refused why) = codes ""
+-- what is told so many seconds after the start, unless it is a page
+abbrev pub body_of : Reply → (uptime : ℕ) → List ℕ
+body_of Healthy uptime = codes "healthy\nuptime_seconds " ++ (decimal uptime ++ codes "\n")
+body_of Ready uptime = codes "ready\n"
+body_of NotReady uptime = codes "not ready\n"
+body_of Noted uptime = codes "ready\n"
+body_of Metrics uptime = []
+body_of Draining uptime = codes "draining\n"
+body_of (Refused why) uptime = []
 
 -- the status and its reason, and behind 405 the methods that are allowed
 abbrev pub refusal_line : Refusal → List ℕ

@@ -32,6 +32,10 @@ pub struct Served {
     pub tenant: Option<usize>,
     /// How long it took, in microseconds.
     pub micros: u64,
+    /// The units that it was charged.
+    pub units: u64,
+    /// Whether it was a slow query.
+    pub is_slow: bool,
 }
 
 /// Counts of requests since the start. A count stays at its greatest number, 2^64 - 1.
@@ -45,6 +49,10 @@ pub struct Metrics {
     pub times: [u64; TIMES],
     /// The microseconds of all requests.
     pub micros: u64,
+    /// The units that all requests were charged.
+    pub units: u64,
+    /// Slow queries.
+    pub slow: u64,
 }
 
 impl Metrics {
@@ -57,10 +65,12 @@ impl Metrics {
             tenants: [0; TENANTS],
             times: [0; TIMES],
             micros: 0,
+            units: 0,
+            slow: 0,
         }
     }
 
-    /// Counts a request once: under its command and status, its tenant if it has one, and its time.
+    /// Counts a request once: under its command and status, its tenant if it has one, its time and its units, and as a slow query if it is one.
     pub fn count(&mut self, served: &Served)
         ensures { self.new ≡ after_request self.old served.now }
     {
@@ -72,6 +82,8 @@ impl Metrics {
         let place = time_place(served.micros);
         self.times[place] = self.times[place].saturating_add(1);
         self.micros = self.micros.saturating_add(served.micros);
+        self.units = self.units.saturating_add(served.units);
+        self.slow = self.slow.saturating_add(u64::from(served.is_slow));
     }
 }
 

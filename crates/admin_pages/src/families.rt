@@ -33,6 +33,10 @@ pub enum Family {
     Requests,
     /// How long requests took.
     Times,
+    /// Units that requests were charged.
+    Units,
+    /// Queries that took longer than was told.
+    Slow,
     /// Requests of a tenant, by its number in the list of keys.
     TenantRequests,
     /// Collections of a tenant.
@@ -41,6 +45,8 @@ pub enum Family {
     TenantDocuments,
     /// Bytes of texts of a tenant.
     TenantTexts,
+    /// Connections that wait for memory, by the last tenant that was answered on each.
+    TenantWaiting,
 }
 
 /// What the samples of a metric are for.
@@ -76,10 +82,13 @@ impl Family {
             Family::Dropped => "path_server_dropped_lines_total",
             Family::Requests => "path_server_requests_total",
             Family::Times => "path_server_request_seconds",
+            Family::Units => "path_server_charged_units_total",
+            Family::Slow => "path_server_slow_queries_total",
             Family::TenantRequests => "path_server_tenant_requests_total",
             Family::TenantCollections => "path_server_tenant_collections",
             Family::TenantDocuments => "path_server_tenant_documents",
             Family::TenantTexts => "path_server_tenant_text_bytes",
+            Family::TenantWaiting => "path_server_tenant_connections_waiting",
         }
     }
 
@@ -104,10 +113,15 @@ impl Family {
             Family::Dropped => "Lines of the log that were dropped.",
             Family::Requests => "Requests by command and status.",
             Family::Times => "How long requests took.",
+            Family::Units => "Units that queries were charged.",
+            Family::Slow => "Queries that took longer than --slow.",
             Family::TenantRequests => "Requests of a tenant, by its number in the list of keys.",
             Family::TenantCollections => "Collections of a tenant.",
             Family::TenantDocuments => "Documents of a tenant.",
             Family::TenantTexts => "Bytes of texts of a tenant.",
+            Family::TenantWaiting => {
+                "Connections that wait for memory, of the tenant that was answered on each last."
+            }
         }
     }
 
@@ -121,6 +135,8 @@ impl Family {
             | Family::Written
             | Family::Dropped
             | Family::Requests
+            | Family::Units
+            | Family::Slow
             | Family::TenantRequests => "counter",
             Family::Times => "histogram",
             Family::Uptime
@@ -133,7 +149,8 @@ impl Family {
             | Family::Limit
             | Family::TenantCollections
             | Family::TenantDocuments
-            | Family::TenantTexts => "gauge",
+            | Family::TenantTexts
+            | Family::TenantWaiting => "gauge",
         }
     }
 
@@ -153,19 +170,22 @@ impl Family {
             | Family::Connections
             | Family::Read
             | Family::Written
-            | Family::Dropped => Shape::One,
+            | Family::Dropped
+            | Family::Units
+            | Family::Slow => Shape::One,
             Family::Requests => Shape::Cells,
             Family::Times => Shape::Times,
             Family::TenantRequests
             | Family::TenantCollections
             | Family::TenantDocuments
-            | Family::TenantTexts => Shape::Tenants,
+            | Family::TenantTexts
+            | Family::TenantWaiting => Shape::Tenants,
         }
     }
 }
 
 /// All metrics, in the order in which they are told.
-const FAMILIES: [Family; 18] = [
+const FAMILIES: [Family; 21] = [
     Family::Uptime,
     Family::Ready,
     Family::Open,
@@ -180,10 +200,13 @@ const FAMILIES: [Family; 18] = [
     Family::Dropped,
     Family::Requests,
     Family::Times,
+    Family::Units,
+    Family::Slow,
     Family::TenantRequests,
     Family::TenantCollections,
     Family::TenantDocuments,
     Family::TenantTexts,
+    Family::TenantWaiting,
 ];
 
 /// How many samples a metric has.

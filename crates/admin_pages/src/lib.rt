@@ -18,6 +18,6 @@ pub use families::Family;
 pub use heads::{Reading, read_request};
 pub use laws::{counted_once, named_once};
 pub use page::{Gauges, Page};
-pub use replies::{Reply, append_reply};
+pub use replies::{Reply, append_body, append_reply};
 pub use routes::{Asked, Refusal};
 pub use standing::Standing;

@@ -44,6 +44,8 @@ pub struct Gauges {
     pub documents: [u64; TENANTS],
     /// Bytes of texts of each.
     pub texts: [u64; TENANTS],
+    /// Connections that wait for memory, by the last tenant that was answered on each.
+    pub waiting_of: [u64; TENANTS],
 }
 
 /// A page that is being written: what it tells, which does not change meanwhile, and the next line's metric and place.
@@ -234,10 +236,13 @@ fn value(metrics: &Metrics, gauges: &Gauges, family: Family, place: usize) -> u6
         Family::Dropped => gauges.dropped,
         Family::Requests => number_at(&metrics.requests, place),
         Family::Times => time_number(metrics, place),
+        Family::Units => metrics.units,
+        Family::Slow => metrics.slow,
         Family::TenantRequests => number_at(&metrics.tenants, place),
         Family::TenantCollections => number_at(&gauges.collections, place),
         Family::TenantDocuments => number_at(&gauges.documents, place),
         Family::TenantTexts => number_at(&gauges.texts, place),
+        Family::TenantWaiting => number_at(&gauges.waiting_of, place),
     }
 }
 

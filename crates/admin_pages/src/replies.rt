@@ -1,5 +1,6 @@
 //! Replies (RFC 9112, section 4). Each ends its connection.
 ghost use Rattle.std.specs.Prelude.{◌≡◌, ◌++◌, OnOk};
+ghost use Rattle.admin_pages.specs.declared.replies.Reply.TheVariants.{Healthy};
 ghost use Rattle.admin_pages.specs.Replies.{body_of, reply_text, status_line};
 
 use crate::pieces::{append_all, append_number};
@@ -26,19 +27,6 @@ pub enum Reply {
 }
 
 impl Reply {
-    /// The body of one that has no figures. A refusal has none, since the method may be HEAD (RFC 9110, section 9.3.2).
-    pub fn body(self) -> &'static str
-        ensures { result.now ≡ body_of self }
-    {
-        match self {
-            Reply::Healthy => "healthy\n",
-            Reply::Ready | Reply::Noted => "ready\n",
-            Reply::NotReady => "not ready\n",
-            Reply::Draining => "draining\n",
-            Reply::Metrics | Reply::Refused(_) => "",
-        }
-    }
-
     fn status_line(self) -> &'static str
         ensures { result.now ≡ status_line self }
     {
@@ -57,6 +45,32 @@ impl Reply {
             Reply::Refused(Refusal::HeadTooLarge) => "431 Request Header Fields Too Large\r\n",
         }
     }
+}
+
+/// Appends the body of one that has no page, so many seconds after the start. A refusal has none, since the method may be HEAD
+/// (RFC 9110, section 9.3.2).
+///
+/// # Errors
+///
+/// Where a growth was refused: the bytes behind those that were there are to be cut off.
+pub fn append_body(reply: Reply, uptime: u64, out: &mut Vec<u8>) -> Result<(), AllocError>
+    ensures { OnOk result (out.new.items ≡ out.old.items ++ body_of reply uptime) }
+{
+    match reply {
+        Reply::Healthy => append_health(uptime, out),
+        Reply::Ready | Reply::Noted => out.extend_from_slice(b"ready\n"),
+        Reply::NotReady => out.extend_from_slice(b"not ready\n"),
+        Reply::Draining => out.extend_from_slice(b"draining\n"),
+        Reply::Metrics | Reply::Refused(_) => Ok(()),
+    }
+}
+
+fn append_health(uptime: u64, out: &mut Vec<u8>) -> Result<(), AllocError>
+    ensures { OnOk result (out.new.items ≡ out.old.items ++ body_of Healthy uptime) }
+{
+    out.extend_from_slice(b"healthy\nuptime_seconds ")?;
+    append_number(uptime, out)?;
+    out.extend_from_slice(b"\n")
 }
 
 /// Appends a whole reply with this body: a status line, and the fields Content-Type, Content-Length and Connection. If the method is not allowed, it

@@ -5,7 +5,8 @@
 #![tactic(auto)]
 
 use admin_pages::{
-    Asked, Gauges, Metrics, Page, Reading, Reply, Served, Standing, append_reply, read_request,
+    Asked, Gauges, Metrics, Page, Reading, Reply, Served, Standing, append_body, append_reply,
+    read_request,
 };
 use standard_streams::{read_past, write_whole};
 use std::alloc::{AllocError, Global};
@@ -15,6 +16,9 @@ use std::{env, io};
 
 /// The most bytes that are read.
 const MOST_BYTES: u64 = 1_048_576;
+
+/// The seconds since the server's start.
+const UPTIME: u64 = 17;
 
 /// More lines than a page has.
 const MOST_LINES: usize = 10_000;
@@ -44,7 +48,7 @@ fn answered(alloc: Global, bytes: &[u8], is_ready: bool) -> Result<Vec<u8>, Allo
     let mut out = Vec::new(alloc);
     match read_request(bytes) {
         Reading::Part => out.extend_from_slice(b"part\n")?,
-        Reading::Refused(refusal) => append_short(Reply::Refused(refusal), &mut out)?,
+        Reading::Refused(refusal) => append_short(alloc, Reply::Refused(refusal), &mut out)?,
         Reading::Asked(asked) => append_answer(alloc, standing.answer(asked), &mut out)?,
     }
     Ok(out)
@@ -55,12 +59,14 @@ fn append_answer(alloc: Global, reply: Reply, out: &mut Vec<u8>) -> Result<(), A
         let body = page_text(alloc)?;
         append_reply(reply, body.as_slice(), out)
     } else {
-        append_short(reply, out)
+        append_short(alloc, reply, out)
     }
 }
 
-fn append_short(reply: Reply, out: &mut Vec<u8>) -> Result<(), AllocError> {
-    append_reply(reply, reply.body().as_bytes(), out)
+fn append_short(alloc: Global, reply: Reply, out: &mut Vec<u8>) -> Result<(), AllocError> {
+    let mut body = Vec::new(alloc);
+    append_body(reply, UPTIME, &mut body)?;
+    append_reply(reply, body.as_slice(), out)
 }
 
 fn page_text(alloc: Global) -> Result<Vec<u8>, AllocError> {
@@ -77,18 +83,20 @@ fn page_text(alloc: Global) -> Result<Vec<u8>, AllocError> {
 
 fn counted() -> Metrics {
     let mut metrics = Metrics::new();
-    for (command, status, tenant, micros) in [
-        (1, 0, Some(0), 100),
-        (5, 0, Some(1), 101),
-        (5, 22, Some(1), 2_000_000),
-        (0, 255, None, 1),
-        (8, 23, Some(1), 60_000_000),
+    for (command, status, tenant, micros, units, is_slow) in [
+        (1, 0, Some(0), 100, 0, false),
+        (5, 0, Some(1), 101, 700, false),
+        (5, 22, Some(1), 2_000_000, 0, true),
+        (0, 255, None, 1, 0, false),
+        (8, 23, Some(1), 60_000_000, 0, false),
     ] {
         metrics.count(&Served {
             command,
             status,
             tenant,
             micros,
+            units,
+            is_slow,
         });
     }
     metrics
@@ -96,7 +104,7 @@ fn counted() -> Metrics {
 
 fn gauges() -> Gauges {
     let mut gauges = Gauges {
-        uptime: 17,
+        uptime: UPTIME,
         is_ready: true,
         open: 5,
         open_limit: 10_000,
@@ -112,9 +120,11 @@ fn gauges() -> Gauges {
         collections: [0; 256],
         documents: [0; 256],
         texts: [0; 256],
+        waiting_of: [0; 256],
     };
     gauges.collections[1] = 2;
     gauges.documents[1] = 3;
     gauges.texts[1] = 4;
+    gauges.waiting_of[1] = 5;
     gauges
 }

@@ -53,7 +53,7 @@ pub struct LoopLines<'a, R: Eprint + Clock> {
 }
 
 impl<'a, R: Eprint + Clock> LoopLines<'a, R> {
-    /// Lines on this standard error, which takes some where the gate is open; those with counts only where asked for.
+    /// Lines on this standard error, which takes some where the gate is open; those with counts and of slow queries only where asked for.
     pub fn new(rt: &'a R, gate: Gate, has_counts: bool) -> LoopLines<'a, R> {
         LoopLines {
             rt,
@@ -116,7 +116,9 @@ impl<'a, R: Eprint + Clock> Journal for LoopLines<'a, R> {
     }
 
     fn slow(&mut self, slow: &Slow) {
-        self.tell(Line::Slow(*slow));
+        if self.has_counts {
+            self.tell(Line::Slow(*slow));
+        }
     }
 
     fn held(&mut self, limit: Held, totals: &Totals) {

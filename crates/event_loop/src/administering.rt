@@ -97,19 +97,21 @@ impl<S: System + Drop, T: Time + Drop> Rounds<S, T> {
         ensures bytes_read { result.read ≡ self.now.opened.read }
         ensures bytes_written { result.written ≡ self.now.opened.written }
     {
-        let (buffered, limit, waiting) = self.opened.memory();
+        let (buffered, limit) = self.opened.memory();
+        let waiting = self.opened.waiting();
         let (read, written) = self.opened.bytes();
         let held = self.held();
         let collections = held.collections;
         let documents = held.documents;
         let texts = held.texts;
+        let waiting_of = waiting.by_tenant;
         Gauges {
             uptime: self.seconds.last(),
             is_ready: self.desk.standing().is_ready,
             open: self.opened.count() as u64,
             open_limit: self.limits.connections as u64,
             is_refused: self.acceptor.is_refused,
-            waiting,
+            waiting: waiting.all,
             buffered: buffered as u64,
             limit: limit as u64,
             connections: self.acceptor.taken,
@@ -120,6 +122,7 @@ impl<S: System + Drop, T: Time + Drop> Rounds<S, T> {
             collections,
             documents,
             texts,
+            waiting_of,
         }
     }
 

@@ -77,7 +77,7 @@ impl<'r, R: Net + Clock + AllocGlobal> Server<Sockets, Since<'r, R>> {
         Ok(bound)
     }
 
-    /// Tells the journal of each query that takes longer than so many milliseconds of work.
+    /// Counts each query that takes longer than so many milliseconds of work, and tells the journal of it.
     ///
     /// # Errors
     ///

@@ -1,6 +1,5 @@
 -- What was asked is what was answered.
 use Rattle.std.proofs.Common.{◌≡◌, ℕ, List, [], ◌++◌, Bool, Option, Some, None, sym, ap, ◌∙◌, subst, drop, length}
-use Rattle.std.specs.Prelude.{slice_index}
 use Rattle.std.proofs.Math.Seq.{drop-append_seam}
 use Rattle.std.specs.Option.{option_map_or}
 use Rattle.wire_frames.specs.Frames.{Front, front}
@@ -14,6 +13,7 @@ use Rattle.path_listen.specs.Asking.{asks}
 use Rattle.path_listen.specs.Replies.{body_at}
 use Rattle.path_listen.specs.Answering as listen
 use Rattle.admin_pages.specs.declared.counted.Metrics.{Metrics}
+use Rattle.admin_pages.specs.declared.counted.Served.{Served}
 use Rattle.admin_pages.specs.Counting.{after_request}
 use Rattle.hub_metrics.specs.Measuring.{Measured, Counts, Answers, served, is_over}
 
@@ -43,20 +43,22 @@ counted_reply last conn old mid new before after part n asked long behind stay s
       record {
         answers = b;
         micros = k.micros;
+        units = k.units;
+        bound = k.bound;
         counted = k.counted
-            ∙ ap (λ (m : Metrics). after_request m (served asked part k.micros)) stay
-            ∙ ap (λ (x : Asked). after_request old.metrics (served x part k.micros)) told
-            ∙ ap (λ (xs : List ℕ). after_request old.metrics (served (asks old.hub.tenants b.body) xs k.micros)) cut;
+            ∙ ap (λ (m : Metrics). after_request m (served asked part k.micros k.units k.bound)) stay
+            ∙ ap (λ (x : Asked). after_request old.metrics (served x part k.micros k.units k.bound)) told
+            ∙ ap (λ (xs : List ℕ). after_request old.metrics (served (asks old.hub.tenants b.body) xs k.micros k.units k.bound)) cut;
       },
       ap (listen.is_over conn) k.hub_stays ∙ r.3,
     )
 
-pub counted_once : (old mid : Measured) (metrics : Metrics) (asked : Asked) (reply : List ℕ) (status micros : ℕ) → mid ≡ old → status ≡ slice_index reply 4 →
-    metrics ≡ after_request mid.metrics (record { command = asked.command; status = status; tenant = asked.tenant; micros = micros }) → Counts asked reply old (record { hub = mid.hub; metrics = metrics })
-counted_once old mid metrics asked reply status micros same is e = record {
+pub counted_once : (old mid : Measured) (metrics : Metrics) (asked : Asked) (reply : List ℕ) (micros units : ℕ) (bound : Option ℕ) (s : Served) → mid ≡ old →
+    s ≡ served asked reply micros units bound → metrics ≡ after_request mid.metrics s → Counts asked reply old (record { hub = mid.hub; metrics = metrics })
+counted_once old mid metrics asked reply micros units bound s same is e = record {
   micros = micros;
+  units = units;
+  bound = bound;
   hub_stays = ap (λ (m : Measured). m.hub) same;
-  counted = e
-      ∙ ap (λ (n : ℕ). after_request mid.metrics (record { command = asked.command; status = n; tenant = asked.tenant; micros = micros })) is
-      ∙ ap (λ (m : Measured). after_request m.metrics (served asked reply micros)) same;
+  counted = e ∙ ap (after_request mid.metrics) is ∙ ap (λ (m : Measured). after_request m.metrics (served asked reply micros units bound)) same;
 }

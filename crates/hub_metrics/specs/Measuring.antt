@@ -1,5 +1,5 @@
 -- A hub whose answers are counted: this project's own.
-use Rattle.std.specs.Prelude.{◌≡◌, ℕ, List, slice_index, Bool}
+use Rattle.std.specs.Prelude.{◌≡◌, ◌==◌, ◌&&◌, ℕ, List, slice_index, nat_lt, Bool, false, Option, Some, None}
 use Rattle.path_hub.specs.HubState.{HubState}
 use Rattle.path_listen.specs.declared.asked.Asked.{Asked}
 use Rattle.path_listen.specs.Asking.{asks}
@@ -16,15 +16,29 @@ pub record Measured : Type 0 where
 abbrev pub measured : HubState → Measured
 measured hub = record { hub = hub; metrics = none }
 
--- a request as it is counted: what it asks, the status of its reply behind the four bytes of the length, and how long it took
-abbrev pub served : Asked → (reply : List ℕ) → (micros : ℕ) → Served
-served asked reply micros = record { command = asked.command; status = slice_index reply 4; tenant = asked.tenant; micros = micros }
+-- a query that took longer than a bound
+abbrev pub is_slow : (command micros : ℕ) → Option ℕ → Bool
+is_slow command micros None = false
+is_slow command micros (Some bound) = command == 5 && nat_lt bound micros
 
--- this reply to what is asked is counted once
+-- a request as it is counted: what it asks, the status of its reply behind the four bytes of the length, how long it took, and what it was charged
+abbrev pub served : Asked → (reply : List ℕ) → (micros units : ℕ) → (bound : Option ℕ) → Served
+served asked reply micros units bound = record {
+  command = asked.command;
+  status = slice_index reply 4;
+  tenant = asked.tenant;
+  micros = micros;
+  units = units;
+  is_slow = is_slow asked.command micros bound;
+}
+
+-- this reply to what is asked is counted once, with its units
 pub record Counts (asked : Asked) (reply : List ℕ) (old new : Measured) : Type 0 where
   pub micros : ℕ
+  pub units : ℕ
+  pub bound : Option ℕ
   pub hub_stays : new.hub ≡ old.hub
-  pub counted : new.metrics ≡ after_request old.metrics (served asked reply micros)
+  pub counted : new.metrics ≡ after_request old.metrics (served asked reply micros units bound)
 
 -- a session is opened or ended, a piece is taken: nothing is counted
 pub record Opens (conn : ℕ) (old new : Measured) : Type 0 where
@@ -38,11 +52,13 @@ pub record Closes (conn : ℕ) (old new : Measured) : Type 0 where
 abbrev pub takes : ℕ → Measured → List ℕ → Measured → Type 0
 takes conn old piece new = listen.takes conn old.hub piece new.hub × (new.metrics ≡ old.metrics)
 
--- the hub answers, and the answer is counted once: under the command and the tenant of the request, and the status of the reply
+-- the hub answers, and the answer is counted once, with its units: under the command and the tenant of the request, and the status of the reply
 pub record Answers (conn : ℕ) (old : Measured) (reply : List ℕ) (new : Measured) : Type 0 where
   pub answers : listen.Answers conn old.hub reply new.hub
   pub micros : ℕ
-  pub counted : new.metrics ≡ after_request old.metrics (served (asks old.hub.tenants answers.body) reply micros)
+  pub units : ℕ
+  pub bound : Option ℕ
+  pub counted : new.metrics ≡ after_request old.metrics (served (asks old.hub.tenants answers.body) reply micros units bound)
 
 abbrev pub IsIdle : ℕ → Measured → Type 0
 IsIdle conn now = listen.IsIdle conn now.hub

@@ -1,6 +1,6 @@
 //! A hub whose answers are counted.
-ghost use Rattle.std.specs.Prelude.{◌≡◌, drop, slice_index, OnOk, OnErr};
-ghost use Rattle.hub_metrics.specs.Measuring.{Closes, Counts, Opens, measured};
+ghost use Rattle.std.specs.Prelude.{◌≡◌, drop, slice_index, unwrap_or, OnOk, OnErr};
+ghost use Rattle.hub_metrics.specs.Measuring.{Closes, Counts, Opens, is_slow, measured, served};
 
 use admin_pages::{Metrics, Served};
 use outbox::{Core, Step};
@@ -42,7 +42,7 @@ pub struct MeasuredHub<T: Time + Drop> {
     worked: u64,
     // The query of the turn's connection is under way.
     is_working: bool,
-    // The microseconds above which a query is slow, if that is told.
+    // The microseconds above which a query is slow, if one can be.
     bound: Option<u64>,
     // The slow query that was not told yet.
     slow: Option<Slow>,
@@ -81,7 +81,7 @@ impl<T: Time + Drop> MeasuredHub<T> {
         self.clock = Some(clock);
     }
 
-    /// Tells queries that took longer than so many microseconds from now on.
+    /// Counts and tells queries that took longer than so many microseconds from now on.
     pub fn tell_slow(&mut self, micros: u64)
         ensures { self.new ≡ self.old }
     {
@@ -178,12 +178,8 @@ impl<T: Time + Drop> MeasuredHub<T> {
     {
         let micros = self.lap();
         self.note(asked, micros);
-        self.metrics.count(&Served {
-            command: asked.command,
-            status: status_of(reply),
-            tenant: asked.tenant,
-            micros,
-        });
+        let served = served(asked, reply, micros, self.core.charge(), self.bound);
+        self.metrics.count(&served);
     }
 
     // The microseconds that the request which is answered next took so far. The clock is read.
@@ -203,7 +199,7 @@ impl<T: Time + Drop> MeasuredHub<T> {
         self.heard = asked.tenant;
         self.worked = 0;
         self.is_working = false;
-        if asked.command == QUERY && is_above(micros, self.bound) {
+        if is_slow(asked.command, micros, self.bound) {
             self.slow = Some(Slow {
                 tenant: self.heard,
                 units: self.core.charge(),
@@ -267,15 +263,32 @@ impl<T: Time + Drop> Core for MeasuredHub<T> {
     }
 }
 
+// What is counted of a request that took so many microseconds and was charged so many units.
+fn served(asked: Asked, reply: &[u8], micros: u64, units: Option<u64>, bound: Option<u64>) -> Served
+    ensures { result ≡ served asked reply.now micros (unwrap_or units 0) bound }
+{
+    Served {
+        command: asked.command,
+        status: status_of(reply),
+        tenant: asked.tenant,
+        micros,
+        units: units.unwrap_or(0),
+        is_slow: is_slow(asked.command, micros, bound),
+    }
+}
+
 fn status_of(reply: &[u8]) -> u8
     ensures { result ≡ slice_index reply.now 4 }
 {
     reply.get(STATUS).copied().unwrap_or(0)
 }
 
-fn is_above(micros: u64, bound: Option<u64>) -> bool {
+// Whether it is a query that took longer than the bound.
+fn is_slow(command: u8, micros: u64, bound: Option<u64>) -> bool
+    ensures { result ≡ is_slow command micros bound }
+{
     match bound {
-        Some(bound) => micros > bound,
+        Some(bound) => command == QUERY && micros > bound,
         None => false,
     }
 }

@@ -9,9 +9,11 @@ mod due;
 mod laws;
 mod needs;
 mod open;
+mod waiting;
 
 pub use budgets::LEAST_MEMORY;
 pub use due::Due;
 pub use hub_metrics::Slow;
 pub use laws::loop_is_served;
 pub use open::Open;
+pub use waiting::Waiting;

@@ -15,6 +15,7 @@ use crate::budgets::Budgets;
 use crate::core_calls::{begin, give_up_query, share, take_micros, take_slow, tell_slow};
 use crate::due::{Due, DueList};
 use crate::needs::{After, covers, is_for_reply, left_of, need, piece_of};
+use crate::waiting::{Waiting, waiting_among};
 use admin_pages::Metrics;
 use connection_turns::{
     Claim, Connection, Counted, Counts, End, Ending, Limits, Outcome, Phase, Plan, Pool, Purpose,
@@ -148,16 +149,14 @@ impl<S: Peer, T: Time + Drop> Open<S, T> {
         self.core.inner().hub().usage(key)
     }
 
-    /// The bytes that connections hold of the budgets, those that there are, and how many connections wait for some.
-    pub fn memory(&self) -> (usize, usize, u64) {
-        let (held, limit) = self.budgets.held();
-        let mut waiting = 0u64;
-        'keys: for key in 0..self.bound {
-            if let Some(connection) = self.connections.get(key) {
-                waiting = waiting.saturating_add(u64::from(waits(connection)));
-            }
-        }
-        (held, limit, waiting)
+    /// The bytes that connections hold of the budgets, and those that there are.
+    pub fn memory(&self) -> (usize, usize) {
+        self.budgets.held()
+    }
+
+    /// How many connections wait for some.
+    pub fn waiting(&self) -> Waiting {
+        waiting_among(&self.connections, self.bound)
     }
 
     /// The bytes that were read and written.
@@ -762,14 +761,6 @@ fn measure<T: Time + Drop>(counted: &mut Counted<MeasuredHub<T>, T>, clock: T)
     ensures { counted.new ≡ counted.old }
 {
     counted.core.measure(clock);
-}
-
-// Whether a connection waits for memory.
-fn waits<S: Peer>(connection: &Connection<S>) -> bool {
-    match &connection.claim {
-        Some(claim) => !claim.is_granted,
-        None => false,
-    }
 }
 
 // The number that the hub knows a connection by.

@@ -104,13 +104,13 @@ fn administer<'r, R: Net + Clock + AllocGlobal>(
     }
 }
 
-// Has slow queries told, where that is wanted.
+// Has slow queries counted and told, where that is wanted.
 fn tell_slow<'r, R: Net + Clock + AllocGlobal>(
     rt: &'r R,
     wanted: &Listening<'_>,
     server: &mut Bound<'r, R>,
 ) -> Result<(), Failure> {
-    if !wanted.log {
+    if !wanted.log && wanted.admin.is_none() {
         return Ok(());
     }
     match server.tell_slow(rt, wanted.slow) {
