@@ -5,6 +5,7 @@ So many streams of random requests (200) go to the server, and the page of metri
 of them. Peers of the address that are slow, silent, huge or many keep nobody waiting. A drain serves what is open, and ends with status 0.
 """
 import http.client
+import json
 import random
 import re
 import socket
@@ -87,6 +88,17 @@ def charged(model, body):
     return sum(charge(source, text.decode()) for source in model.tenants[body[5:21]].get(collection, {}).values())
 
 
+def least_memory(tenant):
+    """The least bytes that documents take: their texts, 16 for each value and 12 more for each container (docs/ARCHITECTURE.md)."""
+
+    def cells(value):
+        inner = value.values() if isinstance(value, dict) else value if isinstance(value, list) else None
+        return 16 if inner is None else 28 + sum(map(cells, inner))
+
+    sources = [source for documents in tenant.values() for source in documents.values()]
+    return sum(len(source) + cells(json.loads(source)) for source in sources)
+
+
 def tells_what_was_done(report, count, seed):
     chance = random.Random(seed)
     traffic, model = Traffic(chance), Server(KEYS)
@@ -105,6 +117,8 @@ def tells_what_was_done(report, count, seed):
         for place, key in enumerate(KEYS):
             held = tuple(numbers[f'tenant_{name}{{tenant="{place}"}}'] for name in ("collections", "documents", "text_bytes"))
             report.case(f"what tenant {place} holds", seed, tuple(map(float, counts(model.tenants[key]))), held)
+            least, documents = least_memory(model.tenants[key]), held[1]
+            report.case(f"memory of tenant {place}", least, True, least <= numbers[f'tenant_memory_bytes{{tenant="{place}"}}'] <= 2 * least + 512 * documents)
             report.case(f"requests of tenant {place}", seed, tenants[place], numbers[f'tenant_requests_total{{tenant="{place}"}}'])
         faults = any(status == "FrameFault" for _, status in cells)
         report.case("connections", seed, (count, 0.0), (numbers["connections_total"], 0.0))

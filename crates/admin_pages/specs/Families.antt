@@ -3,7 +3,7 @@ use Rattle.std.specs.Prelude.{ℕ, ◌&&◌, not, Bool, true, List, [], ◌∷�
 use Rattle.std.specs.List.{list_any}
 use Rattle.std.specs.Str.{bytes_eq}
 use Rattle.admin_pages.specs.declared.families.Family.{Family}
-use Rattle.admin_pages.specs.declared.families.Family.TheVariants.{Uptime, Ready, Open, OpenLimit, Refused, Waiting, Buffered, Limit, Connections, Read, Written, Dropped, Requests, Times, Units, Slow, TenantRequests, TenantCollections, TenantDocuments, TenantTexts, TenantWaiting}
+use Rattle.admin_pages.specs.declared.families.Family.TheVariants.{Uptime, Ready, Open, OpenLimit, Refused, Waiting, Buffered, Limit, Connections, Read, Written, Dropped, Requests, Times, Units, Slow, TenantRequests, TenantCollections, TenantDocuments, TenantTexts, TenantMemory, TenantWaiting}
 use Rattle.admin_pages.specs.declared.families.Shape.{Shape}
 use Rattle.admin_pages.specs.declared.families.Shape.TheVariants as shape
 
@@ -28,6 +28,7 @@ name_of TenantRequests = codes "path_server_tenant_requests_total"
 name_of TenantCollections = codes "path_server_tenant_collections"
 name_of TenantDocuments = codes "path_server_tenant_documents"
 name_of TenantTexts = codes "path_server_tenant_text_bytes"
+name_of TenantMemory = codes "path_server_tenant_memory_bytes"
 name_of TenantWaiting = codes "path_server_tenant_connections_waiting"
 
 abbrev pub help_of : Family → List ℕ
@@ -51,6 +52,7 @@ help_of TenantRequests = codes "Requests of a tenant, by its number in the list 
 help_of TenantCollections = codes "Collections of a tenant."
 help_of TenantDocuments = codes "Documents of a tenant."
 help_of TenantTexts = codes "Bytes of texts of a tenant."
+help_of TenantMemory = codes "Bytes of memory that the documents of a tenant take."
 help_of TenantWaiting = codes "Connections that wait for memory, of the tenant that was answered on each last."
 
 abbrev pub kind_of : Family → List ℕ
@@ -74,6 +76,7 @@ kind_of TenantRequests = codes "counter"
 kind_of TenantCollections = codes "gauge"
 kind_of TenantDocuments = codes "gauge"
 kind_of TenantTexts = codes "gauge"
+kind_of TenantMemory = codes "gauge"
 kind_of TenantWaiting = codes "gauge"
 
 abbrev pub shape_of : Family → Shape
@@ -97,11 +100,12 @@ shape_of TenantRequests = shape.Tenants
 shape_of TenantCollections = shape.Tenants
 shape_of TenantDocuments = shape.Tenants
 shape_of TenantTexts = shape.Tenants
+shape_of TenantMemory = shape.Tenants
 shape_of TenantWaiting = shape.Tenants
 
 -- in the order in which they are told
 unfoldable pub families : List Family
-families = Uptime ∷ Ready ∷ Open ∷ OpenLimit ∷ Refused ∷ Waiting ∷ Buffered ∷ Limit ∷ Connections ∷ Read ∷ Written ∷ Dropped ∷ Requests ∷ Times ∷ Units ∷ Slow ∷ TenantRequests ∷ TenantCollections ∷ TenantDocuments ∷ TenantTexts ∷ TenantWaiting ∷ []
+families = Uptime ∷ Ready ∷ Open ∷ OpenLimit ∷ Refused ∷ Waiting ∷ Buffered ∷ Limit ∷ Connections ∷ Read ∷ Written ∷ Dropped ∷ Requests ∷ Times ∷ Units ∷ Slow ∷ TenantRequests ∷ TenantCollections ∷ TenantDocuments ∷ TenantTexts ∷ TenantMemory ∷ TenantWaiting ∷ []
 
 -- one sample, one for each command and status, one for each bound of the times and three more, one for each tenant
 abbrev pub rows_of : Shape → (tenants : ℕ) → ℕ

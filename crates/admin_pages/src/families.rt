@@ -45,6 +45,8 @@ pub enum Family {
     TenantDocuments,
     /// Bytes of texts of a tenant.
     TenantTexts,
+    /// Bytes of memory that the documents of a tenant take.
+    TenantMemory,
     /// Connections that wait for memory, by the last tenant that was answered on each.
     TenantWaiting,
 }
@@ -88,6 +90,7 @@ impl Family {
             Family::TenantCollections => "path_server_tenant_collections",
             Family::TenantDocuments => "path_server_tenant_documents",
             Family::TenantTexts => "path_server_tenant_text_bytes",
+            Family::TenantMemory => "path_server_tenant_memory_bytes",
             Family::TenantWaiting => "path_server_tenant_connections_waiting",
         }
     }
@@ -119,6 +122,7 @@ impl Family {
             Family::TenantCollections => "Collections of a tenant.",
             Family::TenantDocuments => "Documents of a tenant.",
             Family::TenantTexts => "Bytes of texts of a tenant.",
+            Family::TenantMemory => "Bytes of memory that the documents of a tenant take.",
             Family::TenantWaiting => {
                 "Connections that wait for memory, of the tenant that was answered on each last."
             }
@@ -150,6 +154,7 @@ impl Family {
             | Family::TenantCollections
             | Family::TenantDocuments
             | Family::TenantTexts
+            | Family::TenantMemory
             | Family::TenantWaiting => "gauge",
         }
     }
@@ -179,13 +184,14 @@ impl Family {
             | Family::TenantCollections
             | Family::TenantDocuments
             | Family::TenantTexts
+            | Family::TenantMemory
             | Family::TenantWaiting => Shape::Tenants,
         }
     }
 }
 
 /// All metrics, in the order in which they are told.
-const FAMILIES: [Family; 21] = [
+const FAMILIES: [Family; 22] = [
     Family::Uptime,
     Family::Ready,
     Family::Open,
@@ -206,6 +212,7 @@ const FAMILIES: [Family; 21] = [
     Family::TenantCollections,
     Family::TenantDocuments,
     Family::TenantTexts,
+    Family::TenantMemory,
     Family::TenantWaiting,
 ];
 

@@ -44,6 +44,8 @@ pub struct Gauges {
     pub documents: [u64; TENANTS],
     /// Bytes of texts of each.
     pub texts: [u64; TENANTS],
+    /// Bytes of memory that the documents of each take.
+    pub memory: [u64; TENANTS],
     /// Connections that wait for memory, by the last tenant that was answered on each.
     pub waiting_of: [u64; TENANTS],
 }
@@ -242,6 +244,7 @@ fn value(metrics: &Metrics, gauges: &Gauges, family: Family, place: usize) -> u6
         Family::TenantCollections => number_at(&gauges.collections, place),
         Family::TenantDocuments => number_at(&gauges.documents, place),
         Family::TenantTexts => number_at(&gauges.texts, place),
+        Family::TenantMemory => number_at(&gauges.memory, place),
         Family::TenantWaiting => number_at(&gauges.waiting_of, place),
     }
 }

@@ -120,11 +120,13 @@ fn gauges() -> Gauges {
         collections: [0; 256],
         documents: [0; 256],
         texts: [0; 256],
+        memory: [0; 256],
         waiting_of: [0; 256],
     };
     gauges.collections[1] = 2;
     gauges.documents[1] = 3;
     gauges.texts[1] = 4;
+    gauges.memory[1] = 6;
     gauges.waiting_of[1] = 5;
     gauges
 }

@@ -19,6 +19,7 @@ struct Held {
     collections: [u64; TENANT_LIMIT],
     documents: [u64; TENANT_LIMIT],
     texts: [u64; TENANT_LIMIT],
+    memory: [u64; TENANT_LIMIT],
 }
 
 impl<S: System + Drop, T: Time + Drop> Rounds<S, T> {
@@ -104,6 +105,7 @@ impl<S: System + Drop, T: Time + Drop> Rounds<S, T> {
         let collections = held.collections;
         let documents = held.documents;
         let texts = held.texts;
+        let memory = held.memory;
         let waiting_of = waiting.by_tenant;
         Gauges {
             uptime: self.seconds.last(),
@@ -122,6 +124,7 @@ impl<S: System + Drop, T: Time + Drop> Rounds<S, T> {
             collections,
             documents,
             texts,
+            memory,
             waiting_of,
         }
     }
@@ -131,6 +134,7 @@ impl<S: System + Drop, T: Time + Drop> Rounds<S, T> {
             collections: [0; TENANT_LIMIT],
             documents: [0; TENANT_LIMIT],
             texts: [0; TENANT_LIMIT],
+            memory: [0; TENANT_LIMIT],
         };
         for (place, key) in self.keys.iter().enumerate() {
             if let Some(usage) = self.opened.usage(key) {
@@ -138,6 +142,7 @@ impl<S: System + Drop, T: Time + Drop> Rounds<S, T> {
                     held.collections[place] = u64::from(usage.collections);
                     held.documents[place] = u64::from(usage.documents);
                     held.texts[place] = u64::from(usage.bytes);
+                    held.memory[place] = self.opened.memory_of(key);
                 }
             }
         }

@@ -149,6 +149,11 @@ impl<S: Peer, T: Time + Drop> Open<S, T> {
         self.core.inner().hub().usage(key)
     }
 
+    /// The bytes of memory that the documents of the tenant with this key take. 0 if there is none.
+    pub fn memory_of(&self, key: &[u8; 16]) -> u64 {
+        self.core.inner().hub().memory(key)
+    }
+
     /// The bytes that connections hold of the budgets, and those that there are.
     pub fn memory(&self) -> (usize, usize) {
         self.budgets.held()

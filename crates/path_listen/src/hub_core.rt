@@ -146,6 +146,15 @@ impl HubCore {
         }
     }
 
+    /// The bytes of memory that the documents of the tenant with this key take. 0 if there is none.
+    pub fn memory(&self, key: &[u8; 16]) -> u64 {
+        let tenants = self.hub.tenants();
+        match tenants.place_of(key) {
+            Some(place) => tenants.tenant(place).memory(),
+            None => 0,
+        }
+    }
+
     /// The most bytes of the reply to the first request, or to the fault, that waits on a connection. For a text it is the exact length, for
     /// a list that of as many longest names, and for hits the greatest length.
     pub fn most_reply(&self, conn: u32) -> usize
