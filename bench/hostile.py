@@ -2,9 +2,9 @@
 """Times `path_server query` on texts and queries that were made to take long: bench/hostile.py [SECONDS [WORD]].
 
 Each text has up to 1,048,576 bytes, or as many as the environment's MEBIBYTES (1 to 4) says, each query up to 4,096. A row of the table is
-the shape, how the program ended, its seconds of processor time, and the aim: 1 s for each mebibyte, at least 1.5 s for what has a charge of
-nearly 10,000,000 units, and 0.1 s for each mebibyte for what a product asks. The program has a stack of 256 KiB, and is stopped after so many
-SECONDS (5). With a WORD, only the rows that have it in their names are run. The last line is the number of rows above their aim, and the exit
+the shape, how the program ended, its seconds of processor time, and the aim: 1 s for each mebibyte, 0.6 s for what has a charge of nearly
+10,000,000 units, and 0.1 s for each mebibyte for what a product asks. The program has a stack of 256 KiB, and is stopped after so many SECONDS
+(5). With a WORD, only the rows that have it in their names are run. The last line is the number of rows above their aim, and the exit
 status is 1 where there is one. The program is the one that bin/build makes, or the one that the environment's PATH_SERVER names.
 """
 import collections
@@ -21,7 +21,7 @@ from running import PROGRAM, need_program
 MEBIBYTES = int(os.environ.get("MEBIBYTES") or 1)
 TEXT, QUERY, STACK = MEBIBYTES << 20, 4_096, 256 << 10
 DEPTH = 254
-AIM, AIM_OF_UNITS, AIM_OF_ASKED = 1.0 * MEBIBYTES, max(1.5, 1.0 * MEBIBYTES), 0.1 * MEBIBYTES
+AIM, AIM_OF_UNITS, AIM_OF_ASKED = 1.0 * MEBIBYTES, 0.6, 0.1 * MEBIBYTES
 NUMBER, STRING = "7" * 256, '"' + "s" * 998 + '"'
 LEAVES = {"zeros": "0", "words": "true", "long numbers": NUMBER, "strings": '"a"', "long strings": STRING,
           "escapes": '"' + "\\u0061" * 160 + '"', "arrays": "[0]", "empty arrays": "[]", "objects": '{"a":0}',
@@ -327,7 +327,25 @@ def free():
     yield "zeros, five sides for nothing", texts["zeros"], distinct(f"{side}=={key}" for side, key in turns)
     yield "zeros, five sides by && for nothing", texts["zeros"], distinct((f"{side}!={key}" for side, key in turns), "&&")
     yield "strings, five sides in ! for nothing", texts["strings"], distinct(f"!({side}!={key})" for side, key in turns)
-    yield "strings, lengths and keys for nothing", texts["strings"], distinct(f'@>="{key}"&&length(@)=={key}' for key in range(2, 2_000))
+    yield from mixed_sides(texts)
+
+
+def mixed_sides(texts):
+    """Operands that are charged nothing and have several sides in themselves."""
+    zeros, strings, keys = texts["zeros"], texts["strings"], range(2, 2_000)
+    lengths = "[" + ",".join('"' + "a" * (at % 120) + '"' for at in range(16_000 * MEBIBYTES)) + "]"
+    yield "strings, lengths and keys for nothing", strings, distinct(f'@>="{key}"&&length(@)=={key}' for key in keys)
+    yield "strings of many lengths, lengths and keys for nothing", lengths, distinct(f'@>="{key}"&&length(@)=={key}' for key in keys)
+    yield "strings, lengths or keys in ! for nothing", strings, distinct(f'!(@<"{key}"||length(@)!={key})' for key in keys)
+    yield "strings, a name beside lengths and keys for nothing", strings, distinct(itertools.chain(["@.a"], (f'@>="{key}"&&length(@)=={key}' for key in keys)))
+    yield "zeros, it and the text in one for nothing", zeros, filled("@<1&&$<1")
+    yield "zeros, three numbers and a length in one for nothing", zeros, filled("@<1&&@<1&&@<1&&length(@)<1")
+    yield "zeros, lengths in parentheses for nothing", zeros, filled("(@<1&&length(@)<1||@>2)&&@>3")
+    yield "zeros, lengths by && in parentheses for nothing", zeros, filled("(@<1||@>2&&length(@)<1)", "&&")
+    yield "zeros, five sides in one for nothing", zeros, filled("@<1&&length(@)!=1&&count(@)==1&&value(@)<1&&$<1")
+    deep = "(@<1&&(length(@)<1||" * 15 + "||".join(["@<1&&length(@)<1"] * 180) + "))" * 15
+    yield "zeros, lengths 31 deep for nothing", zeros, "$[?" + deep + "]"
+    yield "strings, the length of the value for nothing", strings, distinct(f"length(value(@))=={key}" for key in keys)
 
 
 def asked():

@@ -1,8 +1,8 @@
 #!/usr/bin/env python3
 """Compares what random conditions on a few sides select with a plain evaluator: tests/against_conditions.py [CONDITIONS [SEED]].
 
-A condition joins comparisons of one side with literals, and of `@` and `$`, by `||`, `&&`, `!` and parentheses; its values are the literals,
-others between and beyond them, and arrays and objects. The evaluator is plain_queries.py. The program is the one that bin/build makes or the
+A condition joins comparisons of sides with literals, and of `@` and `$`, by `||`, `&&`, `!` and parentheses, those of one side or of several in
+one operand; its values are the literals, others between and beyond them, and arrays and objects. The evaluator is plain_queries.py. The program is the one that bin/build makes or the
 one that the environment's PATH_SERVER names.
 """
 import random
@@ -17,7 +17,7 @@ NUMBERS = ["0", "-0", "0e5", "1", "1.0", "10e-1", "2", "-1", "-1.5", "0.1", "100
 STRINGS = ['""', '"a"', '"b"', '"ab"', '"aa"', '"\u00e9"', '"\\u00e9"', '"\U0001f600"', '"\uffff"', '"z"', '"A"', '"1"']
 WORDS = ["null", "true", "false"]
 OTHERS = ["4", "6", "-2", "0.5", "1.5", "1e300", '"c"', '"abc"', '"\\ud83d\\ude00"', "[]", "[1]", "[[1],2]", "{}", '{"a":1}']
-SIDES = ["@", "@", "@", "length(@)", "value(@)", "count(@)", "$", "length($)", "@.a", "@[0]", "$[0]", "length(@[0])"]
+SIDES = ["@", "@", "@", "length(@)", "value(@)", "count(@)", "$", "length($)", "@.a", "@[0]", "$[0]", "length(@[0])", "length(value(@))"]
 OPERATORS = ["==", "!=", "<", "<=", ">", ">="]
 PER_TEXT = 10
 
@@ -26,8 +26,8 @@ def literal(chance):
     return chance.choice(chance.choice([NUMBERS, NUMBERS, STRINGS, WORDS]))
 
 
-def comparison(chance, side):
-    kind = chance.random()
+def comparison(chance, sides):
+    kind, side = chance.random(), chance.choice(sides)
     if kind < 0.05:
         return chance.choice(["@", "$", "@.a"])
     if kind < 0.12:
@@ -37,23 +37,23 @@ def comparison(chance, side):
     return left + chance.choice(OPERATORS) + right
 
 
-def condition(chance, side, depth):
+def condition(chance, sides, depth):
     kind = chance.random()
     if depth == 0 or kind < 0.3:
-        return comparison(chance, side)
+        return comparison(chance, sides)
     if kind < 0.45:
-        return f"!({condition(chance, side, depth - 1)})"
-    parts = [condition(chance, side, depth - 1) for _ in range(chance.randint(2, 4))]
+        return f"!({condition(chance, sides, depth - 1)})"
+    parts = [condition(chance, sides, depth - 1) for _ in range(chance.randint(2, 4))]
     return "(" + chance.choice(["||", "&&"]).join(parts) + ")"
 
 
 def query(chance):
-    """A filter by conditions on one side, or on some, either several next to each other on the same or in any order."""
+    """A filter by conditions on one side, or on some, either several next to each other on the same or in any order, or each on all."""
     sides = [chance.choice(SIDES) for _ in range(chance.choice([1, 1, 2, 3, 12]))]
-    side, parts, change = sides[0], [], chance.choice([0.2, 1.0])
+    side, parts, change, is_mixed = sides[0], [], chance.choice([0.2, 1.0]), chance.random() < 0.4
     for _ in range(chance.choice([1, 2, 4, 8, 16, 60])):
         side = chance.choice(sides) if chance.random() < change else side
-        parts.append(condition(chance, side, chance.choice([0, 0, 1, 3])))
+        parts.append(condition(chance, sides if is_mixed else [side], chance.choice([0, 0, 1, 3])))
     return "$[?" + chance.choice(["||", "&&"]).join(parts) + "]"
 
 
