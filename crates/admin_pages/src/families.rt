@@ -242,5 +242,12 @@ pub(crate) fn family_at(number: usize) -> Option<Family>
     ensures metric { result ≡ slice_get families number }
     ensures within { IsSome result → number < 64 }
 {
-    FAMILIES.get(number).copied()
+    at(&FAMILIES, number)
+}
+
+fn at(families: &[Family], number: usize) -> Option<Family>
+    ensures metric { result ≡ slice_get families.now number }
+    ensures within { IsSome result → number < length families.now }
+{
+    families.get(number).copied()
 }
