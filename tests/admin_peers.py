@@ -290,7 +290,7 @@ def short_of_memory(report):
         numbers = server.numbers()
         report.case("connections wait", "", True, numbers["connections_waiting"] > 0)
         told = sum(count for name, count in numbers.items() if name.startswith("tenant_connections_waiting{"))
-        report.case("those of a tenant that wait, among them", "", True, told <= numbers["connections_waiting"])
+        report.case("those of a tenant that wait, among them", "", True, 0 < told <= numbers["connections_waiting"])
         report.case("bytes that are held, and their limit", "", (True, 16 * MEBIBYTE), (numbers["buffered_bytes"] >= REQUEST_LIMIT, numbers["buffered_limit_bytes"]))
         for target in ("/health", "/ready", "/metrics"):
             report.case(f"GET {target}", "", True, server.ask("GET", target)[0] in (200, 503))
