@@ -9,7 +9,7 @@ from pathlib import Path
 
 BIN = Path(__file__).resolve().parent.parent / "bin"
 sys.path.insert(0, str(BIN / "tools"))
-from edits import Edit, functions_of, in_groups, joined
+from edits import Edit, functions_of, homes_of, in_groups, joined
 SOURCE = "const ZERO: u8 = 0;\nfn one() -> u8 {\n    1\n}\nfn two() -> u8 {\n    2\n}\n"
 FITTING = {
     "must-fail/turned": "file: src/lib.rt\nold:     1\nnew:     3\n",
@@ -92,6 +92,27 @@ OPEN = {
 }
 
 
+# a type in one file, and functions of it and of its traits in another
+APART = {"src/made.rt": "pub struct Two<T> {\n    one: T,\n}\n", "src/apart.rt": """impl<T: Drop> Two<T> {
+    fn three(&self) {
+        one()
+    }
+}
+
+impl<T> From<T> for Two<T> {
+    fn from(it: T) {
+        one()
+    }
+}
+"""}
+
+
+def test_names():
+    """The prover names a type's own functions by the type's module, and those of a trait by the file that they stand in."""
+    found = [it.path for file, text in APART.items() for it in functions_of(file, text, homes_of(APART))]
+    assert found == ["made::Two::three", "apart::TwoFromT::from"], found
+
+
 def test_groups(crate):
     (crate / "src").mkdir(parents=True)
     (crate / "src/made.rt").write_text(CALLS)
@@ -107,6 +128,7 @@ def test_groups(crate):
 
 
 def main():
+    test_names()
     with tempfile.TemporaryDirectory() as folder:
         test_groups(Path(folder) / "made")
     with tempfile.TemporaryDirectory() as root:

@@ -14,6 +14,7 @@ from pathlib import Path
 TOGETHER = 64
 FUNCTION = re.compile(r"( *)(?:pub(?:\([a-z]+\))? )?(const )?(?:unsafe )?fn (\w+)")
 BLOCK = re.compile(r" *(?:pub(?:\([a-z]+\))? )?(?:unsafe )?(impl|trait|mod)\b")
+TYPE = re.compile(r"^(?:pub(?:\([a-z]+\))? )?(?:struct|enum) (\w+)", re.M)
 CYCLE = re.compile(r"^ *#\[cycle\((\w+)\)\]\n", re.M)
 # the lines of a check that tell of an open goal: where in a source file, or in which proof file
 OPEN = re.compile(r"note: (?:\./)?(src/\S+?):(\d+):\d+: (?:it is not proved that|`search` found no proof)|note: `[^`]+` of (proofs/\S+) must prove|(?:\./)?(proofs/\S+?):\d+:\d+: error: ")
@@ -94,9 +95,10 @@ def is_open(line):
 class Function:
     """A function of a source file that has a body: its path in its crate, its lines from its first attribute on, and its parts."""
 
-    def __init__(self, file, blocks, lines, first, start, opening, last):
+    def __init__(self, file, blocks, lines, first, start, opening, last, homes):
         self.file, self.name, self.first, self.last = file, FUNCTION.match(lines[start])[3], first + 1, last + 1
-        module = [it for it in Path(file).with_suffix("").parts[1:] if it not in ("lib", "main", "mod")]
+        module = homes.get(blocks[0].name) if blocks and blocks[0].is_of_a_type else None
+        module = module_of(file) if module is None else module
         self.path = "::".join([*module, *[it.name for it in blocks], self.name])
         self.text = "\n".join(lines[start : last + 1])
         self.body = "\n".join(lines[opening : last + 1])
@@ -133,6 +135,7 @@ class Block:
 
     def __init__(self, kind, head, last, is_test):
         self.kind, self.last, self.is_test = kind, last, is_test
+        self.is_of_a_type = kind == "impl" and " for " not in without_parameters(head)
         self.name = type_name(head.split(":")[0]) if kind != "impl" else impl_name(head)
 
 
@@ -164,10 +167,24 @@ def impl_name(head):
     return type_name(owner) + type_name(trait) + "".join(part[:1].upper() + part[1:] for it in spelled for part in it)
 
 
-def functions_of(file, text):
+def module_of(file):
+    return [it for it in Path(file).with_suffix("").parts[1:] if it not in ("lib", "main", "mod")]
+
+
+def homes_of(texts):
+    """The modules of a crate's types, by name. The prover names a type's own functions by its module, whichever file they stand in."""
+    return {name: module_of(file) for file, text in texts.items() for name in TYPE.findall(text)}
+
+
+def sources_of(crate):
+    """The texts of a crate's source files."""
+    return {str(it.relative_to(crate)): it.read_text(encoding="utf-8") for it in sorted((crate / "src").rglob("*.rt"))}
+
+
+def functions_of(file, text, homes={}):
     """The functions of a formatted text, but those within another's body, and those whose body is one line with their head. A body opens in
     the first line that stands as far left as the function and leaves a brace open, also one that an edit has put more into; it closes at the next
-    brace alone in a line that stands as far left."""
+    brace alone in a line that stands as far left. homes has the modules of the crate's types."""
     lines = text.split("\n")
     opens = lambda line: line.count("{") > line.count("}")
     found, blocks, past = [], [], 0
@@ -185,7 +202,7 @@ def functions_of(file, text):
             first = number
             while first and re.match(r" *(#\[|//)", lines[first - 1]):
                 first -= 1
-            found.append(Function(file, blocks, lines, first, number, opening, last))
+            found.append(Function(file, blocks, lines, first, number, opening, last, homes))
             past = last + 1
         else:
             head = " ".join(lines[number : opening + 1]).rstrip("{} ").lstrip()
@@ -195,8 +212,9 @@ def functions_of(file, text):
 
 def functions_in(crate):
     """The functions of all source files of a crate."""
-    files = sorted((crate / "src").rglob("*.rt"))
-    return [it for file in files for it in functions_of(str(file.relative_to(crate)), file.read_text(encoding="utf-8"))]
+    texts = sources_of(crate)
+    homes = homes_of(texts)
+    return [it for file, text in texts.items() for it in functions_of(file, text, homes)]
 
 
 class Edit:
@@ -205,11 +223,11 @@ class Edit:
     def __init__(self, path, crate):
         self.name, self.pairs = path.name, pairs_in(path)
         named = [line.split()[2:] for line in path.read_text(encoding="utf-8").splitlines() if line.startswith("# by: ")]
-        places, texts = [], {}
+        places, texts, homes = [], {}, homes_of(sources_of(crate))
         for file, old, new in self.pairs:
             before = texts.get(file)
             apply([(file, old, new)], crate, texts)
-            places.append(place_of(file, before or (crate / file).read_text(encoding="utf-8"), old))
+            places.append(place_of(file, before or (crate / file).read_text(encoding="utf-8"), old, homes))
         self.functions = list({it.path: it for it, _ in places if it}.values()) if all(it for it, _ in places) else []
         self.is_of_bodies = bool(self.functions) and all(is_inside for _, is_inside in places)
         self.judges = [it.path for it in self.functions] or [it for words in named for it in words]
@@ -222,11 +240,11 @@ class Edit:
         return self.is_of_bodies and other.is_of_bodies or not any(one.calls(two) or two.calls(one) for one in mine for two in others)
 
 
-def place_of(file, text, old):
+def place_of(file, text, old, homes):
     """The function that a part of a source file's text lies in, or nothing, and whether it lies in that function's body."""
     start = text.index(old)
     first, last = text.count("\n", 0, start) + 1, text.count("\n", 0, start + len(old)) + 1
-    inside = [it for it in functions_of(file, text) if it.first <= first and last <= it.last] if file.startswith("src/") else []
+    inside = [it for it in functions_of(file, text, homes) if it.first <= first and last <= it.last] if file.startswith("src/") else []
     return (inside[-1], inside[-1].opening < first) if inside else (None, False)
 
 

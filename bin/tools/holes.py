@@ -13,7 +13,7 @@ import subprocess
 import threading
 from pathlib import Path
 
-from edits import CYCLE, functions_of
+from edits import CYCLE, functions_of, homes_of, sources_of
 
 PARTS = ("src", "specs", "proofs")
 PROOFS = ("Invariants.antt", "Answers.antt", "Proof.antt")
@@ -39,15 +39,15 @@ def front_end(kit, crates, name, libraries):
 
 def source_files(folder):
     """The texts of a crate's source files, and those of them that are part of it without its tests."""
-    texts = {str(it.relative_to(folder)): it.read_text(encoding="utf-8") for it in sorted((folder / "src").rglob("*.rt"))}
+    texts = sources_of(folder)
     tests = {word.rstrip(";") for text in texts.values() for part in text.split("#[cfg(test)]\n")[1:] for word in part.split("\n")[0].split()[-1:] if word.endswith(";")}
     return texts, [it for it in texts if not tests & {*Path(it).with_suffix("").parts}]
 
 
-def cut(file, text, is_whole):
+def cut(file, text, homes, is_whole):
     """The text of a source file with the bodies of the functions cut for which is_whole does not hold."""
     lines = text.split("\n")
-    for it in reversed(functions_of(file, text)):
+    for it in reversed(functions_of(file, text, homes)):
         if is_whole(it):
             continue
         if not it.is_const and it.opening < it.last:
@@ -72,7 +72,8 @@ class HoledCopy:
             if (folder / part).is_dir():
                 shutil.copytree(folder / part, at / part)
         self.texts, self.files = source_files(folder)
-        code = [it for file in self.files for it in functions_of(file, self.texts[file])]
+        self.homes = homes_of(self.texts)
+        code = [it for file in self.files for it in functions_of(file, self.texts[file], self.homes)]
         self.unknown = [it for it in judged if it not in {one.path for one in code}]
         cycles = {it.cycle for it in code if it.cycle and it.path in judged}
         self.whole = {it.path for it in code if it.path in judged or it.cycle in cycles}
@@ -98,11 +99,11 @@ class HoledCopy:
     def put(self, texts):
         """Writes these texts into the copy, those of sources with what is cut."""
         for file, text in texts.items():
-            (self.at / file).write_text(cut(file, text, self.is_whole) if file in self.files else text, encoding="utf-8")
+            (self.at / file).write_text(cut(file, text, self.homes, self.is_whole) if file in self.files else text, encoding="utf-8")
 
     def functions(self, file):
         """The functions of a file as it stands in the copy."""
-        return functions_of(file, (self.at / file).read_text(encoding="utf-8"))
+        return functions_of(file, (self.at / file).read_text(encoding="utf-8"), self.homes)
 
     def check(self, judged, seconds, is_saved=False):
         """What the prover says of these functions, as lines, which are none where it takes longer than so many seconds, and the processor seconds that
