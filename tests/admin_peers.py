@@ -55,6 +55,7 @@ MORE = {
     b"Post /drain HTTP/1.1\r\n" + HOST + b"\r\n": 405,
     b"\r\n" * 5_000 + HEALTH: 431,
 }
+MOST_OF_A_HEAD, PIECE = 8_192, 1_024
 GRACES = {"": 404, "+1": 400, "-0": 400, "1.5": 400, "1e3": 400, "0x10": 400, "1_0": 400, "%31": 400, "1&grace=2": 400, "1;": 400, "1#": 400, "1/": 400, "\u0661": 400,
           "4294967296": 400, "18446744073709551616": 400, "86401": 400, "9" * 8_000: 400, "\t1": 400}
 PLACES = ("?grace", "?", "?Grace=1", "?x=1&grace=1", "/?grace=1", "//drain", "#", "?grace=1 ")
@@ -81,6 +82,14 @@ def told(address, sent, pieces, patience=PATIENCE):
     return status, is_whole
 
 
+def statuses_of(sent, wanted):
+    """What may be told of a request. A server reads at most a piece at a time until it has a head's most bytes, so that of a head which is longer by less
+    than a piece it depends on how the bytes arrive whether it is whole."""
+    if len(sent) >= MOST_OF_A_HEAD + PIECE:
+        return [(431, True)]
+    return [(wanted, True)] if len(sent) <= MOST_OF_A_HEAD else [(wanted, True), (431, True)]
+
+
 def malformed(report):
     """Each reply is the one that the program `admin_replies` gives, and nothing that is refused is done."""
     chance = random.Random(1)
@@ -88,12 +97,11 @@ def malformed(report):
         for sent, wanted in [*WHOLE.items(), *MORE.items(), *((it, 431) for it in TOO_LONG)]:
             if wanted == 202 or sent.startswith(b"POST /ready") and wanted == 200:
                 continue
-            # a server reads a piece at a time, so that a longer head is never whole
-            wanted = 431 if len(sent) > 9_000 else wanted
-            report.case("a request in one piece", sent, (wanted, True), told(server.admin, sent, [sent]))
+            fitting = statuses_of(sent, wanted)
+            report.case("a request in one piece", sent, True, told(server.admin, sent, [sent]) in fitting)
             cut = sorted(chance.sample(range(1, len(sent)), min(5, len(sent) - 1)))
             pieces = [sent[begin:end] for begin, end in zip([0, *cut], [*cut, len(sent)])]
-            report.case("a request in pieces", sent, (wanted, True), told(server.admin, sent, pieces))
+            report.case("a request in pieces", sent, True, told(server.admin, sent, pieces) in fitting)
             if len(sent) < 40:
                 report.case("a request byte by byte", sent, (wanted, True), told(server.admin, sent, [bytes([it]) for it in sent]))
         for target, allowed in ALLOWED.items():
