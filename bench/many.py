@@ -4,7 +4,7 @@
 It compiles bench/many_echo.c and bench/many_load.c (cc), starts the program as `path_server listen`, the loop in C and, where it is
 installed, Redis, and loads them in turns. Each line has for each of them the middle one of five rates and the times of a request. Then come
 the bytes that an idle connection takes in the process, and the times of requests beside others that take long or come without a pause,
-also of another tenant (bench/many_flood.c). The program is the one that bin/build makes, or the one that the environment's PATH_SERVER names.
+also of another tenant (bench/many_flood.c; the same beside Redis and PostgreSQL, by pgbench). The program is the one that bin/build makes, or the one that the environment's PATH_SERVER names.
 """
 import contextlib
 import resource
@@ -12,10 +12,12 @@ import socket
 import subprocess
 import sys
 import tempfile
+import threading
 import time
 from pathlib import Path
 
-from running import KEY, OTHER, compiled, get, listening, need_program, put, query, read_exactly, redis, redis_words, reply, request, resident, started, USAGE
+from running import (KEY, OTHER, compiled, get, listening, need_program, postgres, put, query, read_exactly, redis, redis_words, reply, request, resident,
+                     started, USAGE)
 
 TURNS = 5
 COUNTS = (1, 100, 1_000, 10_000)
@@ -40,6 +42,7 @@ for _, text in ipairs(redis.call('LRANGE', ARGV[1], 0, -1)) do
     for _, it in ipairs(cjson.decode(text)) do if it.price < 10 and it.stock > 250 then n = n + 1 end end
 end
 return n"""
+IN_SQL = "select count(*) from t, jsonb_path_query(d, '$[*] ? (@.price < 10 && @.stock > 250).id') where c = '{}'"
 
 
 def times(load, port, count, seconds, asked=OURS):
@@ -161,6 +164,41 @@ def beside_another(seconds, turns=TURNS):
             yield name, {it: middle(them) for it, them in rows.items()}
 
 
+def timed_statement(folder, ask, name, statement, connections, seconds):
+    """Rate, median and 99th percentile of a prepared statement on so many connections, by what pgbench logs of each."""
+    script = Path(folder, f"{name}.sql")
+    script.write_text(statement + ";\n", encoding="utf-8")
+    ask("pgbench", "-n", "-M", "prepared", "-c", str(connections), "-T", str(round(seconds)), "-f", str(script), "-l", "--log-prefix", f"{folder}/{name}")
+    took = []
+    for log in Path(folder).glob(f"{name}.*[0-9]"):
+        took += (float(line.split()[2]) for line in log.read_text(encoding="utf-8").splitlines())
+        log.unlink()
+    took.sort()
+    return len(took) / round(seconds), took[len(took) // 2], took[len(took) * 99 // 100]
+
+
+def of_postgres_beside_another(seconds, turns=TURNS):
+    """What `beside_another` has, of PostgreSQL with the same texts in a column of jsonb; nothing where it is not installed."""
+    with tempfile.TemporaryDirectory() as folder, postgres() as ask:
+        if not ask:
+            return
+        Path(folder).chmod(0o777)
+        rows = "".join(f"insert into t values ('p', {at}, $${PART.decode()}$$);" for at in range(PARTS)) + f"insert into t values ('w', 0, $${WHOLE.decode()}$$);"
+        ask("psql", "-q", given=f"create table t (c text, id int, d jsonb, primary key (c, id)); {rows}")
+        for name, others in [("nothing else", None), *OF_ANOTHER.items()]:
+            found = []
+            for _ in range(turns):
+                if others:
+                    statement = IN_SQL.format(others[0].decode())
+                    flooding = threading.Thread(target=timed_statement, args=(folder, ask, "others", statement, others[1], seconds + 2))
+                    flooding.start()
+                    time.sleep(0.5)
+                found.append(timed_statement(folder, ask, "asked", "select d from t where c = 'n' and id = 0", 1, seconds))
+                if others:
+                    flooding.join()
+            yield name, middle(found)
+
+
 def main():
     need_program()
     allow_descriptors()
@@ -174,6 +212,8 @@ def main():
         print(told.format(f"{count} beside {name}", *row), flush=True)
     for name, rows in beside_another(seconds):
         print(f"one of another tenant beside {name}:", "; ".join(told.format(it, *row) for it, row in rows.items()), flush=True)
+    for name, row in of_postgres_beside_another(seconds):
+        print(f"one of another tenant beside {name}:", told.format("PostgreSQL", *row), flush=True)
 
 
 if __name__ == "__main__":

@@ -160,8 +160,8 @@ def postgres_folder():
 
 @contextlib.contextmanager
 def postgres():
-    """A new PostgreSQL with its defaults, over the loopback address: a function that runs psql or pgbench on it. None where it is not installed, or
-    does not start."""
+    """A new PostgreSQL with its defaults, but for 200 connections, over the loopback address: a function that runs psql or pgbench on it. None where it
+    is not installed, or does not start."""
     folder = postgres_folder()
     if not folder or not shutil.which("pgbench") or not shutil.which("psql"):
         yield None
@@ -174,7 +174,7 @@ def postgres():
             if user:
                 shutil.chown(room, "postgres")
             subprocess.run([*user, f"{folder}/initdb", "-D", f"{room}/data", "-A", "trust", "-U", "bench"], check=True, **quiet)
-            words = [f"{folder}/postgres", "-D", f"{room}/data", "-p", str(port), "-k", room, "-c", "listen_addresses=127.0.0.1"]
+            words = [f"{folder}/postgres", "-D", f"{room}/data", "-p", str(port), "-k", room, "-c", "listen_addresses=127.0.0.1", "-c", "max_connections=200"]
             process = subprocess.Popen([*user, *words], **quiet)
             wait_for(port)
         except (OSError, LookupError, subprocess.CalledProcessError) as error:

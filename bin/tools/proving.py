@@ -18,10 +18,15 @@ LARGE = 300
 MOST_JOBS = 4
 
 
+def rooms_in_memory():
+    """How many checks there is memory for."""
+    found = re.search(r"MemAvailable:\s+(\d+)", Path("/proc/meminfo").read_text())
+    return max(int(found[1]) * 1024 // BYTES_EACH, 1)
+
+
 def lanes():
     """How many checks there are processors and memory for."""
-    found = re.search(r"MemAvailable:\s+(\d+)", Path("/proc/meminfo").read_text())
-    return max(min(len(os.sched_getaffinity(0)), int(found[1]) * 1024 // BYTES_EACH), 1)
+    return min(len(os.sched_getaffinity(0)), rooms_in_memory())
 
 
 class Crates:
@@ -47,9 +52,10 @@ class Crates:
     def is_program(self, name):
         return (self.folder(name) / "src/main.rt").is_file()
 
-    def is_large(self, name):
+    def lines_of(self, name):
+        """How many lines of source there are: what a check takes grows with them."""
         sources = (self.folder(name) / "src").rglob("*.rt")
-        return sum(file.read_text(encoding="utf-8").count("\n") for file in sources) >= LARGE
+        return sum(file.read_text(encoding="utf-8").count("\n") for file in sources)
 
 
 class Room:
@@ -73,34 +79,58 @@ class Room:
     def library(self):
         return self.folder / "out/rlib"
 
-    def rt(self, *words, seconds=None):
-        """The exit status of a command of rt in the crate, and what it said."""
+    def rt(self, *words, seconds=None, behind=False):
+        """The exit status of a command of rt in the crate, and what it said. One that is behind others lets these have the processors."""
         how = {"cwd": self.folder, "stdin": subprocess.DEVNULL, "stdout": subprocess.PIPE, "stderr": subprocess.STDOUT}
-        ran = subprocess.run(["rt", *words], timeout=seconds, **how)
+        ran = subprocess.run([*(["nice"] if behind else []), "rt", *words], timeout=seconds, **how)
         return ran.returncode, ran.stdout.decode(errors="replace").splitlines()
 
 
 class Task:
-    """Something to do once others are done: a function of how many jobs it may use, whose answer says whether it went well."""
+    """Something to do once others are done: a function of how many jobs it may use, and of whether it is behind another one, whose answer says
+    whether it went well. What it takes grows with its length; one of at least `LARGE` lines takes less time with several jobs."""
 
-    def __init__(self, name, waits, work, is_large=False):
-        self.name, self.waits, self.work, self.is_large = name, waits, work, is_large
+    def __init__(self, name, waits, work, length=0):
+        self.name, self.waits, self.work, self.length = name, waits, work, length
+
+    def jobs(self, idle):
+        return max(min(idle, MOST_JOBS), 1) if self.length >= LARGE else 1
+
+
+def ways(tasks):
+    """For each task, which stands behind those that it waits for, the greatest length of it and of some that wait for one another behind it."""
+    found = dict.fromkeys((it.name for it in tasks), 0)
+    for task in reversed(tasks):
+        found[task.name] += task.length
+        for lower in task.waits:
+            found[lower] = max(found[lower], found[task.name])
+    return found
 
 
 def run_all(tasks, many, tell, silence):
-    """Does the tasks, many at a time, those in front first; one whose work did not go well, and all that wait for it, stay undone.
-    A large task gets the processors that no other one can use. tell gets each task that is done, with whether it went well, and
-    nothing but the names of those that run where none was done for so many seconds."""
-    done, failed, running, runs = set(), set(), {}, {}
+    """Does the tasks, many at a time, those with the longest way before them first; one whose work did not go well, and all that wait for it, stay
+    undone. The end comes no sooner than that of the longest way: so where its next task is large, that one gets as many jobs as there are
+    lanes beside those of the others, which are behind it, if there is memory for both. Other large tasks get the lanes that no one else can use. tell gets
+    each task that is done, with whether it went well, and nothing but the names of those that run where none was done for so many seconds."""
+    done, failed, running, runs, way, rooms = set(), set(), {}, {}, ways(tasks), rooms_in_memory()
+    front = None
     with ThreadPoolExecutor(max(len(tasks), 1)) as pool:
+
+        def begin(task, jobs, behind):
+            running[task.name] = jobs
+            runs[pool.submit(task.work, jobs, behind)] = task
+
         while True:
             left = [it for it in tasks if it.name not in {*done, *failed, *running}]
-            ready = [it for it in left if done.issuperset(it.waits)]
+            ready = sorted((it for it in left if done.issuperset(it.waits)), key=lambda it: -way[it.name])
+            if ready and ready[0].length >= LARGE and all(way[it] <= way[ready[0].name] for it in running):
+                front = ready.pop(0)
+                begin(front, front.jobs(many), False)
+            ahead = running.get(front.name, 0) if front else 0
             for at, task in enumerate(ready):
-                idle = many - sum(running.values())
+                idle = min(many, max(rooms, many) - ahead) - (sum(running.values()) - ahead)
                 if idle > 0:
-                    running[task.name] = max(min(idle // (len(ready) - at), MOST_JOBS), 1) if task.is_large else 1
-                    runs[pool.submit(task.work, running[task.name])] = task
+                    begin(task, task.jobs(idle // (len(ready) - at)), True)
             if not runs:
                 return
             ended = wait(runs, timeout=silence, return_when=FIRST_COMPLETED).done

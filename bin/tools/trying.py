@@ -105,7 +105,7 @@ class Trial:
         self.crates, self.name, self.files, self.kit, self.libraries, self.kept, self.are_timed = crates, name, files, kit, libraries, kept, are_timed
         self.said, self.refused, self.copy, self.places, self.checks, self.spent = [], 0, None, {}, 0, 0.0
 
-    def run(self, _):
+    def run(self, *_):
         started = time.monotonic()
         missing = self.libraries.wait(self.crates.below([self.name]))
         if missing:

@@ -1,5 +1,7 @@
-//! What the loop tells the hub and asks it, beside turns: none of it changes the hub.
+//! What the loop tells the hub and asks it, beside turns. But for sessions none of it changes the hub.
 ghost use Rattle.std.specs.Prelude.{◌≡◌};
+ghost use Rattle.std.specs.Bool.{MatchBool};
+ghost use Rattle.hub_metrics.specs.Measuring.{Opens, Closes};
 
 use connection_turns::Counted;
 use hub_metrics::{MeasuredHub, Slow};
@@ -10,6 +12,27 @@ const SHARE: u64 = 1_000;
 
 /// The units for which it goes on where nobody does.
 const LONG_SHARE: u64 = 10_000;
+
+/// Opens a connection's session, and tells whether that was not refused.
+pub(crate) fn connect<T: Time + Drop>(counted: &mut Counted<MeasuredHub<T>, T>, conn: u32) -> bool
+    ensures { MatchBool result (Opens conn counted.old counted.new) (counted.new ≡ counted.old) }
+{
+    counted.core.connect(conn).is_ok()
+}
+
+/// Ends a connection's session.
+pub(crate) fn disconnect<T: Time + Drop>(counted: &mut Counted<MeasuredHub<T>, T>, conn: u32)
+    ensures { Closes conn counted.old counted.new }
+{
+    counted.core.disconnect(conn);
+}
+
+/// Measures how long requests take, by this clock.
+pub(crate) fn measure<T: Time + Drop>(counted: &mut Counted<MeasuredHub<T>, T>, clock: T)
+    ensures { counted.new ≡ counted.old }
+{
+    counted.core.measure(clock);
+}
 
 /// Tells queries that took longer than so many microseconds from now on.
 pub(crate) fn tell_slow<T: Time + Drop>(counted: &mut Counted<MeasuredHub<T>, T>, micros: u64)

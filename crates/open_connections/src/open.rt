@@ -4,7 +4,7 @@ ghost use Rattle.slab.specs.Slab.{get, slab_len};
 ghost use Rattle.open_connections.specs.Looping.{Stays, Does, DoesAtMost, TakenIn, HasTurn, LetGo};
 ghost use Rattle.std.specs.Bool.{MatchBool};
 ghost use Rattle.std.specs.Option.{option_map};
-ghost use Rattle.hub_metrics.specs.Measuring.{Opens, Closes, measured};
+ghost use Rattle.hub_metrics.specs.Measuring.{measured};
 ghost use Rattle.request_replies.specs.Tenants.{map_of};
 ghost use Rattle.tenant_map.specs.Quotas.{usage_of};
 ghost use Rattle.connection_turns.specs.Owed.{line_of};
@@ -12,7 +12,9 @@ ghost use Rattle.open_connections.specs.Opened.{lanes_of, bytes_of, has_time, Is
 ghost use Rattle.open_connections.specs.Shares.{fresh_budgets, IsWithin, StayFree, IsGivenBack, claim_at};
 
 use crate::budgets::Budgets;
-use crate::core_calls::{begin, give_up_query, share, take_micros, take_slow, tell_slow};
+use crate::core_calls::{
+    begin, connect, disconnect, give_up_query, measure, share, take_micros, take_slow, tell_slow,
+};
 use crate::due::{Due, DueList};
 use crate::needs::{After, covers, is_for_reply, left_of, need, piece_of};
 use crate::waiting::{Waiting, waiting_among};
@@ -746,26 +748,6 @@ impl<S: Peer, T: Time + Drop> Open<S, T> {
         self.idle.sort_unstable();
         self.idle.reverse();
     }
-}
-
-// Opens a connection's session, and tells whether that was not refused.
-fn connect<T: Time + Drop>(counted: &mut Counted<MeasuredHub<T>, T>, conn: u32) -> bool
-    ensures { MatchBool result (Opens conn counted.old counted.new) (counted.new ≡ counted.old) }
-{
-    counted.core.connect(conn).is_ok()
-}
-
-// Ends a connection's session.
-fn disconnect<T: Time + Drop>(counted: &mut Counted<MeasuredHub<T>, T>, conn: u32)
-    ensures { Closes conn counted.old counted.new }
-{
-    counted.core.disconnect(conn);
-}
-
-fn measure<T: Time + Drop>(counted: &mut Counted<MeasuredHub<T>, T>, clock: T)
-    ensures { counted.new ≡ counted.old }
-{
-    counted.core.measure(clock);
 }
 
 // The number that the hub knows a connection by.
