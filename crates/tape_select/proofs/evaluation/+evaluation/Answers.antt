@@ -58,7 +58,7 @@ all_selected-returns-in_err-nodes-2-clause-found t c =
     (λ h. omega (arith, ch, before, h)) got)
 
 pub selected_by-returns-in-Where-clause-added : goal.selected_by-returns-in-Where-clause-added
-unfolding Rattle.tape_select.specs.declared.plan.Condition.TheViews.out-Selection denote.Hole.Carrier.out
+unfolding Rattle.query_plan.specs.declared.plan.Condition.TheViews.out-Selection denote.Hole.Carrier.out
 selected_by-returns-in-Where-clause-added t c =
     let f = charge_expr (node_at c.args.doc.now 0) (condition_view c.in-Where.condition.value).tree in
     let same = filter_charge f (children (node_at c.args.doc.now c.args.n.0)) in
