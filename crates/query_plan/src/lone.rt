@@ -26,7 +26,7 @@ pub fn is_wild(selections: &[Selection]) -> bool
 }
 
 /// The name or the index of a segment that selects by it alone.
-#[tactic(auto, using(crate::proofs::Lone::linked))]
+#[tactic(auto, using(crate::proofs::LoneLinks::linked))]
 pub fn lone_link(stage: &Stage) -> Option<&Link>
     ensures { IfSome result (λ link. (stage_view stage.now).tree ≡ link_view link.now) }
 {
