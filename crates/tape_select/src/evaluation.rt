@@ -20,8 +20,8 @@ use compared_sides::{compare, compare_length, length_of, related, side_found};
 use decisions::{Decision, tells_as_compared};
 use json_tape::{Document, NodeId};
 use node_lists::{
-    Link, SelectFault, child_total, children_below, followed, lone, named, push, push_some, sliced, step,
-    stepped, wild,
+    Link, SelectFault, child_total, children_below, followed, lone, named, push, push_some, sliced,
+    step, stepped, wild,
 };
 use query_plan::{
     Condition, Nested, Operand, Parts, Selection, Stage, is_wild, lone_link, only_link, units_of,
