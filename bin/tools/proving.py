@@ -79,11 +79,15 @@ class Room:
     def library(self):
         return self.folder / "out/rlib"
 
-    def rt(self, *words, seconds=None, behind=False):
-        """The exit status of a command of rt in the crate, and what it said. One that is behind others lets these have the processors."""
+    def rt(self, *words, behind=False):
+        """The exit status of a command of rt in the crate, what it said, and the seconds of a processor that it took. One that is behind others lets
+        these have the processors."""
         how = {"cwd": self.folder, "stdin": subprocess.DEVNULL, "stdout": subprocess.PIPE, "stderr": subprocess.STDOUT}
-        ran = subprocess.run([*(["nice"] if behind else []), "rt", *words], timeout=seconds, **how)
-        return ran.returncode, ran.stdout.decode(errors="replace").splitlines()
+        with subprocess.Popen([*(["nice"] if behind else []), "rt", *words], **how) as ran:
+            said = ran.stdout.read().decode(errors="replace").splitlines()
+            _, status, used = os.wait4(ran.pid, 0)
+            ran.returncode = -(status & 127) if status & 127 else status >> 8
+        return ran.returncode, said, used.ru_utime + used.ru_stime
 
 
 class Task:
