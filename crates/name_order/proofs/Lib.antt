@@ -4,6 +4,7 @@ pub mod Halving
 pub mod KeysLeft
 pub mod HashedWords
 pub mod Runs
+pub mod OrderWords
 pub mod SameBytes
 pub mod Abreast
 pub mod Alike

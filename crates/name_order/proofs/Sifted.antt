@@ -11,6 +11,7 @@ use Rattle.json_text.specs.Answer.{IsJson, StandsForAll}
 use Rattle.tape_cells.specs.Cells.{members_in}
 use Rattle.json_text.specs.Repeats.{repeats, meanings, IsObject}
 use Rattle.name_order.specs.Ordered.{AreKept}
+use Rattle.name_order.specs.Orders.{Order}
 use Rattle.json_text.specs.Sifted.{IsWide, AreSifted}
 use Rattle.json_text.specs.Tape.{entry_in, nothing_there}
 use Rattle.json_text.specs.declared.tape.Entry.{Entry}
@@ -19,16 +20,8 @@ use Rattle.tape_cells.proofs.WideObjects.{not_wide_by}
 use Rattle.name_order.proofs.Runs.{few_members}
 
 -- below the first entry nothing is kept
-pub kept_none : (text : List ℕ) (tape : List Entry) → AreKept text tape 0 [] [] [] []
-kept_none text tape = record {
-  rising = λ i j l h. absurd (omega arith);
-  under = λ i h. absurd (omega arith);
-  begun = refl;
-  long = refl;
-  room = λ i h. absurd (omega arith);
-  each = λ i h. absurd (omega arith);
-  all = λ n h w. absurd (omega arith);
-}
+pub kept_none : (text : List ℕ) (tape : List Entry) (orders : List Order) → orders ≡ [] → AreKept text tape 0 orders
+kept_none text tape orders e = subst (AreKept text tape 0) (sym e) (record { each = λ i d h. absurd (omega arith); all = λ n h w. absurd (omega arith) })
 
 module _ (text : List ℕ) (tape : List Entry) where
   -- from the next one on, of the objects that are not among those from place i on none is wide, and none has two names that mean the same
@@ -86,14 +79,9 @@ module _ (text : List ℕ) (tape : List Entry) where
       ]
 
       -- and none of them keeps the order of its members
-      pub kept_on : (objects starts hashes members : List ℕ) → AreKept text tape next objects starts hashes members → AreKept text tape to objects starts hashes members
-      kept_on objects starts hashes members k = record {
-        rising = k.rising;
-        under = λ n h. (let u = k.under n h in omega arith);
-        begun = k.begun;
-        long = k.long;
-        room = k.room;
-        each = k.each;
+      pub kept_on : (orders : List Order) → AreKept text tape next orders → AreKept text tape to orders
+      kept_on orders k = record {
+        each = λ i d h. (let l = (k.each i d h).0 in omega arith, (k.each i d h).1);
         all = λ n h w. elim (cases_lt n next) [
           | inl g ↦ k.all n g w
           | inr g ↦ absurd (left.narrow n g (below n h) w)

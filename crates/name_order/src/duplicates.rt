@@ -11,7 +11,8 @@ ghost use Rattle.json_text.specs.Sifted.{AreSifted};
 ghost use Rattle.tape_cells.specs.Cells.{members_in};
 ghost use Rattle.json_text.specs.declared.tape.TextFault.TheVariants.{LoneSurrogate, DuplicateName};
 
-use crate::order::{NARROW, NameOrder, SIZES, order_members, repeats_in};
+use crate::order::{NARROW, SIZES, order_members, repeats_in};
+use crate::orders::NameOrder;
 use std::alloc::{AllocError, Global};
 use tape_cells::Tape;
 
@@ -29,8 +30,7 @@ pub fn order_names(
     requires short { length tape.now < 2 ^ 31 }
     requires paired { Applies text.now LoneSurrogate → ⊥ }
     requires sifted { AreSifted text.now tape.now asked.now }
-    ensures { IfOk result (λ found. MatchOption found (Applies text.now DuplicateName) (λ order. (Applies text.now DuplicateName → ⊥)
-        × AreKept text.now tape.now (length tape.now) order.objects.items order.starts.items order.hashes.items order.members.items)) }
+    ensures { IfOk result (λ found. MatchOption found (Applies text.now DuplicateName) (λ order. (Applies text.now DuplicateName → ⊥) × AreKept text.now tape.now (length tape.now) order)) }
 {
     let mut sorted = Vec::from_slice(alloc, asked)?;
     sorted.sort_unstable();
@@ -86,9 +86,9 @@ fn repeats_at(
     requires inside { n < length tape.now }
     requires object { (ms : Members) × IsObject text.now tape.now n ms }
     requires short { length tape.now < 2 ^ 31 }
-    requires kept { AreKept text.now tape.now n order.old.objects.items order.old.starts.items order.old.hashes.items order.old.members.items }
+    requires kept { AreKept text.now tape.now n order.old }
     ensures found { IfOk result (λ found. (ms : Members) → IsObject text.now tape.now n ms → found ≡ repeats (meanings ms)) }
-    ensures kept { IfOk result (λ found. found ≡ false → AreKept text.now tape.now (n + 1) order.new.objects.items order.new.starts.items order.new.hashes.items order.new.members.items) }
+    ensures kept { IfOk result (λ found. found ≡ false → AreKept text.now tape.now (n + 1) order.new) }
 {
     if tape.members(n) > NARROW {
         order_members(alloc, text, tape, n, words, latest, order)

@@ -9,4 +9,4 @@ invariant-loop-n l =
     (l.from ≤ length l.tape)
     × AreLeft l.text l.tape l.n-items l.n-index l.from
     × NoneBelow l.text l.tape l.from
-    × AreKept l.text l.tape l.from l.order.objects.items l.order.starts.items l.order.hashes.items l.order.members.items
+    × AreKept l.text l.tape l.from l.order
