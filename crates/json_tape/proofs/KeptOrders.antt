@@ -3,7 +3,7 @@ use Rattle.std.proofs.Common.{◌≡◌, ℕ, ◌<◌, List, length, Option, Som
 use Rattle.std.specs.List.{Contains}
 use Rattle.std.proofs.lemmas.List.Elements.{All-contains}
 use Rattle.json_text.specs.Tape.{entry_in}
-use Rattle.json_text.specs.Sifted.{IsWide}
+use Rattle.json_text.specs.Suspects.{IsWide}
 use Rattle.json_tape.specs.Document.{Doc, count}
 use Rattle.name_order.specs.Ordered.{AreKept, IsOrderOf}
 use Rattle.name_order.specs.Orders.{Order}

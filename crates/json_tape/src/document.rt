@@ -14,7 +14,7 @@ ghost use Rattle.json_text.specs.Nodes.{size, children, visit, is_named, first_w
 ghost use Rattle.json_text.specs.Tape.{Top, tape_of, entry_in, kind_of};
 ghost use Rattle.json_tape.specs.Siblings.{numbered};
 ghost use Rattle.name_order.specs.Ordered.{AreKept, IsOrderOf};
-ghost use Rattle.json_text.specs.Sifted.{IsWide};
+ghost use Rattle.json_text.specs.Suspects.{IsWide};
 ghost use Rattle.json_strings.specs.Keys.{sought_name};
 ghost use Rattle.json_tape.specs.Document.{tree_of, count, node_at, later, seen, following, single, root_of, counting, IsIn, IsDocument, IsMember, HasName, LeadIs, ParentIs, StandsIn, length_of, string_meaning};
 

@@ -1,4 +1,4 @@
-pub mod Sifted
+pub mod SuspectsLeft
 pub mod TwinNames
 pub mod Halving
 pub mod KeysLeft

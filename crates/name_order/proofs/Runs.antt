@@ -18,7 +18,7 @@ use Rattle.json_strings.specs.Keys.{Keyed, key_name, key_number, key_hash, name_
 use Rattle.name_order.specs.Ordered.{keyed, name_at, IsOrderOf, AreKept}
 use Rattle.name_order.specs.Orders.{Order}
 use Rattle.json_text.specs.Tape.{entry_in}
-use Rattle.json_text.specs.Sifted.{IsWide}
+use Rattle.json_text.specs.Suspects.{IsWide}
 use Rattle.json_strings.specs.KeyOrder.{keys_equiv, keys_total, keys_tie}
 use Rattle.json_text.specs.declared.tape.Entry.{Entry}
 use Rattle.json_text.specs.declared.tape.Kind.{Kind}

@@ -14,7 +14,7 @@ use Rattle.json_text.specs.declared.tape.Entry.{Entry}
 use Rattle.json_strings.specs.Keys.{Keyed, key_number, key_hash, name_hash, name_cmp}
 use Rattle.name_order.specs.Orders.{Order, onward}
 use Rattle.json_text.specs.Tape.{entry_in}
-use Rattle.json_text.specs.Sifted.{IsWide}
+use Rattle.json_text.specs.Suspects.{IsWide}
 
 -- the members in document order, where the first has this number
 abbrev pub keyed : Members → ℕ → List Keyed

@@ -10,7 +10,7 @@ ghost use Rattle.json_text.specs.Repeats.{repeats, repeats_next_by, meanings, Is
 ghost use Rattle.json_text.specs.Limits.{bytes_at};
 ghost use Rattle.name_order.specs.Ordered.{AreNamed, AreKept, AreSameFrom, IsLeafAlike, AreLeavesAlike, IsNameInside, AreAlike, name_at, keyed, word_of};
 ghost use Rattle.name_order.specs.Orders.{no_order, high_half};
-ghost use Rattle.json_text.specs.Sifted.{IsWide};
+ghost use Rattle.json_text.specs.Suspects.{IsWide};
 ghost use Rattle.json_text.specs.Tape.{entry_in};
 ghost use Rattle.json_strings.specs.Keys.{name_cmp, name_hash, key_name, key_number, key_hash, sought_name};
 
@@ -337,7 +337,7 @@ fn are_alike(text: &str, tape: &Tape, n: u32, earlier: u32) -> bool
     true
 }
 
-/// So many sizes of objects are told apart where one like the next is looked for.
+/// How many sizes of objects are distinguished where one like the next is looked for.
 pub const SIZES: usize = 64;
 
 // The place in the list of an object whose members stand as those of this one do, where the latest one of its size is such. The place

@@ -5,7 +5,7 @@ use Rattle.json_text.specs.Repeats.{repeats, meanings}
 use Rattle.json_text.specs.Tape.{entry_in, nothing_there}
 use Rattle.name_order.proofs.TwinNames.{object_at, duplicate_found, duplicate_none, one_more}
 use Rattle.name_order.proofs.Runs.{members_are}
-use Rattle.name_order.proofs.Sifted.{kept_none, left_all, left_behind, left_over, none_on, kept_on, later_is_more}
+use Rattle.name_order.proofs.SuspectsLeft.{kept_none, left_all, left_behind, left_over, none_on, kept_on, later_is_more}
 use Rattle.name_order.proofs.duplicates.order_names.Goals.{then-is_left+in_ok-found+else-found, else-is_left}
 use Rattle.name_order.proofs.duplicates.order_names.Goals as goal
 
@@ -13,7 +13,7 @@ pub loop-n-init : goal.loop-n-init
 loop-n-init c =
     let moved = subst (λ xs. IsPermutation xs c.deref-n-items.result.now) c.in_ok-sorted.ensures.items (subst (IsPermutation c.in_ok-sorted.sorted.items) (sym c.deref-n-items.ensures.value) c.sort_unstable.ensures.permutation) in (
       omega arith,
-      left_all c.args.text.now c.args.tape.now c.args.asked.now c.deref-n-items.result.now c.requires.sifted moved,
+      left_all c.args.text.now c.args.tape.now c.args.suspects.now c.deref-n-items.result.now c.requires.suspects moved,
       (λ i ms l o. absurd (omega arith)),
       kept_none c.args.text.now c.args.tape.now _ c.in_ok-order.ensures,
     )

@@ -1,7 +1,7 @@
 use Rattle.std.proofs.Common.{◌≤◌, length}
 use Rattle.name_order.specs.Ordered.{AreKept}
 use Rattle.name_order.proofs.TwinNames.{NoneBelow}
-use Rattle.name_order.proofs.Sifted.{AreLeft}
+use Rattle.name_order.proofs.SuspectsLeft.{AreLeft}
 use Rattle.name_order.proofs.duplicates.order_names.Given as goal
 
 abbrev pub invariant-loop-n : goal.invariant-loop-n

@@ -2,7 +2,7 @@ use Rattle.std.specs.String.{string_bytes}
 use Rattle.std.proofs.Common.{◌∙◌, length, ap, sym, subst}
 use Rattle.json_text.specs.Verdict.{IsAccepted}
 use Rattle.json_tape.specs.Document.{tree_of}
-use Rattle.json_tape.proofs.Told.{is_accepted, document}
+use Rattle.json_tape.proofs.TreeBuilt.{is_accepted, document}
 use Rattle.name_order.specs.Ordered.{AreKept}
 use Rattle.json_tape.proofs.document.Document.read.Goals as goal
 

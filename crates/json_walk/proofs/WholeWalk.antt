@@ -20,9 +20,9 @@ use Rattle.json_text.specs.declared.tape.Shape.{Shape}
 use Rattle.json_text.specs.declared.tape.Shape.TheVariants.{Array, Object}
 use Rattle.tape_cells.specs.Built.{Built, standing, nothing}
 use Rattle.json_text.specs.Tokens.{Blank, class, IsToken, Goes, stay, blank, token, Taken}
-use Rattle.json_walk.specs.Walked.{IsListed, place, Point, point, Walked, stays, moves, Outlasts, IsBlocked, refused, few, Halts, want_at, at, Arrives}
+use Rattle.json_walk.specs.Walked.{IsListed, place, Point, point, Walked, stays, moves, Outlasts, IsBlocked, refused, few, Halts, want_at, at, WalksTo}
 use Rattle.json_text.proofs.Complete.{blank_class}
-use Rattle.json_walk.proofs.Going.{unopened, unput, cond_none}
+use Rattle.json_walk.proofs.WalkSteps.{unopened, unput, cond_none}
 use Rattle.json_walk.proofs.Listed.{in_text, next_is, no_blank}
 use Rattle.json_walk.proofs.Marks.{Kept, kept_start, kept_token}
 use Rattle.json_walk.proofs.PlaceWalk.{Walks, walks_start, walks_end, walks_refused}
@@ -127,7 +127,7 @@ module _ (bytes items : List ℕ) (listed : IsListed bytes items) (before : ℕ)
       let same : standing b (want_at spot.behind (level_of b.opens)) None ≡ standing b wants.Next None = ap (λ x. standing b (want_at x (level_of b.opens)) None) behind in
       blocked_none (at spot b looked mark) known (refused l (λ vs rest tok e t. ap (step tok) same ∙ nothing_more tok b level))
 
-  pub record Arrived (entries : List Entry) (deep looked : ℕ) (mark : Bool) : Type 0 where
+  pub record WholeWalk (entries : List Entry) (deep looked : ℕ) (mark : Bool) : Type 0 where
     pub json : IsJson bytes
     pub stands : StandsForAll bytes entries
     pub bounded : IsBounded bytes before looked
@@ -135,8 +135,8 @@ module _ (bytes items : List ℕ) (listed : IsListed bytes items) (before : ℕ)
     pub depth : HasDepth bytes deep
     pub numbers : mark ≡ false → AreWithinLimits bytes entries
 
-  pub arrived : (spot : Spot) (b : Built) (looked : ℕ) (mark : Bool) → Walked bytes items first_point (at spot b looked mark) → level_of b.opens ≡ Root → spot.behind ≡ true → length items ≤ spot.number → Arrived b.entries b.deep looked mark
-  arrived spot b looked mark w level behind l =
+  pub whole_walk : (spot : Spot) (b : Built) (looked : ℕ) (mark : Bool) → Walked bytes items first_point (at spot b looked mark) → level_of b.opens ≡ Root → spot.behind ≡ true → length items ≤ spot.number → WholeWalk b.entries b.deep looked mark
+  whole_walk spot b looked mark w level behind l =
       let known = known_walked first_point (at spot b looked mark) w known_first in
       let k = spot.number in
       let i = get_or (places bytes) k (length bytes) in
@@ -158,6 +158,6 @@ module _ (bytes items : List ℕ) (listed : IsListed bytes items) (before : ℕ)
   began b c e w = subst (λ x. Walked bytes items (point 0 (standing x wants.Value None) before false) c) e w
 
   -- a call that halts, and no want of memory
-  pub fault_none : (b : Built) (fault : BuildFault) (new : Built) (looked : ℕ) (mark : Bool) → b ≡ nothing → Arrives bytes items (point 0 (standing b wants.Value None) before false) (Err fault) new looked mark → fault ≡ NotJson → IsNoJson bytes
+  pub fault_none : (b : Built) (fault : BuildFault) (new : Built) (looked : ℕ) (mark : Bool) → b ≡ nothing → WalksTo bytes items (point 0 (standing b wants.Value None) before false) (Err fault) new looked mark → fault ≡ NotJson → IsNoJson bytes
   fault_none b NotJson new looked mark e h f = halts_none (subst (λ x. Halts bytes items (point 0 (standing x wants.Value None) before false)) e h)
   fault_none b Memory new looked mark e h f = absurd (cc)

@@ -22,8 +22,8 @@ use Rattle.json_text.specs.Machine.{Token, Opening, Closing, Comma, Between, Tex
 use Rattle.tape_cells.specs.Built.{Built, standing}
 use Rattle.json_text.specs.Tokens.{sign_at, is_atom, Taken}
 use Rattle.json_walk.specs.Lexing.{Marked}
-use Rattle.json_walk.specs.Walked.{TokenAt, begins_value, is_text, AsksValue, AsksName, IsListed, place, byte_at, Point, point, Walked, stays, moves, Outlasts, few, Halts, want_at, AsksChild, shape_of, width, ending, Grown, Entered, Arrives, spot_behind, no_more, token_of, end_of, price_of, behind, is_whole, spot_after}
-use Rattle.json_walk.proofs.Going.{unopened, unput, cond_none, not_root, first_byte, blocked, here_halts, halts_more, walked_more, one, over_sign, refused_halts, value_only, name_only, colon_only, value_any, named_step, open_level, leaf_level}
+use Rattle.json_walk.specs.Walked.{TokenAt, begins_value, is_text, AsksValue, AsksName, IsListed, place, byte_at, Point, point, Walked, stays, moves, Outlasts, few, Halts, want_at, AsksChild, shape_of, width, ending, WalksValue, WalksInto, WalksTo, spot_behind, no_more, token_of, end_of, price_of, behind, is_whole, spot_after}
+use Rattle.json_walk.proofs.WalkSteps.{unopened, unput, cond_none, not_root, first_byte, blocked, here_halts, halts_more, walked_more, one, over_sign, refused_halts, value_only, name_only, colon_only, value_any, named_step, open_level, leaf_level}
 use Rattle.json_walk.proofs.Listed.{in_text}
 use Rattle.json_walk.proofs.TokensAt.{sign_token}
 use Rattle.json_walk.proofs.MachineWalk.{step_small}
@@ -124,22 +124,22 @@ module _ (bytes items : List ℕ) (listed : IsListed bytes items) where
   close_walks k now later mark old new shape l q took p = over_sign bytes items k (ending shape) now later mark (Closing shape (place items k)) _ _ l (in_text bytes items listed k l) q (ending_sign shape (place items k)) (ending_atom shape) took p
 
   -- a container that a sign ends
-  closing_arrives : (k now : ℕ) (mark : Bool) (old new : Built) (shape : Shape) (made : Result (Unit {0}) BuildFault) → k < length items → byte_at bytes items k ≡ ending shape → Took (step (Closing shape (place items k)) (standing old wants.Next None)) made (standing new wants.Next None)
-      → Arrives bytes items (point k (standing old wants.Next None) now mark) (spot_behind made k) new now mark
-  closing_arrives k now mark old new shape (Ok x) l q took = close_walks k now (now + 1) mark old new shape l q took (omega arith)
-  closing_arrives k now mark old new shape (Err NotJson) l q took = refused_halts bytes items listed k now mark (Closing shape (place items k)) _ l (sign_token bytes (place items k) (Closing shape (place items k)) (in_text bytes items listed k l) (ap (sign_at (place items k)) q ∙ ending_sign shape (place items k))) took
-  closing_arrives k now mark old new shape (Err Memory) l q took = tt
+  closing_walks : (k now : ℕ) (mark : Bool) (old new : Built) (shape : Shape) (made : Result (Unit {0}) BuildFault) → k < length items → byte_at bytes items k ≡ ending shape → Took (step (Closing shape (place items k)) (standing old wants.Next None)) made (standing new wants.Next None)
+      → WalksTo bytes items (point k (standing old wants.Next None) now mark) (spot_behind made k) new now mark
+  closing_walks k now mark old new shape (Ok x) l q took = close_walks k now (now + 1) mark old new shape l q took (omega arith)
+  closing_walks k now mark old new shape (Err NotJson) l q took = refused_halts bytes items listed k now mark (Closing shape (place items k)) _ l (sign_token bytes (place items k) (Closing shape (place items k)) (in_text bytes items listed k l) (ap (sign_at (place items k)) q ∙ ending_sign shape (place items k))) took
+  closing_walks k now mark old new shape (Err Memory) l q took = tt
 
-  pub ended_arrives : (k now : ℕ) (mark : Bool) (old new : Built) (shape : Shape) (made : Result (Unit {0}) BuildFault) (r : Result Spot BuildFault) → k < length items → byte_at bytes items k ≡ ending shape → Took (step (Closing shape (place items k)) (standing old wants.Next None)) made (standing new wants.Next None) → r ≡ spot_behind made k
-      → Arrives bytes items (point k (standing old wants.Next None) now mark) r new now mark
-  ended_arrives k now mark old new shape made r l q took e = subst (λ x. Arrives bytes items (point k (standing old wants.Next None) now mark) x new now mark) (sym e) (closing_arrives k now mark old new shape made l q took)
+  pub ended_walks : (k now : ℕ) (mark : Bool) (old new : Built) (shape : Shape) (made : Result (Unit {0}) BuildFault) (r : Result Spot BuildFault) → k < length items → byte_at bytes items k ≡ ending shape → Took (step (Closing shape (place items k)) (standing old wants.Next None)) made (standing new wants.Next None) → r ≡ spot_behind made k
+      → WalksTo bytes items (point k (standing old wants.Next None) now mark) r new now mark
+  ended_walks k now mark old new shape made r l q took e = subst (λ x. WalksTo bytes items (point k (standing old wants.Next None) now mark) x new now mark) (sym e) (closing_walks k now mark old new shape made l q took)
 
   -- the state before a container's first child, or behind one
   entry_state : (b : Built) (shape : Shape) (behind : Bool) → level_of b.opens ≡ Inside shape → standing b (want_at behind (level_of b.opens)) None ≡ standing b (want_at behind (Inside shape)) None
   entry_state b shape behind l = ap (λ v. standing b (want_at behind v) None) l
 
   closing_entered : (k next now later : ℕ) (mark : Bool) (behind : Bool) (old new : Built) (shape : Shape) (made : Result (Unit {0}) BuildFault) → next ≡ k + 1 → k < length items → level_of old.opens ≡ Inside shape → byte_at bytes items k ≡ ending shape → Took (step (Closing shape (place items k)) (standing old wants.Next None)) made (standing new wants.Next None) → later ≤ now + 1
-      → Entered bytes items (point k (standing old (want_at behind (level_of old.opens)) None) (now + 1) mark) shape next (no_more made) new later mark
+      → WalksInto bytes items (point k (standing old (want_at behind (level_of old.opens)) None) (now + 1) mark) shape next (no_more made) new later mark
   closing_entered k next now later mark behind old new shape (Ok x) e l level q took p =
       subst (λ n. Walked bytes items (point k (standing old (want_at behind (level_of old.opens)) None) (now + 1) mark) (point n (standing new wants.Next None) (later + 1) mark)) (sym e)
       (over_sign bytes items k (ending shape) (now + 1) (later + 1) mark (Closing shape (place items k)) _ _ l (in_text bytes items listed k l) q (ending_sign shape (place items k)) (ending_atom shape) (close_any shape (place items k) old behind level ∙ took) (omega (arith, p)))
@@ -148,18 +148,18 @@ module _ (bytes items : List ℕ) (listed : IsListed bytes items) where
   closing_entered k next now later mark behind old new shape (Err Memory) e l level q took p = tt
 
   pub closed_entered : (k next now later : ℕ) (mark : Bool) (behind : Bool) (old new : Built) (shape : Shape) (made : Result (Unit {0}) BuildFault) (r : Result (Option ℕ) BuildFault) → next ≡ k + 1 → k < length items → level_of old.opens ≡ Inside shape → byte_at bytes items k ≡ ending shape → Took (step (Closing shape (place items k)) (standing old wants.Next None)) made (standing new wants.Next None) → later ≤ now + 1 → r ≡ no_more made
-      → Entered bytes items (point k (standing old (want_at behind (level_of old.opens)) None) (now + 1) mark) shape next r new later mark
+      → WalksInto bytes items (point k (standing old (want_at behind (level_of old.opens)) None) (now + 1) mark) shape next r new later mark
   closed_entered k next now later mark behind old new shape made r e l level q took p is =
-      subst (λ x. Entered bytes items (point k (standing old (want_at behind (level_of old.opens)) None) (now + 1) mark) shape next x new later mark) (sym is) (closing_entered k next now later mark behind old new shape made e l level q took p)
+      subst (λ x. WalksInto bytes items (point k (standing old (want_at behind (level_of old.opens)) None) (now + 1) mark) shape next x new later mark) (sym is) (closing_entered k next now later mark behind old new shape made e l level q took p)
 
   pub first_entered : (k next now later : ℕ) (mark : Bool) (behind : Bool) (b : Built) (shape : Shape) → true ≡ not behind → k ≤ next → level_of b.opens ≡ Inside shape → byte_at bytes items k ≢ ending shape → later ≤ now + 1
-      → Entered bytes items (point k (standing b (want_at behind (level_of b.opens)) None) (now + 1) mark) shape next (Ok (Some k)) b later mark
+      → WalksInto bytes items (point k (standing b (want_at behind (level_of b.opens)) None) (now + 1) mark) shape next (Ok (Some k)) b later mark
   first_entered k next now later mark behind b shape e' le level n p =
       let e = is_first behind e' in
       (level, le, (first_of shape, first_asks shape k n, stays refl (sym (ap (λ x. standing b (want_at x (level_of b.opens)) None) e ∙ entry_state b shape false level)) refl p))
 
   pub comma_entered : (k next now later : ℕ) (mark : Bool) (behind : Bool) (b : Built) (shape : Shape) → false ≡ not behind → next ≡ k + 1 → k < length items → level_of b.opens ≡ Inside shape → byte_at bytes items k ≡ 44 → later ≤ now + 1
-      → Entered bytes items (point k (standing b (want_at behind (level_of b.opens)) None) (now + 1) mark) shape next (Ok (Some next)) b later mark
+      → WalksInto bytes items (point k (standing b (want_at behind (level_of b.opens)) None) (now + 1) mark) shape next (Ok (Some next)) b later mark
   comma_entered k next now later mark behind b shape e' f l level q p =
       let e = is_behind behind e' in
       let w = comma_walks k (now + 1) later mark b shape l level q (omega (arith, p)) in (
@@ -193,8 +193,8 @@ if_ok (Err fault) f h = tt
 -- ---- Children
 
 -- a child may stand at place number k, in a container on this level
-abbrev pub MayGrow : (bytes items : List ℕ) → Point → ℕ → Level → Built → ℕ → Bool → Type 0
-MayGrow bytes items a k level b looked mark = (shape : Shape) → level ≡ Inside shape → (w : Want) × AsksChild bytes items k shape w × Walked bytes items a (point k (standing b w None) looked mark)
+abbrev pub MayContinue : (bytes items : List ℕ) → Point → ℕ → Level → Built → ℕ → Bool → Type 0
+MayContinue bytes items a k level b looked mark = (shape : Shape) → level ≡ Inside shape → (w : Want) × AsksChild bytes items k shape w × Walked bytes items a (point k (standing b w None) looked mark)
 
 pub small_state : (k : ℕ) (b : Built) (v w : Want) (m n : Option Extent) → IsSmall k (standing b v m) → IsSmall k (standing b w n)
 small_state k b v w m n h = record { entries = h.entries; opens = h.opens }
@@ -219,20 +219,20 @@ module _ (bytes items : List ℕ) (listed : IsListed bytes items) where
   walked_small a b (moves {b = c} m w) h =
       walked_small c b w (step_small a.number c.number m.taken.tok a.state c.state (omega (arith, m.next)) m.taken.steps h)
 
-  pub grown_more : {a b : Point} (shape : Shape) (k looked : ℕ) (r : Result (Option ℕ) BuildFault) (new : Built) (mark : Bool) → Walked bytes items a b → Grown bytes items b shape k r new looked mark → Grown bytes items a shape k r new looked mark
-  grown_more shape k looked (Ok (Some byte)) new mark w h = (walked_more bytes items w h.0, h.1, h.2, h.3)
-  grown_more shape k looked (Ok None) new mark w h = (walked_more bytes items w h.0, h.1)
-  grown_more shape k looked (Err NotJson) new mark w h = halts_more bytes items w h
-  grown_more shape k looked (Err Memory) new mark w h = tt
+  pub value_walks_more : {a b : Point} (shape : Shape) (k looked : ℕ) (r : Result (Option ℕ) BuildFault) (new : Built) (mark : Bool) → Walked bytes items a b → WalksValue bytes items b shape k r new looked mark → WalksValue bytes items a shape k r new looked mark
+  value_walks_more shape k looked (Ok (Some byte)) new mark w h = (walked_more bytes items w h.0, h.1, h.2, h.3)
+  value_walks_more shape k looked (Ok None) new mark w h = (walked_more bytes items w h.0, h.1)
+  value_walks_more shape k looked (Err NotJson) new mark w h = halts_more bytes items w h
+  value_walks_more shape k looked (Err Memory) new mark w h = tt
 
-  pub arrives_more : {a b : Point} (looked : ℕ) (r : Result Spot BuildFault) (new : Built) (mark : Bool) → Walked bytes items a b → Arrives bytes items b r new looked mark → Arrives bytes items a r new looked mark
-  arrives_more looked (Ok spot) new mark w v = walked_more bytes items w v
-  arrives_more looked (Err NotJson) new mark w h = halts_more bytes items w h
-  arrives_more looked (Err Memory) new mark w h = tt
+  pub walk_walks_more : {a b : Point} (looked : ℕ) (r : Result Spot BuildFault) (new : Built) (mark : Bool) → Walked bytes items a b → WalksTo bytes items b r new looked mark → WalksTo bytes items a r new looked mark
+  walk_walks_more looked (Ok spot) new mark w v = walked_more bytes items w v
+  walk_walks_more looked (Err NotJson) new mark w h = halts_more bytes items w h
+  walk_walks_more looked (Err Memory) new mark w h = tt
 
-  pub grown_fault : (a : Point) (shape : Shape) (k looked : ℕ) (fault : BuildFault) (new : Built) (mark : Bool) → Grown bytes items a shape k (Err fault) new looked mark → Arrives bytes items a (Err fault) new looked mark
-  grown_fault a shape k looked NotJson new mark h = h
-  grown_fault a shape k looked Memory new mark h = tt
+  pub walks_fault : (a : Point) (shape : Shape) (k looked : ℕ) (fault : BuildFault) (new : Built) (mark : Bool) → WalksValue bytes items a shape k (Err fault) new looked mark → WalksTo bytes items a (Err fault) new looked mark
+  walks_fault a shape k looked NotJson new mark h = h
+  walks_fault a shape k looked Memory new mark h = tt
 
   -- ---- Too few places
 
@@ -281,60 +281,60 @@ module _ (bytes items : List ℕ) (listed : IsListed bytes items) where
   walked_onward a b (stays n s x l) = omega (arith, n)
   walked_onward a b (moves {b = c} m w) = let next = m.next in let h = walked_onward c b w in omega (arith, next, h)
 
-  pub member_grown : (other : List ℕ) (object : Bool) (k now between later : ℕ) (mark mark' : Bool) (old new : Built) (w : Want) (x : Extent) (r : Result (Option ℕ) BuildFault) → false ≡ not object → other ≡ bytes
+  pub member_walks : (other : List ℕ) (object : Bool) (k now between later : ℕ) (mark mark' : Bool) (old new : Built) (w : Want) (x : Extent) (r : Result (Option ℕ) BuildFault) → false ≡ not object → other ≡ bytes
       → (AsksName bytes items k w → Walked bytes items (point k (standing old w None) now mark) (point (k + 2) (standing old wants.Value (Some x)) between mark))
-      → ((v : Want) → AsksValue other items (k + 2) v → Grown other items (point (k + 2) (standing old v (Some x)) between mark) (shape_of object) (k + 2 + 1) r new later mark')
-      → AsksChild bytes items k (shape_of object) w → Grown bytes items (point k (standing old w None) now mark) (shape_of object) (k + width (shape_of object)) r new later mark'
-  member_grown other true k now between later mark mark' old new w x r e same named valued asks =
+      → ((v : Want) → AsksValue other items (k + 2) v → WalksValue other items (point (k + 2) (standing old v (Some x)) between mark) (shape_of object) (k + 2 + 1) r new later mark')
+      → AsksChild bytes items k (shape_of object) w → WalksValue bytes items (point k (standing old w None) now mark) (shape_of object) (k + width (shape_of object)) r new later mark'
+  member_walks other true k now between later mark mark' old new w x r e same named valued asks =
       let z : k + 2 + 1 ≡ k + 3 = omega arith in
-      let grown = subst (λ n. Grown bytes items (point (k + 2) (standing old wants.Value (Some x)) between mark) Object n r new later mark') z
-      (subst (λ b. Grown b items (point (k + 2) (standing old wants.Value (Some x)) between mark) Object (k + 2 + 1) r new later mark') same (valued wants.Value (refl, λ e. absurd (cc)))) in
-      grown_more Object (k + 3) later r new mark' (named asks) grown
-  member_grown other false k now between later mark mark' old new w x r e same named valued asks = absurd (cc)
+      let walks = subst (λ n. WalksValue bytes items (point (k + 2) (standing old wants.Value (Some x)) between mark) Object n r new later mark') z
+      (subst (λ b. WalksValue b items (point (k + 2) (standing old wants.Value (Some x)) between mark) Object (k + 2 + 1) r new later mark') same (valued wants.Value (refl, λ e. absurd (cc)))) in
+      value_walks_more Object (k + 3) later r new mark' (named asks) walks
+  member_walks other false k now between later mark mark' old new w x r e same named valued asks = absurd (cc)
 
   same_inside : (s t : Shape) → Inside s ≡ Inside t → s ≡ t
   same_inside Array Object e = absurd (cc)
   same_inside Object Array e = absurd (cc)
   same_inside _ _ e = refl
 
-  pub may_grow : (a : Point) (k : ℕ) (level : Level) (shape : Shape) (b : Built) (looked : ℕ) (mark : Bool) → level ≡ Inside shape → (w : Want) × AsksChild bytes items k shape w × Walked bytes items a (point k (standing b w None) looked mark) → MayGrow bytes items a k level b looked mark
-  may_grow a k level shape b looked mark e (w, asks, walked) = λ other f. (w, subst (λ s. AsksChild bytes items k s w) (same_inside shape other (sym e ∙ f)) asks, walked)
+  pub may_continue : (a : Point) (k : ℕ) (level : Level) (shape : Shape) (b : Built) (looked : ℕ) (mark : Bool) → level ≡ Inside shape → (w : Want) × AsksChild bytes items k shape w × Walked bytes items a (point k (standing b w None) looked mark) → MayContinue bytes items a k level b looked mark
+  may_continue a k level shape b looked mark e (w, asks, walked) = λ other f. (w, subst (λ s. AsksChild bytes items k s w) (same_inside shape other (sym e ∙ f)) asks, walked)
 
-  pub entered_none : (a : Point) (shape : Shape) (next looked : ℕ) (o : Option ℕ) (b : Built) (mark : Bool) → o ≡ None → Entered bytes items a shape next (Ok o) b looked mark → Walked bytes items a (point next (standing b wants.Next None) (looked + 1) mark)
-  entered_none a shape next looked o b mark e h = subst (λ x. Entered bytes items a shape next (Ok x) b looked mark) e h
+  pub entered_none : (a : Point) (shape : Shape) (next looked : ℕ) (o : Option ℕ) (b : Built) (mark : Bool) → o ≡ None → WalksInto bytes items a shape next (Ok o) b looked mark → Walked bytes items a (point next (standing b wants.Next None) (looked + 1) mark)
+  entered_none a shape next looked o b mark e h = subst (λ x. WalksInto bytes items a shape next (Ok x) b looked mark) e h
 
-  pub entered_some : (a : Point) (shape : Shape) (next looked k : ℕ) (o : Option ℕ) (b : Built) (mark : Bool) → o ≡ Some k → Entered bytes items a shape next (Ok o) b looked mark → Entered bytes items a shape next (Ok (Some k)) b looked mark
-  entered_some a shape next looked k o b mark e h = subst (λ x. Entered bytes items a shape next (Ok x) b looked mark) e h
+  pub entered_some : (a : Point) (shape : Shape) (next looked k : ℕ) (o : Option ℕ) (b : Built) (mark : Bool) → o ≡ Some k → WalksInto bytes items a shape next (Ok o) b looked mark → WalksInto bytes items a shape next (Ok (Some k)) b looked mark
+  entered_some a shape next looked k o b mark e h = subst (λ x. WalksInto bytes items a shape next (Ok x) b looked mark) e h
 
   -- the child that a loop has come to, by what was known before it
-  pub child_grown : (other : List ℕ) (a : Point) (k n now later : ℕ) (mark mark' : Bool) (level : Level) (shape : Shape) (old new : Built) (r r' : Result (Option ℕ) BuildFault) → level ≡ Inside shape → other ≡ bytes → MayGrow bytes items a k level old now mark → r ≡ r' → n ≡ k + width shape
-      → ((w : Want) → AsksChild other items k shape w → Grown other items (point k (standing old w None) now mark) shape (k + width shape) r new later mark') → Grown bytes items a shape n r' new later mark'
-  child_grown other a k n now later mark mark' level shape old new r r' e same may is size grown =
+  pub child_walks : (other : List ℕ) (a : Point) (k n now later : ℕ) (mark mark' : Bool) (level : Level) (shape : Shape) (old new : Built) (r r' : Result (Option ℕ) BuildFault) → level ≡ Inside shape → other ≡ bytes → MayContinue bytes items a k level old now mark → r ≡ r' → n ≡ k + width shape
+      → ((w : Want) → AsksChild other items k shape w → WalksValue other items (point k (standing old w None) now mark) shape (k + width shape) r new later mark') → WalksValue bytes items a shape n r' new later mark'
+  child_walks other a k n now later mark mark' level shape old new r r' e same may is size walks =
       let g = may shape e in
-      let here' = subst (λ b. Grown b items (point k (standing old g.0 None) now mark) shape (k + width shape) r new later mark') same (grown g.0 (subst (λ b. AsksChild b items k shape g.0) (sym same) g.1)) in
-      subst (λ x. Grown bytes items a shape n x new later mark') is (subst (λ x. Grown bytes items a shape x r new later mark') (sym size) (grown_more shape (k + width shape) later r new mark' g.2 here'))
+      let here' = subst (λ b. WalksValue b items (point k (standing old g.0 None) now mark) shape (k + width shape) r new later mark') same (walks g.0 (subst (λ b. AsksChild b items k shape g.0) (sym same) g.1)) in
+      subst (λ x. WalksValue bytes items a shape n x new later mark') is (subst (λ x. WalksValue bytes items a shape x r new later mark') (sym size) (value_walks_more shape (k + width shape) later r new mark' g.2 here'))
 
-  pub child_fault : (other : List ℕ) (a : Point) (k now later : ℕ) (mark mark' : Bool) (level : Level) (shape : Shape) (old new : Built) (r : Result (Option ℕ) BuildFault) (fault : BuildFault) → level ≡ Inside shape → other ≡ bytes → MayGrow bytes items a k level old now mark → r ≡ Err fault
-      → ((w : Want) → AsksChild other items k shape w → Grown other items (point k (standing old w None) now mark) shape (k + width shape) r new later mark') → Arrives bytes items a (Err fault) new later mark'
-  child_fault other a k now later mark mark' level shape old new r fault e same may is grown =
-      grown_fault a shape (k + width shape) later fault new mark' (child_grown other a k (k + width shape) now later mark mark' level shape old new r (Err fault) e same may is refl grown)
+  pub child_fault : (other : List ℕ) (a : Point) (k now later : ℕ) (mark mark' : Bool) (level : Level) (shape : Shape) (old new : Built) (r : Result (Option ℕ) BuildFault) (fault : BuildFault) → level ≡ Inside shape → other ≡ bytes → MayContinue bytes items a k level old now mark → r ≡ Err fault
+      → ((w : Want) → AsksChild other items k shape w → WalksValue other items (point k (standing old w None) now mark) shape (k + width shape) r new later mark') → WalksTo bytes items a (Err fault) new later mark'
+  child_fault other a k now later mark mark' level shape old new r fault e same may is walks =
+      walks_fault a shape (k + width shape) later fault new mark' (child_walks other a k (k + width shape) now later mark mark' level shape old new r (Err fault) e same may is refl walks)
 
-  pub next_may_grow : (a : Point) (n k looked : ℕ) (mark : Bool) (level : Level) (shape : Shape) (b : Built) (byte : ℕ) → level ≡ Inside shape → byte ≡ 44 → k ≡ n + 1 → Grown bytes items a shape n (Ok (Some byte)) b looked mark → MayGrow bytes items a k level b looked mark
-  next_may_grow a n k looked mark level shape b byte e comma size g =
+  pub next_may_continue : (a : Point) (n k looked : ℕ) (mark : Bool) (level : Level) (shape : Shape) (b : Built) (byte : ℕ) → level ≡ Inside shape → byte ≡ 44 → k ≡ n + 1 → WalksValue bytes items a shape n (Ok (Some byte)) b looked mark → MayContinue bytes items a k level b looked mark
+  next_may_continue a n k looked mark level shape b byte e comma size g =
       let w = comma_walks bytes items listed n looked looked mark b shape g.3 g.1 (sym g.2 ∙ comma) (omega arith) in
-      subst (λ x. MayGrow bytes items a x level b looked mark) (sym size) (may_grow a (n + 1) level shape b looked mark e (w.0, w.1, walked_more bytes items g.0 w.2))
+      subst (λ x. MayContinue bytes items a x level b looked mark) (sym size) (may_continue a (n + 1) level shape b looked mark e (w.0, w.1, walked_more bytes items g.0 w.2))
 
-  pub grown_ended : (a : Point) (n looked : ℕ) (mark : Bool) (shape : Shape) (old new : Built) (byte : ℕ) (r : Result Spot BuildFault) → Grown bytes items a shape n (Ok (Some byte)) old looked mark
-      → (byte ≡ byte_at bytes items n → Arrives bytes items (point n (standing old wants.Next None) looked mark) r new looked mark) → Arrives bytes items a r new looked mark
-  grown_ended a n looked mark shape old new byte r g h = arrives_more looked r new mark g.0 (h g.2)
+  pub walks_ended : (a : Point) (n looked : ℕ) (mark : Bool) (shape : Shape) (old new : Built) (byte : ℕ) (r : Result Spot BuildFault) → WalksValue bytes items a shape n (Ok (Some byte)) old looked mark
+      → (byte ≡ byte_at bytes items n → WalksTo bytes items (point n (standing old wants.Next None) looked mark) r new looked mark) → WalksTo bytes items a r new looked mark
+  walks_ended a n looked mark shape old new byte r g h = walk_walks_more looked r new mark g.0 (h g.2)
 
-  pub arrives_same : (other : List ℕ) (a b : Point) (looked : ℕ) (r : Result Spot BuildFault) (new : Built) (mark : Bool) → other ≡ bytes → Walked bytes items a b → Arrives other items b r new looked mark → Arrives bytes items a r new looked mark
-  arrives_same other a b looked r new mark same w h = arrives_more looked r new mark w (subst (λ x. Arrives x items b r new looked mark) same h)
+  pub walks_same : (other : List ℕ) (a b : Point) (looked : ℕ) (r : Result Spot BuildFault) (new : Built) (mark : Bool) → other ≡ bytes → Walked bytes items a b → WalksTo other items b r new looked mark → WalksTo bytes items a r new looked mark
+  walks_same other a b looked r new mark same w h = walk_walks_more looked r new mark w (subst (λ x. WalksTo x items b r new looked mark) same h)
 
   -- ---- The first token
 
   abbrev First : Point → Result Spot BuildFault → Built → ℕ → Bool → Type 0
-  First a r new later mark = Arrives bytes items a r new later mark × IfOk r (λ next. next.behind ≡ false → level_of new.opens ≡ Root → ⊥)
+  First a r new later mark = WalksTo bytes items a r new later mark × IfOk r (λ next. next.behind ≡ false → level_of new.opens ≡ Root → ⊥)
 
   first_taken : (now later : ℕ) (mark mark' : Bool) (old new : Built) (l : Lexed) → 0 < length items → TokenAt bytes (place items 0) (token_of (place items 0) l) → Marked bytes (place items 0) mark (Ok (end_of (place items 0) l)) mark' → later ≤ now + price_of l
       → step (token_of (place items 0) l) (standing old wants.Value None) ≡ Some (standing new (behind l) None) → First (point 0 (standing old wants.Value None) now mark) (Ok (record { number = 1; behind = is_whole l })) new later mark'
@@ -348,15 +348,15 @@ module _ (bytes items : List ℕ) (listed : IsListed bytes items) where
         λ e. not_root level,
       )
 
-  first_arrives : (now later : ℕ) (mark mark' : Bool) (old new : Built) (l : Lexed) (made : Result (Unit {0}) BuildFault) → 0 < length items → TokenAt bytes (place items 0) (token_of (place items 0) l) → Marked bytes (place items 0) mark (Ok (end_of (place items 0) l)) mark' → later ≤ now + price_of l
+  first_walks : (now later : ℕ) (mark mark' : Bool) (old new : Built) (l : Lexed) (made : Result (Unit {0}) BuildFault) → 0 < length items → TokenAt bytes (place items 0) (token_of (place items 0) l) → Marked bytes (place items 0) mark (Ok (end_of (place items 0) l)) mark' → later ≤ now + price_of l
       → Took (step (token_of (place items 0) l) (standing old wants.Value None)) made (standing new (behind l) None) → First (point 0 (standing old wants.Value None) now mark) (spot_after made l) new later mark'
-  first_arrives now later mark mark' old new l (Ok x) inside t m p took = first_taken now later mark mark' old new l inside t m p took
-  first_arrives now later mark mark' old new l (Err NotJson) inside t m p took = (refused_halts bytes items listed 0 now mark (token_of (place items 0) l) _ inside t took, tt)
-  first_arrives now later mark mark' old new l (Err Memory) inside t m p took = (tt, tt)
+  first_walks now later mark mark' old new l (Ok x) inside t m p took = first_taken now later mark mark' old new l inside t m p took
+  first_walks now later mark mark' old new l (Err NotJson) inside t m p took = (refused_halts bytes items listed 0 now mark (token_of (place items 0) l) _ inside t took, tt)
+  first_walks now later mark mark' old new l (Err Memory) inside t m p took = (tt, tt)
 
-  pub whole_arrives : (now later : ℕ) (mark mark' : Bool) (old new : Built) (l : Lexed) (made : Result (Unit {0}) BuildFault) (r : Result Spot BuildFault) → 0 < length items → TokenAt bytes (place items 0) (token_of (place items 0) l) → Marked bytes (place items 0) mark (Ok (end_of (place items 0) l)) mark' → later ≤ now + price_of l
+  pub whole_walks : (now later : ℕ) (mark mark' : Bool) (old new : Built) (l : Lexed) (made : Result (Unit {0}) BuildFault) (r : Result Spot BuildFault) → 0 < length items → TokenAt bytes (place items 0) (token_of (place items 0) l) → Marked bytes (place items 0) mark (Ok (end_of (place items 0) l)) mark' → later ≤ now + price_of l
       → Took (step (token_of (place items 0) l) (standing old wants.Value None)) made (standing new (behind l) None) → r ≡ spot_after made l → First (point 0 (standing old wants.Value None) now mark) r new later mark'
-  whole_arrives now later mark mark' old new l made r inside t m p took e = subst (λ x. First (point 0 (standing old wants.Value None) now mark) x new later mark') (sym e) (first_arrives now later mark mark' old new l made inside t m p took)
+  whole_walks now later mark mark' old new l made r inside t m p took e = subst (λ x. First (point 0 (standing old wants.Value None) now mark) x new later mark') (sym e) (first_walks now later mark mark' old new l made inside t m p took)
 
   pub spot_one : (made : Result (Unit {0}) BuildFault) (l : Lexed) (r : Result Spot BuildFault) → 0 < length items → r ≡ spot_after made l → IfOk r (λ next. next.number ≤ length items)
   spot_one (Ok x) l r inside e = subst (λ y. IfOk y (λ next. next.number ≤ length items)) (sym e) (omega (arith, inside))

@@ -15,6 +15,6 @@ abbrev pub IsWide : Entry → Type 0
 IsWide e = (e.kind ≡ kinds.Object) × (narrow < e.children)
 
 -- of the objects that are not on the list none is wide, and none has two names that mean the same
-pub record AreSifted (text : List ℕ) (tape : List Entry) (asked : List ℕ) : Type 0 where
-  pub narrow : (n : ℕ) → (Contains asked n → ⊥) → IsWide (entry_in tape n) → ⊥
-  pub apart : (n : ℕ) (ms : Members) → (Contains asked n → ⊥) → IsObject text tape n ms → repeats (meanings ms) ≡ false
+pub record AreSuspects (text : List ℕ) (tape : List Entry) (suspects : List ℕ) : Type 0 where
+  pub narrow : (n : ℕ) → (Contains suspects n → ⊥) → IsWide (entry_in tape n) → ⊥
+  pub apart : (n : ℕ) (ms : Members) → (Contains suspects n → ⊥) → IsObject text tape n ms → repeats (meanings ms) ≡ false

@@ -24,7 +24,7 @@ use Rattle.tape_cells.specs.Built.{Built, standing}
 use Rattle.json_text.specs.Tokens.{is_atom, sign_at, IsToken, sign, text, word}
 use Rattle.json_walk.specs.Lexing.{Marked}
 use Rattle.json_walk.specs.Walking.{weight}
-use Rattle.json_walk.specs.Walked.{TokenAt, begins_value, is_text, NoneAt, IsNameAt, token_of, end_of, price_of, IsListed, place, byte_at, Point, point, Walked, stays, moves, IsBlocked, refused, Halts, want_at, AsksValue, AsksName, with_sign, no_more, Grown}
+use Rattle.json_walk.specs.Walked.{TokenAt, begins_value, is_text, NoneAt, IsNameAt, token_of, end_of, price_of, IsListed, place, byte_at, Point, point, Walked, stays, moves, IsBlocked, refused, Halts, want_at, AsksValue, AsksName, with_sign, no_more, WalksValue}
 use Rattle.json_walk.proofs.Tokens.{refused_all}
 use Rattle.json_walk.proofs.TokensAt.{sign_token, token_size, size, ends_at, no_word_marked}
 use Rattle.json_walk.proofs.Listed.{in_text}
@@ -264,15 +264,15 @@ module _ (bytes items : List ℕ) (listed : IsListed bytes items) where
   no_value_halts k now mark b w name l asks none =
       here_halts bytes items _ (blocked bytes items k now mark (standing b w name) l (λ tok t. value_only tok b w name asks.0 (none tok t) (λ e p f. asks.1 e ((first_byte bytes items listed k tok l t).2 p f))))
 
-  pub leaf_grown : (k now later byte : ℕ) (mark mark' : Bool) (shape : Shape) (old new : Built) (w : Want) (name : Option Extent) (tok : Token) (made : Result (Unit {0}) BuildFault) → k + 1 < length items → level_of old.opens ≡ Inside shape → AsksValue bytes items k w → TokenAt bytes (place items k) tok → is_leaf tok ≡ true
+  pub leaf_walks : (k now later byte : ℕ) (mark mark' : Bool) (shape : Shape) (old new : Built) (w : Want) (name : Option Extent) (tok : Token) (made : Result (Unit {0}) BuildFault) → k + 1 < length items → level_of old.opens ≡ Inside shape → AsksValue bytes items k w → TokenAt bytes (place items k) tok → is_leaf tok ≡ true
       → Took (step tok (standing old wants.Value name)) made (standing new wants.Next None) → later ≤ now + 3 + weight tok → Marked bytes (place items k) mark (Ok (place items k + size tok)) mark' → byte ≡ byte_at bytes items (k + 1)
-      → Grown bytes items (point k (standing old w name) now mark) shape (k + 1) (with_sign made byte) new later mark'
-  leaf_grown k now later byte mark mark' shape old new w name tok (Ok x) l inside asks t leaf took p m q =
+      → WalksValue bytes items (point k (standing old w name) now mark) shape (k + 1) (with_sign made byte) new later mark'
+  leaf_walks k now later byte mark mark' shape old new w name tok (Ok x) l inside asks t leaf took p m q =
       let any = value_any tok old w name asks.0 (leaf_begins tok leaf) in
       (one bytes items k now later mark mark' tok _ _ (omega (arith, l)) t (any ∙ took) p m, leaf_keeps tok old name _ leaf took ∙ inside, q, l)
-  leaf_grown k now later byte mark mark' shape old new w name tok (Err NotJson) l inside asks t leaf took p m q =
+  leaf_walks k now later byte mark mark' shape old new w name tok (Err NotJson) l inside asks t leaf took p m q =
       refused_halts k now mark tok (standing old w name) (omega (arith, l)) t (value_any tok old w name asks.0 (leaf_begins tok leaf) ∙ took)
-  leaf_grown k now later byte mark mark' shape old new w name tok (Err Memory) l inside asks t leaf took p m q = tt
+  leaf_walks k now later byte mark mark' shape old new w name tok (Err Memory) l inside asks t leaf took p m q = tt
 
   pub open_walks : (k now later : ℕ) (mark mark' : Bool) (shape : Shape) (old new : Built) (w : Want) (name : Option Extent) → k < length items → AsksValue bytes items k w → TokenAt bytes (place items k) (Opening shape (place items k))
       → step (Opening shape (place items k)) (standing old wants.Value name) ≡ Some (standing new (first_of shape) None) → later ≤ now + 1 → Marked bytes (place items k) mark (Ok (place items k + 1)) mark'
@@ -287,35 +287,35 @@ module _ (bytes items : List ℕ) (listed : IsListed bytes items) where
       )
 
   -- the same by what was lexed
-  pub lexed_grown : (k now between later byte : ℕ) (mark mark' : Bool) (shape : Shape) (old new : Built) (w : Want) (name : Option Extent) (l l' : Lexed) (made : Result (Unit {0}) BuildFault) (r : Result (Option ℕ) BuildFault) → k + 1 < length items → level_of old.opens ≡ Inside shape → AsksValue bytes items k w
+  pub lexed_walks : (k now between later byte : ℕ) (mark mark' : Bool) (shape : Shape) (old new : Built) (w : Want) (name : Option Extent) (l l' : Lexed) (made : Result (Unit {0}) BuildFault) (r : Result (Option ℕ) BuildFault) → k + 1 < length items → level_of old.opens ≡ Inside shape → AsksValue bytes items k w
       → l ≡ l' → TokenAt bytes (place items k) (token_of (place items k) l) → Marked bytes (place items k) mark (Ok (end_of (place items k) l)) mark' → between ≤ now + price_of l
       → is_leaf (token_of (place items k) l') ≡ true → price_of l' ≤ weight (token_of (place items k) l') + 2
       → Took (step (token_of (place items k) l') (standing old wants.Value name)) made (standing new wants.Next None) → later ≤ between + 1 → byte ≡ byte_at bytes items (k + 1) → r ≡ with_sign made byte
-      → Grown bytes items (point k (standing old w name) now mark) shape (k + 1) r new later mark'
-  lexed_grown k now between later byte mark mark' shape old new w name l l' made r inside level asks e t m looked leaf price took last q is =
+      → WalksValue bytes items (point k (standing old w name) now mark) shape (k + 1) r new later mark'
+  lexed_walks k now between later byte mark mark' shape old new w name l l' made r inside level asks e t m looked leaf price took last q is =
       let i = place items k in
       let more = subst (λ x. between ≤ now + price_of x) e looked in
-      subst (λ x. Grown bytes items (point k (standing old w name) now mark) shape (k + 1) x new later mark') (sym is)
-      (leaf_grown k now later byte mark mark' shape old new w name (token_of i l') made inside level asks (subst (λ x. TokenAt bytes i (token_of i x)) e t) leaf took (omega (arith, more, price, last))
+      subst (λ x. WalksValue bytes items (point k (standing old w name) now mark) shape (k + 1) x new later mark') (sym is)
+      (leaf_walks k now later byte mark mark' shape old new w name (token_of i l') made inside level asks (subst (λ x. TokenAt bytes i (token_of i x)) e t) leaf took (omega (arith, more, price, last))
       (subst (λ n. Marked bytes i mark (Ok n) mark') (ends_at i l') (subst (λ x. Marked bytes i mark (Ok (end_of i x)) mark') e m)) q)
 
-  opened_walks : (k now later : ℕ) (mark mark' : Bool) (shape inner : Shape) (old new : Built) (w : Want) (name : Option Extent) (l : Lexed) (made : Result (Unit {0}) BuildFault) → k < length items → AsksValue bytes items k w
+  inside_walks : (k now later : ℕ) (mark mark' : Bool) (shape inner : Shape) (old new : Built) (w : Want) (name : Option Extent) (l : Lexed) (made : Result (Unit {0}) BuildFault) → k < length items → AsksValue bytes items k w
       → l ≡ lexed.Opens inner → TokenAt bytes (place items k) (token_of (place items k) l) → Marked bytes (place items k) mark (Ok (end_of (place items k) l)) mark' → later ≤ now + price_of l
       → Took (step (Opening inner (place items k)) (standing old wants.Value name)) made (standing new (first_of inner) None)
-      → Grown bytes items (point k (standing old w name) now mark) shape (k + 1) (no_more made) new later mark'
-  opened_walks k now later mark mark' shape inner old new w name l (Ok x) inside asks e t m looked took =
+      → WalksValue bytes items (point k (standing old w name) now mark) shape (k + 1) (no_more made) new later mark'
+  inside_walks k now later mark mark' shape inner old new w name l (Ok x) inside asks e t m looked took =
       let i = place items k in
       let more = subst (λ x. later ≤ now + price_of x) e looked in
       open_walks k now later mark mark' inner old new w name inside asks (subst (λ x. TokenAt bytes i (token_of i x)) e t) took (omega (arith, more)) (subst (λ x. Marked bytes i mark (Ok (end_of i x)) mark') e m)
-  opened_walks k now later mark mark' shape inner old new w name l (Err NotJson) inside asks e t m looked took =
+  inside_walks k now later mark mark' shape inner old new w name l (Err NotJson) inside asks e t m looked took =
       let i = place items k in
       refused_halts k now mark (Opening inner i) (standing old w name) inside (subst (λ x. TokenAt bytes i (token_of i x)) e t) (value_any (Opening inner i) old w name asks.0 refl ∙ took)
-  opened_walks k now later mark mark' shape inner old new w name l (Err Memory) inside asks e t m looked took = tt
+  inside_walks k now later mark mark' shape inner old new w name l (Err Memory) inside asks e t m looked took = tt
 
-  pub opened_grown : (k now later : ℕ) (mark mark' : Bool) (shape inner : Shape) (old new : Built) (w : Want) (name : Option Extent) (l : Lexed) (made : Result (Unit {0}) BuildFault) (r : Result (Option ℕ) BuildFault) → k < length items → AsksValue bytes items k w
+  pub opened_walks : (k now later : ℕ) (mark mark' : Bool) (shape inner : Shape) (old new : Built) (w : Want) (name : Option Extent) (l : Lexed) (made : Result (Unit {0}) BuildFault) (r : Result (Option ℕ) BuildFault) → k < length items → AsksValue bytes items k w
       → l ≡ lexed.Opens inner → TokenAt bytes (place items k) (token_of (place items k) l) → Marked bytes (place items k) mark (Ok (end_of (place items k) l)) mark' → later ≤ now + price_of l
       → Took (step (Opening inner (place items k)) (standing old wants.Value name)) made (standing new (first_of inner) None) → r ≡ no_more made
-      → Grown bytes items (point k (standing old w name) now mark) shape (k + 1) r new later mark'
-  opened_grown k now later mark mark' shape inner old new w name l made r inside asks e t m looked took is =
-      subst (λ x. Grown bytes items (point k (standing old w name) now mark) shape (k + 1) x new later mark') (sym is)
-      (opened_walks k now later mark mark' shape inner old new w name l made inside asks e t m looked took)
+      → WalksValue bytes items (point k (standing old w name) now mark) shape (k + 1) r new later mark'
+  opened_walks k now later mark mark' shape inner old new w name l made r inside asks e t m looked took is =
+      subst (λ x. WalksValue bytes items (point k (standing old w name) now mark) shape (k + 1) x new later mark') (sym is)
+      (inside_walks k now later mark mark' shape inner old new w name l made inside asks e t m looked took)

@@ -1,4 +1,4 @@
--- The tree told from the entries of a text's tree is that tree.
+-- The tree that is built from the entries of a text's tree is that tree.
 use Rattle.std.proofs.Common.{◌≡◌, ◌<◌, ◌^◌, ℕ, suc, ◌+◌, List, [], ◌∷◌, ◌++◌, length, Option, Some, None, refl, sym, ap, ◌∙◌, subst, append_assoc}
 use Rattle.std.proofs.lemmas.List.{take_at, drop_at, append-nil}
 use Rattle.json_text.specs.Tree.{Source, Name, Scalar, Str, Tree, Leaf, Arr, Obj, Elements, NoElement, Element, Members, NoMember, Member}
@@ -13,19 +13,19 @@ use Rattle.json_text.specs.declared.tape.Entry.{Entry}
 use Rattle.json_text.proofs.Fits.{Lies, Fits, FitElements, FitMembers, text_fits}
 use Rattle.json_strings.proofs.Spelled.{spelt_is}
 
-source_told : (text : List ℕ) (s : Source) → Lies text s → source_in text (extent s) ≡ s
-source_told text s l = ap (λ b. record { place = s.place; bytes = b }) (sym l)
+built_source : (text : List ℕ) (s : Source) → Lies text s → source_in text (extent s) ≡ s
+built_source text s l = ap (λ b. record { place = s.place; bytes = b }) (sym l)
 
-scalar_told : (s : Source) (c : Scalar) (bs : List Built) → IsScalarText s.bytes c → tree_built (kind_of_scalar c) s bs ≡ Leaf s c
-scalar_told s (Str cs) bs h = ap (λ l. Leaf s (Str l)) (spelt_is s.bytes cs h)
-scalar_told s _ bs h = refl
+built_scalar : (s : Source) (c : Scalar) (bs : List Built) → IsScalarText s.bytes c → tree_built (kind_of_scalar c) s bs ≡ Leaf s c
+built_scalar s (Str cs) bs h = ap (λ l. Leaf s (Str l)) (spelt_is s.bytes cs h)
+built_scalar s _ bs h = refl
 
 -- how a name shows in the entries
 abbrev IsNamed : List ℕ → Label → Option Name → Type 0
 IsNamed text label name = name_built (role_of label) (source_in text (label_spot label)) ≡ name
 
 named : (text : List ℕ) (n : Name) → Lies text n.source → IsString n.source.bytes n.characters → IsNamed text (Named (extent n.source)) (Some n)
-named text n l h = ap (λ s. name_built (role_of (Named (extent n.source))) s) (source_told text n.source l) ∙ ap (λ cs. Some (record { source = n.source; characters = cs })) (spelt_is n.source.bytes n.characters h)
+named text n l h = ap (λ s. name_built (role_of (Named (extent n.source))) s) (built_source text n.source l) ∙ ap (λ cs. Some (record { source = n.source; characters = cs })) (spelt_is n.source.bytes n.characters h)
 
 abbrev elements_list : Elements → List Built
 elements_list NoElement = []
@@ -57,17 +57,17 @@ module _ (text : List ℕ) where
         → built text (tape_of t up label k ++ rest) ≡ record { name = name; tree = t } ∷ built text rest
     built_tree (Leaf s c) up label k name rest f n =
         ap (λ x. record { name = x; tree = tree_built (kind_of_scalar c) (source_in text (extent s)) [] } ∷ built text rest) n
-        ∙ ap (λ x. record { name = name; tree = x } ∷ built text rest) (ap (λ x. tree_built (kind_of_scalar c) x []) (source_told text s f.0) ∙ scalar_told s c [] f.1)
+        ∙ ap (λ x. record { name = name; tree = x } ∷ built text rest) (ap (λ x. tree_built (kind_of_scalar c) x []) (built_source text s f.0) ∙ built_scalar s c [] f.1)
     built_tree (Arr s es) up label k name rest f n =
         let b = built_elements es k 0 (k + 1) rest f.1 in
         let front = take_at (elements_list es) (built text rest) (element_count es) (elements_length es) in
         let back = drop_at (elements_list es) (built text rest) (element_count es) (elements_length es) in
-        rw (b, front, back, n, source_told text s f.0, elements_again es) refl
+        rw (b, front, back, n, built_source text s f.0, elements_again es) refl
     built_tree (Obj s ms) up label k name rest f n =
         let b = built_members ms k (k + 1) rest f.1 in
         let front = take_at (members_list ms) (built text rest) (member_count ms) (members_length ms) in
         let back = drop_at (members_list ms) (built text rest) (member_count ms) (members_length ms) in
-        rw (b, front, back, n, source_told text s f.0, members_again ms) refl
+        rw (b, front, back, n, built_source text s f.0, members_again ms) refl
 
     pub built_elements : (es : Elements) (up i k : ℕ) (rest : List Entry) → FitElements text es → built text (tape_of_elements es up i k ++ rest) ≡ elements_list es ++ built text rest
     built_elements NoElement up i k rest f = refl
@@ -84,15 +84,15 @@ module _ (text : List ℕ) where
         ∙ ap (λ l. record { name = Some n; tree = t } ∷ l) (built_members ms up (k + size t) rest f.3)
 
 -- the document of a text and its tape has the text's tree
-pub tree_told : (text : List ℕ) (entries : List Entry) (t : Tree) → IsText text t → entries ≡ tape_of t 0 Top 0 → tree_of (record { text = text; entries = entries }) ≡ t
+pub tree_is : (text : List ℕ) (entries : List Entry) (t : Tree) → IsText text t → entries ≡ tape_of t 0 Top 0 → tree_of (record { text = text; entries = entries }) ≡ t
 unfolding tree_of
-tree_told text entries t h e =
+tree_is text entries t h e =
     ap first_built (ap (built text) (e ∙ sym (append-nil (tape_of t 0 Top 0))) ∙ built_tree text t 0 Top 0 None [] (text_fits text t h) refl)
 
 module _ (text source : List ℕ) (entries : List Entry) (same : source ≡ text) (json : IsJson text) (stands : StandsForAll text entries) where
   pub is_accepted : IsFaultless text → IsAccepted text (tree_of (record { text = source; entries = entries }))
   is_accepted none =
-      let e = ap (λ x. tree_of (record { text = x; entries = entries })) same ∙ tree_told text entries json.0 json.1 (stands json.0 json.1) in
+      let e = ap (λ x. tree_of (record { text = x; entries = entries })) same ∙ tree_is text entries json.0 json.1 (stands json.0 json.1) in
       (subst (IsText text) (sym e) json.1, none)
 
   pub document : IsFaultless text → length entries < 2 ^ 31 → IsDocument (record { text = source; entries = entries })

@@ -1,4 +1,4 @@
--- Objects that are looked at more closely, by their numbers in order, and those between them.
+-- Suspects by their numbers in order, and the objects between them.
 use Rattle.std.proofs.Common.{◌≡◌, ℕ, ◌+◌, ◌<◌, ◌≤◌, inl, inr, false, List, [], length, get_or, refl, sym, ap, ◌∙◌, subst, arith}
 use Rattle.std.specs.List.{Contains}
 use Rattle.std.specs.List.Sorted.{IsPermutation, IsSorted}
@@ -12,7 +12,7 @@ use Rattle.tape_cells.specs.Cells.{members_in}
 use Rattle.json_text.specs.Repeats.{repeats, meanings, IsObject}
 use Rattle.name_order.specs.Ordered.{AreKept}
 use Rattle.name_order.specs.Orders.{Order}
-use Rattle.json_text.specs.Sifted.{IsWide, AreSifted}
+use Rattle.json_text.specs.Suspects.{IsWide, AreSuspects}
 use Rattle.json_text.specs.Tape.{entry_in, nothing_there}
 use Rattle.json_text.specs.declared.tape.Entry.{Entry}
 use Rattle.name_order.proofs.TwinNames.{NoneBelow, too_few}
@@ -29,15 +29,15 @@ module _ (text : List ℕ) (tape : List Entry) where
     pub narrow : (n : ℕ) → next ≤ n → ((j : ℕ) → i ≤ j → j < length numbers → get_or numbers j 0 ≡ n → ⊥) → IsWide (entry_in tape n) → ⊥
     pub apart : (n : ℕ) (ms : Members) → next ≤ n → ((j : ℕ) → i ≤ j → j < length numbers → get_or numbers j 0 ≡ n → ⊥) → IsObject text tape n ms → repeats (meanings ms) ≡ false
 
-  module _ (asked numbers : List ℕ) (sifted : AreSifted text tape asked) (moved : IsPermutation asked numbers) where
-    not_asked : (n : ℕ) → ((j : ℕ) → 0 ≤ j → j < length numbers → get_or numbers j 0 ≡ n → ⊥) → Contains asked n → ⊥
-    not_asked n none c = let (j, l, e) = Contains-permutation asked numbers n moved c in none j (omega arith) l (get_or_default numbers j 0 n l ∙ e)
+  module _ (suspects numbers : List ℕ) (are : AreSuspects text tape suspects) (moved : IsPermutation suspects numbers) where
+    not_suspected : (n : ℕ) → ((j : ℕ) → 0 ≤ j → j < length numbers → get_or numbers j 0 ≡ n → ⊥) → Contains suspects n → ⊥
+    not_suspected n none c = let (j, l, e) = Contains-permutation suspects numbers n moved c in none j (omega arith) l (get_or_default numbers j 0 n l ∙ e)
 
     -- at first, these are all
     pub left_all : AreLeft numbers 0 0
     left_all = record {
-      narrow = λ n h none. sifted.narrow n (not_asked n none);
-      apart = λ n ms h none. sifted.apart n ms (not_asked n none);
+      narrow = λ n h none. are.narrow n (not_suspected n none);
+      apart = λ n ms h none. are.apart n ms (not_suspected n none);
     }
 
   module _ (numbers : List ℕ) (i next : ℕ) (left : AreLeft numbers i next) where
