@@ -4,7 +4,7 @@ pub mod Limits
 pub mod Holders
 pub mod Lones
 pub mod Surrogateless
-pub mod Told
+pub mod TreeBuilt
 pub mod Spots
 pub mod Readers
 pub mod Siblings

@@ -386,8 +386,8 @@ no_length (Obj s ms) a o x = absurd (o refl)
 no_length _ a o x = refl
 
 -- from the fields to the value
-pub told : (i d : Doc) → i ≡ d → IsDocument i → IsDocument d
-told i d e s = subst IsDocument e s
+pub is_document : (i d : Doc) → i ≡ d → IsDocument i → IsDocument d
+is_document i d e s = subst IsDocument e s
 
 pub shown : (i d : Doc) → i ≡ d → (n : ℕ) (e : Entry) → e ≡ get_or i.entries n e → e ≡ get_or d.entries n e
 shown i d q n e h = subst (λ (x : Doc). e ≡ get_or x.entries n e) q h

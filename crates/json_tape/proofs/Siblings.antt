@@ -127,10 +127,10 @@ module _ (d : Doc) (s : IsDocument d) where
 pub end_is : (i d : Doc) → i ≡ d → IsDocument d → (n : ℕ) → n < count d → (end : ℕ) → ((e : Entry) → e ≡ get_or i.entries n e → end ≡ e.after)
     → (end ≡ n + size (node_at d n).tree) × (end ≤ count d)
 unfolding count
-end_is i d v s n h end told =
+end_is i d v s n h end read =
     let e = get_or d.entries n no_entry in
     let q : e ≡ get_or d.entries n e = get_or_default d.entries n no_entry e h in
-    let t = told e (shown d i (sym v) n e q) in
+    let t = read e (shown d i (sym v) n e q) in
     let a = after_in d s n h e q in
     (t ∙ after_is d s n h e q, rw (← t) at a)
 

@@ -18,7 +18,7 @@ use Rattle.json_strings.specs.Keys.{Keyed, key_number}
 use Rattle.name_order.specs.Ordered.{keyed, name_at, AreNamed, IsOrderOf}
 use Rattle.json_tape.proofs.Spots.{top, inner, one_of, place_is, spot_count}
 use Rattle.json_tape.proofs.Readers.{none_there, kind_is}
-use Rattle.json_tape.proofs.Told.{tree_told}
+use Rattle.json_tape.proofs.TreeBuilt.{tree_is}
 use Rattle.name_order.proofs.KeysLeft.{IsGood, all_good}
 use Rattle.name_order.proofs.Halving.{one_place}
 use Rattle.name_order.proofs.TwinNames.{object_of}
@@ -120,7 +120,7 @@ module _ (d : Doc) (s : IsDocument d) (name : List ℕ) where
   pub object_first : (n : ℕ) (ms : Members) → IsObject d.text d.entries n ms → First d name (children (node_at d n)) (keyed ms (n + 1))
   unfolding node_at
   object_first n ms o =
-      let same : o.tree ≡ tree_of d = sym (tree_told d.text d.entries o.tree o.is_text o.stands) in
+      let same : o.tree ≡ tree_of d = sym (tree_is d.text d.entries o.tree o.is_text o.stands) in
       let a = subst (λ t. IsAt t 0 Top 0 n o.up o.label (Obj o.source ms)) same o.is_at in
       let p = stands_at a [] [] in
       let long : length p.pre ≡ n = (let h = p.number in omega arith) in

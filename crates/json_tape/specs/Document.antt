@@ -180,7 +180,7 @@ ParentIs d (Some p) n = (step : Step) × (n.way_up ≡ step ∷ (node_at d p.0).
 abbrev pub StandsIn : List ℕ → List ℕ → Type 0
 StandsIn text bytes = (before after : List ℕ) × (text ≡ before ++ (bytes ++ after))
 
--- The tree that the entries tell is an accepted tree of the text, the entries are its tape, and all numbers are small.
+-- The tree that is built from the entries is an accepted tree of the text, the entries are its tape, and all numbers are small.
 pub record IsDocument (d : Doc) : Type 0 where
   pub accepted : IsAccepted d.text (tree_of d)
   pub tape : d.entries ≡ tape_of (tree_of d) 0 Top 0

@@ -14,7 +14,7 @@ ghost use Rattle.json_text.specs.Nodes.{size, children, visit, is_named, first_w
 ghost use Rattle.json_text.specs.Tape.{Top, tape_of, entry_in, kind_of};
 ghost use Rattle.json_tape.specs.Siblings.{numbered};
 ghost use Rattle.name_order.specs.Ordered.{AreKept, IsOrderOf};
-ghost use Rattle.json_text.specs.Sifted.{IsWide};
+ghost use Rattle.json_text.specs.Suspects.{IsWide};
 ghost use Rattle.json_strings.specs.Keys.{sought_name};
 ghost use Rattle.json_tape.specs.Document.{tree_of, count, node_at, later, seen, following, single, root_of, counting, IsIn, IsDocument, IsMember, HasName, LeadIs, ParentIs, StandsIn, length_of, string_meaning};
 
@@ -54,7 +54,7 @@ impl Model for Document {
     ghost view = { λ d. record { text = string_bytes d.text; entries = d.tape } };
 
     ghost invariant = { λ d. IsDocument (record { text = string_bytes d.text; entries = d.tape })
-        × AreKept (string_bytes d.text) d.tape (length d.tape) d.names.objects.items d.names.starts.items d.names.hashes.items d.names.members.items };
+        × AreKept (string_bytes d.text) d.tape (length d.tape) d.names };
 }
 
 // The characters of a text that is not too long.
@@ -82,7 +82,7 @@ fn read_indexed(alloc: Global, text: &str, index: &Index) -> Result<Parts, TextF
     requires short { length text.now ≤ text_limit }
     requires index { IsIndexOf index.now text.now }
     ensures { MatchResult result (λ p. IsJson text.now × StandsForAll text.now p.tape × (length p.tape < 2 ^ 31) × IsFaultless text.now
-        × AreKept text.now p.tape (length p.tape) p.names.objects.items p.names.starts.items p.names.hashes.items p.names.members.items)
+        × AreKept text.now p.tape (length p.tape) p.names)
         (λ fault. Explains text.now fault) }
 {
     let reading = match walk(alloc, index, &mut Looks::new(text.as_bytes())) {
@@ -221,19 +221,11 @@ impl Document {
         ensures document { IsDocument self.now }
         ensures order { MatchOption result (IsWide (entry_in self.now.entries n.0) → ⊥) (λ run. IsOrderOf self.now.text self.now.entries n.0 run.hashes.now run.members.now) }
     {
-        let entry = self.entry(n);
-        if !is_wide(entry) {
-            return None;
+        if is_wide(self.entry(n)) {
+            self.names.run(n.0)
+        } else {
+            None
         }
-        let Ok(place) = self.names.objects.binary_search(&n.0) else {
-            return None;
-        };
-        let start = self.names.starts[place];
-        let end = start + entry.children as usize;
-        Some(Run {
-            hashes: &self.names.hashes[start..end],
-            members: &self.names.members[start..end],
-        })
     }
 
     /// The kind of the value.

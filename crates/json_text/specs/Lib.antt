@@ -12,4 +12,4 @@ pub mod Scanning
 pub mod Limits
 pub mod Tokens
 pub mod Repeats
-pub mod Sifted
+pub mod Suspects

@@ -16,7 +16,7 @@ pub mod PlaceWalk
 pub mod Placing
 pub mod TokensAt
 pub mod Listed
-pub mod Going
-pub mod Onward
-pub mod Arrived
-pub mod NamesSteps
+pub mod WalkSteps
+pub mod WalkContainer
+pub mod WholeWalk
+pub mod CheckSteps

@@ -1,4 +1,4 @@
--- What a reader is told of the bytes at a place: a word, a number, and whether it is within the limits.
+-- What the bytes at a place are: a word, a number, and whether it is within the limits.
 use Rattle.std.specs.Prelude.{◌≡◌, ℕ, ◌+◌, ◌-◌, ◌<◌, ◌≤◌, get_or, Bool, true, false, take, drop, Result, Ok, Err, List, length, None}
 use Rattle.decimal_order.specs.Number.{IsDigit, IsNumber}
 use Rattle.decimal_order.specs.Limits.{IsWithinLimits}
@@ -7,25 +7,25 @@ use Rattle.json_text.specs.declared.tape.Kind.TheVariants as kinds
 use Rattle.json_text.specs.declared.tape.BuildFault.{BuildFault}
 use Rattle.structural_index.specs.declared.looks.Known.{Known}
 use Rattle.structural_index.specs.declared.looks.Known.TheVariants as knowns
-use Rattle.json_walk.specs.declared.lexing.Told.{Told}
-use Rattle.json_walk.specs.declared.lexing.Told.TheVariants as tolds
+use Rattle.json_walk.specs.declared.lexing.WordKind.{WordKind}
+use Rattle.json_walk.specs.declared.lexing.WordKind.TheVariants as word_kinds
 use Rattle.json_text.specs.Tokens.{IsWord, WordIs, is_atom}
 
--- what bytes are said to be: a word, a number within the limits of numbers, any number, or neither
-abbrev pub IsTold : List ℕ → Told → Type 0
-IsTold bs tolds.Null = IsWord bs kinds.Null
-IsTold bs tolds.False = IsWord bs (kinds.Bool false)
-IsTold bs tolds.True = IsWord bs (kinds.Bool true)
-IsTold bs tolds.Number = IsNumber bs × IsWithinLimits bs
-IsTold bs tolds.LongNumber = IsNumber bs
-IsTold bs tolds.Nothing = WordIs bs None
+-- bytes are of this kind: a word, a number within the limits of numbers, any number, or neither
+abbrev pub IsWordKind : List ℕ → WordKind → Type 0
+IsWordKind bs word_kinds.Null = IsWord bs kinds.Null
+IsWordKind bs word_kinds.False = IsWord bs (kinds.Bool false)
+IsWordKind bs word_kinds.True = IsWord bs (kinds.Bool true)
+IsWordKind bs word_kinds.Number = IsNumber bs × IsWithinLimits bs
+IsWordKind bs word_kinds.LongNumber = IsNumber bs
+IsWordKind bs word_kinds.Nothing = WordIs bs None
 
--- the same by what they are known to be
+-- bytes are what they are known to be
 abbrev pub AreKnown : List ℕ → Known → Type 0
-AreKnown bs knowns.Decimal = IsTold bs tolds.Number
-AreKnown bs knowns.Null = IsTold bs tolds.Null
-AreKnown bs knowns.False = IsTold bs tolds.False
-AreKnown bs knowns.True = IsTold bs tolds.True
+AreKnown bs knowns.Decimal = IsWordKind bs word_kinds.Number
+AreKnown bs knowns.Null = IsWordKind bs word_kinds.Null
+AreKnown bs knowns.False = IsWordKind bs word_kinds.False
+AreKnown bs knowns.True = IsWordKind bs word_kinds.True
 AreKnown bs knowns.Other = Unit {0}
 
 -- each byte from the first place to before the second is a digit

@@ -12,8 +12,8 @@ use Rattle.json_text.specs.declared.tape.Want.TheVariants as wants
 use Rattle.json_text.specs.declared.tape.BuildFault.{BuildFault}
 use Rattle.json_text.specs.declared.tape.BuildFault.TheVariants.{NotJson, Memory}
 use Rattle.json_walk.specs.declared.lexing.Lexed.{Lexed}
-use Rattle.name_stamps.specs.declared.apart.Quoted.{Quoted}
-use Rattle.name_stamps.specs.declared.apart.Met.{Met}
+use Rattle.name_stamps.specs.declared.seen.Quoted.{Quoted}
+use Rattle.name_stamps.specs.declared.seen.StampedName.{StampedName}
 use Rattle.json_walk.specs.declared.lexing.Lexed.TheVariants as lexed
 use Rattle.json_walk.specs.declared.second_stage.Spot.{Spot}
 use Rattle.json_text.specs.Machine.{Token, Opening, Text, Word, State, level_of, first_of, takes_value, takes_name}
@@ -27,7 +27,7 @@ use Rattle.json_text.specs.Verdict.{text_limit}
 
 -- ---- Tokens
 
--- this token stands at byte i
+-- the bytes from byte i on begin with this token
 pub record TokenAt (text : List ℕ) (i : ℕ) (tok : Token) : Type 0 where
   pub bytes : List ℕ
   pub rest : List ℕ
@@ -44,7 +44,7 @@ abbrev pub is_text : Token → Bool
 is_text (Text x) = true
 is_text _ = false
 
--- no such token stands at byte i
+-- the bytes from byte i on begin with no token that passes the test
 abbrev pub NoneAt : (Token → Bool) → List ℕ → ℕ → Type 0
 NoneAt such text i = (tok : Token) → TokenAt text i tok → such tok ≡ false
 
@@ -60,14 +60,14 @@ token_of i (lexed.Number x) = Word x kinds.Number
 token_of i (lexed.Word kind x) = Word x kind
 token_of i (lexed.Opens shape) = Opening shape i
 
--- the bytes of a string, and of a name that was met
+-- the bytes of a string, and of a name with its stamp
 abbrev pub source_in : Option Quoted → Option Extent
 source_in (Some q) = Some q.source
 source_in None = None
 
-abbrev pub met_source : Option Met → Option Extent
-met_source (Some m) = Some m.source
-met_source None = None
+abbrev pub stamped_source : Option StampedName → Option Extent
+stamped_source (Some m) = Some m.source
+stamped_source None = None
 
 abbrev pub IsValueAt : List ℕ → ℕ → Option Lexed → Type 0
 IsValueAt text i (Some l) = TokenAt text i (token_of i l)
@@ -125,7 +125,7 @@ pub record Point : Type 0 where
 abbrev pub point : ℕ → State → ℕ → Bool → Point
 point k s looked exceeds = record { number = k; state = s; looked = looked; exceeds = exceeds }
 
--- over one token
+-- the token at the next place leads from one point to the other: it costs at most three looks and one for each of its source bytes
 pub record Moves (text items : List ℕ) (a b : Point) : Type 0 where
   pub inside : a.number < length items
   pub end : ℕ
@@ -134,7 +134,7 @@ pub record Moves (text items : List ℕ) (a b : Point) : Type 0 where
   pub looks : b.looked ≤ a.looked + 3 + weight taken.tok
   pub marked : Marked text (place items a.number) a.exceeds (Ok end) b.exceeds
 
--- token by token, or nowhere: looks that were paid for need not be taken
+-- tokens, one at each place, lead from one point to the other; looks that are paid for need not be taken
 pub data Walked (text items : List ℕ) : (a b : Point) → Type 0 where
   stays : {a b : Point} → b.number ≡ a.number → b.state ≡ a.state → b.exceeds ≡ a.exceeds → b.looked ≤ a.looked → Walked text items a b
   moves : {a b c : Point} → Moves text items a b → Walked text items b c → Walked text items a c
@@ -144,16 +144,17 @@ pub data Walked (text items : List ℕ) : (a b : Point) → Type 0 where
 abbrev pub IsUnfinished : State → Type 0
 IsUnfinished s = (level_of s.opens ≡ Root) × (s.want ≡ wants.Next) → ⊥
 
--- from place number k on, so many tokens do not lead to the end
+-- however the next n tokens are taken from place number k on, the value of the text is not complete before or behind them
 abbrev pub Outlasts : (text items : List ℕ) (n k : ℕ) (s : State) → Type 0
 Outlasts text items zero k s = IsUnfinished s
 Outlasts text items (suc n) k s = IsUnfinished s × ((j : ℕ) (s' : State) → k < length items → Taken text (place items k) j s s' → Outlasts text items n (suc k) s')
 
--- the token at the place is refused, or too few places are left
+-- no token can be taken at the point, or too few places are left to complete the text
 pub data IsBlocked (text items : List ℕ) (a : Point) : Type 0 where
   refused : a.number < length items → Refused text (place items a.number) a.state → IsBlocked text items a
   few : (n : ℕ) → length items ≤ a.number + n → Outlasts text items n a.number a.state → IsBlocked text items a
 
+-- tokens lead to a point that is blocked, so that the text is no JSON
 abbrev pub Halts : (text items : List ℕ) → Point → Type 0
 Halts text items a = (b : Point) × Walked text items a b × IsBlocked text items b
 
@@ -165,14 +166,15 @@ want_at true level = wants.Next
 want_at false Root = wants.Value
 want_at false (Inside shape) = first_of shape
 
--- the look at the next sign is paid for
+-- the point of a spot, with the look at the next sign paid for
 abbrev pub at : Spot → Built → ℕ → Bool → Point
 at spot b looked exceeds = point spot.number (standing b (want_at spot.behind (level_of b.opens)) None) (looked + 1) exceeds
 
-abbrev pub Arrives : (text items : List ℕ) → Point → Result Spot BuildFault → Built → ℕ → Bool → Type 0
-Arrives text items a (Ok spot) b looked exceeds = Walked text items a (at spot b looked exceeds)
-Arrives text items a (Err NotJson) b looked exceeds = Halts text items a
-Arrives text items a (Err Memory) b looked exceeds = Unit {0}
+-- the walk leads to the spot that the call gives; a call that finds no JSON halts, and one without memory says nothing
+abbrev pub WalksTo : (text items : List ℕ) → Point → Result Spot BuildFault → Built → ℕ → Bool → Type 0
+WalksTo text items a (Ok spot) b looked exceeds = Walked text items a (at spot b looked exceeds)
+WalksTo text items a (Err NotJson) b looked exceeds = Halts text items a
+WalksTo text items a (Err Memory) b looked exceeds = Unit {0}
 
 -- a value may stand at place number k, which is not the end of an empty array
 abbrev pub AsksValue : (text items : List ℕ) (k : ℕ) → Want → Type 0
@@ -182,6 +184,7 @@ AsksValue text items k w = (takes_value w ≡ true) × (w ≡ wants.FirstValue �
 abbrev pub AsksName : (text items : List ℕ) (k : ℕ) → Want → Type 0
 AsksName text items k w = (takes_name w ≡ true) × (w ≡ wants.FirstName → byte_at text items k ≢ 125)
 
+-- a child of a container of this shape may stand there
 abbrev pub AsksChild : (text items : List ℕ) (k : ℕ) → Shape → Want → Type 0
 AsksChild text items k Array w = AsksValue text items k w
 AsksChild text items k Object w = AsksName text items k w
@@ -223,25 +226,25 @@ abbrev pub spot_behind : Result (Unit {0}) BuildFault → ℕ → Result Spot Bu
 spot_behind (Ok x) k = Ok (record { number = k + 1; behind = true })
 spot_behind (Err fault) k = Err fault
 
--- a name and its colon
-abbrev pub Named : (text items : List ℕ) → Point → Built → ℕ → Option Extent → ℕ → Bool → Type 0
-Named text items a b k (Some x) looked exceeds = Walked text items a (point k (standing b wants.Value (Some x)) looked exceeds)
-Named text items a b k None looked exceeds = Halts text items a
+-- the walk leads over a name and its colon to place number k
+abbrev pub WalksName : (text items : List ℕ) → Point → Built → ℕ → Option Extent → ℕ → Bool → Type 0
+WalksName text items a b k (Some x) looked exceeds = Walked text items a (point k (standing b wants.Value (Some x)) looked exceeds)
+WalksName text items a b k None looked exceeds = Halts text items a
 
--- a value up to place number k, with the sign that stands there where it holds no other
-abbrev pub Grown : (text items : List ℕ) → Point → Shape → ℕ → Result (Option ℕ) BuildFault → Built → ℕ → Bool → Type 0
-Grown text items a shape k (Ok (Some sign)) b looked exceeds =
+-- the walk leads over a value, up to the sign at place number k, or into the container that it opens
+abbrev pub WalksValue : (text items : List ℕ) → Point → Shape → ℕ → Result (Option ℕ) BuildFault → Built → ℕ → Bool → Type 0
+WalksValue text items a shape k (Ok (Some sign)) b looked exceeds =
     Walked text items a (point k (standing b wants.Next None) looked exceeds)
     × (level_of b.opens ≡ Inside shape) × (sign ≡ byte_at text items k) × (k < length items)
-Grown text items a shape k (Ok None) b looked exceeds = Walked text items a (point k (standing b (want_at false (level_of b.opens)) None) (looked + 1) exceeds) × (level_of b.opens ≡ Root → ⊥)
-Grown text items a shape k (Err NotJson) b looked exceeds = Halts text items a
-Grown text items a shape k (Err Memory) b looked exceeds = Unit {0}
+WalksValue text items a shape k (Ok None) b looked exceeds = Walked text items a (point k (standing b (want_at false (level_of b.opens)) None) (looked + 1) exceeds) × (level_of b.opens ≡ Root → ⊥)
+WalksValue text items a shape k (Err NotJson) b looked exceeds = Halts text items a
+WalksValue text items a shape k (Err Memory) b looked exceeds = Unit {0}
 
--- the first child may stand at place number k, or the next one behind a comma, unless the container has ended
-abbrev pub Entered : (text items : List ℕ) → Point → Shape → ℕ → Result (Option ℕ) BuildFault → Built → ℕ → Bool → Type 0
-Entered text items a shape next (Ok (Some k)) b looked exceeds =
+-- the walk leads to the place of the next child, or behind the end of the container
+abbrev pub WalksInto : (text items : List ℕ) → Point → Shape → ℕ → Result (Option ℕ) BuildFault → Built → ℕ → Bool → Type 0
+WalksInto text items a shape next (Ok (Some k)) b looked exceeds =
     (level_of b.opens ≡ Inside shape) × (k ≤ next)
     × ((w : Want) × AsksChild text items k shape w × Walked text items a (point k (standing b w None) looked exceeds))
-Entered text items a shape next (Ok None) b looked exceeds = Walked text items a (point next (standing b wants.Next None) (looked + 1) exceeds)
-Entered text items a shape next (Err NotJson) b looked exceeds = Halts text items a
-Entered text items a shape next (Err Memory) b looked exceeds = Unit {0}
+WalksInto text items a shape next (Ok None) b looked exceeds = Walked text items a (point next (standing b wants.Next None) (looked + 1) exceeds)
+WalksInto text items a shape next (Err NotJson) b looked exceeds = Halts text items a
+WalksInto text items a shape next (Err Memory) b looked exceeds = Unit {0}

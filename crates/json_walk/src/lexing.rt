@@ -3,12 +3,12 @@
 ghost use Rattle.std.specs.Prelude.{◌≡◌, ◌≢◌, ◌+◌, ◌-◌, ◌≤◌, ◌<◌, ◌↔◌, Ok, length, slice_index, IfSome, IsTrue, true, false};
 ghost use Rattle.decimal_order.specs.Number.{IsNumber};
 ghost use Rattle.json_text.specs.Tokens.{is_blank as blank};
-ghost use Rattle.json_walk.specs.Lexing.{AreKnown, IsTold, Marked};
+ghost use Rattle.json_walk.specs.Lexing.{AreKnown, IsWordKind, Marked};
 ghost use Rattle.tape_cells.specs.Opened.{HasRoom};
 ghost use Rattle.json_walk.specs.Walked.{IsNameAt, IsValueAt, FitsTape, source_in, end_of, price_of};
 ghost use Rattle.json_text.specs.Verdict.{text_limit};
 ghost use Rattle.json_walk.specs.Placing.{IsIndexed, HoldSlashes, ClosesBefore, StringEnds, end_in};
-ghost use Rattle.name_stamps.specs.Told.{IsPlain};
+ghost use Rattle.name_stamps.specs.Stamps.{IsPlain};
 ghost use Rattle.structural_index.specs.Seams.{AreSlashless};
 
 use crate::exponents::has_short_exponent;
@@ -19,7 +19,7 @@ use json_text::{Extent, Kind, Shape};
 use name_stamps::Quoted;
 use structural_index::{Atoms, Known, Looks};
 
-/// What a value begins with: all of it, or the bracket or brace that opens it. Strings and numbers are told apart from other words, so that
+/// What a value begins with: all of it, or the bracket or brace that opens it. Strings and numbers are kinds of their own, so that
 /// the compiler knows their kinds where their entries are made.
 #[derive(Clone, Copy)]
 pub enum Lexed {
@@ -50,7 +50,7 @@ fn is_number(bytes: &[u8]) -> bool
 
 // What the bytes of a word or a number are. A long number may be beyond the limits of numbers.
 #[derive(Clone, Copy)]
-pub enum Told {
+pub enum WordKind {
     Null,
     False,
     True,
@@ -61,40 +61,40 @@ pub enum Told {
 
 // What the bytes are. It stands out of line, since few words and numbers take it.
 #[inline(never)]
-fn told_slowly(bytes: &[u8]) -> Told
-    ensures { IsTold bytes.now result }
+fn word_kind_slowly(bytes: &[u8]) -> WordKind
+    ensures { IsWordKind bytes.now result }
 {
     if are_four(bytes, *b"null") {
-        return Told::Null;
+        return WordKind::Null;
     }
     if are_four(bytes, *b"true") {
-        return Told::True;
+        return WordKind::True;
     }
     if bytes.len() == 5 && bytes[4] == b'e' && are_four(&bytes[..4], *b"fals") {
-        return Told::False;
+        return WordKind::False;
     }
     if !is_number(bytes) {
-        return Told::Nothing;
+        return WordKind::Nothing;
     }
     if has_short_exponent(bytes) {
-        Told::Number
+        WordKind::Number
     } else {
-        Told::LongNumber
+        WordKind::LongNumber
     }
 }
 
 // What the bytes are, by what they are known to be.
 #[inline(always)]
-fn told_by(bytes: &[u8], known: Known) -> Told
+fn word_kind(bytes: &[u8], known: Known) -> WordKind
     requires { AreKnown bytes.now known }
-    ensures { IsTold bytes.now result }
+    ensures { IsWordKind bytes.now result }
 {
     match known {
-        Known::Decimal => Told::Number,
-        Known::Null => Told::Null,
-        Known::False => Told::False,
-        Known::True => Told::True,
-        Known::Other => told_slowly(bytes),
+        Known::Decimal => WordKind::Number,
+        Known::Null => WordKind::Null,
+        Known::False => WordKind::False,
+        Known::True => WordKind::True,
+        Known::Other => word_kind_slowly(bytes),
     }
 }
 
@@ -236,16 +236,16 @@ fn word(looks: &mut Looks<'_>, i: usize, may_exceed: &mut bool) -> Option<Lexed>
         start: i as u32,
         len: bytes.len() as u32,
     };
-    match told_by(bytes, known) {
-        Told::Null => Some(Lexed::Word(Kind::Null, source)),
-        Told::False => Some(Lexed::Word(Kind::Bool(false), source)),
-        Told::True => Some(Lexed::Word(Kind::Bool(true), source)),
-        Told::Number => Some(Lexed::Number(source)),
-        Told::LongNumber => {
+    match word_kind(bytes, known) {
+        WordKind::Null => Some(Lexed::Word(Kind::Null, source)),
+        WordKind::False => Some(Lexed::Word(Kind::Bool(false), source)),
+        WordKind::True => Some(Lexed::Word(Kind::Bool(true), source)),
+        WordKind::Number => Some(Lexed::Number(source)),
+        WordKind::LongNumber => {
             *may_exceed = true;
             Some(Lexed::Number(source))
         }
-        Told::Nothing => None,
+        WordKind::Nothing => None,
     }
 }
 

@@ -10,16 +10,16 @@ ghost use Rattle.json_text.specs.Limits.{AreWithinLimits};
 ghost use Rattle.json_text.specs.Answer.{IsJson, StandsForAll, HasDepth, IsNoJson};
 ghost use Rattle.json_walk.specs.Building.{IsBounded};
 ghost use Rattle.tape_cells.specs.Opened.{HasRoom};
-ghost use Rattle.json_text.specs.Sifted.{AreSifted, narrow};
+ghost use Rattle.json_text.specs.Suspects.{AreSuspects, narrow};
 ghost use Rattle.json_text.specs.Verdict.{text_limit};
 ghost use Rattle.json_walk.specs.Placing.{HoldSlashes};
-ghost use Rattle.name_stamps.specs.Told.{IsStamped, IsUnasked, AreTold, IsFresh, IsSameTop, IsSeated, HasTable};
-ghost use Rattle.json_walk.specs.Walked.{met_source, IsListed, FitsTape, token_of, behind, with_sign, no_more, spot_after, is_whole as whole_token, spot_behind, byte_at, ending as ending_of, width as width_of, shape_of, point, at, Arrives, Named, Grown, Entered, AsksName, AsksValue, AsksChild};
+ghost use Rattle.name_stamps.specs.Stamps.{IsStamped, IsUnsuspected, DuplicateCheck, IsFresh, IsSameTop, HasSlot, HasTable};
+ghost use Rattle.json_walk.specs.Walked.{stamped_source, IsListed, FitsTape, token_of, behind, with_sign, no_more, spot_after, is_whole as whole_token, spot_behind, byte_at, ending as ending_of, width as width_of, shape_of, point, at, WalksTo, WalksName, WalksValue, WalksInto, AsksName, AsksValue, AsksChild};
 
 use crate::lexing::{Lexed, name, value};
 use crate::slashes::Slashes;
 use json_text::{BuildFault, Extent, Kind, Level, Shape, Want};
-use name_stamps::{Met, NamesMet, Owner, stamped};
+use name_stamps::{SeenNames, Slot, StampedName, stamped};
 use std::alloc::Global;
 use structural_index::{Index, Looks};
 use tape_cells::{Builder, Tape};
@@ -118,12 +118,17 @@ fn put(
 
 // The name at place number k and the colon behind it.
 #[inline(always)]
-fn named(looks: &mut Looks<'_>, places: &[u32], k: usize, slashes: &mut Slashes<'_>) -> Option<Met>
+fn named(
+    looks: &mut Looks<'_>,
+    places: &[u32],
+    k: usize,
+    slashes: &mut Slashes<'_>,
+) -> Option<StampedName>
     requires listed { IsListed looks.old.0 places.now }
     requires inside { k + 1 < length places.now }
     requires slashes { HoldSlashes looks.old.0 slashes.old }
     ensures named { (b : Built) (w : Want) (exceeds : Bool) → AsksName looks.old.0 places.now k w
-        → Named looks.old.0 places.now (point k (standing b w None) looks.old.1 exceeds) b (k + 2) (met_source result) looks.new.1 exceeds }
+        → WalksName looks.old.0 places.now (point k (standing b w None) looks.old.1 exceeds) b (k + 2) (stamped_source result) looks.new.1 exceeds }
     ensures room { IfSome result (λ m. HasRoom m.source) }
     ensures stamped { IfSome result (λ m. IsStamped looks.old.0 m.source m.stamp) }
     ensures slashes { HoldSlashes looks.old.0 slashes.new }
@@ -154,9 +159,9 @@ fn valued<const OBJECT: bool>(
     requires small { IsSmall k (standing builder.old Want.Next None) }
     requires level { level_of builder.old.opens ≡ Level.Inside (shape_of OBJECT) }
     requires name { IfSome name HasRoom }
-    ensures grown { (w : Want) → AsksValue looks.old.0 places.now k w
-        → Grown looks.old.0 places.now (point k (standing builder.old w name) looks.old.1 may_exceed.old) (shape_of OBJECT) (k + 1) result builder.new looks.new.1 may_exceed.new }
-    ensures told { IfOk result (λ made. (met : NamesMet) → AreTold looks.old.0 builder.old met → IsFresh looks.old.0 builder.old met name → AreTold looks.old.0 builder.new met) }
+    ensures walks { (w : Want) → AsksValue looks.old.0 places.now k w
+        → WalksValue looks.old.0 places.now (point k (standing builder.old w name) looks.old.1 may_exceed.old) (shape_of OBJECT) (k + 1) result builder.new looks.new.1 may_exceed.new }
+    ensures checked { IfOk result (λ made. (seen : SeenNames) → DuplicateCheck looks.old.0 builder.old seen → IsFresh looks.old.0 builder.old seen name → DuplicateCheck looks.old.0 builder.new seen) }
     ensures top { IfOk result (λ made. IfSome made (λ sign. IsSameTop builder.old.opens builder.new.opens)) }
     ensures slashes { HoldSlashes looks.old.0 slashes.new }
     ensures same { looks.new.0 ≡ looks.old.0 }
@@ -191,21 +196,21 @@ fn child<const OBJECT: bool>(
     slashes: &mut Slashes<'_>,
     builder: &mut Builder,
     may_exceed: &mut bool,
-    met: &mut NamesMet,
-    owner: Owner,
+    seen: &mut SeenNames,
+    slot: Slot,
 ) -> Result<Option<u8>, BuildFault>
     requires listed { IsListed looks.old.0 places.now }
     requires inside { k + width_of (shape_of OBJECT) < length places.now }
     requires slashes { HoldSlashes looks.old.0 slashes.old }
     requires small { IsSmall k (standing builder.old Want.Next None) }
     requires level { level_of builder.old.opens ≡ Level.Inside (shape_of OBJECT) }
-    requires told { AreTold looks.old.0 builder.old met.old }
-    requires seated { IsTrue OBJECT → IsSeated builder.old owner met.old }
-    requires table { HasTable owner }
-    ensures grown { (w : Want) → AsksChild looks.old.0 places.now k (shape_of OBJECT) w
-        → Grown looks.old.0 places.now (point k (standing builder.old w None) looks.old.1 may_exceed.old) (shape_of OBJECT) (k + width_of (shape_of OBJECT)) result builder.new looks.new.1 may_exceed.new }
-    ensures told { IfOk result (λ made. AreTold looks.old.0 builder.new met.new) }
-    ensures seated { IfOk result (λ made. IfSome made (λ sign. IsTrue OBJECT → IsSeated builder.new owner met.new)) }
+    requires checked { DuplicateCheck looks.old.0 builder.old seen.old }
+    requires has_slot { IsTrue OBJECT → HasSlot builder.old slot seen.old }
+    requires table { HasTable slot }
+    ensures walks { (w : Want) → AsksChild looks.old.0 places.now k (shape_of OBJECT) w
+        → WalksValue looks.old.0 places.now (point k (standing builder.old w None) looks.old.1 may_exceed.old) (shape_of OBJECT) (k + width_of (shape_of OBJECT)) result builder.new looks.new.1 may_exceed.new }
+    ensures checked { IfOk result (λ made. DuplicateCheck looks.old.0 builder.new seen.new) }
+    ensures has_slot { IfOk result (λ made. IfSome made (λ sign. IsTrue OBJECT → HasSlot builder.new slot seen.new)) }
     ensures slashes { HoldSlashes looks.old.0 slashes.new }
     ensures same { looks.new.0 ≡ looks.old.0 }
 {
@@ -215,7 +220,7 @@ fn child<const OBJECT: bool>(
     let Some(name) = named(looks, places, k, slashes) else {
         return Err(BuildFault::NotJson);
     };
-    if met.meet(owner, name.stamp).is_err() {
+    if seen.insert(slot, name.stamp).is_err() {
         return Err(BuildFault::Memory);
     }
     valued::<OBJECT>(
@@ -244,35 +249,38 @@ fn closed_at(closed: Result<(), BuildFault>, k: usize) -> Result<Spot, BuildFaul
     }
 }
 
-// Asks about the innermost container if it is a wide object.
+// Makes the innermost container a suspect if it is a wide object.
 #[inline(always)]
-fn ask_if_wide<const OBJECT: bool>(builder: &Builder, met: &mut NamesMet) -> Result<(), BuildFault>
-    ensures told { OnOk result ((text : List ℕ) → AreTold text builder.now met.old → AreTold text builder.now met.new) }
-    ensures few { OnOk result (shape_of OBJECT ≡ Shape.Object → IsUnasked met.new (top_of builder.now.opens) → children_of builder.now.opens ≤ narrow) }
+fn suspect_if_wide<const OBJECT: bool>(
+    builder: &Builder,
+    seen: &mut SeenNames,
+) -> Result<(), BuildFault>
+    ensures checked { OnOk result ((text : List ℕ) → DuplicateCheck text builder.now seen.old → DuplicateCheck text builder.now seen.new) }
+    ensures few { OnOk result (shape_of OBJECT ≡ Shape.Object → IsUnsuspected seen.new (top_of builder.now.opens) → children_of builder.now.opens ≤ narrow) }
     ensures memory { IsErrOf result BuildFault.NotJson → ⊥ }
 {
     if !OBJECT {
         return Ok(());
     }
-    match met.ask_if_wide(builder) {
+    match seen.suspect_if_wide(builder) {
         Ok(()) => Ok(()),
         Err(_) => Err(BuildFault::Memory),
     }
 }
 
-// Closes the innermost container, which is asked about if it is a wide object.
+// Closes the innermost container, which is a suspect if it is a wide object.
 #[inline(always)]
 fn shut<const OBJECT: bool>(
     builder: &mut Builder,
     place: u32,
-    met: &mut NamesMet,
+    seen: &mut SeenNames,
 ) -> Result<(), BuildFault>
     requires level { level_of builder.old.opens ≡ Level.Inside (shape_of OBJECT) }
     requires near { place < 2 ^ 24 }
     ensures took { Took (step (Closing (shape_of OBJECT) place) (standing builder.old Want.Next None)) result (standing builder.new Want.Next None) }
-    ensures told { OnOk result ((text : List ℕ) → AreTold text builder.old met.old → AreTold text builder.new met.new) }
+    ensures checked { OnOk result ((text : List ℕ) → DuplicateCheck text builder.old seen.old → DuplicateCheck text builder.new seen.new) }
 {
-    match ask_if_wide::<OBJECT>(builder, met) {
+    match suspect_if_wide::<OBJECT>(builder, seen) {
         Ok(()) => builder.close(shape::<OBJECT>(), place),
         Err(fault) => Err(fault),
     }
@@ -285,21 +293,21 @@ fn ended<const OBJECT: bool>(
     k: usize,
     sign: u8,
     builder: &mut Builder,
-    met: &mut NamesMet,
+    seen: &mut SeenNames,
 ) -> Result<Spot, BuildFault>
     requires inside { k < length places.now }
     requires near { get_or places.now k 0 < 2 ^ 24 }
     requires level { level_of builder.old.opens ≡ Level.Inside (shape_of OBJECT) }
     requires no_comma { sign ≢ 44 }
-    ensures arrives { (text : List ℕ) (looked : ℕ) (exceeds : Bool) → IsListed text places.now → sign ≡ byte_at text places.now k
-        → Arrives text places.now (point k (standing builder.old Want.Next None) looked exceeds) result builder.new looked exceeds }
+    ensures walks { (text : List ℕ) (looked : ℕ) (exceeds : Bool) → IsListed text places.now → sign ≡ byte_at text places.now k
+        → WalksTo text places.now (point k (standing builder.old Want.Next None) looked exceeds) result builder.new looked exceeds }
     ensures behind { IfOk result (λ next. (next.number ≡ k + 1) × (next.behind ≡ true)) }
-    ensures told { IfOk result (λ next. (text : List ℕ) → AreTold text builder.old met.old → AreTold text builder.new met.new) }
+    ensures checked { IfOk result (λ next. (text : List ℕ) → DuplicateCheck text builder.old seen.old → DuplicateCheck text builder.new seen.new) }
 {
     if sign != ending::<OBJECT>() {
         return Err(BuildFault::NotJson);
     }
-    closed_at(shut::<OBJECT>(builder, places[k], met), k)
+    closed_at(shut::<OBJECT>(builder, places[k], seen), k)
 }
 
 // What the walk finds where it enters a container, or comes back to it: the number of the place at which the next child has to begin, or
@@ -310,13 +318,13 @@ fn entered<const OBJECT: bool>(
     places: &[u32],
     spot: Spot,
     builder: &mut Builder,
-    met: &mut NamesMet,
+    seen: &mut SeenNames,
 ) -> Result<Option<usize>, BuildFault>
     requires listed { IsListed looks.old.0 places.now }
     requires level { level_of builder.old.opens ≡ Level.Inside (shape_of OBJECT) }
-    ensures entered { (exceeds : Bool) → Entered looks.old.0 places.now (at spot builder.old looks.old.1 exceeds) (shape_of OBJECT) (spot.number + 1) result builder.new looks.new.1 exceeds }
+    ensures entered { (exceeds : Bool) → WalksInto looks.old.0 places.now (at spot builder.old looks.old.1 exceeds) (shape_of OBJECT) (spot.number + 1) result builder.new looks.new.1 exceeds }
     ensures inside { IfOk result (λ next. spot.number < length places.now) }
-    ensures told { IfOk result (λ next. (text : List ℕ) → AreTold text builder.old met.old → AreTold text builder.new met.new) }
+    ensures checked { IfOk result (λ next. (text : List ℕ) → DuplicateCheck text builder.old seen.old → DuplicateCheck text builder.new seen.new) }
     ensures same { looks.new.0 ≡ looks.old.0 }
 {
     if spot.number >= places.len() {
@@ -324,7 +332,7 @@ fn entered<const OBJECT: bool>(
     }
     let sign = looks.at(places[spot.number] as usize);
     if sign == ending::<OBJECT>() {
-        return nothing_more(shut::<OBJECT>(builder, places[spot.number], met));
+        return nothing_more(shut::<OBJECT>(builder, places[spot.number], seen));
     }
     if !spot.behind {
         return Ok(Some(spot.number));
@@ -336,22 +344,25 @@ fn entered<const OBJECT: bool>(
     }
 }
 
-// The table for the names of the innermost container, which an array does not use.
+// The slot for the names of the innermost container, which an array does not use.
 #[inline(always)]
-fn seat<const OBJECT: bool>(builder: &Builder, met: &mut NamesMet) -> Result<Owner, BuildFault>
-    ensures seated { IfOk result (λ owner. IsTrue OBJECT → IsSeated builder.now owner met.new) }
-    ensures told { IfOk result (λ owner. (text : List ℕ) → AreTold text builder.now met.old → AreTold text builder.now met.new) }
+fn take_slot<const OBJECT: bool>(
+    builder: &Builder,
+    seen: &mut SeenNames,
+) -> Result<Slot, BuildFault>
+    ensures has_slot { IfOk result (λ slot. IsTrue OBJECT → HasSlot builder.now slot seen.new) }
+    ensures checked { IfOk result (λ slot. (text : List ℕ) → DuplicateCheck text builder.now seen.old → DuplicateCheck text builder.now seen.new) }
     ensures table { IfOk result HasTable }
     ensures memory { IsErrOf result BuildFault.NotJson → ⊥ }
 {
     if !OBJECT {
-        return Ok(Owner {
+        return Ok(Slot {
             number: 0,
             table: 0,
         });
     }
-    match met.seat(builder) {
-        Ok(owner) => Ok(owner),
+    match seen.take_slot(builder) {
+        Ok(slot) => Ok(slot),
         Err(_) => Err(BuildFault::Memory),
     }
 }
@@ -365,21 +376,21 @@ fn run<const OBJECT: bool>(
     slashes: &mut Slashes<'_>,
     builder: &mut Builder,
     may_exceed: &mut bool,
-    met: &mut NamesMet,
+    seen: &mut SeenNames,
 ) -> Result<Spot, BuildFault>
     requires listed { IsListed looks.old.0 places.now }
     requires slashes { HoldSlashes looks.old.0 slashes.old }
     requires small { IsSmall spot.number (standing builder.old Want.Next None) }
     requires level { level_of builder.old.opens ≡ Level.Inside (shape_of OBJECT) }
-    requires told { AreTold looks.old.0 builder.old met.old }
-    ensures arrives { Arrives looks.old.0 places.now (at spot builder.old looks.old.1 may_exceed.old) result builder.new looks.new.1 may_exceed.new }
+    requires checked { DuplicateCheck looks.old.0 builder.old seen.old }
+    ensures walks { WalksTo looks.old.0 places.now (at spot builder.old looks.old.1 may_exceed.old) result builder.new looks.new.1 may_exceed.new }
     ensures further { IfOk result (λ next. (spot.number < next.number) × (next.number ≤ length places.now)) }
     ensures opened { IfOk result (λ next. next.behind ≡ false → level_of builder.new.opens ≡ Level.Root → ⊥) }
-    ensures told { IfOk result (λ next. AreTold looks.old.0 builder.new met.new) }
+    ensures checked { IfOk result (λ next. DuplicateCheck looks.old.0 builder.new seen.new) }
     ensures slashes { HoldSlashes looks.old.0 slashes.new }
     ensures same { looks.new.0 ≡ looks.old.0 }
 {
-    let first = match entered::<OBJECT>(looks, places, spot, builder, met) {
+    let first = match entered::<OBJECT>(looks, places, spot, builder, seen) {
         Err(fault) => return Err(fault),
         Ok(None) => {
             return Ok(Spot {
@@ -389,13 +400,13 @@ fn run<const OBJECT: bool>(
         }
         Ok(Some(first)) => first,
     };
-    let owner = match seat::<OBJECT>(builder, met) {
-        Ok(owner) => owner,
+    let slot = match take_slot::<OBJECT>(builder, seen) {
+        Ok(slot) => slot,
         Err(fault) => return Err(fault),
     };
     let mut k = first;
     while k + width::<OBJECT>() < places.len() {
-        match child::<OBJECT>(looks, places, k, slashes, builder, may_exceed, met, owner) {
+        match child::<OBJECT>(looks, places, k, slashes, builder, may_exceed, seen, slot) {
             Err(fault) => return Err(fault),
             Ok(None) => {
                 return Ok(Spot {
@@ -405,7 +416,7 @@ fn run<const OBJECT: bool>(
             }
             Ok(Some(b',')) => k += width::<OBJECT>() + 1,
             Ok(Some(sign)) => {
-                return ended::<OBJECT>(places, k + width::<OBJECT>(), sign, builder, met);
+                return ended::<OBJECT>(places, k + width::<OBJECT>(), sign, builder, seen);
             }
         }
     }
@@ -422,23 +433,23 @@ fn children(
     slashes: &mut Slashes<'_>,
     builder: &mut Builder,
     may_exceed: &mut bool,
-    met: &mut NamesMet,
+    seen: &mut SeenNames,
 ) -> Result<Spot, BuildFault>
     requires listed { IsListed looks.old.0 places.now }
     requires slashes { HoldSlashes looks.old.0 slashes.old }
     requires small { IsSmall spot.number (standing builder.old Want.Next None) }
     requires level { level_of builder.old.opens ≡ Level.Inside shape }
-    requires told { AreTold looks.old.0 builder.old met.old }
-    ensures arrives { Arrives looks.old.0 places.now (at spot builder.old looks.old.1 may_exceed.old) result builder.new looks.new.1 may_exceed.new }
+    requires checked { DuplicateCheck looks.old.0 builder.old seen.old }
+    ensures walks { WalksTo looks.old.0 places.now (at spot builder.old looks.old.1 may_exceed.old) result builder.new looks.new.1 may_exceed.new }
     ensures further { IfOk result (λ next. (spot.number < next.number) × (next.number ≤ length places.now)) }
     ensures opened { IfOk result (λ next. next.behind ≡ false → level_of builder.new.opens ≡ Level.Root → ⊥) }
-    ensures told { IfOk result (λ next. AreTold looks.old.0 builder.new met.new) }
+    ensures checked { IfOk result (λ next. DuplicateCheck looks.old.0 builder.new seen.new) }
     ensures slashes { HoldSlashes looks.old.0 slashes.new }
     ensures same { looks.new.0 ≡ looks.old.0 }
 {
     match shape {
-        Shape::Array => run::<false>(looks, places, spot, slashes, builder, may_exceed, met),
-        Shape::Object => run::<true>(looks, places, spot, slashes, builder, may_exceed, met),
+        Shape::Array => run::<false>(looks, places, spot, slashes, builder, may_exceed, seen),
+        Shape::Object => run::<true>(looks, places, spot, slashes, builder, may_exceed, seen),
     }
 }
 
@@ -451,24 +462,24 @@ fn containers(
     slashes: &mut Slashes<'_>,
     builder: &mut Builder,
     may_exceed: &mut bool,
-    met: &mut NamesMet,
+    seen: &mut SeenNames,
 ) -> Result<Spot, BuildFault>
     requires listed { IsListed looks.old.0 places.now }
     requires slashes { HoldSlashes looks.old.0 slashes.old }
     requires inside { spot.number ≤ length places.now }
     requires small { IsSmall spot.number (standing builder.old Want.Next None) }
     requires opened { spot.behind ≡ false → level_of builder.old.opens ≡ Level.Root → ⊥ }
-    requires told { AreTold looks.old.0 builder.old met.old }
-    ensures arrives { Arrives looks.old.0 places.now (at spot builder.old looks.old.1 may_exceed.old) result builder.new looks.new.1 may_exceed.new }
+    requires checked { DuplicateCheck looks.old.0 builder.old seen.old }
+    ensures walks { WalksTo looks.old.0 places.now (at spot builder.old looks.old.1 may_exceed.old) result builder.new looks.new.1 may_exceed.new }
     ensures over { IfOk result (λ next. (level_of builder.new.opens ≡ Level.Root) × (next.behind ≡ true)) }
-    ensures told { IfOk result (λ next. AreTold looks.old.0 builder.new met.new) }
+    ensures checked { IfOk result (λ next. DuplicateCheck looks.old.0 builder.new seen.new) }
     ensures slashes { HoldSlashes looks.old.0 slashes.new }
     ensures same { looks.new.0 ≡ looks.old.0 }
 {
     let mut next = spot;
     while let Level::Inside(shape) = builder.level() {
         match children(
-            looks, places, next, shape, slashes, builder, may_exceed, met,
+            looks, places, next, shape, slashes, builder, may_exceed, seen,
         ) {
             Ok(spot) => next = spot,
             Err(fault) => return Err(fault),
@@ -514,8 +525,8 @@ fn whole(
     requires listed { IsListed looks.old.0 places.now }
     requires slashes { HoldSlashes looks.old.0 slashes.old }
     requires first { builder.old ≡ nothing }
-    ensures arrives { Arrives looks.old.0 places.now (point 0 (standing builder.old Want.Value None) looks.old.1 may_exceed.old) result builder.new looks.new.1 may_exceed.new }
-    ensures told { IfOk result (λ next. (met : NamesMet) → AreTold looks.old.0 builder.old met → AreTold looks.old.0 builder.new met) }
+    ensures walks { WalksTo looks.old.0 places.now (point 0 (standing builder.old Want.Value None) looks.old.1 may_exceed.old) result builder.new looks.new.1 may_exceed.new }
+    ensures checked { IfOk result (λ next. (seen : SeenNames) → DuplicateCheck looks.old.0 builder.old seen → DuplicateCheck looks.old.0 builder.new seen) }
     ensures further { IfOk result (λ next. next.number ≤ length places.now) }
     ensures opened { IfOk result (λ next. next.behind ≡ false → level_of builder.new.opens ≡ Level.Root → ⊥) }
     ensures slashes { HoldSlashes looks.old.0 slashes.new }
@@ -532,14 +543,14 @@ fn whole(
     first_spot(put(builder, Level::Root, None, i, lexed), lexed)
 }
 
-/// The result of a walk: the tape, its depth, and whether a number may be beyond the limits. `asked` has the numbers of the objects that
+/// The result of a walk: the tape, its depth, and whether a number may be beyond the limits. `suspects` has the numbers of the objects that
 /// may have a repeated name, in no order; all others have none.
 #[derive(Drop)]
 pub struct Reading {
     pub tape: Tape,
     pub depth: usize,
     pub may_exceed: bool,
-    pub asked: Vec<u32>,
+    pub suspects: Vec<u32>,
 }
 
 /// The tape of the text that is looked at and what else was found of it, from the places of its index, or why it has no tape.
@@ -559,7 +570,7 @@ pub fn walk(alloc: Global, index: &Index, looks: &mut Looks<'_>) -> Result<Readi
     // Unless memory runs out, a text is refused only where it spells no tree.
     ensures refused { IsErrOf result BuildFault.NotJson → IsNoJson looks.old.0 }
     ensures looked { IfOk result (λ reading. IsBounded looks.old.0 looks.old.1 looks.new.1) }
-    ensures sifted { IfOk result (λ reading. AreSifted looks.old.0 reading.tape reading.asked.items) }
+    ensures suspects { IfOk result (λ reading. AreSuspects looks.old.0 reading.tape reading.suspects.items) }
 {
     if index.unclosed || index.control_inside {
         return Err(BuildFault::NotJson);
@@ -568,7 +579,7 @@ pub fn walk(alloc: Global, index: &Index, looks: &mut Looks<'_>) -> Result<Readi
     let mut slashes = Slashes::new(index.slashes.as_slice(), looks.length());
     let mut builder = Builder::new(alloc, places.len() / 2 + 1)?;
     let mut may_exceed = false;
-    let mut met = NamesMet::new(alloc);
+    let mut seen = SeenNames::new(alloc);
     let first = match whole(looks, places, &mut slashes, &mut builder, &mut may_exceed) {
         Ok(first) => first,
         Err(fault) => return Err(fault),
@@ -580,7 +591,7 @@ pub fn walk(alloc: Global, index: &Index, looks: &mut Looks<'_>) -> Result<Readi
         &mut slashes,
         &mut builder,
         &mut may_exceed,
-        &mut met,
+        &mut seen,
     ) {
         Ok(last) => last,
         Err(fault) => return Err(fault),
@@ -593,7 +604,7 @@ pub fn walk(alloc: Global, index: &Index, looks: &mut Looks<'_>) -> Result<Readi
         tape: builder.into_tape(),
         depth,
         may_exceed,
-        asked: met.asked,
+        suspects: seen.suspects,
     })
 }
 

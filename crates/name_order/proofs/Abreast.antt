@@ -9,7 +9,7 @@ use Rattle.tape_cells.specs.Cells.{members_in}
 use Rattle.json_text.specs.Repeats.{IsObject}
 use Rattle.name_order.specs.Ordered.{keyed, moved, AreAlike, AreLeavesAlike, IsNameInside}
 use Rattle.json_text.specs.Tape.{entry_in}
-use Rattle.json_text.specs.Sifted.{IsWide}
+use Rattle.json_text.specs.Suspects.{IsWide}
 use Rattle.json_text.specs.declared.tape.Entry.{Entry}
 use Rattle.json_text.specs.declared.tape.Extent.{Extent}
 use Rattle.json_text.proofs.Entries.{size_positive}

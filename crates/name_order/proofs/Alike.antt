@@ -1,9 +1,9 @@
 -- The order of the members of an object that has the names of an earlier one.
-use Rattle.std.proofs.Common.{◌≡◌, ℕ, ◌+◌, ◌-◌, ◌^◌, ◌<◌, ◌≤◌, false, List, [], ◌∷◌, ◌++◌, length, map, drop, get_or, refl, sym, ap, ◌∙◌, subst, arith, length-drop}
+use Rattle.std.proofs.Common.{◌≡◌, ℕ, ◌+◌, ◌-◌, ◌^◌, ◌<◌, false, List, [], ◌∷◌, ◌++◌, length, map, get_or, refl, sym, ap, ◌∙◌, subst, arith}
 use Rattle.std.specs.List.{All, AllByRecursion}
 use Rattle.std.specs.List.Sorted.{IsPermutation, IsStrictlySortedBy}
 use Rattle.std.specs.Cmp.Lexicographic.{nat_list_eq_equiv}
-use Rattle.std.proofs.lemmas.List.{length-map, length-take, get_or-map, get_or_read}
+use Rattle.std.proofs.lemmas.List.{length-map, get_or-map}
 use Rattle.std.proofs.lemmas.List.Elements.{All-from_recursion, recursion_from_All}
 use Rattle.std.proofs.lemmas.List.Sorted.{IsPermutation-map, All-permutation}
 use Rattle.std.proofs.lemmas.Map.Keys.{sorted_from_all_adjacent}
@@ -11,29 +11,16 @@ use Rattle.json_text.specs.Tree.{Members, NoMember, Member}
 use Rattle.json_text.specs.Nodes.{size}
 use Rattle.json_text.specs.Meaning.{meaning}
 use Rattle.json_strings.specs.Spelling.{IsQuoted}
-use Rattle.tape_cells.specs.Cells.{members_in}
 use Rattle.json_text.specs.Repeats.{IsObject, is_same, repeats, meanings}
-use Rattle.json_strings.specs.Hashes.{hash_of}
 use Rattle.json_strings.specs.KeyOrder.{names_total, names_tie}
-use Rattle.json_strings.specs.Keys.{Keyed, key_number, key_name, mixed, name_cmp, name_hash}
-use Rattle.name_order.specs.Ordered.{keyed, name_at, part, IsOrderOf, AreKept, AreAlike, moved, onward}
-use Rattle.json_text.specs.Tape.{entry_in, nothing_there}
-use Rattle.json_text.specs.Sifted.{IsWide}
+use Rattle.json_strings.specs.Keys.{Keyed, key_number, key_name, name_cmp, name_hash}
+use Rattle.name_order.specs.Ordered.{keyed, name_at, IsOrderOf, AreKept, AreAlike, moved}
+use Rattle.name_order.specs.Orders.{Order, no_order, onward}
+use Rattle.json_text.specs.Tape.{entry_in}
 use Rattle.json_text.specs.declared.tape.Entry.{Entry}
-use Rattle.json_text.proofs.Numbers.{entry_at}
 use Rattle.json_text.proofs.Repeats.{rising_alone}
-use Rattle.name_order.proofs.KeysLeft.{IsGood, all_good, length_keyed}
+use Rattle.name_order.proofs.KeysLeft.{IsGood, all_good}
 use Rattle.name_order.proofs.Runs.{kept_more}
-use Rattle.tape_cells.proofs.WideObjects.{object_members}
-
--- no further on
-pub onward_by_none : (xs : List ℕ) → map (onward 0) xs ≡ xs
-onward_by_none [] = refl
-onward_by_none (x ∷ xs) = let e : x + 0 ≡ x = omega arith in rw (e, onward_by_none xs) refl
-
-hash_small : (h : ℕ) → mixed h < 2 ^ 32
-unfolding mixed
-hash_small h = omega arith
 
 names_keyed : (ms : Members) (k : ℕ) → meanings ms ≡ map key_name (keyed ms k)
 names_keyed NoMember k = refl
@@ -58,18 +45,12 @@ module _ (text : List ℕ) (tape : List Entry) where
   names_read shift [] g = refl
   names_read shift (x ∷ ks) g = ap (λ y. y ∷ map key_name (map (moved shift) ks)) (sym g.0.named) ∙ ap (λ l. name_at text tape x.number ∷ l) (names_read shift ks g.1)
 
-  children_of : (n : ℕ) (ms : Members) → IsObject text tape n ms → length (keyed ms (n + 1)) ≡ (entry_in tape n).children
-  children_of n ms o = length_keyed ms (n + 1) ∙ sym (ap (λ (e : Entry). e.children) (entry_at tape nothing_there o.stands o.is_at))
-
   module _ (n earlier : ℕ) (a : AreAlike text tape n earlier) (ms : Members) (o : IsObject text tape n ms) where
     abbrev shift : ℕ
     shift = n - earlier
 
     abbrev keys : List Keyed
     keys = keyed a.before (earlier + 1)
-
-    pub same_children : (entry_in tape earlier).children ≡ (entry_in tape n).children
-    same_children = sym (children_of earlier a.before a.was) ∙ sym (length-map keys (moved shift)) ∙ sym (ap length (a.same ms o)) ∙ children_of n ms o
 
     good : AllByRecursion (IsGood text tape) keys
     good = recursion_from_All (IsGood text tape) keys (all_good text tape earlier a.before a.was)
@@ -123,53 +104,22 @@ module _ (text : List ℕ) (tape : List Entry) where
           sym (ap repeats all ∙ rising_alone is_same name_cmp names_tie (λ x y. nat_list_eq_equiv.symm x y) names_total (map (name_at text tape) (map key_number keys)) names
           (IsPermutation-map (name_at text tape) (map key_number keys) members (order.all a.before a.was)) rising)
 
-  -- the object at a place of the lists, and the one that is added
-  module _ (n : ℕ) (objects starts hashes members : List ℕ) (kept : AreKept text tape n objects starts hashes members) (place : ℕ) (inside : place < length objects)
-      (a : AreAlike text tape n (get_or objects place 0)) (wide : IsWide (entry_in tape n)) (o : (ms : Members) × IsObject text tape n ms)
-      (first start count : ℕ) (read : first ≡ get_or objects place first) (started : start ≡ get_or starts place start) (counted : count ≡ members_in (entry_in tape n)) where
-    abbrev earlier : ℕ
-    earlier = get_or objects place 0
+  -- the object at a place of the orders, and the one that is added
+  module _ (n : ℕ) (orders : List Order) (kept : AreKept text tape n orders) (place : ℕ) (inside : place < length orders) (a : AreAlike text tape n (get_or orders place no_order).object)
+      (o : (ms : Members) × IsObject text tape n ms) where
+    abbrev before : Order
+    before = get_or orders place no_order
 
-    first_is : first ≡ earlier
-    first_is = get_or_read objects place first inside read 0
+    order_before : IsOrderOf text tape before.object before.hashes before.members
+    order_before = (kept.each place no_order inside).1
 
-    start_is : start ≡ get_or starts place 0
-    start_is = let b = kept.begun in get_or_read starts place start (omega arith) started 0
-
-    count_is : count ≡ (entry_in tape n).children
-    count_is = counted ∙ object_members (entry_in tape n) wide.0
-
-    was_counted : count ≡ (entry_in tape earlier).children
-    was_counted = count_is ∙ sym (same_children n earlier a o.0 o.1)
-
-    pub order_before : IsOrderOf text tape earlier (part start count hashes) (part start count members)
-    order_before = rw (start_is, was_counted) (kept.each place inside)
-
-    pub room_before : start + count ≤ length members
-    room_before = rw (start_is, was_counted) (kept.room place inside)
-
-    part_long : length (part start count members) ≡ count
-    part_long =
-        let t = length-take count (drop start members) in
-        let d = length-drop start members in
-        let r = room_before in
-        omega arith
-
-    pub small_before : length tape < 2 ^ 31 → n < length tape → (k : ℕ) → k < count → get_or (part start count members) k 0 + (n - first) < 2 ^ 32
-    small_before short l k h = let i = order_before.named.inside k (let e = part_long in omega arith) in omega arith
-
-    pub small_hashes : (k : ℕ) → k < count → get_or (part start count hashes) k 0 + 0 < 2 ^ 32
-    small_hashes k h =
-        let e = order_before.named.hashed k (let l = part_long in omega arith) in
-        let s = hash_small (hash_of (name_at text tape (get_or (part start count members) k 0))) in
-        omega arith
+    pub small_before : (first : ℕ) → first ≡ before.object → length tape < 2 ^ 31 → n < length tape → (k : ℕ) → k < length before.members → get_or before.members k 0 + (n - first) < 2 ^ 32
+    small_before first e short l k h = let i = order_before.named.inside k h in omega arith
 
     pub none_like : (ms : Members) → IsObject text tape n ms → false ≡ repeats (meanings ms)
-    none_like ms p = none_again n earlier a ms p _ _ order_before
+    none_like ms p = none_again n before.object a ms p _ _ order_before
 
-    pub kept_like : (objects' starts' hashes' members' : List ℕ) → objects' ≡ objects ++ n ∷ [] → starts' ≡ starts ++ length members ∷ [] → hashes' ≡ hashes ++ part start count hashes
-        → members' ≡ members ++ map (onward (n - first)) (part start count members) → AreKept text tape (n + 1) objects' starts' hashes' members'
-    kept_like objects' starts' hashes' members' e f g h =
-        let h' = h ∙ ap (λ m. members ++ map (onward (n - m)) (part start count members)) first_is in
-        rw (e, f, g, h') (kept_more text tape n objects starts hashes members (part start count hashes) (map (onward (n - earlier)) (part start count members)) kept
-        (length-map (part start count members) (onward (n - earlier)) ∙ part_long ∙ count_is) (ordered n earlier a o.0 o.1 _ _ order_before))
+    pub kept_like : (first : ℕ) (new : List Order) → first ≡ before.object → new ≡ orders ++ record { object = n; hashes = before.hashes; members = map (onward (n - first)) before.members } ∷ [] → AreKept text tape (n + 1) new
+    kept_like first new e f =
+        kept_more text tape n orders new before.hashes (map (onward (n - first)) before.members) kept
+        (subst (λ m. IsOrderOf text tape n before.hashes (map (onward (n - m)) before.members)) (sym e) (ordered n before.object a o.0 o.1 _ _ order_before)) f

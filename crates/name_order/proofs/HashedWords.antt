@@ -1,11 +1,11 @@
 -- Members as words in the order of their hashes, no two of which meet.
-use Rattle.std.proofs.Common.{◌≡◌, ℕ, ◌+◌, ◌*◌, ◌^◌, ◌<◌, ◌≤◌, false, Bool, true, ◌||◌, cond, List, [], ◌∷◌, ◌++◌, length, map, get_or, refl, sym, ap, ◌∙◌, subst, arith}
+use Rattle.std.proofs.Common.{◌≡◌, ℕ, ◌+◌, ◌*◌, ◌^◌, ◌<◌, ◌≤◌, false, Bool, true, ◌||◌, cond, List, [], ◌∷◌, length, map, get_or, refl, sym, ap, ◌∙◌, subst, arith}
 use Rattle.std.specs.Prelude.{nat_eq, nat_lt}
 use Rattle.std.proofs.lemmas.Bool.Decides.{nat_tests}
 use Rattle.std.proofs.lemmas.Nat.{mod-mul-add, div-mul-add}
 use Rattle.std.proofs.lemmas.List.{length-map, get_or_default, get_or-map}
 use Rattle.std.proofs.lemmas.List.Elements.{All-from_recursion, recursion_from_All}
-use Rattle.std.proofs.lemmas.List.Sorted.{IsPermutation-map, All-permutation, length_permutation}
+use Rattle.std.proofs.lemmas.List.Sorted.{IsPermutation-map, All-permutation}
 use Rattle.std.specs.List.{All, AllByRecursion}
 use Rattle.std.specs.List.Sorted.{IsPermutation, IsSorted}
 use Rattle.std.specs.Cmp.{nat_cmp_total, nat_eq_equiv, unsigned_ties}
@@ -18,13 +18,13 @@ use Rattle.json_text.specs.Meaning.{meaning}
 use Rattle.json_strings.specs.Spelling.{IsQuoted}
 use Rattle.json_text.specs.Repeats.{IsObject, repeats, meanings, repeats_by, repeats_next_by}
 use Rattle.json_strings.specs.Keys.{Keyed, key_number, key_hash, name_hash}
-use Rattle.name_order.specs.Ordered.{keyed, word_of, high_half, low_half, name_at, IsOrderOf, AreKept}
-use Rattle.json_text.specs.Tape.{entry_in, nothing_there}
+use Rattle.name_order.specs.Ordered.{keyed, word_of, name_at, IsOrderOf}
+use Rattle.name_order.specs.Orders.{high_half, low_half}
+use Rattle.json_text.specs.Tape.{entry_in}
 use Rattle.json_text.specs.declared.tape.Entry.{Entry}
-use Rattle.json_text.proofs.Numbers.{entry_at}
 use Rattle.json_text.proofs.Repeats.{strict, sorted_repeats, hashes_apart}
-use Rattle.name_order.proofs.KeysLeft.{IsGood, all_good, length_keyed}
-use Rattle.name_order.proofs.Runs.{in_order, kept_more}
+use Rattle.name_order.proofs.KeysLeft.{IsGood, all_good}
+use Rattle.name_order.proofs.Runs.{in_order}
 
 low_is : (hash number : ℕ) → number < 4294967296 → low_half (hash * 4294967296 + number) ≡ number
 unfolding low_half
@@ -115,16 +115,11 @@ module _ (text : List ℕ) (tape : List Entry) (short : length tape < 2 ^ 31) wh
         let all : map high_half (words ms) ≡ map name_hash (meanings ms) = highs (keyed ms (n + 1)) (good_keys ms o) ∙ hashes_named ms (n + 1) in
         sym (hashes_apart name_hash (meanings ms) (sym (ap (repeats_by nat_eq) all) ∙ sym again ∙ highs_apart))
 
-    counted : (ms : Members) → IsObject text tape n ms → length (map low_half ys) ≡ (entry_in tape n).children
-    counted ms o =
-        length-map ys low_half ∙ length_permutation (words ms) ys (moved ms o) ∙ length-map (keyed ms (n + 1)) word_of ∙ length_keyed ms (n + 1)
-        ∙ sym (ap (λ (e : Entry). e.children) (entry_at tape nothing_there o.stands o.is_at))
-
     good : (ms : Members) → IsObject text tape n ms → All (IsGoodWord text tape) ys
     good ms o =
         All-permutation (IsGoodWord text tape) (words ms) ys (moved ms o) (All-from_recursion (IsGoodWord text tape) (words ms) (good_words (keyed ms (n + 1)) (good_keys ms o)))
 
-    ordered : (ms : Members) → IsObject text tape n ms → IsOrderOf text tape n (map high_half ys) (map low_half ys)
+    pub ordered : (ms : Members) → IsObject text tape n ms → IsOrderOf text tape n (map high_half ys) (map low_half ys)
     ordered ms o = record {
       named = record {
         long = length-map ys high_half ∙ sym (length-map ys low_half);
@@ -151,9 +146,6 @@ module _ (text : List ℕ) (tape : List Entry) (short : length tape < 2 ^ 31) wh
             let l = inner k h in
             get_or-map high_half ys k 0 0 l ∙ (good ms o k 0 l).hashed ∙ ap (λ m. name_hash (name_at text tape m)) (sym (get_or-map low_half ys k 0 0 l))
 
-    -- the lists with the members of one more object
-    pub kept_words : (objects starts hashes members : List ℕ) → AreKept text tape n objects starts hashes members → (ms : Members) × IsObject text tape n ms
-        → (objects' starts' hashes' members' : List ℕ) → objects' ≡ objects ++ n ∷ [] → starts' ≡ starts ++ length members ∷ [] → hashes' ≡ hashes ++ map high_half ys → members' ≡ members ++ map low_half ys
-        → AreKept text tape (n + 1) objects' starts' hashes' members'
-    kept_words objects starts hashes members kept (ms, o) objects' starts' hashes' members' a b c d =
-        rw (a, b, c, d) (kept_more text tape n objects starts hashes members (map high_half ys) (map low_half ys) kept (counted ms o) (ordered ms o))
+  -- the words of keys that were sorted by their names
+  pub ordered_keys : (n : ℕ) (ys : List Keyed) → All (IsGood text tape) ys → IsOrderOf text tape n (map key_hash ys) (map key_number ys) → IsOrderOf text tape n (map high_half (map word_of ys)) (map low_half (map word_of ys))
+  ordered_keys n ys all o = let g = recursion_from_All (IsGood text tape) ys all in rw (highs ys g, lows ys g) o

@@ -1,12 +1,12 @@
 -- The members of an object that were collected, and those that are left.
-use Rattle.std.proofs.Common.{◌≡◌, ℕ, suc, ◌+◌, ◌<◌, ◌≤◌, Bool, ◌||◌, List, [], ◌∷◌, ◌++◌, length, map, get_or, refl, sym, ap, ◌∙◌, subst, arith, append_assoc, append-nil}
+use Rattle.std.proofs.Common.{◌≡◌, ℕ, ◌+◌, ◌<◌, ◌≤◌, Bool, ◌||◌, List, [], ◌∷◌, ◌++◌, length, map, get_or, refl, sym, ap, ◌∙◌, subst, arith, append_assoc, append-nil}
 use Rattle.std.specs.List.{All, AllByRecursion, list_any}
 use Rattle.std.specs.Ordering.{on}
 use Rattle.std.proofs.lemmas.List.Elements.{All-from_recursion}
 use Rattle.json_text.specs.Tree.{Name, Members, NoMember, Member}
 use Rattle.json_text.specs.Meaning.{meaning}
 use Rattle.json_text.specs.Nodes.{size}
-use Rattle.json_text.specs.Tape.{member_count, entry_in}
+use Rattle.json_text.specs.Tape.{entry_in}
 use Rattle.json_strings.specs.Spelling.{IsQuoted}
 use Rattle.json_text.specs.Repeats.{IsObject, meanings, repeats_by}
 use Rattle.json_strings.proofs.Spelled.{quoted_at, scalars_at}
@@ -46,10 +46,6 @@ module _ {A : Type 0} (f : Keyed → A) where
 
 pub key_is : (x : Keyed) (k : ℕ) (name : List ℕ) → x.number ≡ k → x.name ≡ name → x ≡ record { number = k; name = name }
 key_is x k name e f = ap (λ n. record { number = n; name = x.name }) e ∙ ap (λ l. record { number = k; name = l }) f
-
-pub length_keyed : (ms : Members) (k : ℕ) → length (keyed ms k) ≡ member_count ms
-length_keyed NoMember k = refl
-length_keyed (Member m v ms) k = ap suc (length_keyed ms (k + size v))
 
 -- a member's name stands where its entry says
 pub record IsGood (text : List ℕ) (tape : List Entry) (x : Keyed) : Type 0 where

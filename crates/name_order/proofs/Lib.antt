@@ -1,9 +1,10 @@
-pub mod Sifted
+pub mod SuspectsLeft
 pub mod TwinNames
 pub mod Halving
 pub mod KeysLeft
 pub mod HashedWords
 pub mod Runs
+pub mod OrderWords
 pub mod SameBytes
 pub mod Abreast
 pub mod Alike

@@ -1,5 +1,6 @@
 -- The order of names in which objects of many members keep them: by a hash, and by the scalar values where hashes meet.
-use Rattle.std.specs.Prelude.{◌≡◌, ℕ, ◌+◌, ◌-◌, ◌*◌, ◌/◌, ◌%◌, ◌<◌, ◌≤◌, List, [], ◌∷◌, length, map, take, drop, get_or}
+use Rattle.std.specs.Prelude.{◌≡◌, ℕ, ◌+◌, ◌-◌, ◌*◌, ◌<◌, ◌≤◌, List, [], ◌∷◌, length, map, get_or}
+use Rattle.std.specs.List.{All, Contains}
 use Rattle.std.specs.declared.cmp.Ordering.TheVariants.{Less}
 use Rattle.std.specs.List.Sorted.{IsPermutation}
 use Rattle.std.specs.Str.{chars}
@@ -11,8 +12,9 @@ use Rattle.json_text.specs.Limits.{bytes_at}
 use Rattle.json_text.specs.Repeats.{IsObject}
 use Rattle.json_text.specs.declared.tape.Entry.{Entry}
 use Rattle.json_strings.specs.Keys.{Keyed, key_number, key_hash, name_hash, name_cmp}
+use Rattle.name_order.specs.Orders.{Order, onward}
 use Rattle.json_text.specs.Tape.{entry_in}
-use Rattle.json_text.specs.Sifted.{IsWide}
+use Rattle.json_text.specs.Suspects.{IsWide}
 
 -- the members in document order, where the first has this number
 abbrev pub keyed : Members → ℕ → List Keyed
@@ -22,12 +24,6 @@ keyed (Member n t ms) k = record { number = k; name = meaning n.characters } ∷
 -- the hash of a member's name in front of its number
 abbrev pub word_of : Keyed → ℕ
 word_of x = key_hash x * 4294967296 + x.number
-
-unfoldable pub high_half : ℕ → ℕ
-high_half word = word / 4294967296
-
-unfoldable pub low_half : ℕ → ℕ
-low_half word = word % 4294967296
 
 -- ---- By the entries
 
@@ -48,20 +44,10 @@ pub record IsOrderOf (text : List ℕ) (tape : List Entry) (n : ℕ) (hashes mem
   pub named : AreNamed text tape hashes members
   pub all : (ms : Members) → IsObject text tape n ms → IsPermutation (map key_number (keyed ms (n + 1))) members
 
--- so many from a place on
-abbrev pub part : ℕ → ℕ → List ℕ → List ℕ
-part start n xs = take n (drop start xs)
-
--- of the objects below a number those of many members, and for each where its members begin in one list for all
-pub record AreKept (text : List ℕ) (tape : List Entry) (below : ℕ) (objects starts hashes members : List ℕ) : Type 0 where
-  pub rising : (i j : ℕ) → i ≤ j → j < length objects → get_or objects i 0 ≤ get_or objects j 0
-  pub under : (i : ℕ) → i < length objects → get_or objects i 0 < below
-  pub begun : length starts ≡ length objects
-  pub long : length hashes ≡ length members
-  pub room : (i : ℕ) → i < length objects → get_or starts i 0 + (entry_in tape (get_or objects i 0)).children ≤ length members
-  pub each : (i : ℕ) → i < length objects → (let n = get_or objects i 0 in let c = (entry_in tape n).children in
-      IsOrderOf text tape n (part (get_or starts i 0) c hashes) (part (get_or starts i 0) c members))
-  pub all : (n : ℕ) → n < below → IsWide (entry_in tape n) → (i : ℕ) × (i < length objects) × (get_or objects i 0 ≡ n)
+-- the orders that are kept are those of objects below a number, and each wide one has its own
+pub record AreKept (text : List ℕ) (tape : List Entry) (below : ℕ) (orders : List Order) : Type 0 where
+  pub each : All (λ (o : Order). (o.object < below) × IsOrderOf text tape o.object o.hashes o.members) orders
+  pub all : (n : ℕ) → n < below → IsWide (entry_in tape n) → (o : Order) × Contains orders o × (o.object ≡ n)
 
 -- ---- An object like an earlier one
 
@@ -81,9 +67,6 @@ AreLeavesAlike text tape left right n = (i : ℕ) → i < n → IsLeafAlike text
 -- the name of an entry lies in the text
 abbrev pub IsNameInside : List ℕ → List Entry → ℕ → Type 0
 IsNameInside text tape n = (n < length tape) × ((entry_in tape n).label.start + (entry_in tape n).label.len ≤ length text)
-
-abbrev pub onward : ℕ → ℕ → ℕ
-onward shift k = k + shift
 
 -- the same name, so much further on
 abbrev pub moved : ℕ → Keyed → Keyed

@@ -7,32 +7,32 @@ ghost use Rattle.json_text.specs.Verdict.{Applies};
 ghost use Rattle.json_text.specs.Repeats.{meanings, repeats, IsObject};
 ghost use Rattle.name_order.specs.Ordered.{AreKept};
 ghost use Rattle.json_text.specs.Tape.{entry_in};
-ghost use Rattle.json_text.specs.Sifted.{AreSifted};
+ghost use Rattle.json_text.specs.Suspects.{AreSuspects};
 ghost use Rattle.tape_cells.specs.Cells.{members_in};
 ghost use Rattle.json_text.specs.declared.tape.TextFault.TheVariants.{LoneSurrogate, DuplicateName};
 
-use crate::order::{NARROW, NameOrder, SIZES, order_members, repeats_in};
+use crate::order::{NARROW, SIZES, order_members, repeats_in};
+use crate::orders::NameOrder;
 use std::alloc::{AllocError, Global};
 use tape_cells::Tape;
 
 /// The order of the members of wide objects; `None` where two names of one object mean the same. Of a text without lone
-/// surrogates, in which the names of all objects but those with these numbers were told apart.
+/// surrogates, in which only objects with these numbers may have a repeated name.
 #[inline(never)]
 pub fn order_names(
     alloc: Global,
     text: &str,
     tape: &Tape,
-    asked: &[u32],
+    suspects: &[u32],
 ) -> Result<Option<NameOrder>, AllocError>
     requires spelt { IsJson text.now }
     requires stands { StandsForAll text.now tape.now }
     requires short { length tape.now < 2 ^ 31 }
     requires paired { Applies text.now LoneSurrogate → ⊥ }
-    requires sifted { AreSifted text.now tape.now asked.now }
-    ensures { IfOk result (λ found. MatchOption found (Applies text.now DuplicateName) (λ order. (Applies text.now DuplicateName → ⊥)
-        × AreKept text.now tape.now (length tape.now) order.objects.items order.starts.items order.hashes.items order.members.items)) }
+    requires suspects { AreSuspects text.now tape.now suspects.now }
+    ensures { IfOk result (λ found. MatchOption found (Applies text.now DuplicateName) (λ order. (Applies text.now DuplicateName → ⊥) × AreKept text.now tape.now (length tape.now) order)) }
 {
-    let mut sorted = Vec::from_slice(alloc, asked)?;
+    let mut sorted = Vec::from_slice(alloc, suspects)?;
     sorted.sort_unstable();
     let mut words = Vec::new(alloc);
     let mut latest = [0; SIZES];
@@ -55,8 +55,8 @@ pub fn order_names(
 // How many members of wide objects there may be: as many as entries, or none where no object is to be looked at. Lists that grow from
 // nothing would be copied each time.
 #[inline(always)]
-fn room_for(tape: &Tape, asked: &[u32]) -> usize {
-    if asked.is_empty() {
+fn room_for(tape: &Tape, suspects: &[u32]) -> usize {
+    if suspects.is_empty() {
         0
     } else {
         tape.len() as usize
@@ -86,9 +86,9 @@ fn repeats_at(
     requires inside { n < length tape.now }
     requires object { (ms : Members) × IsObject text.now tape.now n ms }
     requires short { length tape.now < 2 ^ 31 }
-    requires kept { AreKept text.now tape.now n order.old.objects.items order.old.starts.items order.old.hashes.items order.old.members.items }
+    requires kept { AreKept text.now tape.now n order.old }
     ensures found { IfOk result (λ found. (ms : Members) → IsObject text.now tape.now n ms → found ≡ repeats (meanings ms)) }
-    ensures kept { IfOk result (λ found. found ≡ false → AreKept text.now tape.now (n + 1) order.new.objects.items order.new.starts.items order.new.hashes.items order.new.members.items) }
+    ensures kept { IfOk result (λ found. found ≡ false → AreKept text.now tape.now (n + 1) order.new) }
 {
     if tape.members(n) > NARROW {
         order_members(alloc, text, tape, n, words, latest, order)

@@ -5,6 +5,8 @@
 
 mod duplicates;
 mod order;
+mod orders;
 
 pub use duplicates::order_names;
-pub use order::{NameOrder, Run, is_wide, member_in};
+pub use order::{is_wide, member_in};
+pub use orders::{NameOrder, Run};

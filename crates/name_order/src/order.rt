@@ -8,11 +8,13 @@ ghost use Rattle.std.specs.Cmp.Lexicographic.{pointwise};
 ghost use Rattle.json_text.specs.Tree.{Members};
 ghost use Rattle.json_text.specs.Repeats.{repeats, repeats_next_by, meanings, IsObject};
 ghost use Rattle.json_text.specs.Limits.{bytes_at};
-ghost use Rattle.name_order.specs.Ordered.{AreNamed, IsOrderOf, AreKept, AreSameFrom, IsLeafAlike, AreLeavesAlike, IsNameInside, AreAlike, name_at, keyed, word_of, high_half, low_half, part, onward};
-ghost use Rattle.json_text.specs.Sifted.{IsWide};
+ghost use Rattle.name_order.specs.Ordered.{AreNamed, AreKept, AreSameFrom, IsLeafAlike, AreLeavesAlike, IsNameInside, AreAlike, name_at, keyed, word_of};
+ghost use Rattle.name_order.specs.Orders.{no_order, high_half};
+ghost use Rattle.json_text.specs.Suspects.{IsWide};
 ghost use Rattle.json_text.specs.Tape.{entry_in};
 ghost use Rattle.json_strings.specs.Keys.{name_cmp, name_hash, key_name, key_number, key_hash, sought_name};
 
+use crate::orders::{NameOrder, Run, hash_in, word};
 use json_strings::{Key, Sought, compare_sought, hash, mixed, part_at, sought_hash};
 use json_text::{Entry, Extent, Kind};
 use std::alloc::{AllocError, Global};
@@ -24,29 +26,6 @@ use tape_cells::{Tape, WORD_LIMIT, push};
 /// An object of more members keeps their order.
 pub const NARROW: u32 = 16;
 
-// The values of half of a word.
-const HALF: u64 = 4_294_967_296;
-
-/// For each wide object its members in the order of their names.
-#[derive(Drop)]
-pub struct NameOrder {
-    // the objects, ascending
-    pub objects: Vec<u32>,
-    // where the members of each begin
-    pub starts: Vec<usize>,
-    // of all members the hashes of their names
-    pub hashes: Vec<u32>,
-    // and their numbers
-    pub members: Vec<u32>,
-}
-
-/// The members of one object in the order of their names.
-#[derive(Clone, Copy)]
-pub struct Run<'a> {
-    pub hashes: &'a [u32],
-    pub members: &'a [u32],
-}
-
 /// Whether it is an object that keeps the order of its members.
 pub fn is_wide(entry: Entry) -> bool
     ensures { IsTrue result ↔ IsWide entry }
@@ -54,47 +33,6 @@ pub fn is_wide(entry: Entry) -> bool
     match entry.kind {
         Kind::Object => entry.children > NARROW,
         Kind::Null | Kind::Bool(_) | Kind::Number | Kind::Text | Kind::Array => false,
-    }
-}
-
-impl NameOrder {
-    /// The bytes of memory that it takes.
-    pub fn memory(&self) -> usize {
-        let numbers = self
-            .objects
-            .capacity()
-            .saturating_add(self.members.capacity());
-        let words = numbers.saturating_add(self.hashes.capacity());
-        let starts = self.starts.capacity().saturating_mul(8);
-        words.saturating_mul(4).saturating_add(starts)
-    }
-
-    /// Of no object, with room for so many members.
-    pub fn new(alloc: Global, room: usize) -> Result<NameOrder, AllocError>
-        ensures objects { IfOk result (λ order. order.objects.items ≡ []) }
-        ensures starts { IfOk result (λ order. order.starts.items ≡ []) }
-        ensures hashes { IfOk result (λ order. order.hashes.items ≡ []) }
-        ensures members { IfOk result (λ order. order.members.items ≡ []) }
-    {
-        let hashes = Vec::with_capacity(alloc, room)?;
-        let members = Vec::with_capacity(alloc, room)?;
-        Ok(NameOrder {
-            objects: Vec::new(alloc),
-            starts: Vec::new(alloc),
-            hashes,
-            members,
-        })
-    }
-
-    /// Gives back the room for more members.
-    pub fn shrink(&mut self)
-        ensures objects { self.new.objects.items ≡ self.old.objects.items }
-        ensures starts { self.new.starts.items ≡ self.old.starts.items }
-        ensures hashes { self.new.hashes.items ≡ self.old.hashes.items }
-        ensures members { self.new.members.items ≡ self.old.members.items }
-    {
-        self.hashes.shrink_to_fit();
-        self.members.shrink_to_fit();
     }
 }
 
@@ -179,30 +117,6 @@ fn names_meet(keys: &[Key<'_>]) -> bool
     false
 }
 
-// A member as a word, in the order of the hashes.
-#[inline(always)]
-fn word(hash: u32, number: u32) -> u64
-    ensures { result ≡ hash * 4294967296 + number }
-{
-    u64::from(hash) * HALF + u64::from(number)
-}
-
-#[inline(always)]
-#[tactic(auto, unfolding(crate::specs::Ordered::high_half))]
-fn hash_in(word: u64) -> u32
-    ensures { result ≡ high_half word }
-{
-    (word / HALF) as u32
-}
-
-#[inline(always)]
-#[tactic(auto, unfolding(crate::specs::Ordered::low_half))]
-fn number_in(word: u64) -> u32
-    ensures { result ≡ low_half word }
-{
-    (word % HALF) as u32
-}
-
 // The members of the object with this number as words in the order of their hashes, in place of the words that were there.
 fn sort_words(text: &str, tape: &Tape, n: u32, words: &mut Vec<u64>) -> Result<(), AllocError>
     requires inside { n < length tape.now }
@@ -234,30 +148,13 @@ fn hashes_meet(words: &[u64]) -> bool
     false
 }
 
-// Adds the hashes and numbers of members.
-fn add_words(words: &[u64], hashes: &mut Vec<u32>, members: &mut Vec<u32>) -> Result<(), AllocError>
-    ensures hashes { OnOk result (hashes.new.items ≡ hashes.old.items ++ map high_half words.now) }
-    ensures members { OnOk result (members.new.items ≡ members.old.items ++ map low_half words.now) }
+// Members as words in the order of their keys, in place of the words that were there.
+fn set_words(keys: &[Key<'_>], words: &mut Vec<u64>) -> Result<(), AllocError>
+    ensures { OnOk result (words.new.items ≡ map word_of keys.now) }
 {
-    for word in words {
-        push(hashes, hash_in(*word))?;
-        push(members, number_in(*word))?;
-    }
-    Ok(())
-}
-
-// The same, of keys.
-fn add_all(
-    keys: &[Key<'_>],
-    hashes: &mut Vec<u32>,
-    members: &mut Vec<u32>,
-) -> Result<(), AllocError>
-    ensures hashes { OnOk result (hashes.new.items ≡ hashes.old.items ++ map key_hash keys.now) }
-    ensures members { OnOk result (members.new.items ≡ members.old.items ++ map key_number keys.now) }
-{
+    words.clear();
     for key in keys {
-        hashes.push(key.hash())?;
-        members.push(key.number())?;
+        push(words, word(key.hash(), key.number()))?;
     }
     Ok(())
 }
@@ -291,23 +188,23 @@ fn order_by_names(
     text: &str,
     tape: &Tape,
     n: u32,
+    words: &mut Vec<u64>,
     order: &mut NameOrder,
 ) -> Result<bool, AllocError>
     requires inside { n < length tape.now }
     requires object { (ms : Members) × IsObject text.now tape.now n ms }
     requires wide { IsWide (entry_in tape.now n) }
     requires short { length tape.now < 2 ^ 31 }
-    requires kept { AreKept text.now tape.now n order.old.objects.items order.old.starts.items order.old.hashes.items order.old.members.items }
+    requires kept { AreKept text.now tape.now n order.old }
     ensures found { IfOk result (λ found. (ms : Members) → IsObject text.now tape.now n ms → found ≡ repeats (meanings ms)) }
-    ensures kept { IfOk result (λ found. found ≡ false → AreKept text.now tape.now (n + 1) order.new.objects.items order.new.starts.items order.new.hashes.items order.new.members.items) }
+    ensures kept { IfOk result (λ found. found ≡ false → AreKept text.now tape.now (n + 1) order.new) }
 {
     let keys = sorted_keys(alloc, text, tape, n)?;
     if names_meet(keys.as_slice()) {
         return Ok(true);
     }
-    order.objects.push(n)?;
-    order.starts.push(order.members.len())?;
-    add_all(keys.as_slice(), &mut order.hashes, &mut order.members)?;
+    set_words(keys.as_slice(), words)?;
+    order.push(n, words.as_slice())?;
     Ok(false)
 }
 
@@ -324,17 +221,15 @@ fn order_by_hashes(
     requires object { (ms : Members) × IsObject text.now tape.now n ms }
     requires wide { IsWide (entry_in tape.now n) }
     requires short { length tape.now < 2 ^ 31 }
-    requires kept { AreKept text.now tape.now n order.old.objects.items order.old.starts.items order.old.hashes.items order.old.members.items }
+    requires kept { AreKept text.now tape.now n order.old }
     ensures found { IfOk result (λ found. (ms : Members) → IsObject text.now tape.now n ms → found ≡ repeats (meanings ms)) }
-    ensures kept { IfOk result (λ found. found ≡ false → AreKept text.now tape.now (n + 1) order.new.objects.items order.new.starts.items order.new.hashes.items order.new.members.items) }
+    ensures kept { IfOk result (λ found. found ≡ false → AreKept text.now tape.now (n + 1) order.new) }
 {
     sort_words(text, tape, n, words)?;
     if hashes_meet(words.as_slice()) {
-        return order_by_names(alloc, text, tape, n, order);
+        return order_by_names(alloc, text, tape, n, words, order);
     }
-    order.objects.push(n)?;
-    order.starts.push(order.members.len())?;
-    add_words(words.as_slice(), &mut order.hashes, &mut order.members)?;
+    order.push(n, words.as_slice())?;
     Ok(false)
 }
 
@@ -442,7 +337,7 @@ fn are_alike(text: &str, tape: &Tape, n: u32, earlier: u32) -> bool
     true
 }
 
-/// So many sizes of objects are told apart where one like the next is looked for.
+/// How many sizes of objects are distinguished where one like the next is looked for.
 pub const SIZES: usize = 64;
 
 // The place in the list of an object whose members stand as those of this one do, where the latest one of its size is such. The place
@@ -459,41 +354,17 @@ fn find_alike(
     requires object { (ms : Members) × IsObject text.now tape.now n ms }
     requires wide { IsWide (entry_in tape.now n) }
     requires short { length tape.now < 2 ^ 31 }
-    requires kept { AreKept text.now tape.now n order.now.objects.items order.now.starts.items order.now.hashes.items order.now.members.items }
-    ensures { IfSome result (λ place. (place < length order.now.objects.items) × AreAlike text.now tape.now n (get_or order.now.objects.items place 0)) }
+    requires kept { AreKept text.now tape.now n order.now }
+    ensures { IfSome result (λ place. (place < length order.now) × AreAlike text.now tape.now n (get_or order.now place no_order).object) }
 {
     let slot = (tape.after(n) - n) as usize % SIZES;
     let place = latest[slot];
-    latest[slot] = order.objects.len();
-    if place < order.objects.len() && are_alike(text, tape, n, order.objects[place]) {
+    latest[slot] = order.len();
+    if place < order.len() && are_alike(text, tape, n, order.object(place)) {
         Some(place)
     } else {
         None
     }
-}
-
-// Sets a list to the numbers of another one, further on by the shift.
-fn set_onward(from: &[u32], to: &mut [u32], shift: u32)
-    requires len { length from.now ≡ length to.old }
-    requires small { (k : ℕ) → k < length from.now → get_or from.now k 0 + shift < 2 ^ 32 }
-    ensures { to.new ≡ map (onward shift) from.now }
-{
-    for k in 0..to.len() {
-        to[k] = from[k] + shift;
-    }
-}
-
-// Adds so many numbers from a place on once more, further on by the shift. Room that is filled first takes no test for each.
-fn add_part(list: &mut Vec<u32>, start: usize, count: usize, shift: u32) -> Result<(), AllocError>
-    requires inside { start + count ≤ length list.old.items }
-    requires small { (k : ℕ) → k < count → get_or (part start count list.old.items) k 0 + shift < 2 ^ 32 }
-    ensures { OnOk result (list.new.items ≡ list.old.items ++ map (onward shift) (part start count list.old.items)) }
-{
-    let len = list.len();
-    list.resize(len + count, 0)?;
-    let (old, new) = list.as_mut_slice().split_at_mut(len);
-    set_onward(&old[start..start + count], new, shift);
-    Ok(())
 }
 
 // Keeps the order of the members of an object which stand as those of the object at this place do.
@@ -505,23 +376,18 @@ fn order_like(
     place: usize,
     order: &mut NameOrder,
 ) -> Result<bool, AllocError>
-    requires place { place < length order.old.objects.items }
-    requires alike { AreAlike text.now tape.now n (get_or order.old.objects.items place 0) }
+    requires place { place < length order.old }
+    requires alike { AreAlike text.now tape.now n (get_or order.old place no_order).object }
     requires inside { n < length tape.now }
     requires object { (ms : Members) × IsObject text.now tape.now n ms }
     requires wide { IsWide (entry_in tape.now n) }
     requires short { length tape.now < 2 ^ 31 }
-    requires kept { AreKept text.now tape.now n order.old.objects.items order.old.starts.items order.old.hashes.items order.old.members.items }
+    requires kept { AreKept text.now tape.now n order.old }
     ensures found { IfOk result (λ found. (ms : Members) → IsObject text.now tape.now n ms → found ≡ repeats (meanings ms)) }
-    ensures kept { IfOk result (λ found. found ≡ false → AreKept text.now tape.now (n + 1) order.new.objects.items order.new.starts.items order.new.hashes.items order.new.members.items) }
+    ensures kept { IfOk result (λ found. found ≡ false → AreKept text.now tape.now (n + 1) order.new) }
 {
-    let start = order.starts[place];
-    let shift = n - order.objects[place];
-    order.objects.push(n)?;
-    order.starts.push(order.members.len())?;
-    let count = tape.members(n) as usize;
-    add_part(&mut order.hashes, start, count, 0)?;
-    add_part(&mut order.members, start, count, shift)?;
+    let shift = n - order.object(place);
+    order.push_like(n, place, shift)?;
     Ok(false)
 }
 
@@ -541,9 +407,9 @@ pub fn order_members(
     requires object { (ms : Members) × IsObject text.now tape.now n ms }
     requires wide { IsWide (entry_in tape.now n) }
     requires short { length tape.now < 2 ^ 31 }
-    requires kept { AreKept text.now tape.now n order.old.objects.items order.old.starts.items order.old.hashes.items order.old.members.items }
+    requires kept { AreKept text.now tape.now n order.old }
     ensures found { IfOk result (λ found. (ms : Members) → IsObject text.now tape.now n ms → found ≡ repeats (meanings ms)) }
-    ensures kept { IfOk result (λ found. found ≡ false → AreKept text.now tape.now (n + 1) order.new.objects.items order.new.starts.items order.new.hashes.items order.new.members.items) }
+    ensures kept { IfOk result (λ found. found ≡ false → AreKept text.now tape.now (n + 1) order.new) }
 {
     match find_alike(text, tape, n, order, latest) {
         Some(place) => order_like(text, tape, n, place, order),

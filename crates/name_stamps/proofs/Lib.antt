@@ -1,3 +1,3 @@
-pub mod NamesTold
+pub mod CheckKept
 pub mod PlainStamps
 pub mod NamesApart

@@ -10,11 +10,11 @@ use Rattle.json_text.specs.Meaning.{meaning}
 use Rattle.json_text.specs.Repeats.{IsObject, repeats, meanings, hashes_repeat}
 use Rattle.tape_cells.specs.Cells.{members_in}
 use Rattle.json_text.specs.Tape.{entry_in, nothing_there}
-use Rattle.json_text.specs.Sifted.{AreSifted}
+use Rattle.json_text.specs.Suspects.{AreSuspects}
 use Rattle.tape_cells.specs.Built.{Built}
 use Rattle.json_text.specs.declared.tape.Entry.{Entry}
-use Rattle.name_stamps.specs.declared.apart.NamesMet.{NamesMet}
-use Rattle.name_stamps.specs.Told.{stamp_at, IsMemberOf, AreApart, AreTold}
+use Rattle.name_stamps.specs.declared.seen.SeenNames.{SeenNames}
+use Rattle.name_stamps.specs.Stamps.{stamp_at, IsMemberOf, AreDistinct, DuplicateCheck}
 use Rattle.json_text.proofs.Entries.{size_positive}
 use Rattle.json_text.proofs.MembersLeft.{no_entry, Left, Next, next_left, all_left, given, given_is}
 use Rattle.name_stamps.proofs.PlainStamps.{spelt_stamp, stamp_is}
@@ -25,7 +25,7 @@ neither_is : (a b : Bool) → a ≡ false → b ≡ false → (a || b) ≡ false
 neither_is true b e f = absurd (cc)
 neither_is false b e f = f
 
-module _ (text : List ℕ) (tape : List Entry) (n : ℕ) (a : AreApart text tape n) where
+module _ (text : List ℕ) (tape : List Entry) (n : ℕ) (a : AreDistinct text tape n) where
   member_next : (k end : ℕ) (left : Members) → Next text tape n k end left → IsMemberOf tape n k
   member_next k end left x = record { inside = x.inside; role = x.role; up = x.up_is }
 
@@ -67,11 +67,11 @@ module _ (text : List ℕ) (tape : List Entry) (n : ℕ) (a : AreApart text tape
   pub names_apart : (ms : Members) → IsObject text tape n ms → repeats (meanings ms) ≡ false
   names_apart ms o = hashes_apart spelt_stamp (meanings ms) (sym (ap hashes_repeat (given_is spelt_stamp ms)) ∙ none_twice ms (n + 1) (get_or tape n no_entry).after (all_left text tape n ms o))
 
-pub told_sifted : (text : List ℕ) (b : Built) (met : NamesMet) → AreTold text b met → AreSifted text b.entries met.asked.items
-told_sifted text b met told = record {
+pub suspects_left : (text : List ℕ) (b : Built) (seen : SeenNames) → DuplicateCheck text b seen → AreSuspects text b.entries seen.suspects.items
+suspects_left text b seen checked = record {
   narrow = λ n u w. elim (cases_lt n (length b.entries)) [
-    | inl g ↦ not_wide_by b.entries n (members_in (entry_in b.entries n)) refl (told.few n u) w
+    | inl g ↦ not_wide_by b.entries n (members_in (entry_in b.entries n)) refl (checked.few n u) w
     | inr g ↦ absurd (let k = sym (ap (λ (e : Entry). e.kind) (get_or_past b.entries n nothing_there g)) ∙ w.0 in cc)
   ];
-  apart = λ n ms u o. names_apart text b.entries n (told.apart n u) ms o;
+  apart = λ n ms u o. names_apart text b.entries n (checked.apart n u) ms o;
 }

@@ -9,7 +9,7 @@ use Rattle.json_text.specs.Meaning.{meaning, meaning_after}
 use Rattle.json_text.specs.Tape.{extent}
 use Rattle.json_text.specs.Limits.{bytes_at}
 use Rattle.json_strings.specs.Spelling.{has_backslash}
-use Rattle.name_stamps.specs.Told.{bytes_stamp}
+use Rattle.name_stamps.specs.Stamps.{bytes_stamp}
 use Rattle.json_text.specs.declared.tape.Extent.{Extent}
 use Rattle.json_text.proofs.Fits.{Lies}
 use Rattle.json_strings.proofs.PlainNames.{slashless_front, any_back}

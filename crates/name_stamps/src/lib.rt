@@ -1,8 +1,8 @@
-//! Names that are told apart by stamps, short hashes of their bytes, while a text is walked.
+//! The duplicate check while a text is walked: names are compared by stamps, short hashes of their bytes.
 //!
-//! Most objects have surely no repeated name by them. The others are asked about: the list of these is what is left to be looked at.
+//! If the stamps of an object differ, so do its names. The other objects are suspects, and the walk gives their list.
 #![tactic(auto)]
 
-mod apart;
+mod seen;
 
-pub use apart::{Met, NamesMet, Owner, Quoted, stamped};
+pub use seen::{Quoted, SeenNames, Slot, StampedName, stamped};

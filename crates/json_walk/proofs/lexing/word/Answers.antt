@@ -5,8 +5,8 @@ use Rattle.json_walk.proofs.TokensAt.{word_at, no_value_at}
 use Rattle.json_walk.proofs.Known.{known_here, limited_marked, spelt_marked}
 use Rattle.json_walk.proofs.lexing.word.Goals as goal
 
-pub told_by-requires : goal.told_by-requires
-told_by-requires c =
+pub word_kind-requires : goal.word_kind-requires
+word_kind-requires c =
     known_here c.late_exponents_keep_limits.ensures c.args.looks.now.0 c.atoms-known.result.bytes.now c.args.i c.atoms-known.result.known c.atoms-known.ensures.value c.atoms-known.ensures.known
 
 pub returns-in-Null-clause-value : goal.returns-in-Null-clause-value

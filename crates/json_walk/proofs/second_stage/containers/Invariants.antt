@@ -3,7 +3,7 @@ use Rattle.json_text.specs.declared.tape.Level.TheVariants.{Root}
 use Rattle.json_text.specs.Machine.{level_of}
 use Rattle.json_walk.specs.Placing.{HoldSlashes}
 use Rattle.json_walk.specs.Walked.{Walked, at}
-use Rattle.name_stamps.specs.Told.{AreTold}
+use Rattle.name_stamps.specs.Stamps.{DuplicateCheck}
 use Rattle.json_walk.proofs.second_stage.containers.Given as goal
 
 abbrev pub invariant-loop-shape : goal.invariant-loop-shape
@@ -12,7 +12,7 @@ invariant-loop-shape l = record {
   slashes : HoldSlashes l.fn.looks.0 l.slashes;
   walked : Walked l.fn.looks.0 l.places (at l.fn.spot l.fn.builder l.fn.looks.1 l.fn.may_exceed) (at l.next l.builder l.looks.1 l.may_exceed);
   to : l.next.number ≤ length l.places;
-  told : AreTold l.fn.looks.0 l.builder l.met;
+  checked : DuplicateCheck l.fn.looks.0 l.builder l.seen;
   opened : l.next.behind ≡ false → level_of l.builder.opens ≡ Root → ⊥;
 }
 

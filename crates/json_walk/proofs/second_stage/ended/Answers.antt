@@ -1,15 +1,15 @@
 use Rattle.std.proofs.Common.{◌∙◌, arith}
-use Rattle.json_walk.proofs.Onward.{no_sign_halts, ended_arrives, closed_behind}
+use Rattle.json_walk.proofs.WalkContainer.{no_sign_halts, ended_walks, closed_behind}
 use Rattle.json_walk.proofs.second_stage.ended.Goals as goal
 
-pub returns-then-sign-ending-clause-arrives : goal.returns-then-sign-ending-clause-arrives
-returns-then-sign-ending-clause-arrives g c = λ text looked exceeds listed is.
+pub returns-then-sign-ending-clause-walks : goal.returns-then-sign-ending-clause-walks
+returns-then-sign-ending-clause-walks g c = λ text looked exceeds listed is.
     no_sign_halts text c.args.places.now listed c.args.k looked exceeds c.args.builder.now _ c.requires.inside c.requires.level (λ e. c.requires.no_comma (is ∙ e)) (λ e. omega (arith, is, c.if-sign-ending.true, c.ending.ensures, e))
 
-pub returns-clause-arrives : goal.returns-clause-arrives
-returns-clause-arrives g c = λ text looked exceeds listed is.
+pub returns-clause-walks : goal.returns-clause-walks
+returns-clause-walks g c = λ text looked exceeds listed is.
     let same = c.if-sign-ending.false in
-    ended_arrives text c.args.places.now listed c.args.k looked exceeds c.args.builder.now c.shut.new.builder _ c.shut.result c.closed_at.result c.requires.inside (omega (arith, is, same, c.ending.ensures)) c.shut.ensures.took c.closed_at.ensures
+    ended_walks text c.args.places.now listed c.args.k looked exceeds c.args.builder.now c.shut.new.builder _ c.shut.result c.closed_at.result c.requires.inside (omega (arith, is, same, c.ending.ensures)) c.shut.ensures.took c.closed_at.ensures
 
 pub returns-clause-behind : goal.returns-clause-behind
 returns-clause-behind g c = closed_behind c.args.k c.shut.result c.closed_at.result c.closed_at.ensures

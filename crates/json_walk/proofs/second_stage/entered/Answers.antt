@@ -1,6 +1,6 @@
 use Rattle.std.proofs.Common.{◌+◌, ℕ, List, sym, ap, refl, arith}
 use Rattle.json_walk.proofs.Listed.{in_text}
-use Rattle.json_walk.proofs.Onward.{over_halts, closed_entered, first_entered, comma_entered, none_entered}
+use Rattle.json_walk.proofs.WalkContainer.{over_halts, closed_entered, first_entered, comma_entered, none_entered}
 use Rattle.json_walk.proofs.second_stage.entered.Goals as goal
 
 pub returns-then-spot-places-clause-entered : goal.returns-then-spot-places-clause-entered

@@ -3,7 +3,7 @@ use Rattle.json_walk.specs.Walked.{IsNameAt, source_in, Walked, point}
 use Rattle.tape_cells.specs.Built.{standing}
 use Rattle.json_text.specs.declared.tape.Want.TheVariants.{Value}
 use Rattle.json_walk.proofs.Listed.{in_text, closes_before, next_is}
-use Rattle.json_walk.proofs.Going.{looks_paid, name_and_colon, no_name_halts, no_colon_halts}
+use Rattle.json_walk.proofs.WalkSteps.{looks_paid, name_and_colon, no_name_halts, no_colon_halts}
 use Rattle.json_walk.proofs.second_stage.named.Goals as goal
 
 pub name-requires-clause-in_text : goal.name-requires-clause-in_text

@@ -1,19 +1,19 @@
 use Rattle.std.proofs.Common.{◌≡◌, ◌∙◌, ◌+◌, not, eqb, sym, ap, subst, arith}
 use Rattle.std.specs.Prelude.{ℕ, Option, Result, Ok}
 use Rattle.json_text.specs.declared.tape.BuildFault.{BuildFault}
-use Rattle.json_walk.specs.Walked.{IsListed, Grown, at, width, shape_of}
+use Rattle.json_walk.specs.Walked.{IsListed, WalksValue, at, width, shape_of}
 use Rattle.json_walk.specs.Placing.{HoldSlashes}
-use Rattle.name_stamps.specs.Told.{AreTold}
+use Rattle.name_stamps.specs.Stamps.{DuplicateCheck}
 use Rattle.json_walk.proofs.Listed.{near, number_below}
-use Rattle.json_walk.proofs.Onward.{entered_none, entered_some, may_grow, child_grown, next_may_grow, grown_ended, child_fault, few_halts, walked_small, walked_onward, small_state, if_ok}
-use Rattle.json_walk.proofs.Going.{halts_more}
-use Rattle.json_walk.proofs.NamesSteps.{where_some}
+use Rattle.json_walk.proofs.WalkContainer.{entered_none, entered_some, may_continue, child_walks, next_may_continue, walks_ended, child_fault, few_halts, walked_small, walked_onward, small_state, if_ok}
+use Rattle.json_walk.proofs.WalkSteps.{halts_more}
+use Rattle.json_walk.proofs.CheckSteps.{where_some}
 use Rattle.json_walk.proofs.second_stage.run.Given.{Over}
 use Rattle.json_walk.proofs.second_stage.run.Goals.{After-child}
 use Rattle.json_walk.proofs.second_stage.run.Goals as goal
 
-pub returns-in-Ok-None-clause-arrives : goal.returns-in-Ok-None-clause-arrives
-returns-in-Ok-None-clause-arrives g c = entered_none c.args.looks.now.0 c.args.places.now c.requires.listed _ _ _ _ c.in-Ok-None.field-0 _ _ c.in-Ok-None.field-0-is (c.in-Ok-None.ensures.entered c.args.may_exceed.now)
+pub returns-in-Ok-None-clause-walks : goal.returns-in-Ok-None-clause-walks
+returns-in-Ok-None-clause-walks g c = entered_none c.args.looks.now.0 c.args.places.now c.requires.listed _ _ _ _ c.in-Ok-None.field-0 _ _ c.in-Ok-None.field-0-is (c.in-Ok-None.ensures.entered c.args.may_exceed.now)
 
 pub loop-k-init : goal.loop-k-init
 loop-k-init g c =
@@ -24,10 +24,10 @@ loop-k-init g c =
       same = c.in-Ok-Some.ensures.same;
       slashes = c.requires.slashes;
       level = entered.0 ∙ sym c.requires.level;
-      grows = may_grow c.args.looks.now.0 c.args.places.now c.requires.listed _ _ _ _ _ _ _ c.requires.level entered.2;
+      continues = may_continue c.args.looks.now.0 c.args.places.now c.requires.listed _ _ _ _ _ _ _ c.requires.level entered.2;
       to = omega (arith, inside, next);
-      told = c.in-Ok.ensures.told c.args.looks.now.0 (c.in-Ok-Some.ensures.told c.args.looks.now.0 c.requires.told);
-      seated = c.in-Ok.ensures.seated;
+      checked = c.in-Ok.ensures.checked c.args.looks.now.0 (c.in-Ok-Some.ensures.checked c.args.looks.now.0 c.requires.checked);
+      has_slot = c.in-Ok.ensures.has_slot;
     }
 
 pub overflow_add-k : goal.overflow_add-k
@@ -48,14 +48,14 @@ child-requires-clause-level g c = c.loop-k.invariant.level ∙ c.requires.level
 
 pub child-requires-clause-small : goal.child-requires-clause-small
 child-requires-clause-small g c =
-    let grows = c.loop-k.invariant.grows _ c.requires.level in
-    small_state _ _ _ _ _ _ (walked_small c.args.looks.now.0 c.args.places.now c.requires.listed _ _ grows.2 (small_state _ _ _ _ _ _ c.requires.small))
+    let continues = c.loop-k.invariant.continues _ c.requires.level in
+    small_state _ _ _ _ _ _ (walked_small c.args.looks.now.0 c.args.places.now c.requires.listed _ _ continues.2 (small_state _ _ _ _ _ _ c.requires.small))
 
-pub child-requires-clause-told : goal.child-requires-clause-told
-child-requires-clause-told g c = subst (λ b. AreTold b c.loop-k.builder c.loop-k.met) (sym c.loop-k.invariant.same) c.loop-k.invariant.told
+pub child-requires-clause-checked : goal.child-requires-clause-checked
+child-requires-clause-checked g c = subst (λ b. DuplicateCheck b c.loop-k.builder c.loop-k.seen) (sym c.loop-k.invariant.same) c.loop-k.invariant.checked
 
-pub child-requires-clause-seated : goal.child-requires-clause-seated
-child-requires-clause-seated g c = c.loop-k.invariant.seated
+pub child-requires-clause-has_slot : goal.child-requires-clause-has_slot
+child-requires-clause-has_slot g c = c.loop-k.invariant.has_slot
 
 pub returns-in-Err-child-clause-slashes : goal.returns-in-Err-child-clause-slashes
 returns-in-Err-child-clause-slashes g c = subst (λ b. HoldSlashes b c.child.new.slashes) c.loop-k.invariant.same c.in-Err-child.ensures.slashes
@@ -63,30 +63,30 @@ returns-in-Err-child-clause-slashes g c = subst (λ b. HoldSlashes b c.child.new
 pub returns-in-Err-child-clause-same : goal.returns-in-Err-child-clause-same
 returns-in-Err-child-clause-same g c = c.in-Err-child.ensures.same ∙ c.loop-k.invariant.same
 
-pub returns-in-Err-child-clause-arrives : goal.returns-in-Err-child-clause-arrives
-returns-in-Err-child-clause-arrives g c =
+pub returns-in-Err-child-clause-walks : goal.returns-in-Err-child-clause-walks
+returns-in-Err-child-clause-walks g c =
     child_fault c.args.looks.now.0 c.args.places.now c.requires.listed c.loop-k.looks.0 (at c.args.spot c.args.builder.now c.args.looks.now.1 c.args.may_exceed.now) c.loop-k.k c.loop-k.looks.1 c.child.new.looks.1 c.loop-k.may_exceed c.child.new.may_exceed _ _ c.loop-k.builder c.child.new.builder c.child.result c.in-Err-child.fault
-    c.requires.level c.loop-k.invariant.same c.loop-k.invariant.grows c.in-Err-child.is c.child.ensures.grown
+    c.requires.level c.loop-k.invariant.same c.loop-k.invariant.continues c.in-Err-child.is c.child.ensures.walks
 
 -- what a child shows, by what it gave
-grown : (g : Over) (c : After-child g) (n : ℕ) (r : Result (Option ℕ) BuildFault) → c.child.result ≡ r → n ≡ c.loop-k.k + width (shape_of (not (eqb g.row.OBJECT 0)))
-    → Grown c.args.looks.now.0 c.args.places.now (at c.args.spot c.args.builder.now c.args.looks.now.1 c.args.may_exceed.now) (shape_of (not (eqb g.row.OBJECT 0))) n r c.child.new.builder c.child.new.looks.1 c.child.new.may_exceed
-grown g c n r is size =
-    child_grown c.args.looks.now.0 c.args.places.now c.requires.listed c.loop-k.looks.0 _ c.loop-k.k n c.loop-k.looks.1 c.child.new.looks.1 c.loop-k.may_exceed c.child.new.may_exceed _ _ c.loop-k.builder c.child.new.builder c.child.result r
-    c.requires.level c.loop-k.invariant.same c.loop-k.invariant.grows is size c.child.ensures.grown
+walks : (g : Over) (c : After-child g) (n : ℕ) (r : Result (Option ℕ) BuildFault) → c.child.result ≡ r → n ≡ c.loop-k.k + width (shape_of (not (eqb g.row.OBJECT 0)))
+    → WalksValue c.args.looks.now.0 c.args.places.now (at c.args.spot c.args.builder.now c.args.looks.now.1 c.args.may_exceed.now) (shape_of (not (eqb g.row.OBJECT 0))) n r c.child.new.builder c.child.new.looks.1 c.child.new.may_exceed
+walks g c n r is size =
+    child_walks c.args.looks.now.0 c.args.places.now c.requires.listed c.loop-k.looks.0 _ c.loop-k.k n c.loop-k.looks.1 c.child.new.looks.1 c.loop-k.may_exceed c.child.new.may_exceed _ _ c.loop-k.builder c.child.new.builder c.child.result r
+    c.requires.level c.loop-k.invariant.same c.loop-k.invariant.continues is size c.child.ensures.walks
 
-pub returns-in-Ok-None-child-clause-arrives : goal.returns-in-Ok-None-child-clause-arrives
-returns-in-Ok-None-child-clause-arrives g c =
-    (grown g (goal.at.returns-in-Ok-None-child-clause-arrives g c).After-child _ _ (c.in-Ok-None-child.is ∙ ap Ok c.in-Ok-None-child.field-0-is) (ap (λ x. c.loop-k.k + x) c.width-in-Ok-None-child.ensures.value)).0
+pub returns-in-Ok-None-child-clause-walks : goal.returns-in-Ok-None-child-clause-walks
+returns-in-Ok-None-child-clause-walks g c =
+    (walks g (goal.at.returns-in-Ok-None-child-clause-walks g c).After-child _ _ (c.in-Ok-None-child.is ∙ ap Ok c.in-Ok-None-child.field-0-is) (ap (λ x. c.loop-k.k + x) c.width-in-Ok-None-child.ensures.value)).0
 
 pub returns-in-Ok-None-child-clause-opened : goal.returns-in-Ok-None-child-clause-opened
 returns-in-Ok-None-child-clause-opened g c = λ first.
-    (grown g (goal.at.returns-in-Ok-None-child-clause-opened g c).After-child _ _ (c.in-Ok-None-child.is ∙ ap Ok c.in-Ok-None-child.field-0-is) (ap (λ x. c.loop-k.k + x) c.width-in-Ok-None-child.ensures.value)).1
+    (walks g (goal.at.returns-in-Ok-None-child-clause-opened g c).After-child _ _ (c.in-Ok-None-child.is ∙ ap Ok c.in-Ok-None-child.field-0-is) (ap (λ x. c.loop-k.k + x) c.width-in-Ok-None-child.ensures.value)).1
 
 pub returns-in-Ok-None-child-clause-further : goal.returns-in-Ok-None-child-clause-further
 returns-in-Ok-None-child-clause-further g c =
-    let grows = c.loop-k.invariant.grows _ c.requires.level in
-    let on = walked_onward c.args.looks.now.0 c.args.places.now c.requires.listed _ _ grows.2 in
+    let continues = c.loop-k.invariant.continues _ c.requires.level in
+    let on = walked_onward c.args.looks.now.0 c.args.places.now c.requires.listed _ _ continues.2 in
     let some = c.width-in-Ok-None-child.ensures.some in
     let same = c.width-in-Ok-None-child.ensures.value ∙ sym c.width.ensures.value in
     let test = c.loop-k-test.true in
@@ -97,15 +97,15 @@ loop-k-preserved g c =
     let n = c.loop-k.k + c.width-in-Ok-Some-eq44.result in
     let same = c.width-in-Ok-Some-eq44.ensures.value ∙ sym c.width.ensures.value in
     let test = c.loop-k-test.true in
-    let found = grown g (goal.at.loop-k-preserved g c).After-child n _ (c.in-Ok-Some-eq44.is ∙ ap Ok c.in-Ok-Some-eq44.field-0-is) (ap (λ x. c.loop-k.k + x) c.width-in-Ok-Some-eq44.ensures.value) in
+    let found = walks g (goal.at.loop-k-preserved g c).After-child n _ (c.in-Ok-Some-eq44.is ∙ ap Ok c.in-Ok-Some-eq44.field-0-is) (ap (λ x. c.loop-k.k + x) c.width-in-Ok-Some-eq44.ensures.value) in
     record {
       same = c.in-Ok-Some-eq44.ensures.same ∙ c.loop-k.invariant.same;
       slashes = subst (λ b. HoldSlashes b c.child.new.slashes) c.loop-k.invariant.same c.in-Ok-Some-eq44.ensures.slashes;
       level = found.1 ∙ sym c.requires.level;
-      grows = next_may_grow _ _ c.requires.listed _ n _ c.child.new.looks.1 c.child.new.may_exceed _ _ c.child.new.builder c.in-Ok-Some-eq44.field-0-0 c.requires.level (let t = c.in-Ok-Some-eq44.field-0-0-test in omega (arith, t)) (omega arith) found;
+      continues = next_may_continue _ _ c.requires.listed _ n _ c.child.new.looks.1 c.child.new.may_exceed _ _ c.child.new.builder c.in-Ok-Some-eq44.field-0-0 c.requires.level (let t = c.in-Ok-Some-eq44.field-0-0-test in omega (arith, t)) (omega arith) found;
       to = omega (arith, same, test);
-      told = subst (λ b. AreTold b c.child.new.builder c.child.new.met) c.loop-k.invariant.same c.in-Ok-Some-eq44.ensures.told;
-      seated = where_some _ c.in-Ok-Some-eq44.field-0 c.in-Ok-Some-eq44.field-0-0 c.in-Ok-Some-eq44.field-0-is c.in-Ok-Some-eq44.ensures.seated;
+      checked = subst (λ b. DuplicateCheck b c.child.new.builder c.child.new.seen) c.loop-k.invariant.same c.in-Ok-Some-eq44.ensures.checked;
+      has_slot = where_some _ c.in-Ok-Some-eq44.field-0 c.in-Ok-Some-eq44.field-0-0 c.in-Ok-Some-eq44.field-0-is c.in-Ok-Some-eq44.ensures.has_slot;
     }
 
 pub ended-requires-clause-near : goal.ended-requires-clause-near
@@ -116,18 +116,18 @@ ended-requires-clause-near g c =
 
 pub ended-requires-clause-level : goal.ended-requires-clause-level
 ended-requires-clause-level g c =
-    (grown g (goal.at.ended-requires-clause-level g c).After-child _ _ (c.in-Ok-Some-child.is ∙ ap Ok c.in-Ok-Some-child.field-0-is) (ap (λ x. c.loop-k.k + x) c.width-in-Ok-Some-child.ensures.value)).1
+    (walks g (goal.at.ended-requires-clause-level g c).After-child _ _ (c.in-Ok-Some-child.is ∙ ap Ok c.in-Ok-Some-child.field-0-is) (ap (λ x. c.loop-k.k + x) c.width-in-Ok-Some-child.ensures.value)).1
 
-pub returns-in-Ok-Some-child-clause-arrives : goal.returns-in-Ok-Some-child-clause-arrives
-returns-in-Ok-Some-child-clause-arrives g c =
+pub returns-in-Ok-Some-child-clause-walks : goal.returns-in-Ok-Some-child-clause-walks
+returns-in-Ok-Some-child-clause-walks g c =
     let n = c.loop-k.k + c.width-in-Ok-Some-child.result in
-    let found = grown g (goal.at.returns-in-Ok-Some-child-clause-arrives g c).After-child n _ (c.in-Ok-Some-child.is ∙ ap Ok c.in-Ok-Some-child.field-0-is) (ap (λ x. c.loop-k.k + x) c.width-in-Ok-Some-child.ensures.value) in
-    grown_ended _ _ c.requires.listed _ n c.child.new.looks.1 c.child.new.may_exceed _ c.child.new.builder c.ended.new.builder c.in-Ok-Some-child.sign c.ended.result found (c.ended.ensures.arrives _ c.child.new.looks.1 c.child.new.may_exceed c.requires.listed)
+    let found = walks g (goal.at.returns-in-Ok-Some-child-clause-walks g c).After-child n _ (c.in-Ok-Some-child.is ∙ ap Ok c.in-Ok-Some-child.field-0-is) (ap (λ x. c.loop-k.k + x) c.width-in-Ok-Some-child.ensures.value) in
+    walks_ended _ _ c.requires.listed _ n c.child.new.looks.1 c.child.new.may_exceed _ c.child.new.builder c.ended.new.builder c.in-Ok-Some-child.sign c.ended.result found (c.ended.ensures.walks _ c.child.new.looks.1 c.child.new.may_exceed c.requires.listed)
 
 pub returns-in-Ok-Some-child-clause-further : goal.returns-in-Ok-Some-child-clause-further
 returns-in-Ok-Some-child-clause-further g c =
-    let grows = c.loop-k.invariant.grows _ c.requires.level in
-    let on = walked_onward c.args.looks.now.0 c.args.places.now c.requires.listed _ _ grows.2 in
+    let continues = c.loop-k.invariant.continues _ c.requires.level in
+    let on = walked_onward c.args.looks.now.0 c.args.places.now c.requires.listed _ _ continues.2 in
     let same = c.width-in-Ok-Some-child.ensures.value ∙ sym c.width.ensures.value in
     let test = c.loop-k-test.true in
     if_ok c.ended.result (λ next h. (let e = h.0 in omega (arith, on, e), let e = h.0 in omega (arith, e, same, test))) c.ended.ensures.behind
@@ -135,10 +135,10 @@ returns-in-Ok-Some-child-clause-further g c =
 pub returns-in-Ok-Some-child-clause-opened : goal.returns-in-Ok-Some-child-clause-opened
 returns-in-Ok-Some-child-clause-opened g c = if_ok c.ended.result (λ next h first level. let e = h.1 in cc) c.ended.ensures.behind
 
-pub returns-clause-arrives : goal.returns-clause-arrives
-returns-clause-arrives g c =
-    let grows = c.loop-k.invariant.grows _ c.requires.level in
+pub returns-clause-walks : goal.returns-clause-walks
+returns-clause-walks g c =
+    let continues = c.loop-k.invariant.continues _ c.requires.level in
     let test = c.loop-k-test.false in
     let size = c.width.ensures.value in
-    halts_more c.args.looks.now.0 c.args.places.now grows.2
-    (few_halts c.args.looks.now.0 c.args.places.now c.requires.listed c.loop-k.k c.loop-k.looks.1 c.loop-k.may_exceed c.loop-k.builder _ grows.0 (omega (arith, test, size)) (c.loop-k.invariant.level ∙ c.requires.level) grows.1)
+    halts_more c.args.looks.now.0 c.args.places.now continues.2
+    (few_halts c.args.looks.now.0 c.args.places.now c.requires.listed c.loop-k.k c.loop-k.looks.1 c.loop-k.may_exceed c.loop-k.builder _ continues.0 (omega (arith, test, size)) (c.loop-k.invariant.level ∙ c.requires.level) continues.1)

@@ -2,8 +2,8 @@ use Rattle.std.proofs.Common.{◌≡◌, ◌≤◌, ◌-◌, length, IsTrue, not
 use Rattle.json_text.specs.Machine.{level_of}
 use Rattle.json_walk.specs.Placing.{HoldSlashes}
 use Rattle.json_walk.specs.Walked.{at}
-use Rattle.name_stamps.specs.Told.{AreTold, IsSeated}
-use Rattle.json_walk.proofs.Onward.{MayGrow}
+use Rattle.name_stamps.specs.Stamps.{DuplicateCheck, HasSlot}
+use Rattle.json_walk.proofs.WalkContainer.{MayContinue}
 use Rattle.json_walk.proofs.second_stage.run.Given as goal
 
 abbrev pub invariant-loop-k : goal.invariant-loop-k
@@ -11,10 +11,10 @@ invariant-loop-k g l = record {
   same : l.looks.0 ≡ l.fn.looks.0;
   slashes : HoldSlashes l.fn.looks.0 l.slashes;
   level : level_of l.builder.opens ≡ level_of l.fn.builder.opens;
-  grows : MayGrow l.fn.looks.0 l.places (at l.fn.spot l.fn.builder l.fn.looks.1 l.fn.may_exceed) l.k (level_of l.fn.builder.opens) l.builder l.looks.1 l.may_exceed;
+  continues : MayContinue l.fn.looks.0 l.places (at l.fn.spot l.fn.builder l.fn.looks.1 l.fn.may_exceed) l.k (level_of l.fn.builder.opens) l.builder l.looks.1 l.may_exceed;
   to : l.k ≤ length l.places;
-  told : AreTold l.fn.looks.0 l.builder l.met;
-  seated : IsTrue (not (eqb g.row.OBJECT 0)) → IsSeated l.builder l.owner l.met;
+  checked : DuplicateCheck l.fn.looks.0 l.builder l.seen;
+  has_slot : IsTrue (not (eqb g.row.OBJECT 0)) → HasSlot l.builder l.slot l.seen;
 }
 
 abbrev pub decreases-loop-k : goal.decreases-loop-k

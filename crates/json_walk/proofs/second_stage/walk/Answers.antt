@@ -5,12 +5,12 @@ use Rattle.json_text.specs.Answer.{StandsForAll}
 use Rattle.json_text.specs.Limits.{AreWithinLimits}
 use Rattle.tape_cells.specs.Built.{nothing}
 use Rattle.json_walk.specs.Walked.{IsListed, Walked, at}
-use Rattle.name_stamps.specs.Told.{AreTold}
-use Rattle.json_text.specs.Sifted.{AreSifted}
+use Rattle.name_stamps.specs.Stamps.{DuplicateCheck}
+use Rattle.json_text.specs.Suspects.{AreSuspects}
 use Rattle.json_walk.proofs.Walking.{unclosed_none, control_none}
-use Rattle.json_walk.proofs.Onward.{walked_small, small_state, arrives_same}
-use Rattle.json_walk.proofs.Arrived.{Arrived, began, fault_none, more_none, arrived, first_point}
-use Rattle.name_stamps.proofs.NamesApart.{told_sifted}
+use Rattle.json_walk.proofs.WalkContainer.{walked_small, small_state, walks_same}
+use Rattle.json_walk.proofs.WholeWalk.{WholeWalk, began, fault_none, more_none, whole_walk, first_point}
+use Rattle.name_stamps.proofs.NamesApart.{suspects_left}
 use Rattle.json_walk.proofs.second_stage.walk.Goals.{After-as_slice-places, In-Ok-containers, After-into_tape, then-index-via-then-index, then-index-via-else-index+then-index-2}
 use Rattle.json_walk.proofs.second_stage.walk.Goals as goal
 
@@ -32,30 +32,30 @@ listed c = record {
 
 pub returns-in-Err-clause-refused : goal.returns-in-Err-clause-refused
 returns-in-Err-clause-refused c = λ e.
-    fault_none _ _ (listed (goal.at.returns-in-Err-clause-refused c).After-as_slice-places) c.args.looks.now.1 _ c.in-Err.fault c.whole.new.builder c.whole.new.looks.1 c.whole.new.may_exceed c.in_ok-builder.ensures c.in-Err.ensures.arrives (let f : c.in-Err.fault ≡ NotJson = cc in f)
+    fault_none _ _ (listed (goal.at.returns-in-Err-clause-refused c).After-as_slice-places) c.args.looks.now.1 _ c.in-Err.fault c.whole.new.builder c.whole.new.looks.1 c.whole.new.may_exceed c.in_ok-builder.ensures c.in-Err.ensures.walks (let f : c.in-Err.fault ≡ NotJson = cc in f)
 
 pub containers-requires-clause-small : goal.containers-requires-clause-small
 containers-requires-clause-small c =
     let list = listed (goal.at.containers-requires-clause-small c).After-as_slice-places in
-    small_state _ _ _ _ _ _ (walked_small _ _ list _ _ (began _ _ list _ _ _ c.in_ok-builder.ensures c.in-Ok.ensures.arrives) (record { entries = omega arith; opens = (omega arith, tt) }))
+    small_state _ _ _ _ _ _ (walked_small _ _ list _ _ (began _ _ list _ _ _ c.in_ok-builder.ensures c.in-Ok.ensures.walks) (record { entries = omega arith; opens = (omega arith, tt) }))
 
-pub containers-requires-clause-told : goal.containers-requires-clause-told
-containers-requires-clause-told c =
-    subst (λ b. AreTold b c.whole.new.builder c.new-met.result) (sym c.in-Ok.ensures.same)
-    (c.in-Ok.ensures.told c.new-met.result (subst (λ b. AreTold c.args.looks.now.0 b c.new-met.result) (sym c.in_ok-builder.ensures) (c.new-met.ensures c.args.looks.now.0)))
+pub containers-requires-clause-checked : goal.containers-requires-clause-checked
+containers-requires-clause-checked c =
+    subst (λ b. DuplicateCheck b c.whole.new.builder c.new-seen.result) (sym c.in-Ok.ensures.same)
+    (c.in-Ok.ensures.checked c.new-seen.result (subst (λ b. DuplicateCheck c.args.looks.now.0 b c.new-seen.result) (sym c.in_ok-builder.ensures) (c.new-seen.ensures c.args.looks.now.0)))
 
 pub returns-in-Err-containers-clause-refused : goal.returns-in-Err-containers-clause-refused
 returns-in-Err-containers-clause-refused c = λ e.
     let list = listed (goal.at.returns-in-Err-containers-clause-refused c).After-as_slice-places in
-    let first = began _ _ list _ _ _ c.in_ok-builder.ensures c.in-Ok.ensures.arrives in
-    let halts = arrives_same _ _ list c.whole.new.looks.0 _ _ c.containers.new.looks.1 (Err c.in-Err-containers.fault) c.containers.new.builder c.containers.new.may_exceed c.in-Ok.ensures.same first c.in-Err-containers.ensures.arrives in
+    let first = began _ _ list _ _ _ c.in_ok-builder.ensures c.in-Ok.ensures.walks in
+    let halts = walks_same _ _ list c.whole.new.looks.0 _ _ c.containers.new.looks.1 (Err c.in-Err-containers.fault) c.containers.new.builder c.containers.new.may_exceed c.in-Ok.ensures.same first c.in-Err-containers.ensures.walks in
     fault_none _ _ list c.args.looks.now.1 nothing c.in-Err-containers.fault c.containers.new.builder c.containers.new.looks.1 c.containers.new.may_exceed refl halts (let f : c.in-Err-containers.fault ≡ NotJson = cc in f)
 
 -- behind the outermost container
 ended : (c : In-Ok-containers) (list : IsListed c.args.looks.now.0 c.as_slice-places.result.now)
     → Walked c.args.looks.now.0 c.as_slice-places.result.now (first_point _ _ list c.args.looks.now.1) (at c.in-Ok-containers.last c.containers.new.builder c.containers.new.looks.1 c.containers.new.may_exceed)
 ended c list =
-    arrives_same _ _ list c.whole.new.looks.0 _ _ c.containers.new.looks.1 (Ok c.in-Ok-containers.last) c.containers.new.builder c.containers.new.may_exceed c.in-Ok.ensures.same (began _ _ list _ _ _ c.in_ok-builder.ensures c.in-Ok.ensures.arrives) c.in-Ok-containers.ensures.arrives
+    walks_same _ _ list c.whole.new.looks.0 _ _ c.containers.new.looks.1 (Ok c.in-Ok-containers.last) c.containers.new.builder c.containers.new.may_exceed c.in-Ok.ensures.same (began _ _ list _ _ _ c.in_ok-builder.ensures c.in-Ok.ensures.walks) c.in-Ok-containers.ensures.walks
 
 pub returns-then-last-places-clause-refused : goal.returns-then-last-places-clause-refused
 returns-then-last-places-clause-refused c = λ e.
@@ -64,11 +64,11 @@ returns-then-last-places-clause-refused c = λ e.
     more_none _ _ list _ c.in-Ok-containers.last _ _ _ (ended (goal.at.returns-then-last-places-clause-refused c).In-Ok-containers list) over.0 over.1 c.if-last-places.true
 
 found : (c : After-into_tape) (list : IsListed c.args.looks.now.0 c.as_slice-places.result.now)
-    → Arrived c.args.looks.now.0 c.as_slice-places.result.now list c.args.looks.now.1 c.containers.new.builder.entries c.containers.new.builder.deep c.containers.new.looks.1 c.containers.new.may_exceed
+    → WholeWalk c.args.looks.now.0 c.as_slice-places.result.now list c.args.looks.now.1 c.containers.new.builder.entries c.containers.new.builder.deep c.containers.new.looks.1 c.containers.new.may_exceed
 found c list =
     let over = c.in-Ok-containers.ensures.over in
     let done = c.if-last-places.false in
-    arrived _ _ list _ c.in-Ok-containers.last _ _ _ (ended (goal.at.returns-clause-spelt c).In-Ok-containers list) over.0 over.1 (omega (arith, done))
+    whole_walk _ _ list _ c.in-Ok-containers.last _ _ _ (ended (goal.at.returns-clause-spelt c).In-Ok-containers list) over.0 over.1 (omega (arith, done))
 
 pub returns-clause-spelt : goal.returns-clause-spelt
 returns-clause-spelt c = (found c (listed (goal.at.returns-clause-spelt c).After-as_slice-places)).json
@@ -88,7 +88,7 @@ returns-clause-numbers c = λ m. subst (AreWithinLimits c.args.looks.now.0) (sym
 pub returns-clause-looked : goal.returns-clause-looked
 returns-clause-looked c = (found c (listed (goal.at.returns-clause-looked c).After-as_slice-places)).bounded
 
-pub returns-clause-sifted : goal.returns-clause-sifted
-returns-clause-sifted c =
-    subst (λ tape. AreSifted c.args.looks.now.0 tape c.containers.new.met.asked.items) (sym c.into_tape.ensures)
-    (told_sifted c.args.looks.now.0 c.containers.new.builder c.containers.new.met (subst (λ b. AreTold b c.containers.new.builder c.containers.new.met) c.in-Ok.ensures.same c.in-Ok-containers.ensures.told))
+pub returns-clause-suspects : goal.returns-clause-suspects
+returns-clause-suspects c =
+    subst (λ tape. AreSuspects c.args.looks.now.0 tape c.containers.new.seen.suspects.items) (sym c.into_tape.ensures)
+    (suspects_left c.args.looks.now.0 c.containers.new.builder c.containers.new.seen (subst (λ b. DuplicateCheck b c.containers.new.builder c.containers.new.seen) c.in-Ok.ensures.same c.in-Ok-containers.ensures.checked))

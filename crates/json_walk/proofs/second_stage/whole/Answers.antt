@@ -3,13 +3,13 @@ use Rattle.std.proofs.lemmas.Bool.Decides.{nat_tests}
 use Rattle.structural_index.specs.Places.{places}
 use Rattle.json_text.specs.declared.tape.Want.TheVariants.{Value}
 use Rattle.json_walk.proofs.Listed.{in_text, closes_before, no_blank, near, place_in}
-use Rattle.json_walk.proofs.Going.{no_value_halts}
-use Rattle.json_walk.proofs.Onward.{whole_arrives, spot_one, nothing_halts}
-use Rattle.json_walk.proofs.NamesSteps.{whole_told}
+use Rattle.json_walk.proofs.WalkSteps.{no_value_halts}
+use Rattle.json_walk.proofs.WalkContainer.{whole_walks, spot_one, nothing_halts}
+use Rattle.json_walk.proofs.CheckSteps.{whole_checked}
 use Rattle.json_walk.proofs.second_stage.whole.Goals as goal
 
-pub returns-then-is_empty-clause-arrives : goal.returns-then-is_empty-clause-arrives
-returns-then-is_empty-clause-arrives c =
+pub returns-then-is_empty-clause-walks : goal.returns-then-is_empty-clause-walks
+returns-then-is_empty-clause-walks c =
     nothing_halts c.args.looks.now.0 c.args.places.now c.requires.listed c.args.looks.now.1 c.args.may_exceed.now c.args.builder.now (let e = c.if-is_empty.ensures in grind (arith, nat_tests))
 
 pub value-requires-clause-in_text : goal.value-requires-clause-in_text
@@ -31,25 +31,25 @@ value-requires-clause-closes c =
 pub value-requires-clause-no_blank : goal.value-requires-clause-no_blank
 value-requires-clause-no_blank c = no_blank c.args.looks.now.0 c.args.places.now c.requires.listed 0 (let e = c.if-is_empty.ensures in grind (arith, nat_tests))
 
-pub returns-in_default-clause-arrives : goal.returns-in_default-clause-arrives
-returns-in_default-clause-arrives c =
+pub returns-in_default-clause-walks : goal.returns-in_default-clause-walks
+returns-in_default-clause-walks c =
     no_value_halts c.args.looks.now.0 c.args.places.now c.requires.listed 0 c.args.looks.now.1 c.args.may_exceed.now c.args.builder.now Value None (let e = c.if-is_empty.ensures in grind (arith, nat_tests)) (refl, λ e. cc) c.in_default.ensures.value
 
 pub put-requires-clause-near : goal.put-requires-clause-near
 put-requires-clause-near c = near c.args.looks.now.0 c.args.places.now c.requires.listed 0 (let e = c.if-is_empty.ensures in grind (arith, nat_tests))
 
-pub returns-clause-arrives : goal.returns-clause-arrives
-returns-clause-arrives c =
-    (whole_arrives c.args.looks.now.0 c.args.places.now c.requires.listed c.args.looks.now.1 c.value.new.looks.1 c.args.may_exceed.now c.value.new.may_exceed c.args.builder.now c.put.new.builder c.in-Some.lexed c.put.result c.first_spot.result (let e = c.if-is_empty.ensures in grind (arith, nat_tests))
+pub returns-clause-walks : goal.returns-clause-walks
+returns-clause-walks c =
+    (whole_walks c.args.looks.now.0 c.args.places.now c.requires.listed c.args.looks.now.1 c.value.new.looks.1 c.args.may_exceed.now c.value.new.may_exceed c.args.builder.now c.put.new.builder c.in-Some.lexed c.put.result c.first_spot.result (let e = c.if-is_empty.ensures in grind (arith, nat_tests))
     c.in-Some.ensures.value c.in-Some.ensures.marked c.in-Some.ensures.looked c.put.ensures c.first_spot.ensures).0
 
 pub returns-clause-opened : goal.returns-clause-opened
 returns-clause-opened c =
-    (whole_arrives c.args.looks.now.0 c.args.places.now c.requires.listed c.args.looks.now.1 c.value.new.looks.1 c.args.may_exceed.now c.value.new.may_exceed c.args.builder.now c.put.new.builder c.in-Some.lexed c.put.result c.first_spot.result (let e = c.if-is_empty.ensures in grind (arith, nat_tests))
+    (whole_walks c.args.looks.now.0 c.args.places.now c.requires.listed c.args.looks.now.1 c.value.new.looks.1 c.args.may_exceed.now c.value.new.may_exceed c.args.builder.now c.put.new.builder c.in-Some.lexed c.put.result c.first_spot.result (let e = c.if-is_empty.ensures in grind (arith, nat_tests))
     c.in-Some.ensures.value c.in-Some.ensures.marked c.in-Some.ensures.looked c.put.ensures c.first_spot.ensures).1
 
 pub returns-clause-further : goal.returns-clause-further
 returns-clause-further c = spot_one c.args.looks.now.0 c.args.places.now c.requires.listed c.put.result c.in-Some.lexed c.first_spot.result (let e = c.if-is_empty.ensures in grind (arith, nat_tests)) c.first_spot.ensures
 
-pub returns-clause-told : goal.returns-clause-told
-returns-clause-told c = whole_told c.args.looks.now.0 _ c.in-Some.lexed c.args.builder.now c.put.new.builder c.put.result c.first_spot.result c.put.ensures c.first_spot.ensures
+pub returns-clause-checked : goal.returns-clause-checked
+returns-clause-checked c = whole_checked c.args.looks.now.0 _ c.in-Some.lexed c.args.builder.now c.put.new.builder c.put.result c.first_spot.result c.put.ensures c.first_spot.ensures

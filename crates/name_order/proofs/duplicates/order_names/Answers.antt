@@ -5,18 +5,17 @@ use Rattle.json_text.specs.Repeats.{repeats, meanings}
 use Rattle.json_text.specs.Tape.{entry_in, nothing_there}
 use Rattle.name_order.proofs.TwinNames.{object_at, duplicate_found, duplicate_none, one_more}
 use Rattle.name_order.proofs.Runs.{members_are}
-use Rattle.name_order.proofs.Sifted.{kept_none, left_all, left_behind, left_over, none_on, kept_on, later_is_more}
+use Rattle.name_order.proofs.SuspectsLeft.{kept_none, left_all, left_behind, left_over, none_on, kept_on, later_is_more}
 use Rattle.name_order.proofs.duplicates.order_names.Goals.{then-is_left+in_ok-found+else-found, else-is_left}
 use Rattle.name_order.proofs.duplicates.order_names.Goals as goal
 
 pub loop-n-init : goal.loop-n-init
 loop-n-init c =
-    let o = c.in_ok-order.ensures in
     let moved = subst (λ xs. IsPermutation xs c.deref-n-items.result.now) c.in_ok-sorted.ensures.items (subst (IsPermutation c.in_ok-sorted.sorted.items) (sym c.deref-n-items.ensures.value) c.sort_unstable.ensures.permutation) in (
       omega arith,
-      left_all c.args.text.now c.args.tape.now c.args.asked.now c.deref-n-items.result.now c.requires.sifted moved,
+      left_all c.args.text.now c.args.tape.now c.args.suspects.now c.deref-n-items.result.now c.requires.suspects moved,
       (λ i ms l o. absurd (omega arith)),
-      rw (o.objects, o.starts, o.hashes, o.members) (kept_none c.args.text.now c.args.tape.now),
+      kept_none c.args.text.now c.args.tape.now _ c.in_ok-order.ensures,
     )
 
 pub repeats_at-requires-clause-object : goal.repeats_at-requires-clause-object
@@ -30,7 +29,7 @@ repeats_at-requires-clause-kept c =
     let numbers = c.deref-n-items.result.now in
     let sorted = subst (IsSorted nat_cmp) (sym c.deref-n-items.ensures.value) c.sort_unstable.ensures.sorted in
     kept_on c.args.text.now c.args.tape.now numbers c.loop-n.n-index c.loop-n.from c.loop-n.invariant.1 (get_or numbers c.loop-n.n-index 0) (c.if-is_left.ensures.left refl).0
-    (later_is_more numbers sorted c.loop-n.n-index) _ _ _ _ c.loop-n.invariant.3
+    (later_is_more numbers sorted c.loop-n.n-index) _ c.loop-n.invariant.3
 
 pub returns-then-found : goal.returns-then-found
 returns-then-found c =
@@ -73,8 +72,7 @@ returns c =
     let tape = c.args.tape.now in
     let numbers = c.deref-n-items.result.now in
     let t = c.loop-n-test.false in
-    let all = none_on text tape numbers c.loop-n.n-index c.loop-n.from c.loop-n.invariant.1 (length tape) c.loop-n.invariant.0 (λ j k l. absurd (omega (arith, t, k, l))) c.loop-n.invariant.2 in
-    let same = c.shrink.ensures in (
+    let all = none_on text tape numbers c.loop-n.n-index c.loop-n.from c.loop-n.invariant.1 (length tape) c.loop-n.invariant.0 (λ j k l. absurd (omega (arith, t, k, l))) c.loop-n.invariant.2 in (
       (λ x. duplicate_none text tape c.requires.spelt c.requires.stands (λ n ms h o. all n ms h o) x),
-      rw (same.objects, same.starts, same.hashes, same.members) (kept_on text tape numbers c.loop-n.n-index c.loop-n.from c.loop-n.invariant.1 (length tape) c.loop-n.invariant.0 (λ j k l. absurd (omega (arith, t, k, l))) _ _ _ _ c.loop-n.invariant.3),
+      rw c.shrink.ensures (kept_on text tape numbers c.loop-n.n-index c.loop-n.from c.loop-n.invariant.1 (length tape) c.loop-n.invariant.0 (λ j k l. absurd (omega (arith, t, k, l))) _ c.loop-n.invariant.3),
     )

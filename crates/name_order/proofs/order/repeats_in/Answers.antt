@@ -1,7 +1,7 @@
 use Rattle.std.proofs.Common.{◌∙◌, sym, ap}
 use Rattle.std.specs.Prelude.{nat_eq}
 use Rattle.std.specs.Ordering.{on}
-use Rattle.name_order.specs.Ordered.{high_half}
+use Rattle.name_order.specs.Orders.{high_half}
 use Rattle.json_text.specs.Repeats.{repeats_next_by}
 use Rattle.name_order.proofs.HashedWords.{none_again}
 use Rattle.name_order.proofs.Runs.{same_key, found_again}

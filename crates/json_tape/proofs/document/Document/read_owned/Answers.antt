@@ -1,9 +1,9 @@
 use Rattle.std.specs.String.{string_bytes}
-use Rattle.std.proofs.Common.{◌∙◌, ap, sym, subst}
+use Rattle.std.proofs.Common.{◌∙◌, length, ap, sym, subst}
 use Rattle.json_text.specs.Verdict.{IsAccepted}
 use Rattle.json_tape.specs.Document.{tree_of}
-use Rattle.json_tape.proofs.Told.{is_accepted, document}
-use Rattle.name_order.proofs.Runs.{kept_of}
+use Rattle.json_tape.proofs.TreeBuilt.{is_accepted, document}
+use Rattle.name_order.specs.Ordered.{AreKept}
 use Rattle.json_tape.proofs.document.Document.read_owned.Goals as goal
 
 pub returns-in-Ok-read_indexed : goal.returns-in-Ok-read_indexed
@@ -23,5 +23,5 @@ invariant_of-result c =
     let found = c.in-Ok-read_indexed.ensures in
     let tape = c.in-Ok-read_indexed.parts.tape in (
       document c.in-Ok.checked.now (string_bytes c.from_utf8_unchecked.result) tape same found.0 found.1 found.3 found.2,
-      kept_of (string_bytes c.from_utf8_unchecked.result) _ tape _ _ _ _ (sym same) found.4,
+      subst (λ t. AreKept t tape (length tape) c.in-Ok-read_indexed.parts.names) (sym same) found.4,
     )

@@ -1,0 +1,123 @@
+-- The orders of objects, where the words of all stand in one list.
+use Rattle.std.proofs.Common.{◌≡◌, ℕ, ◌+◌, ◌-◌, ◌<◌, ◌≤◌, inl, inr, Ok, Err, List, [], ◌∷◌, ◌++◌, length, take, drop, get_or, refl, sym, ap, ◌∙◌, subst, arith, length-append, append_assoc, append-nil}
+use Rattle.std.specs.List.{All, AllByRecursion, Contains}
+use Rattle.std.specs.List.Sorted.{IsNonDecreasingBy, IsBinarySearchResult}
+use Rattle.std.specs.Ordering.{nat_cmp, ordering_index}
+use Rattle.std.specs.declared.cmp.Ordering.TheVariants.{Less, Equal, Greater}
+use Rattle.std.proofs.lemmas.Bool.{cases_lt}
+use Rattle.std.proofs.lemmas.Bool.Decides.{nat_tests}
+use Rattle.std.proofs.lemmas.Cmp.{ranked}
+use Rattle.std.proofs.lemmas.List.{length-map, length-take, length-drop, take-append-le, drop-append-le, drop_at, take_at, take_all, map_push, get_or-map, get_or_default}
+use Rattle.std.proofs.lemmas.List.Elements.{All-push, All-weaker, recursion_from_All}
+use Rattle.std.proofs.lemmas.List.Sorted.{IsNonDecreasingBy-push}
+use Rattle.name_order.specs.Orders.{Order, no_order, part, order_in, orders_of, AreOrders}
+use Rattle.name_order.specs.declared.orders.Header.{Header}
+
+pub part_long : (start n : ℕ) (xs : List ℕ) → start + n ≤ length xs → length (part start n xs) ≡ n
+part_long start n xs h = let t = length-take n (drop start xs) in let d = length-drop start xs in omega arith
+
+part_left : (start n : ℕ) (xs ys : List ℕ) → start + n ≤ length xs → part start n (xs ++ ys) ≡ part start n xs
+part_left start n xs ys h = ap (take n) (drop-append-le start xs ys (omega arith)) ∙ take-append-le n (drop start xs) ys (let l = length-drop start xs in omega arith)
+
+-- what was added is the part that begins where the list ended
+part_right : (start n : ℕ) (xs ys zs : List ℕ) → length xs ≡ start → length ys ≡ n → part start n (xs ++ (ys ++ zs)) ≡ ys
+part_right start n xs ys zs e f = ap (take n) (drop_at xs (ys ++ zs) start e) ∙ take_at ys zs n f
+
+-- what a list begins with that was made longer
+pub resized_front : (xs ys more : List ℕ) (n len : ℕ) → ys ≡ take n xs ++ more → length xs ≡ len → len ≤ n → take len ys ≡ xs
+resized_front xs ys more n len e l h = ap (take len) (e ∙ ap (λ zs. zs ++ more) (take_all n xs (omega arith))) ∙ take_at xs more len l
+
+-- a part that was read as a slice
+pub sliced : (start n : ℕ) (ys xs : List ℕ) → ys ≡ xs → take (start + n - start) (drop start ys) ≡ part start n xs
+sliced start n ys xs e = let z : start + n - start ≡ n = omega arith in rw (e, z) refl
+
+abbrev IsInside : List ℕ → Header → Type 0
+IsInside words h = h.start + h.count + h.count ≤ length words
+
+-- more words do not change the orders
+orders_kept : (words more : List ℕ) (headers : List Header) → AllByRecursion (IsInside words) headers → orders_of headers (words ++ more) ≡ orders_of headers words
+orders_kept words more [] h = refl
+orders_kept words more (x ∷ headers) h =
+    rw (part_left x.start x.count words more (let l = h.0 in omega arith), part_left (x.start + x.count) x.count words more h.0, orders_kept words more headers h.1) refl
+
+module _ (headers : List Header) (words more : List ℕ) (are : AreOrders headers words) where
+  pub still_orders : AreOrders headers (words ++ more)
+  still_orders = record {
+    rising = are.rising;
+    inside = All-weaker (IsInside words) (IsInside (words ++ more)) (λ h l. let a = length-append words more in omega arith) headers are.inside;
+  }
+
+  same_orders : orders_of headers (words ++ more) ≡ orders_of headers words
+  same_orders = orders_kept words more headers (recursion_from_All (IsInside words) headers are.inside)
+
+-- one object more
+module _ (headers : List Header) (words hs ms : List ℕ) (orders : List Order) (are : AreOrders headers words) (shown : orders_of headers words ≡ orders) (new : Header)
+    (start : new.start ≡ length words) (long : length hs ≡ new.count) (long_too : length ms ≡ new.count) where
+  pub one_more : All (λ (o : Order). o.object < new.object) orders → AreOrders (headers ++ new ∷ []) (words ++ (hs ++ ms))
+  one_more behind = record {
+    rising = IsNonDecreasingBy-push (λ (h : Header). h.object) headers new are.rising (λ d l.
+        (let k : length orders ≡ length headers = sym (ap length shown) ∙ length-map headers (order_in words) in
+        let last = length headers - 1 in
+        let e : get_or orders last no_order ≡ order_in words (get_or headers last d) = sym (ap (λ os. get_or os last no_order) shown) ∙ get_or-map (order_in words) headers last d no_order (omega arith) in
+        let b = behind last no_order (omega arith) in
+        let q = ap (λ (o : Order). o.object) e in omega (arith, b, q)));
+    inside = All-push (IsInside (words ++ (hs ++ ms))) headers new (still_orders headers words (hs ++ ms) are).inside (let a = length-append words (hs ++ ms) in let b = length-append hs ms in omega arith);
+  }
+
+  pub one_shown : orders_of (headers ++ new ∷ []) (words ++ (hs ++ ms)) ≡ orders ++ record { object = new.object; hashes = hs; members = ms } ∷ []
+  one_shown =
+      map_push (order_in (words ++ (hs ++ ms))) headers new ∙ ap (λ os. os ++ order_in (words ++ (hs ++ ms)) new ∷ []) (same_orders headers words (hs ++ ms) are ∙ shown)
+      ∙ ap (λ xs. orders ++ record { object = new.object; hashes = xs; members = part (new.start + new.count) new.count (words ++ (hs ++ ms)) } ∷ []) (part_right new.start new.count words hs ms (sym start) long)
+      ∙ ap (λ xs. orders ++ record { object = new.object; hashes = hs; members = xs } ∷ []) behind_hashes
+    where
+      behind_hashes : part (new.start + new.count) new.count (words ++ (hs ++ ms)) ≡ ms
+      behind_hashes =
+          ap (part (new.start + new.count) new.count) (sym (append_assoc words hs ms) ∙ ap (λ l. (words ++ hs) ++ l) (sym (append-nil ms)))
+          ∙ part_right (new.start + new.count) new.count (words ++ hs) ms [] (let a = length-append words hs in omega arith) long_too
+
+-- the order at a place
+module _ (headers : List Header) (words : List ℕ) (orders : List Order) (shown : orders_of headers words ≡ orders) where
+  pub orders_many : length headers ≡ length orders
+  orders_many = sym (length-map headers (order_in words)) ∙ ap length shown
+
+  pub order_at : (at : ℕ) (h : Header) → at < length headers → h ≡ get_or headers at h → get_or orders at no_order ≡ order_in words h
+  order_at at h l read = sym (ap (λ os. get_or os at no_order) shown) ∙ get_or-map (order_in words) headers at h no_order l ∙ ap (order_in words) (sym read)
+
+  -- the words of a header that was read
+  module _ (are : AreOrders headers words) (at : ℕ) (h : Header) (l : at < length headers) (read : h ≡ get_or headers at h) where
+    pub inside_at : h.start + h.count + h.count ≤ length words
+    inside_at = subst (IsInside words) (sym read) (are.inside at h l)
+
+    pub small_at : (shift bound : ℕ) → ((k : ℕ) → k < length (get_or orders at no_order).members → get_or (get_or orders at no_order).members k 0 + shift < bound) → (k : ℕ) → k < h.count
+        → get_or (part (h.start + h.count) h.count words) k 0 + shift < bound
+    small_at shift bound small k i =
+        subst (λ (o : Order). (j : ℕ) → j < length o.members → get_or o.members j 0 + shift < bound) (order_at at h l read) small k (let e = part_long (h.start + h.count) h.count words inside_at in omega arith)
+
+  module _ (object : ℕ) where
+    -- an object that is found, with the parts of the words that were read
+    pub found : (at : ℕ) → at < length headers → IsBinarySearchResult (λ (h : Header). nat_cmp h.object object) headers (Ok at) → (h : Header) → h ≡ get_or headers at h
+        → (hs ms : List ℕ) → hs ≡ part h.start h.count words → ms ≡ part (h.start + h.count) h.count words → Contains orders (record { object = object; hashes = hs; members = ms })
+    found at l b h read hs ms e f =
+        let same : h.object ≡ object = ranked h.object object Equal (sym (ap (λ (x : Header). nat_cmp x.object object) read ∙ b h)) in (
+          at,
+          omega (arith, orders_many, l),
+          get_or_default orders at _ no_order (omega (arith, orders_many, l)) ∙ order_at at h l read ∙ rw (same, e, f) refl,
+        )
+
+    -- an object that is not found is none of these
+    pub absent : AreOrders headers words → (at : ℕ) → IsBinarySearchResult (λ (h : Header). nat_cmp h.object object) headers (Err at) → (o : Order) → Contains orders o → o.object ≡ object → ⊥
+    absent are at b o (k, l, e) q =
+        let h = get_or headers k none in
+        let i : k < length headers = omega (arith, orders_many, l) in
+        let here : h.object ≡ object = ap (λ (x : Order). x.object) (sym (order_at k h i (get_or_default headers k none h i)) ∙ get_or_default orders k no_order o l ∙ e) ∙ q in
+        let parted = b rising in
+        elim (cases_lt k at) [
+          | inl g ↦ (let less = ranked h.object object Less (sym (parted.0 k none (omega arith) g)) in omega (arith, less, here))
+          | inr g ↦ (let more = ranked h.object object Greater (sym (parted.1 k none g i)) in omega (arith, more, here))
+        ]
+      where
+        none : Header
+        none = record { object = 0; count = 0; start = 0 }
+
+        rising : IsNonDecreasingBy (λ (h : Header). ordering_index (nat_cmp h.object object)) headers
+        rising i j d le l = let r = are.rising i j d le l in grind (arith, nat_tests)
