@@ -19,5 +19,6 @@ pub use hub::{Hub, run};
 pub use laws::{cuts_do_not_matter, runs_apart, served_bytes, sessions_stand_in_streams};
 pub use memory_wire::{Call, MemoryWire, Moved};
 pub use serving::serve_connection;
+pub use sharing::place_asked;
 pub use tasks::{Share, Tasks};
 pub use wire::{ConnEnd, Wire, WireFault, write_all};

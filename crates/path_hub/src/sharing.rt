@@ -33,8 +33,8 @@ const KEY_AT: usize = 5;
 /// Where it ends.
 const KEY_END: usize = 21;
 
-// The place of the tenant whose key is in a body.
-fn place_asked(tenants: &Tenants, body: &[u8]) -> Option<usize>
+/// The place of the tenant whose key is in a request's body.
+pub fn place_asked(tenants: &Tenants, body: &[u8]) -> Option<usize>
     ensures { result ≡ tenant_asked tenants.now body.now }
 {
     if body.len() < KEY_END {

@@ -1,8 +1,8 @@
 -- What the request asks that is answered next on a connection, as it is counted: this project's own.
-use Rattle.std.specs.Prelude.{ℕ, List, length, nat_lt, if◌then◌else◌, is_some, Bool, false, Option, Some, None}
+use Rattle.std.specs.Prelude.{ℕ, List, is_some, Bool, false, Option, Some, None}
 use Rattle.std.specs.Option.{option_map_or}
-use Rattle.wire_frames.specs.Requests.{command_of, key_of}
-use Rattle.tenant_map.specs.Tenancy.{Tenancy, place_in}
+use Rattle.wire_frames.specs.Requests.{command_of}
+use Rattle.tenant_map.specs.Tenancy.{Tenancy}
 use Rattle.wire_frames.specs.NextFrame.{next_of}
 use Rattle.wire_frames.specs.declared.framing.Next.{Next}
 use Rattle.wire_frames.specs.declared.framing.Next.TheVariants as next
@@ -11,14 +11,10 @@ use Rattle.path_hub.specs.Sessions.{session}
 use Rattle.path_hub.specs.UnderWay.{tenant_asked}
 use Rattle.path_listen.specs.declared.asked.Asked.{Asked}
 
--- the place of a body's key in the list of keys
-abbrev pub tenant_in : Tenancy → List ℕ → Option ℕ
-tenant_in t body = if nat_lt (length body) 21 then None else place_in t.keys (key_of body)
-
 -- a framing fault asks nothing
 abbrev pub asks : Tenancy → Option (List ℕ) → Asked
 asks t None = record { command = 0; tenant = None }
-asks t (Some body) = record { command = command_of body; tenant = tenant_in t body }
+asks t (Some body) = record { command = command_of body; tenant = tenant_asked t body }
 
 -- the key of the request that is answered next on a connection is a tenant's
 abbrev pub is_next_tenants : Tenancy → Next → Bool
