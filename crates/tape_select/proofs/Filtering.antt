@@ -162,7 +162,7 @@ seen_length d (k ∷ ks) = ap suc (seen_length d ks)
 pub visit_length : (d : Doc) (k m : ℕ) (ns : List Node) → seen d (counting k m) ≡ ns → length ns ≡ m
 visit_length d k m ns e = rw (← e) (seen_length d (counting k m) ∙ counting_length k m)
 
-stage_is : (s : Stage) → stage_view s ≡ record { tree = record { descend = s.descend; selectors = selectors_of (trees (map selection_view s.selections.items)) }; claims = all_claims (map selection_view s.selections.items) }
+pub stage_is : (s : Stage) → stage_view s ≡ record { tree = record { descend = s.descend; selectors = selectors_of (trees (map selection_view s.selections.items)) }; claims = all_claims (map selection_view s.selections.items) }
 stage_is s = fold_out-Stage (With tree.Expr) (With tree.Comparable) (With tree.Selector) (With tree.Nested) (With OneSegment) condition_step operand_step selection_step nested_step stage_step s
 
 -- from a node and all its descendants

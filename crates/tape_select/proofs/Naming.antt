@@ -56,7 +56,7 @@ adds_named d r ids root n out ss scalars left e h =
 pub added_total : (d : Doc) (old new : List NodeId) (ns : List Node) → nodes_of d new ≡ nodes_of d old ++ ns → length new ≡ length old + length ns
 added_total d old new ns e = sym (length_nodes d new) ∙ ap length e ∙ length-append (nodes_of d old) ns ∙ ap (λ k. k + length ns) (length_nodes d old)
 
-wild_selected : (root : Node) (ns : List Node) → flat_map (selected root (selector wild no_selectors)) ns ≡ flat_map children ns
+pub wild_selected : (root : Node) (ns : List Node) → flat_map (selected root (selector wild no_selectors)) ns ≡ flat_map children ns
 wild_selected root [] = refl
 wild_selected root (n ∷ ns) = rw (append_nil (children n), wild_selected root ns) refl
 

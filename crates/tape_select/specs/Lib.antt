@@ -10,3 +10,5 @@ pub mod Slots
 pub mod Answered
 pub mod Counted
 pub mod Memo
+pub mod Passes
+pub mod Courses

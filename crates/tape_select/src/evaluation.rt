@@ -59,7 +59,7 @@ fn filtered(
 // Whether a condition holds for a child. A comparison with a literal, as most are, takes no call.
 #[cycle(evaluation)]
 #[inline(always)]
-fn does_hold(
+pub fn does_hold(
     doc: &Document,
     plan: &Parts,
     condition: &Condition,
@@ -496,7 +496,7 @@ fn selector_total(stage: &Stage) -> u64
 
 // How many nodes there are in a node, itself included.
 #[tactic(auto, using(crate::proofs::Filtering::visit_length))]
-fn visit_total(doc: &Document, n: NodeId) -> u64
+pub fn visit_total(doc: &Document, n: NodeId) -> u64
     requires { n.0 < count doc.now }
     ensures { result ≡ length (visit (node_at doc.now n.0)) }
 {
@@ -505,7 +505,7 @@ fn visit_total(doc: &Document, n: NodeId) -> u64
 
 // What a segment selects from one node. Each selector's unit is paid here, for all nodes at once.
 #[cycle(evaluation)]
-fn from_node(
+pub fn from_node(
     doc: &Document,
     plan: &Parts,
     stage: &Stage,

@@ -7,6 +7,7 @@
 
 mod answers;
 mod chains;
+mod course;
 mod descendants;
 mod evaluation;
 mod fault;
@@ -14,6 +15,7 @@ mod lengths;
 mod making;
 mod meter;
 mod nodes;
+mod passes;
 mod plan;
 mod planning;
 mod selecting;
@@ -24,6 +26,7 @@ mod state;
 mod steps;
 mod units;
 
+pub use course::Course;
 pub use fault::SelectFault;
 pub use planning::{BUDGET, Plan, select};
 pub use selecting::Selected;

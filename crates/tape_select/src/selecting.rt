@@ -25,7 +25,7 @@ pub struct Selected {
 }
 
 #[tactic(auto, using(crate::proofs::Slots::emptied))]
-fn empty_slots(
+pub fn empty_slots(
     alloc: Global,
     doc: &Document,
     plan: &Parts,
