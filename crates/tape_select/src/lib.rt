@@ -3,6 +3,7 @@
 //! A [`Plan`] is a valid query, prepared for evaluation. The kind of each part is decided, and names and literals are ready to be compared. A
 //! query in a filter is split into the names and indexes that it begins with, and the rest. If it begins at `$`, it has a slot in which its
 //! result is kept. [`Plan::select`] returns the nodes and the charge, or refuses a charge above the units. [`select`] makes the plan too.
+//! A [`Course`] does the same in shares.
 #![tactic(auto)]
 
 mod answers;
