@@ -14,7 +14,7 @@ use Rattle.std.specs.Prelude.{IfSome}
 use Rattle.std.specs.declared.vec.Vec.{Vec}
 use Rattle.std.specs.declared.alloc.Global.{Global}
 use Rattle.json_tape.specs.Nodes.{Node}
-use Rattle.json_tape.specs.declared.tape.NodeId.{NodeId}
+use Rattle.json_text.specs.declared.tape.NodeId.{NodeId}
 use Rattle.tape_select.specs.declared.state.State.{State}
 use Rattle.tape_select.specs.declared.selecting.Selected.{Selected}
 use Rattle.tape_select.specs.declared.passes.Way.{Way}

@@ -7,7 +7,7 @@ use Rattle.path_grammar.specs.Tree as tree
 use Rattle.path_grammar.specs.Tree.{OneSegment, Selectors, Expr, no_selectors, selector, filter, selectors_of}
 use Rattle.json_tape.specs.Nodes.{Node, children, visit}
 use Rattle.json_tape.specs.Document.{Doc, node_at}
-use Rattle.json_tape.specs.declared.tape.NodeId.{NodeId}
+use Rattle.json_text.specs.declared.tape.NodeId.{NodeId}
 use Rattle.tape_select.specs.Evaluation.{evaluated, selected, holds, starts}
 use Rattle.tape_select.specs.Nodelists.{nodes_of}
 use Rattle.tape_select.specs.Charge.{total_of, charge_from, charge_in, charge_expr}

@@ -5,7 +5,7 @@ use Rattle.std.specs.Prelude.{filter as keep}
 use Rattle.path_grammar.specs.Tree.{OneSegment, Selectors, no_selectors, selector, Selector, name, wild, index, filter, slice, Expr}
 use Rattle.json_tape.specs.Nodes.{Node}
 use Rattle.json_tape.specs.Document.{Doc, node_at}
-use Rattle.json_tape.specs.declared.tape.NodeId.{NodeId}
+use Rattle.json_text.specs.declared.tape.NodeId.{NodeId}
 use Rattle.tape_select.specs.declared.fault.SelectFault.{SelectFault}
 use Rattle.tape_select.specs.Evaluation.{evaluated, holds}
 use Rattle.tape_select.specs.Charge.{total_of, charge_from, charge_expr}
