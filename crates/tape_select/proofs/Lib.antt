@@ -13,8 +13,6 @@ pub mod Learnt
 pub mod Counted
 pub mod Slots
 pub mod Filtering
-pub mod Stages
-pub mod Shares
 pub mod Naming
 pub mod Deciding
 pub mod Joining

@@ -10,5 +10,3 @@ pub mod Slots
 pub mod Answered
 pub mod Counted
 pub mod Memo
-pub mod Passes
-pub mod Courses
