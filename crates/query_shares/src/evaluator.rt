@@ -177,7 +177,7 @@ impl Evaluator {
         ensures ready { IfOk result (λ some. IsEvaluating doc.now.text units self.new) }
         ensures rest { IfOk result (λ some. IfSome some (λ s. self.new.evaluation ≡ None)) }
         ensures spent { IfOk result (λ some. MatchOption some (left_on units self.new.evaluation + share < left_on units self.old.evaluation) (λ s. Unit {0})) }
-        ensures due { units ≤ left_on units self.old.evaluation + charge (tree_of doc.now) (query_in self.old) }
+        ensures due { IfOk result (λ some. units ≤ left_on units self.old.evaluation + charge (tree_of doc.now) (query_in self.old)) }
         ensures due_on { IfOk result (λ some. units ≤ left_on units self.new.evaluation + charge (tree_of doc.now) (query_in self.old)) }
     {
         one_tree();

@@ -66,7 +66,7 @@ fn select_some(
     ensures ready { IfOk result (λ some. IsEvaluating document.now.text units evaluator.new) }
     ensures rest { IfOk result (λ some. IfSome some (λ s. evaluator.new.evaluation ≡ None)) }
     ensures spent { IfOk result (λ some. MatchOption some (left_on units evaluator.new.evaluation + share < left_on units evaluator.old.evaluation) (λ s. Unit {0})) }
-    ensures due { units ≤ left_on units evaluator.old.evaluation + charge (tree_of document.now) (query_in evaluator.old) }
+    ensures due { IfOk result (λ some. units ≤ left_on units evaluator.old.evaluation + charge (tree_of document.now) (query_in evaluator.old)) }
     ensures due_on { IfOk result (λ some. units ≤ left_on units evaluator.new.evaluation + charge (tree_of document.now) (query_in evaluator.old)) }
 {
     match evaluator.advance(alloc, document, units, share) {
