@@ -9,7 +9,7 @@ use Rattle.tenant_map.specs.declared.faults.StoreFault.TheVariants.{ReplyTooLarg
 use Rattle.query_shares.specs.Evaluators.{left_on}
 use Rattle.query_shares.specs.declared.evaluator.Evaluator.{Evaluator}
 use Rattle.tenant_store.specs.declared.walk.Place.{Place}
-use Rattle.tenant_store.specs.declared.walk.Turn.{Turn}
+use Rattle.tenant_store.specs.declared.walk.Visited.{Visited}
 use Rattle.tenant_store.specs.Hits.{hits}
 use Rattle.tenant_store.specs.Payloads.{Text, found_in}
 use Rattle.tenant_store.specs.Walks.{spent_on}
@@ -42,7 +42,7 @@ PassesOne None q t share place old new before after =
 PassesOne (Some next) q t share place old new before after = Adds q t place next before after × (new.evaluation ≡ None) × (place.units ≤ left_on place.units old.evaluation + charge t.tree q)
 
 -- One text, in a step that has so many units left. It ends where more than these are spent, within the text or behind it.
-pub record Turns (to : Turn) (q : Segments) (t : Text) (more : ℕ) (place : Place) (old new : Evaluator) (before after : List ℕ) : Type 0 where
+pub record Visits (to : Visited) (q : Segments) (t : Text) (more : ℕ) (place : Place) (old new : Evaluator) (before after : List ℕ) : Type 0 where
   pub passed : MatchOption new.evaluation (Adds q t place to.place before after) (λ w. (to.place ≡ place) × (after ≡ before))
   pub step : MatchOption to.more (more + spent_on place.units old < charge t.tree q) (λ left. (left + charge t.tree q ≡ more + spent_on place.units old) × (new.evaluation ≡ None))
   pub share : MatchOption to.more (more + left_on to.place.units new.evaluation < left_on place.units old.evaluation) (λ left. left + left_on place.units old.evaluation ≡ more + left_on to.place.units new.evaluation)

@@ -12,7 +12,7 @@ ghost use Rattle.query_shares.specs.Evaluators.{IsAtRest, IsEvaluating, left_on,
 ghost use Rattle.tenant_map.specs.Kept.{AreKept, texts};
 ghost use Rattle.tenant_store.specs.Payloads.{query_fault, IsFault, IsCostlyOrMemory};
 ghost use Rattle.tenant_store.specs.TextsRead.{text_read, texts_read};
-ghost use Rattle.tenant_store.specs.Steps.{AreSizes, FailsAt, PassesOne, Turns};
+ghost use Rattle.tenant_store.specs.Steps.{AreSizes, FailsAt, PassesOne, Visits};
 ghost use Rattle.tenant_store.specs.Walks.{IsAt, IsReady, cut_of, last_of, left_by, spent_on};
 
 use crate::hits::write_hits;
@@ -112,14 +112,14 @@ fn pass(
 
 /// Where a document leaves a step.
 #[derive(Clone, Copy)]
-pub struct Turn {
+pub struct Visited {
     pub place: Place,
     /// The units that the step has left; none where it ends.
     pub more: Option<u64>,
 }
 
 // Passes a document in a step that has so many units left, or pauses within it.
-fn turn(
+fn visit(
     evaluator: &mut Evaluator,
     alloc: Global,
     name: &[u8],
@@ -128,12 +128,12 @@ fn turn(
     more: u64,
     start: usize,
     out: &mut Vec<u8>,
-) -> Result<Turn, StoreFault>
+) -> Result<Visited, StoreFault>
     requires some { 1 ≤ place.documents }
     requires short { length name.now < 256 }
     requires sizes { AreSizes place start (length out.old.items) }
     requires ready { IsEvaluating document.now.text place.units evaluator.old }
-    ensures turns { IfOk result (λ to. Turns to (query_in evaluator.old) (text_read name.now document.now) more place evaluator.old evaluator.new out.old.items out.new.items) }
+    ensures visits { IfOk result (λ to. Visits to (query_in evaluator.old) (text_read name.now document.now) more place evaluator.old evaluator.new out.old.items out.new.items) }
     ensures sizes { IfOk result (λ to. AreSizes to.place start (length out.new.items)) }
     ensures query { query_in evaluator.new ≡ query_in evaluator.old }
     ensures ready { IfOk result (λ to. IsEvaluating document.now.text place.units evaluator.new) }
@@ -143,8 +143,8 @@ fn turn(
 {
     let left = evaluator.units_left(place.units);
     match pass(evaluator, alloc, name, document, place, more, start, out)? {
-        None => Ok(Turn { place, more: None }),
-        Some(next) => Ok(Turn {
+        None => Ok(Visited { place, more: None }),
+        Some(next) => Ok(Visited {
             place: next,
             more: more.checked_sub(left - next.units),
         }),
@@ -181,12 +181,12 @@ pub fn go_on(
     let mut reached = place;
     let mut more = units;
     for (name, document) in last_of(documents, place.documents) {
-        let to = turn(evaluator, alloc, name, document, reached, more, start, out)?;
+        let to = visit(evaluator, alloc, name, document, reached, more, start, out)?;
         reached = to.place;
-        let Some(left) = to.more else {
-            return Ok(reached);
-        };
-        more = left;
+        match to.more {
+            None => return Ok(reached),
+            Some(left) => more = left,
+        }
     }
     Ok(reached)
 }

@@ -11,9 +11,14 @@ use Rattle.tenant_store.proofs.Walking.{names_fault}
 use Rattle.tenant_store.proofs.Passing.{answers_at, charges_at, on_way, refuses_memory, refuses_read, step_begun, written_over}
 use Rattle.tenant_store.proofs.tasks.begin.Goals as goal
 
+pub returns-in_err-evaluator-clause-refused : goal.returns-in_err-evaluator-clause-refused
+returns-in_err-evaluator-clause-refused c =
+    let p = err_from_is_err_and c.from_residual.result c.from_residual.ensures.1 in
+    rw (p.1, p.2) (refuses_memory (query_view c.args.query.now) c.args.documents.now.entries _ c.requires refl)
+
 pub returns-in_err-task-in-Ok-clause-refused : goal.returns-in_err-task-in-Ok-clause-refused
 returns-in_err-task-in-Ok-clause-refused c =
-    let p = err_from_is_err_and c.from_residual.result c.from_residual.ensures.1 in
+    let p = err_from_is_err_and c.from_residual-in_err-task-in-Ok.result c.from_residual-in_err-task-in-Ok.ensures.1 in
     rw (p.1, p.2) (refuses_memory (query_view c.args.query.now) c.args.documents.now.entries c.in_err-task-in-Ok.field-0.0 c.requires c.in_err-task-in-Ok.ensures.named)
 
 pub returns-then-place-gt0-clause-reached : goal.returns-then-place-gt0-clause-reached
@@ -41,8 +46,8 @@ returns-in-Err-clause-refused c = refuses_read (query_view c.args.query.now) c.a
 pub returns-in-Err-clause-named : goal.returns-in-Err-clause-named
 returns-in-Err-clause-named c = names_fault (query_view c.args.query.now) 0 4 (texts_read c.args.documents.now.entries) c.in-Err.fault (rw c.in_ok-evaluator.ensures.query at c.in-Err.ensures.refused)
 
-pub returns-else-place-gt0-clause-reached : goal.returns-else-place-gt0-clause-reached
-returns-else-place-gt0-clause-reached c =
+pub returns-clause-reached : goal.returns-clause-reached
+returns-clause-reached c =
     let q = query_view c.args.query.now in
     let es = c.args.documents.now.entries in
     let old = c.args.out.now.items in
@@ -56,7 +61,7 @@ returns-else-place-gt0-clause-reached c =
       charges_at q es c.in-Ok.place (drop (length old) written) _ c.requires reached none refl,
     )
 
-pub returns-else-place-gt0-clause-step : goal.returns-else-place-gt0-clause-step
-returns-else-place-gt0-clause-step c =
+pub returns-clause-step : goal.returns-clause-step
+returns-clause-step c =
     let step = rw c.in_ok-evaluator.ensures.query at c.in-Ok.ensures.step in
     step_begun (query_view c.args.query.now) c.args.documents.now.entries c.args.units _ c.requires (omega (arith, step, c.if-place-gt0.false)) tt

@@ -5,7 +5,7 @@ use Rattle.tenant_map.specs.Kept.{texts}
 use Rattle.tenant_store.specs.TextsRead.{texts_read}
 use Rattle.tenant_store.specs.Walks.{cut_of, last_of, left_by, spent_on}
 use Rattle.tenant_store.proofs.Passing.{begins_at, last_all, length-read}
-use Rattle.tenant_store.proofs.Turning.{ready_at_rest}
+use Rattle.tenant_store.proofs.Visiting.{ready_at_rest}
 use Rattle.tenant_store.proofs.walk.begin_behind.Goals as goal
 
 pub go_on-requires-clause-at : goal.go_on-requires-clause-at

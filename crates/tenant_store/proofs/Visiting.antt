@@ -12,10 +12,10 @@ use Rattle.query_shares.specs.declared.passes.Evaluation.{Evaluation}
 use Rattle.tenant_map.specs.Kept.{texts}
 use Rattle.tenant_map.specs.Maps.{Documents}
 use Rattle.tenant_store.specs.declared.walk.Place.{Place}
-use Rattle.tenant_store.specs.declared.walk.Turn.{Turn}
+use Rattle.tenant_store.specs.declared.walk.Visited.{Visited}
 use Rattle.tenant_store.specs.Payloads.{Text}
 use Rattle.tenant_store.specs.TextsRead.{text_read, texts_read}
-use Rattle.tenant_store.specs.Steps.{Adds, AreSizes, PassesOne, Turns}
+use Rattle.tenant_store.specs.Steps.{Adds, AreSizes, PassesOne, Visits}
 use Rattle.tenant_store.specs.Walks.{IsAt, IsReady, Passes, cut_of, last_of, left_by, spent_on}
 use Rattle.tenant_store.proofs.Passing.{adds_next, at_last, last_next, last_texts, length-read, step_ends, step_goes}
 
@@ -46,9 +46,9 @@ cut_is : (units share left : ℕ) (o : Option Evaluation) → left_on units o + 
 cut_is units share left None s l = absurd (omega (arith, s, l))
 cut_is units share left (Some w) s l = (w, refl)
 
-pub turns_within : (q : Segments) (t : Text) (more : ℕ) (place : Place) (old new : Evaluator) (before after : List ℕ) → left_on place.units old.evaluation ≤ place.units
-    → PassesOne None q t more place old new before after → Turns (record { place = place; more = None }) q t more place old new before after
-turns_within q t more place old new before after l p =
+pub visits_within : (q : Segments) (t : Text) (more : ℕ) (place : Place) (old new : Evaluator) (before after : List ℕ) → left_on place.units old.evaluation ≤ place.units
+    → PassesOne None q t more place old new before after → Visits (record { place = place; more = None }) q t more place old new before after
+visits_within q t more place old new before after l p =
     let s = p.1 in
     let due = p.2 in
     let cut = cut_is place.units more (left_on place.units old.evaluation) new.evaluation s l in
@@ -58,15 +58,15 @@ turns_within q t more place old new before after l p =
       share = omega (arith, s);
     }
 
-pub turns_behind : (q : Segments) (t : Text) (more : ℕ) (place next : Place) (old new : Evaluator) (before after : List ℕ) (left : Option ℕ) → left_on place.units old.evaluation ≤ place.units
+pub visits_behind : (q : Segments) (t : Text) (more : ℕ) (place next : Place) (old new : Evaluator) (before after : List ℕ) (left : Option ℕ) → left_on place.units old.evaluation ≤ place.units
     → PassesOne (Some next) q t more place old new before after
     → MatchOption left (more < left_on place.units old.evaluation - next.units) (λ n. n + (left_on place.units old.evaluation - next.units) ≡ more)
-    → Turns (record { place = next; more = left }) q t more place old new before after
-turns_behind q t more place next old new before after None l p h =
+    → Visits (record { place = next; more = left }) q t more place old new before after
+visits_behind q t more place next old new before after None l p h =
     let spent = p.0.spent in
     let due = p.2 in
     record { passed = rw p.1 p.0; step = omega (arith, spent, due, l, h); share = rw p.1 (omega (arith, h)) }
-turns_behind q t more place next old new before after (Some n) l p h =
+visits_behind q t more place next old new before after (Some n) l p h =
     let spent = p.0.spent in
     let due = p.2 in
     record { passed = rw p.1 p.0; step = (omega (arith, spent, due, l, h), p.1); share = rw p.1 (omega (arith, spent, due, h)) }
@@ -86,8 +86,8 @@ ended : (q : Segments) (t : Text) (place next : Place) (o : Option Evaluation) (
 ended q t place next None before after n d a = let b = a.left in omega (arith, b, d)
 ended q t place next (Some w) before after n d a = let b = ap (λ (x : Place). x.documents) a.0 in omega (arith, b, d)
 
-pub ends_step : (q : Segments) (it rest : List (Vec ℕ Global × Doc)) (e : Vec ℕ Global × Doc) (name : List ℕ) (to : Turn) (more : ℕ) (place : Place) (old new : Evaluator) (before after : List ℕ) (all : List Text) → it ≡ e ∷ rest
-    → place.documents ≡ length it → left_by q (more + spent_on place.units old) (texts_read it) ≡ all → Turns to q (text_read name e.1) more place old new before after → to.more ≡ None
+pub ends_step : (q : Segments) (it rest : List (Vec ℕ Global × Doc)) (e : Vec ℕ Global × Doc) (name : List ℕ) (to : Visited) (more : ℕ) (place : Place) (old new : Evaluator) (before after : List ℕ) (all : List Text) → it ≡ e ∷ rest
+    → place.documents ≡ length it → left_by q (more + spent_on place.units old) (texts_read it) ≡ all → Visits to q (text_read name e.1) more place old new before after → to.more ≡ None
     → to.place.documents ≡ length all + cut_of new.evaluation
 ends_step q it rest e name to more place old new before after all i n l t z =
     let none : texts_read rest ≡ all = step_ends q it rest e (more + spent_on place.units old) (charge (tree_of e.1) q) all i refl l (rw z at t.step) in
@@ -119,3 +119,9 @@ ends_ready es it rest e q t place next new before after i l h a = by new.evaluat
 
 pub none_ready : (it : List (Vec ℕ Global × Doc)) (units : ℕ) (e : Evaluator) → it ≡ [] → IsReady (texts it) units e → IsAtRest e
 none_ready it units e n h = subst (λ (ds : List (Vec ℕ Global × Doc)). IsReady (texts ds) units e) n h
+
+pub none_left : (it : List (Vec ℕ Global × Doc)) (n : ℕ) (e : Evaluator) (all : List Text) → n ≡ length it → it ≡ [] → all ≡ [] → IsAtRest e → n ≡ length all + cut_of e.evaluation
+none_left it n e all l z a r =
+    let none = ap (λ (ds : List (Vec ℕ Global × Doc)). length ds) z in
+    let same = ap (λ (ts : List Text). length ts) a in
+    rw r.rest (omega (arith, l, none, same))
