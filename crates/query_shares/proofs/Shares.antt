@@ -1,5 +1,5 @@
 -- An evaluation in shares, from its beginning to its end.
-use Rattle.std.proofs.Common.{◌≡◌, ℕ, zero, ◌+◌, ◌-◌, ◌<◌, ◌≤◌, Bool, true, false, List, [], ◌∷◌, drop, refl, sym, ap, ◌∙◌, subst, arith, Option, Some, None, Result, Ok, Err}
+use Rattle.std.proofs.Common.{◌≡◌, ℕ, ◌+◌, ◌<◌, ◌≤◌, true, false, List, [], ◌∷◌, refl, sym, ap, ◌∙◌, subst, arith, Option, Some, None, Result, Ok, Err}
 use Rattle.json_tape.specs.Document.{Doc, IsDocument, node_at, tree_of, count}
 use Rattle.json_tape.specs.Grammar.{IsText}
 use Rattle.json_tape.specs.Tape.{Top, tape_of}
@@ -10,9 +10,9 @@ use Rattle.query_shares.specs.Evaluators.{LeadsOn, Advances, Ends, IsWithin, IsW
 use Rattle.tape_select.specs.Evaluation.{evaluated}
 use Rattle.tape_select.specs.Memo.{Keeps}
 use Rattle.tape_select.specs.Nodelists.{nodes_of}
-use Rattle.query_shares.specs.Passes.{Fits, IsUnderWay, RunsOn, whole_ahead, whole_due}
-use Rattle.tape_select.specs.Paying.{Inside, Holds, Refuses}
-use Rattle.tape_select.specs.Planned.{query_of, claims_of, stage_view, numbered}
+use Rattle.query_shares.specs.Passes.{RunsOn, whole_due}
+use Rattle.tape_select.specs.Paying.{Holds, Refuses}
+use Rattle.tape_select.specs.Planned.{query_of, claims_of, numbered}
 use Rattle.tape_select.specs.declared.plan.Parts.{Parts}
 use Rattle.std.specs.Prelude.{◌^◌, IfSome, MatchResult}
 use Rattle.std.specs.declared.vec.Vec.{Vec}
@@ -108,7 +108,7 @@ document_is d a t s = record { accepted = a; tape = t; small = s }
 
 pub ends_whole : (d : Doc) (plan : Parts) (units : ℕ) (root : Node) (r : Result Selected SelectFault) → node_at d 0 ≡ root
     → MatchResult r (λ s. Holds d s.nodes.items (evaluated root (query_of plan.stages.items) (root ∷ [])) × ((s.charge ≡ charge_from root (query_of plan.stages.items) (root ∷ [])) × (s.charge ≤ units)))
-        (λ e. Refuses (charge_from root (query_of plan.stages.items) (root ∷ [])) units e)
+    (λ e. Refuses (charge_from root (query_of plan.stages.items) (root ∷ [])) units e)
     → MatchResult r (λ s. Ends d plan units s None) (λ e. Refuses (charge_from (node_at d 0) (query_of plan.stages.items) (node_at d 0 ∷ [])) units e)
 ends_whole d plan units root (Ok s) e h = record { nodes = rw e h.0; charge = rw e h.1.0; within = h.1.1; rest = refl }
 ends_whole d plan units root (Err f) e h = rw e h

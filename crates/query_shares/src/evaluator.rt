@@ -17,8 +17,7 @@ use json_tape::laws::one_tree;
 use path_types::ValidQuery;
 use std::alloc::{AllocError, Global};
 use tape_select::{
-    Meter, Parts, SelectFault, Selected, State, empty_slots, lone, no_lengths, parts_of,
-    select_all,
+    Meter, Parts, SelectFault, Selected, State, empty_slots, lone, no_lengths, parts_of, select_all,
 };
 
 /// A query that is evaluated in shares, on one document after the other. It is at rest, or under way on one of them.
@@ -95,12 +94,7 @@ fn advanced(
 }
 
 // What a query selects from a document, at once.
-fn whole(
-    alloc: Global,
-    plan: &Parts,
-    doc: &Document,
-    units: u64,
-) -> Result<Selected, SelectFault>
+fn whole(alloc: Global, plan: &Parts, doc: &Document, units: u64) -> Result<Selected, SelectFault>
     requires { numbered (claims_of plan.now.stages.items) 0 ≡ Some plan.now.slots }
     ensures { MatchResult result (λ s. Ends doc.now plan.now units s None) (λ e. Refuses (charge_from (node_at doc.now 0) (query_of plan.now.stages.items) (node_at doc.now 0 ∷ [])) units e) }
 {

@@ -21,8 +21,8 @@ ghost use Rattle.tape_select.specs.Slots.{AreClaimed};
 use json_tape::{Document, NodeId};
 use std::mem;
 use tape_select::{
-    Condition, Link, Meter, Parts, SelectFault, Selection, Stage, State, child_total, children_below,
-    does_hold, from_node, lone_link, push, push_some, reserve, step, visit_total,
+    Condition, Link, Meter, Parts, SelectFault, Selection, Stage, State, child_total,
+    children_below, does_hold, from_node, lone_link, push, push_some, reserve, step, visit_total,
 };
 
 /// An evaluation under way.
@@ -346,7 +346,12 @@ fn pass_segment(
 }
 
 /// Goes on until fewer units are left, or to the end. Whether it is the end.
-pub fn run(doc: &Document, plan: &Parts, least: u64, evaluation: &mut Evaluation) -> Result<bool, SelectFault>
+pub fn run(
+    doc: &Document,
+    plan: &Parts,
+    least: u64,
+    evaluation: &mut Evaluation,
+) -> Result<bool, SelectFault>
     requires { IsUnderWay doc.now plan.now evaluation.old }
     ensures gone { MatchResult result (λ is_end. RunsOn doc.now plan.now is_end evaluation.old evaluation.new) (λ e. Refuses (whole_due doc.now plan.now evaluation.old) evaluation.old.state.meter.left e) }
     ensures cut { IfOk result (λ is_end. is_end ≡ false → evaluation.new.state.meter.left < least) }

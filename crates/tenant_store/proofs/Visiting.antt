@@ -17,7 +17,7 @@ use Rattle.tenant_store.specs.Payloads.{Text}
 use Rattle.tenant_store.specs.TextsRead.{text_read, texts_read}
 use Rattle.tenant_store.specs.Steps.{Adds, AreSizes, PassesOne, Visits}
 use Rattle.tenant_store.specs.Walks.{IsAt, IsReady, Passes, cut_of, last_of, left_by, spent_on}
-use Rattle.tenant_store.proofs.Passing.{adds_next, at_last, last_next, last_texts, length-read, step_ends, step_goes}
+use Rattle.tenant_store.proofs.Passing.{adds_next, at_last, last_texts, length-read, step_ends, step_goes}
 
 -- ---- Evaluators
 

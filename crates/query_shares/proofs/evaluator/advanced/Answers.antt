@@ -1,4 +1,4 @@
-use Rattle.std.proofs.Common.{◌∙◌, ap, refl, sym, rules, arith}
+use Rattle.std.proofs.Common.{rules, arith}
 use Rattle.std.proofs.lemmas.Result.{err_from_is_err_and}
 use Rattle.query_shares.proofs.Shares.{leads_further, leads_to_end, leads_to_refusal}
 use Rattle.query_shares.proofs.evaluator.advanced.Goals as goal

@@ -1,4 +1,4 @@
-use Rattle.std.proofs.Common.{refl, rules}
+use Rattle.std.proofs.Common.{refl}
 use Rattle.query_shares.proofs.Shares.{leads_first}
 use Rattle.query_shares.proofs.evaluator.begun.Goals as goal
 

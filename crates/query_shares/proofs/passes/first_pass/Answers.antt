@@ -1,4 +1,4 @@
-use Rattle.std.proofs.Common.{◌≡◌, ◌≤◌, [], drop, length, refl, ap, arith}
+use Rattle.std.proofs.Common.{◌≡◌, [], drop, length, refl, ap, arith}
 use Rattle.std.proofs.lemmas.List.{drop_all, length-drop}
 use Rattle.json_tape.specs.Document.{node_at}
 use Rattle.tape_select.specs.Nodelists.{nodes_of}

@@ -1,9 +1,8 @@
-use Rattle.std.proofs.Common.{◌≡◌, ◌+◌, ◌≤◌, ◌++◌, length}
+use Rattle.std.proofs.Common.{◌++◌}
 use Rattle.std.specs.Prelude.{vec_len, vec_capacity}
 use Rattle.json_tape.specs.Document.{node_at}
 use Rattle.json_tape.specs.Nodes.{children}
 use Rattle.tape_select.specs.Nodelists.{nodes_of}
-use Rattle.tape_select.specs.Paying.{Inside}
 use Rattle.tape_select.proofs.Adding.{Draws}
 use Rattle.query_shares.proofs.passes.push_all.Given as goal
 

@@ -1,6 +1,5 @@
-use Rattle.std.proofs.Common.{◌≡◌, ◌+◌, [], ◌∷◌, true, drop, length, sym, ap, ◌∙◌, arith, rules}
+use Rattle.std.proofs.Common.{◌≡◌, true, drop, length, ap, ◌∙◌, arith, rules}
 use Rattle.std.proofs.lemmas.List.{length-drop}
-use Rattle.json_tape.specs.Document.{node_at}
 use Rattle.query_shares.proofs.Stages.{behind, part_is}
 use Rattle.query_shares.proofs.passes.run.Goals as goal
 

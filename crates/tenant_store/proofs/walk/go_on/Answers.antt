@@ -3,13 +3,12 @@ use Rattle.std.proofs.lemmas.Result.{err_from_is_err_and}
 use Rattle.std.specs.declared.vec.Vec.{Vec}
 use Rattle.std.specs.declared.alloc.Global.{Global}
 use Rattle.json_tape.specs.Document.{Doc}
-use Rattle.query_shares.specs.Evaluators.{IsEvaluating, query_in}
+use Rattle.query_shares.specs.Evaluators.{query_in}
 use Rattle.tenant_map.specs.Kept.{AreKept, texts}
-use Rattle.tenant_store.specs.Payloads.{Text}
 use Rattle.tenant_store.specs.TextsRead.{text_read, texts_read}
 use Rattle.tenant_store.specs.Steps.{Visits}
 use Rattle.tenant_store.specs.Walks.{IsReady, last_of, left_by, spent_on}
-use Rattle.tenant_store.proofs.Passing.{adds_next, at_last, fails_next, few_left, front_kept, goes_on, kept_last, last_next, last_read, last_texts, length-last, sizes, step_none}
+use Rattle.tenant_store.proofs.Passing.{adds_next, fails_next, few_left, front_kept, goes_on, kept_last, last_next, last_read, last_texts, length-last, sizes, step_none}
 use Rattle.tenant_store.proofs.Visiting.{ends_at, ends_ready, ends_step, goes_behind, none_left, none_ready, ready_at_rest, ready_within, rests}
 use Rattle.tenant_store.proofs.walk.go_on.Goals as goal
 

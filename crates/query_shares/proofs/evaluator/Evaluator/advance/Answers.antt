@@ -1,4 +1,3 @@
-use Rattle.std.proofs.Common.{◌∙◌}
 use Rattle.json_tape.specs.Document.{tree_of}
 use Rattle.tape_select.specs.Evaluation.{root_node}
 use Rattle.query_shares.proofs.Shares.{charged, document_is, nodes_found, within_after, within_here, within_text}
