@@ -3,8 +3,8 @@ use Rattle.json_text.specs.declared.tape.TextFault.{TextFault}
 use Rattle.json_text.specs.declared.tape.TextFault.TheVariants as text
 use Rattle.path_types.specs.declared.query_text.QueryFault.{QueryFault}
 use Rattle.path_types.specs.declared.query_text.QueryFault.TheVariants as query
-use Rattle.tape_select.specs.declared.fault.SelectFault.{SelectFault}
-use Rattle.tape_select.specs.declared.fault.SelectFault.TheVariants as select
+use Rattle.node_lists.specs.declared.fault.SelectFault.{SelectFault}
+use Rattle.node_lists.specs.declared.fault.SelectFault.TheVariants as select
 use Rattle.path_server.specs.declared.fault.QueryTextFault.{QueryTextFault}
 use Rattle.path_server.specs.declared.fault.QueryTextFault.TheVariants.{TooLong, NotUtf8, NotJson, TooDeep, NumberLimit, LoneSurrogate, DuplicateName, QueryTooLong, NotWellFormed, NotValid, Costly, Memory}
 

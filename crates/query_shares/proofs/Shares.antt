@@ -11,9 +11,9 @@ use Rattle.tape_select.specs.Evaluation.{evaluated}
 use Rattle.tape_select.specs.Memo.{Keeps}
 use Rattle.tape_select.specs.Nodelists.{nodes_of}
 use Rattle.query_shares.specs.Passes.{RunsOn, whole_due}
-use Rattle.tape_select.specs.Paying.{Holds, Refuses}
-use Rattle.tape_select.specs.Planned.{query_of, claims_of, numbered}
-use Rattle.tape_select.specs.declared.plan.Parts.{Parts}
+use Rattle.node_lists.specs.Paying.{Holds, Refuses}
+use Rattle.query_plan.specs.Planned.{query_of, claims_of, numbered}
+use Rattle.query_plan.specs.declared.plan.Parts.{Parts}
 use Rattle.std.specs.Prelude.{◌^◌, IfSome, MatchResult}
 use Rattle.std.specs.declared.vec.Vec.{Vec}
 use Rattle.std.specs.declared.alloc.Global.{Global}
@@ -22,9 +22,9 @@ use Rattle.json_text.specs.declared.tape.NodeId.{NodeId}
 use Rattle.tape_select.specs.declared.state.State.{State}
 use Rattle.tape_select.specs.declared.selecting.Selected.{Selected}
 use Rattle.query_shares.specs.declared.passes.Evaluation.{Evaluation}
-use Rattle.tape_select.specs.declared.fault.SelectFault.{SelectFault}
-use Rattle.tape_select.proofs.Claims.{all_claimed}
-use Rattle.tape_select.proofs.Following.{refuses_from}
+use Rattle.node_lists.specs.declared.fault.SelectFault.{SelectFault}
+use Rattle.query_plan.proofs.Claims.{all_claimed}
+use Rattle.node_lists.proofs.Following.{refuses_from}
 use Rattle.query_shares.proofs.Stages.{begins, begins_due, fitting, none_inside}
 
 pub leads_first : (d : Doc) (plan : Parts) (s : State) (list out : Vec NodeId Global) → numbered (claims_of plan.stages.items) 0 ≡ Some plan.slots → out.items ≡ []

@@ -11,20 +11,20 @@ use Rattle.json_text.specs.declared.tape.NodeId.{NodeId}
 use Rattle.tape_select.specs.Evaluation.{evaluated, selected, holds, starts}
 use Rattle.tape_select.specs.Nodelists.{nodes_of}
 use Rattle.tape_select.specs.Charge.{total_of, charge_from, charge_in, charge_expr}
-use Rattle.tape_select.specs.Extra.{nodes_from, charge_at, nodes_after, charge_after}
+use Rattle.node_lists.specs.Extra.{nodes_from, charge_at, nodes_after, charge_after}
 use Rattle.tape_select.specs.Memo.{Keeps}
-use Rattle.tape_select.specs.Paying.{Inside}
+use Rattle.node_lists.specs.Paying.{Inside}
 use Rattle.query_shares.specs.Passes.{is_lone, every, first_of, chosen, chosen_charge, ahead, due, all_ahead, all_due, left_of, out_of, Fits, Gives, IsSound, Passed, Stays}
-use Rattle.tape_select.specs.Slots.{AreClaimed}
+use Rattle.query_plan.specs.Slots.{AreClaimed}
 use Rattle.tape_select.specs.declared.state.State.{State}
 use Rattle.query_shares.specs.declared.passes.Evaluation.{Evaluation}
-use Rattle.tape_select.specs.declared.plan.Parts.{Parts}
-use Rattle.tape_select.specs.Planned.{trees, claims_of, query_of, selection_view, stage_view}
-use Rattle.tape_select.specs.declared.plan.Selection.{Selection}
-use Rattle.tape_select.specs.declared.plan.Stage.{Stage}
-use Rattle.tape_select.proofs.Adding.{append_nil, add_more, has_none, has_push, flat_more, sum_more}
-use Rattle.tape_select.proofs.Filtering.{stage_is}
-use Rattle.tape_select.proofs.Naming.{wild_selected}
+use Rattle.query_plan.specs.declared.plan.Parts.{Parts}
+use Rattle.query_plan.specs.Planned.{trees, claims_of, query_of, selection_view, stage_view}
+use Rattle.query_plan.specs.declared.plan.Selection.{Selection}
+use Rattle.query_plan.specs.declared.plan.Stage.{Stage}
+use Rattle.node_lists.proofs.Adding.{append_nil, add_more, has_none, has_push, flat_more, sum_more}
+use Rattle.query_plan.proofs.LoneLinks.{stage_is}
+use Rattle.node_lists.proofs.Naming.{wild_selected}
 
 pub ruleset adding = (add_more, has_none, has_push, append_nil)
 

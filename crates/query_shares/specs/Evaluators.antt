@@ -4,10 +4,10 @@ use Rattle.path_grammar.specs.Tree.{Segments}
 use Rattle.json_tape.specs.Document.{Doc, IsDocument, node_at}
 use Rattle.tape_select.specs.Charge.{charge_from}
 use Rattle.tape_select.specs.Evaluation.{evaluated}
-use Rattle.tape_select.specs.Planned.{query_of, claims_of, numbered}
-use Rattle.tape_select.specs.Paying.{Holds}
+use Rattle.query_plan.specs.Planned.{query_of, claims_of, numbered}
+use Rattle.node_lists.specs.Paying.{Holds}
 use Rattle.tape_select.specs.declared.selecting.Selected.{Selected}
-use Rattle.tape_select.specs.declared.plan.Parts.{Parts}
+use Rattle.query_plan.specs.declared.plan.Parts.{Parts}
 use Rattle.query_shares.specs.Passes.{IsUnderWay, whole_ahead, whole_due}
 use Rattle.query_shares.specs.declared.passes.Evaluation.{Evaluation}
 use Rattle.query_shares.specs.declared.evaluator.Evaluator.{Evaluator}

@@ -6,17 +6,17 @@ use Rattle.path_grammar.specs.Tree.{OneSegment, Selectors, no_selectors, selecto
 use Rattle.json_tape.specs.Nodes.{Node}
 use Rattle.json_tape.specs.Document.{Doc, node_at}
 use Rattle.json_text.specs.declared.tape.NodeId.{NodeId}
-use Rattle.tape_select.specs.declared.fault.SelectFault.{SelectFault}
+use Rattle.node_lists.specs.declared.fault.SelectFault.{SelectFault}
 use Rattle.tape_select.specs.Evaluation.{evaluated, holds}
 use Rattle.tape_select.specs.Charge.{total_of, charge_from, charge_expr}
-use Rattle.tape_select.specs.Extra.{nodes_after, charge_after}
+use Rattle.node_lists.specs.Extra.{nodes_after, charge_after}
 use Rattle.tape_select.specs.Memo.{Keeps}
 use Rattle.tape_select.specs.Nodelists.{nodes_of}
-use Rattle.tape_select.specs.Paying.{Inside, Refuses}
-use Rattle.tape_select.specs.Planned.{With, both, no_claims, query_of, claims_of, stage_view}
-use Rattle.tape_select.specs.Slots.{AreClaimed}
-use Rattle.tape_select.specs.declared.plan.Stage.{Stage}
-use Rattle.tape_select.specs.declared.plan.Parts.{Parts}
+use Rattle.node_lists.specs.Paying.{Inside, Refuses}
+use Rattle.query_plan.specs.Planned.{With, both, no_claims, query_of, claims_of, stage_view}
+use Rattle.query_plan.specs.Slots.{AreClaimed}
+use Rattle.query_plan.specs.declared.plan.Stage.{Stage}
+use Rattle.query_plan.specs.declared.plan.Parts.{Parts}
 use Rattle.query_shares.specs.declared.passes.Evaluation.{Evaluation}
 
 abbrev pub is_filter : Selector → Bool

@@ -8,17 +8,18 @@ ghost use Rattle.tape_select.specs.Charge.{charge, charge_from};
 ghost use Rattle.query_shares.specs.Evaluators.{query_in, left_on, IsWithin, LeadsOn, Advances, Ends, IsEvaluating, IsAtRest};
 ghost use Rattle.tape_select.specs.Evaluation.{nodes_selected};
 ghost use Rattle.tape_select.specs.Nodelists.{nodes_of};
-ghost use Rattle.tape_select.specs.Paying.{Refuses};
-ghost use Rattle.tape_select.specs.Planned.{query_of, claims_of, numbered};
+ghost use Rattle.node_lists.specs.Paying.{Refuses};
+ghost use Rattle.query_plan.specs.Planned.{query_of, claims_of, numbered};
 
 use crate::passes::{Evaluation, run};
+use compared_sides::no_lengths;
 use json_tape::Document;
 use json_tape::laws::one_tree;
+use node_lists::{Meter, lone};
 use path_types::ValidQuery;
+use query_plan::{Parts, parts_of};
 use std::alloc::{AllocError, Global};
-use tape_select::{
-    Meter, Parts, SelectFault, Selected, State, empty_slots, lone, no_lengths, parts_of, select_all,
-};
+use tape_select::{SelectFault, Selected, State, empty_slots, select_all};
 
 /// A query that is evaluated in shares, on one document after the other. It is at rest, or under way on one of them.
 #[derive(Drop)]

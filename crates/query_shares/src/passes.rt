@@ -10,20 +10,20 @@ ghost use Rattle.json_tape.specs.Nodes.{children};
 ghost use Rattle.path_grammar.specs.Tree.{filter};
 ghost use Rattle.tape_select.specs.Evaluation.{holds};
 ghost use Rattle.tape_select.specs.Charge.{total_of, charge_expr};
-ghost use Rattle.tape_select.specs.Extra.{nodes_from, charge_at, nodes_after, charge_after};
+ghost use Rattle.node_lists.specs.Extra.{nodes_from, charge_at, nodes_after, charge_after};
 ghost use Rattle.tape_select.specs.Memo.{Keeps};
 ghost use Rattle.tape_select.specs.Nodelists.{nodes_of};
 ghost use Rattle.query_shares.specs.Passes.{is_filter, is_lone, IsFilter, every, first_of, due, left_of, out_of, whole_due, Moves, IsSound, GoesOn, ChoosesOn, PassesOn, IsUnderWay, RunsOn};
-ghost use Rattle.tape_select.specs.Paying.{Inside, Holds, Adds, Refuses};
-ghost use Rattle.tape_select.specs.Planned.{claims_of, condition_view, selection_view, stage_view, link_view};
-ghost use Rattle.tape_select.specs.Slots.{AreClaimed};
+ghost use Rattle.node_lists.specs.Paying.{Inside, Holds, Adds, Refuses};
+ghost use Rattle.query_plan.specs.Planned.{claims_of, condition_view, selection_view, stage_view};
+ghost use Rattle.node_lists.specs.Links.{link_view};
+ghost use Rattle.query_plan.specs.Slots.{AreClaimed};
 
 use json_tape::{Document, NodeId};
+use node_lists::{Link, Meter, child_total, children_below, push, push_some, reserve, step};
+use query_plan::{Condition, Parts, Selection, Stage, lone_link};
 use std::mem;
-use tape_select::{
-    Condition, Link, Meter, Parts, SelectFault, Selection, Stage, State, child_total,
-    children_below, does_hold, from_node, lone_link, push, push_some, reserve, step, visit_total,
-};
+use tape_select::{SelectFault, State, does_hold, from_node, visit_total};
 
 /// An evaluation under way.
 #[derive(Drop)]

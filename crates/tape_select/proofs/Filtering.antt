@@ -1,6 +1,6 @@
 -- Walks of the evaluation: the part at the index first, and then the rest.
-use Rattle.std.proofs.Common.{◌≡◌, ℕ, zero, suc, ◌+◌, ◌-◌, ◌*◌, ◌<◌, ◌≤◌, Bool, true, false, ◌&&◌, ◌||◌, List, [], ◌∷◌, ◌++◌, map, length, drop, get_or, reverse, Option, Some, None, Result, Ok, Err, ℤ, pos, nat_eq, refl, sym, ap, ◌∙◌, arith, append_assoc, cond}
-use Rattle.std.specs.Prelude.{flat_map, int_lt, codes}
+use Rattle.std.proofs.Common.{◌≡◌, ℕ, suc, ◌+◌, ◌-◌, ◌*◌, ◌<◌, Bool, true, false, ◌&&◌, ◌||◌, List, [], ◌∷◌, ◌++◌, map, length, drop, get_or, reverse, Option, Some, None, Result, Ok, Err, ℤ, pos, nat_eq, refl, sym, ap, ◌∙◌, arith, append_assoc, cond}
+use Rattle.std.specs.Prelude.{flat_map, int_lt}
 use Rattle.std.specs.Prelude.{filter as keep, not as opposite}
 use Rattle.std.proofs.lemmas.Bool.Decides.{nat_tests}
 use Rattle.std.proofs.lemmas.List.{drop_more}
@@ -11,29 +11,32 @@ use Rattle.path_grammar.specs.declared.ast.IntLit.{IntLit}
 use Rattle.path_grammar.specs.declared.ast.IntLit.TheVariants.{Within, Beyond}
 use Rattle.json_tape.specs.Tree.{Tree, Leaf, Arr, Obj}
 use Rattle.json_tape.specs.Nodes.{Node, Step, children, children_of, elements, elements_of, visit}
-use Rattle.json_tape.specs.Document.{Doc, node_at, seen, counting}
+use Rattle.json_tape.specs.Document.{Doc}
 use Rattle.json_text.specs.declared.tape.NodeId.{NodeId}
 use Rattle.tape_values.specs.Selection.{at_index, nth_if, position_in, step_of, in_order, sliced}
-use Rattle.tape_values.specs.Functions.{value_argued, length_value}
-use Rattle.tape_select.specs.Evaluation.{evaluated, selected, selected_by, holds, some_hold, all_hold, is_empty, result, argued}
-use Rattle.tape_select.specs.Nodelists.{nodes_of}
-use Rattle.tape_select.specs.Charge.{total_of, charge_from, charge_in, charge_by, charge_expr, charge_exprs, charge_side, charge_nested}
-use Rattle.tape_select.specs.Extra.{count_of, extra_by, extra_in, nodes_from, charge_at, nodes_after, charge_after}
-use Rattle.tape_select.specs.Planned.{Claims, both, With, trees, all_claims, query_of, claims_of, as_argument, calling, link_selector, link_view, condition_view, selection_view, stage_view, condition_step, operand_step, selection_step, nested_step, stage_step}
-use Rattle.tape_select.specs.Slots.{AreClaimed}
-use Rattle.tape_select.specs.declared.plan.Condition.TheFolds.{fold_out-Stage}
-use Rattle.tape_select.specs.declared.plan.Condition.{Condition}
-use Rattle.tape_select.specs.declared.plan.Selection.{Selection}
-use Rattle.tape_select.specs.declared.plan.Stage.{Stage}
-use Rattle.tape_select.specs.declared.plan.Link.{Link}
-use Rattle.tape_select.specs.declared.plan.Link.TheVariants.{Key, Place}
-use Rattle.tape_select.proofs.Adding.{append_nil, add_more, has_none, flat_more, sum_more}
-use Rattle.tape_select.specs.Paying.{Adds, Holds, Inside, FindsList}
+use Rattle.node_lists.specs.Evaluation.{evaluated, selected, selected_by, holds, some_hold, all_hold, is_empty}
+use Rattle.node_lists.specs.Nodelists.{nodes_of}
+use Rattle.node_lists.specs.Charge.{total_of, charge_from, charge_in, charge_by}
+use Rattle.node_lists.specs.Extra.{count_of, extra_by, extra_in, nodes_from, charge_at, nodes_after, charge_after}
+use Rattle.query_plan.specs.Planned.{Claims, both, trees, all_claims, query_of, claims_of, condition_view, selection_view, stage_view}
+use Rattle.node_lists.specs.Links.{link_selector, link_view}
+use Rattle.query_plan.specs.Slots.{AreClaimed}
+use Rattle.query_plan.specs.declared.plan.Condition.{Condition}
+use Rattle.query_plan.specs.declared.plan.Selection.{Selection}
+use Rattle.query_plan.specs.declared.plan.Stage.{Stage}
+use Rattle.node_lists.specs.declared.links.Link.{Link}
+use Rattle.node_lists.specs.declared.links.Link.TheVariants.{Key, Place}
+use Rattle.node_lists.proofs.Adding.{append_nil, add_more, has_none, flat_more, sum_more}
+use Rattle.node_lists.specs.Paying.{Adds, Holds, Inside, FindsList}
 use Rattle.std.specs.declared.vec.Vec.{Vec}
 use Rattle.std.specs.declared.alloc.Global.{Global}
-use Rattle.tape_select.specs.declared.fault.SelectFault.{SelectFault}
-use Rattle.tape_select.proofs.Following.{refuses_from, one_unit}
-use Rattle.tape_select.proofs.Totals.{length_nodes}
+use Rattle.node_lists.specs.declared.fault.SelectFault.{SelectFault}
+use Rattle.node_lists.proofs.Following.{refuses_from, one_unit}
+use Rattle.node_lists.proofs.Visits.{visit_length, visit_more, visit_charged}
+use Rattle.query_plan.proofs.Joining.{finds_some, finds_all}
+use Rattle.query_plan.proofs.LoneLinks.{stage_is}
+use Rattle.query_plan.proofs.Operands.{argued_charge, length_called, operand_charges}
+use Rattle.node_lists.proofs.Totals.{length_nodes}
 
 -- ---- Filters
 
@@ -55,13 +58,13 @@ any_are (n ∷ ns) = let t : nat_eq (suc (length ns)) 0 ≡ false = grind (arith
 
 pub ruleset holding = (any_are)
 
+pub ruleset siding = (argued_charge, length_called)
+
+pub ruleset joining = (finds_some, finds_all)
+
 pub operand_claims : (es : List Condition) (i : ℕ) (d : Condition) → i < length es
     → all_claims (map condition_view (drop i es)) ≡ both (condition_view (get_or es i d)).claims (all_claims (map condition_view (drop (i + 1) es)))
 operand_claims es i d lt = ap (λ (xs : List Condition). all_claims (map condition_view xs)) (drop_more es i d lt)
-
-pub operand_charges : (root n : Node) (es : List Condition) (i : ℕ) (d : Condition) → i < length es
-    → charge_exprs root (exprs_of (trees (map condition_view (drop i es)))) n ≡ charge_expr root (condition_view (get_or es i d)).tree n + charge_exprs root (exprs_of (trees (map condition_view (drop (i + 1) es)))) n
-operand_charges root n es i d lt = ap (λ (xs : List Condition). charge_exprs root (exprs_of (trees (map condition_view xs))) n) (drop_more es i d lt)
 
 pub or_assoc : (a b c : Bool) → ((a || b) || c) ≡ (a || (b || c))
 or_assoc true b c = refl
@@ -90,24 +93,6 @@ all_more root n es i d lt = ap (λ (xs : List Condition). all_hold root (exprs_o
 pub ruleset somes = (some_more, operand_claims, operand_charges, or_assoc, or_false)
 
 pub ruleset alls = (all_more, operand_claims, operand_charges, and_assoc, and_true)
-
--- ---- Functions
-
-module _ (root n : Node) where
-  argued_value : (t : tree.Comparable) → value_argued (argued root (as_argument t) n) ≡ result root t n
-  argued_value (tree.lit l) = refl
-  argued_value (tree.single q) = refl
-  argued_value (tree.func c) = refl
-
-  pub argued_charge : (t : tree.Comparable) → charge_side root (calling (codes "length") (as_argument t)) n ≡ charge_side root t n
-  argued_charge (tree.lit l) = refl
-  argued_charge (tree.single q) = let e : charge_nested root q n + 0 ≡ charge_nested root q n = omega arith in e
-  argued_charge (tree.func c) = omega arith
-
-  pub length_called : (t : tree.Comparable) → result root (calling (codes "length") (as_argument t)) n ≡ length_value (result root t n)
-  length_called t = ap length_value (argued_value t)
-
-pub ruleset siding = (argued_charge, length_called)
 
 -- ---- Selectors
 
@@ -151,20 +136,6 @@ count_is : (ss : List Selection) → count_of (selectors_of (trees (map selectio
 count_is [] = refl
 count_is (s ∷ ss) = ap suc (count_is ss)
 
-counting_length : (k n : ℕ) → length (counting k n) ≡ n
-counting_length k zero = refl
-counting_length k (suc n) = ap suc (counting_length (suc k) n)
-
-seen_length : (d : Doc) (ks : List ℕ) → length (seen d ks) ≡ length ks
-seen_length d [] = refl
-seen_length d (k ∷ ks) = ap suc (seen_length d ks)
-
-pub visit_length : (d : Doc) (k m : ℕ) (ns : List Node) → seen d (counting k m) ≡ ns → length ns ≡ m
-visit_length d k m ns e = rw (← e) (seen_length d (counting k m) ∙ counting_length k m)
-
-pub stage_is : (s : Stage) → stage_view s ≡ record { tree = record { descend = s.descend; selectors = selectors_of (trees (map selection_view s.selections.items)) }; claims = all_claims (map selection_view s.selections.items) }
-stage_is s = fold_out-Stage (With tree.Expr) (With tree.Comparable) (With tree.Selector) (With tree.Nested) (With OneSegment) condition_step operand_step selection_step nested_step stage_step s
-
 -- from a node and all its descendants
 pub descending : (root n : Node) (s : Stage) → s.descend ≡ true → nodes_from root (stage_view s).tree n ≡ flat_map (selected root (selectors_of (trees (map selection_view s.selections.items)))) (visit n)
 descending root n s e = rw (stage_is s, e) refl
@@ -185,9 +156,6 @@ staying_charge root n s e =
     rw (stage_is s, e) (omega (arith, p, q))
 
 -- ---- A segment that is a lone name or index
-
-pub linked : (s : Stage) (l : Link) → s.descend ≡ false → trees (map selection_view s.selections.items) ≡ link_selector l ∷ [] → (stage_view s).tree ≡ link_view l
-linked s l e f = rw (stage_is s, e, f) refl
 
 module _ (root : Node) (l : Link) where
   nodes_linked : (ns : List Node) → nodes_after root (link_view l) ns ≡ flat_map (selected_by root (link_selector l)) ns
@@ -230,6 +198,8 @@ adds_paid d (Err f) ids xs ys rest charge between old new units p q e h = refuse
 pub more_of : (out xs ys : List Node) → ys ≡ xs → out ++ ys ≡ out ++ xs
 more_of out xs ys e = ap (λ zs. out ++ zs) e
 
+pub ruleset totals = (visit_length)
+
 pub ruleset each_input = (append_nil, flat_more, sum_more, append_assoc, has_none)
 
 -- ---- Segments
@@ -255,15 +225,6 @@ charge_step root ns ss i item lt e =
     ∙ ap (λ (x : Stage). charge_after root (stage_view x).tree ns + charge_from root (query_of (drop (i + 1) ss)) (nodes_after root (stage_view x).tree ns)) (sym e)
 
 -- ---- Descendants
-
-counting_more : (k e : ℕ) → k < e → counting k (e - k) ≡ k ∷ counting (k + 1) (e - (k + 1))
-counting_more k e h = let p : e - k ≡ suc (e - (k + 1)) = omega arith in let q : suc k ≡ k + 1 = omega arith in rw (p, q) refl
-
-pub visit_more : (f : Node → List Node) (d : Doc) (k e : ℕ) → k < e → flat_map f (seen d (counting k (e - k))) ≡ f (node_at d k) ++ flat_map f (seen d (counting (k + 1) (e - (k + 1))))
-visit_more f d k e lt = ap (λ (xs : List ℕ). flat_map f (seen d xs)) (counting_more k e lt)
-
-pub visit_charged : (f : Node → ℕ) (d : Doc) (k e : ℕ) → k < e → total_of f (seen d (counting k (e - k))) ≡ f (node_at d k) + total_of f (seen d (counting (k + 1) (e - (k + 1))))
-visit_charged f d k e lt = ap (λ (xs : List ℕ). total_of f (seen d xs)) (counting_more k e lt)
 
 no_elements : (up : List Step) (k : ℕ) (t : Tree) → children_of up k t ≡ [] → elements_of up k t ≡ []
 no_elements up k (Leaf s c) e = refl

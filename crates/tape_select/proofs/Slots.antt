@@ -1,9 +1,10 @@
 -- Slots: one is read, one is filled.
 use Rattle.std.proofs.Common.{◌≡◌, ℕ, zero, suc, ◌+◌, ◌<◌, List, [], ◌∷◌, ◌++◌, length, get_or, slice_set, Option, Some, None, arith}
 use Rattle.json_tape.specs.Document.{Doc}
-use Rattle.tape_select.specs.Planned.{Claims, look}
+use Rattle.query_plan.specs.Planned.{Claims, look}
 use Rattle.tape_select.specs.Memo.{IsKept, IsFoundAt, RightFrom, Right}
 use Rattle.tape_select.specs.declared.state.Found.{Found}
+use Rattle.query_plan.proofs.Claims.{all_claimed}
 
 right_from_at : (d : Doc) (table : Claims) (k : ℕ) (ss : List (Option Found)) (i : ℕ) (z : Option Found) → i < length ss → RightFrom d table k ss
     → IsKept d (look table (k + i)) (get_or ss i z)
@@ -36,3 +37,5 @@ pub right_push : (d : Doc) (table : Claims) (ss : List (Option Found)) → Right
 right_push d table ss r = right_from_push d table 0 ss r
 
 pub ruleset emptied = (right_push, right_at)
+
+pub ruleset claimed = (all_claimed)

@@ -1,12 +1,5 @@
-pub mod Evaluation
-pub mod Nodelists
+pub use Rattle.node_lists.specs.Evaluation
+pub use Rattle.node_lists.specs.Nodelists
+pub use Rattle.node_lists.specs.Charge
 pub mod Budget
-pub mod Charge
-pub mod Extra
-pub mod Paying
-pub mod Planned
-pub mod Making
-pub mod Slots
-pub mod Answered
-pub mod Counted
 pub mod Memo

@@ -3,24 +3,20 @@ use Rattle.std.specs.Prelude.{◌≡◌, ℕ, suc, ◌+◌, List, [], ◌∷◌,
 use Rattle.path_grammar.specs.Tree.{Segments, Nested, nested}
 use Rattle.json_tape.specs.Nodes.{Node}
 use Rattle.json_tape.specs.Document.{Doc, node_at, IsIn}
-use Rattle.json_text.specs.declared.tape.NodeId.{NodeId}
-use Rattle.tape_values.specs.Comparison.{Value, value_of}
+use Rattle.tape_values.specs.Comparison.{Value}
+use Rattle.compared_sides.specs.Values.{value_found}
 use Rattle.tape_values.specs.Functions.{only_value}
-use Rattle.tape_select.specs.Evaluation.{evaluated, start}
-use Rattle.tape_select.specs.Charge.{charge_from}
-use Rattle.tape_select.specs.Planned.{Claims, look}
+use Rattle.node_lists.specs.Evaluation.{evaluated, start}
+use Rattle.node_lists.specs.Charge.{charge_from}
+use Rattle.query_plan.specs.Planned.{Claims, look}
 use Rattle.tape_select.specs.declared.state.Found.{Found}
 use Rattle.tape_select.specs.declared.state.State.{State}
-use Rattle.tape_select.specs.Answered.{AreRight}
-use Rattle.tape_select.specs.Counted.{AreCounted}
+use Rattle.compared_sides.specs.Answered.{AreRight}
+use Rattle.compared_sides.specs.Counted.{AreCounted}
 use Rattle.tape_values.specs.Sides.{side_value, IsSide}
 use Rattle.tape_values.specs.declared.sides.Side.{Side}
-use Rattle.tape_select.specs.declared.fault.SelectFault.{SelectFault}
-use Rattle.tape_select.specs.Paying.{Refuses}
-
-abbrev pub value_found : Doc → Option NodeId → Option Value
-value_found d None = None
-value_found d (Some n) = Some (value_of (node_at d n.0).tree)
+use Rattle.node_lists.specs.declared.fault.SelectFault.{SelectFault}
+use Rattle.node_lists.specs.Paying.{Refuses}
 
 -- what is asked of the nodelist of the query from this node, and its charge
 pub record IsFound (d : Doc) (from : Node) (q : Segments) (f : Found) : Type 0 where

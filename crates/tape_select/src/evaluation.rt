@@ -6,27 +6,26 @@ ghost use Rattle.json_tape.specs.Nodes.{children, visit};
 ghost use Rattle.path_grammar.specs.Tree.{exprs_of, selectors_of};
 ghost use Rattle.decisions.specs.Tree.{expr_of, listed};
 ghost use Rattle.decisions.specs.Views.{test_view};
-ghost use Rattle.tape_select.specs.Evaluation.{evaluated, selected, selected_by, holds, some_hold, all_hold, result as side_result};
-ghost use Rattle.tape_select.specs.Nodelists.{nodes_of};
-ghost use Rattle.tape_select.specs.Charge.{total_of, charge_from, charge_expr, charge_exprs, charge_side};
-ghost use Rattle.tape_select.specs.Extra.{extra_in, extra_by, nodes_from, charge_at, nodes_after, charge_after};
-ghost use Rattle.tape_select.specs.Paying.{Inside, Pays, Adds, Finds, FindsList};
-ghost use Rattle.tape_select.specs.Planned.{trees, joined, query_of, path_of, claims_of, all_claims, look, condition_view, operand_view, selection_view, nested_view, stage_view};
-ghost use Rattle.tape_select.specs.Slots.{AreClaimed};
+ghost use Rattle.node_lists.specs.Evaluation.{evaluated, selected, selected_by, holds, some_hold, all_hold, result as side_result};
+ghost use Rattle.node_lists.specs.Nodelists.{nodes_of};
+ghost use Rattle.node_lists.specs.Charge.{total_of, charge_from, charge_expr, charge_exprs, charge_side};
+ghost use Rattle.node_lists.specs.Extra.{extra_in, extra_by, nodes_from, charge_at, nodes_after, charge_after};
+ghost use Rattle.node_lists.specs.Paying.{Inside, Pays, Adds, Finds, FindsList};
+ghost use Rattle.query_plan.specs.Planned.{trees, joined, query_of, path_of, claims_of, all_claims, look, condition_view, operand_view, selection_view, nested_view, stage_view};
+ghost use Rattle.query_plan.specs.Slots.{AreClaimed};
 ghost use Rattle.tape_select.specs.Memo.{FindsNodes, FindsFor, FindsSide, Keeps};
 
-use crate::chains::{followed, step};
-use crate::descendants::{children_below, named};
-use crate::fault::SelectFault;
-use crate::nodes::{child_total, lone, push, push_some, wild};
-use crate::plan::{Condition, Link, Nested, Operand, Parts, Selection, Stage};
-use crate::sides::{compare, compare_length, length_of, related, side_found};
-use crate::slices::sliced;
 use crate::state::{Found, State, found_by_links, found_in, keep, recall};
-use crate::steps::{is_wild, lone_link, only_link, stepped};
-use crate::units::units_of;
+use compared_sides::{compare, compare_length, length_of, related, side_found};
 use decisions::{Decision, tells_as_compared};
 use json_tape::{Document, NodeId};
+use node_lists::{
+    Link, SelectFault, child_total, children_below, followed, lone, named, push, push_some, sliced,
+    step, stepped, wild,
+};
+use query_plan::{
+    Condition, Nested, Operand, Parts, Selection, Stage, is_wild, lone_link, only_link, units_of,
+};
 use tape_values::{Side, compare_found};
 
 // The children for which a condition holds.
@@ -130,7 +129,7 @@ fn holds_by_kind(
 // Whether one of the operands of all parts holds, or each.
 #[cycle(evaluation)]
 #[inline(never)]
-#[tactic(auto, using(crate::proofs::Joining::joining))]
+#[tactic(auto, using(crate::proofs::Filtering::joining))]
 fn joined_hold(
     doc: &Document,
     plan: &Parts,
@@ -495,7 +494,7 @@ fn selector_total(stage: &Stage) -> u64
 }
 
 // How many nodes there are in a node, itself included.
-#[tactic(auto, using(crate::proofs::Filtering::visit_length))]
+#[tactic(auto, using(crate::proofs::Filtering::totals))]
 pub fn visit_total(doc: &Document, n: NodeId) -> u64
     requires { n.0 < count doc.now }
     ensures { result ≡ length (visit (node_at doc.now n.0)) }

@@ -4,16 +4,15 @@ ghost use Rattle.std.specs.Prelude.{◌≡◌, ◌<◌, ◌≤◌, IfOk, IsOk, I
 ghost use Rattle.std.specs.List.{All};
 ghost use Rattle.json_tape.specs.Document.{tree_of, count};
 ghost use Rattle.path_grammar.specs.View.{query_view};
-ghost use Rattle.tape_select.specs.Charge.{charge};
-ghost use Rattle.tape_select.specs.Evaluation.{nodes_selected};
-ghost use Rattle.tape_select.specs.Nodelists.{nodes_of};
+ghost use Rattle.node_lists.specs.Charge.{charge};
+ghost use Rattle.node_lists.specs.Evaluation.{nodes_selected};
+ghost use Rattle.node_lists.specs.Nodelists.{nodes_of};
 
-use crate::fault::SelectFault;
-use crate::making::parts_of;
-use crate::plan::Parts;
 use crate::selecting::{Selected, select_all};
 use json_tape::Document;
+use node_lists::SelectFault;
 use path_types::ValidQuery;
+use query_plan::{Parts, parts_of};
 use std::alloc::{AllocError, Global};
 use std::marker::Model;
 
@@ -33,7 +32,7 @@ impl<'q> Model for Plan<'q> {
     ghost use Rattle.path_grammar.specs.contracts.ast.Segment as segment;
     ghost use Rattle.path_grammar.specs.declared.ast.Query.{Query};
     ghost use Rattle.path_grammar.specs.View.{query_view};
-    ghost use Rattle.tape_select.specs.Planned.{query_of, claims_of, numbered};
+    ghost use Rattle.query_plan.specs.Planned.{query_of, claims_of, numbered};
 
     ghost Value = { Query };
 

@@ -2,19 +2,18 @@
 
 ghost use Rattle.std.specs.Prelude.{◌≡◌, ◌≤◌, Some, MatchResult};
 ghost use Rattle.json_tape.specs.Document.{tree_of};
-ghost use Rattle.tape_select.specs.Evaluation.{nodes_selected};
-ghost use Rattle.tape_select.specs.Charge.{charge};
+ghost use Rattle.node_lists.specs.Evaluation.{nodes_selected};
+ghost use Rattle.node_lists.specs.Charge.{charge};
 ghost use Rattle.tape_select.specs.Memo.{Right};
-ghost use Rattle.tape_select.specs.Paying.{Holds, Refuses};
-ghost use Rattle.tape_select.specs.Planned.{query_of, claims_of, numbered};
+ghost use Rattle.node_lists.specs.Paying.{Holds, Refuses};
+ghost use Rattle.query_plan.specs.Planned.{query_of, claims_of, numbered};
 
 use crate::evaluation::all_selected;
-use crate::fault::SelectFault;
-use crate::lengths::no_lengths;
-use crate::meter::Meter;
-use crate::plan::Parts;
 use crate::state::{Found, State};
+use compared_sides::no_lengths;
 use json_tape::{Document, NodeId};
+use node_lists::{Meter, SelectFault};
+use query_plan::Parts;
 use std::alloc::Global;
 
 /// The nodes that a query selects, in its order, with duplicates, and what it is charged.
@@ -43,7 +42,7 @@ pub fn empty_slots(
 }
 
 /// The nodes that a query selects, where its charge is within the units.
-#[tactic(auto, using(crate::proofs::Claims::all_claimed))]
+#[tactic(auto, using(crate::proofs::Slots::claimed))]
 pub fn select_all(
     alloc: Global,
     plan: &Parts,

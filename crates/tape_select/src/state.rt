@@ -3,18 +3,17 @@
 ghost use Rattle.std.specs.Prelude.{◌≡◌, ◌<◌, length, IfSome};
 ghost use Rattle.json_tape.specs.Document.{count, node_at, IsIn};
 ghost use Rattle.tape_values.specs.Functions.{only_value};
-ghost use Rattle.tape_select.specs.Nodelists.{nodes_of};
-ghost use Rattle.tape_select.specs.Paying.{Inside};
-ghost use Rattle.tape_select.specs.Memo.{Right, IsFoundAt, value_found, FindsNodes};
-ghost use Rattle.tape_select.specs.Planned.{claims_of, look, links_view};
+ghost use Rattle.node_lists.specs.Nodelists.{nodes_of};
+ghost use Rattle.node_lists.specs.Paying.{Inside};
+ghost use Rattle.tape_select.specs.Memo.{Right, IsFoundAt, FindsNodes};
+ghost use Rattle.compared_sides.specs.Values.{value_found};
+ghost use Rattle.query_plan.specs.Planned.{claims_of, look};
+ghost use Rattle.node_lists.specs.Links.{links_view};
 
-use crate::answers::Answer;
-use crate::chains::followed;
-use crate::fault::SelectFault;
-use crate::lengths::Lengths;
-use crate::meter::Meter;
-use crate::plan::{Link, Parts};
+use compared_sides::{Answer, Lengths};
 use json_tape::{Document, NodeId};
+use node_lists::{Link, Meter, SelectFault, followed};
+use query_plan::Parts;
 use std::alloc::Global;
 
 /// What is asked of a query's nodelist, and what finding it is charged.
@@ -67,7 +66,7 @@ pub fn keep(doc: &Document, plan: &Parts, slots: &mut [Option<Found>], slot: u32
 }
 
 /// What is asked of a nodelist that was charged so much.
-#[tactic(auto, using(crate::proofs::Totals::lists))]
+#[tactic(auto, using(crate::proofs::Found::lists))]
 pub fn found_in(doc: &Document, nodes: &[NodeId], charge: u64) -> Found
     requires { Inside doc.now nodes.now }
     ensures value { only_value (nodes_of doc.now nodes.now) ≡ value_found doc.now result.only }

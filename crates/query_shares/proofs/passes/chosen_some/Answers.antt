@@ -3,8 +3,8 @@ use Rattle.std.proofs.lemmas.Result.{err_from_is_err_and}
 use Rattle.json_tape.specs.Document.{node_at}
 use Rattle.tape_select.specs.Charge.{total_of, charge_expr}
 use Rattle.tape_select.specs.Nodelists.{nodes_of}
-use Rattle.tape_select.specs.Planned.{condition_view}
-use Rattle.tape_select.proofs.Following.{refuses_from}
+use Rattle.query_plan.specs.Planned.{condition_view}
+use Rattle.node_lists.proofs.Following.{refuses_from}
 use Rattle.query_shares.proofs.Stages.{asked_some}
 use Rattle.query_shares.proofs.passes.chosen_some.Goals as goal
 

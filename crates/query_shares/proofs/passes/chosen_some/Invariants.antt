@@ -5,8 +5,8 @@ use Rattle.tape_select.specs.Charge.{total_of, charge_expr}
 use Rattle.tape_select.specs.Evaluation.{holds}
 use Rattle.tape_select.specs.Memo.{Keeps}
 use Rattle.tape_select.specs.Nodelists.{nodes_of}
-use Rattle.tape_select.specs.Paying.{Inside}
-use Rattle.tape_select.specs.Planned.{claims_of, condition_view}
+use Rattle.node_lists.specs.Paying.{Inside}
+use Rattle.query_plan.specs.Planned.{claims_of, condition_view}
 use Rattle.query_shares.proofs.passes.chosen_some.Given as goal
 
 abbrev pub invariant-loop-child : goal.invariant-loop-child

@@ -3,11 +3,11 @@ use Rattle.std.specs.Prelude.{flat_map}
 use Rattle.std.proofs.lemmas.Result.{err_from_is_err_and}
 use Rattle.json_tape.specs.Document.{node_at}
 use Rattle.json_tape.specs.Nodes.{children, visit}
-use Rattle.tape_select.specs.Extra.{nodes_from, charge_at}
+use Rattle.node_lists.specs.Extra.{nodes_from, charge_at}
 use Rattle.tape_select.specs.Nodelists.{nodes_of}
 use Rattle.query_shares.specs.Passes.{every}
 use Rattle.tape_select.proofs.Filtering.{adds_paid, more_of}
-use Rattle.tape_select.proofs.Following.{refuses_from}
+use Rattle.node_lists.proofs.Following.{refuses_from}
 use Rattle.query_shares.proofs.Stages.{every_below, every_below_charged}
 use Rattle.query_shares.proofs.passes.every_child.Goals as goal
 

@@ -2,7 +2,7 @@ use Rattle.std.proofs.Common.{◌≡◌, [], drop, length, refl, ap, arith}
 use Rattle.std.proofs.lemmas.List.{drop_all, length-drop}
 use Rattle.json_tape.specs.Document.{node_at}
 use Rattle.tape_select.specs.Nodelists.{nodes_of}
-use Rattle.tape_select.specs.Planned.{stage_view}
+use Rattle.query_plan.specs.Planned.{stage_view}
 use Rattle.tape_select.specs.declared.state.State.{State}
 use Rattle.query_shares.proofs.Stages.{first_ends, listed_all, part_is, turned_sound}
 use Rattle.query_shares.proofs.passes.first_pass.Goals as goal

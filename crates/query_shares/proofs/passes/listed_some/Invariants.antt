@@ -1,11 +1,11 @@
 use Rattle.std.proofs.Common.{◌≡◌, ◌+◌, ◌++◌, drop}
 use Rattle.json_tape.specs.Document.{node_at}
-use Rattle.tape_select.specs.Extra.{nodes_after, charge_after}
+use Rattle.node_lists.specs.Extra.{nodes_after, charge_after}
 use Rattle.tape_select.specs.Memo.{Keeps}
 use Rattle.tape_select.specs.Nodelists.{nodes_of}
 use Rattle.query_shares.specs.Passes.{first_of}
-use Rattle.tape_select.specs.Paying.{Inside}
-use Rattle.tape_select.specs.Planned.{claims_of, stage_view}
+use Rattle.node_lists.specs.Paying.{Inside}
+use Rattle.query_plan.specs.Planned.{claims_of, stage_view}
 use Rattle.query_shares.proofs.passes.listed_some.Given as goal
 
 abbrev pub invariant-loop-n : goal.invariant-loop-n

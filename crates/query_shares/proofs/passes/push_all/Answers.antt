@@ -1,4 +1,4 @@
-use Rattle.tape_select.proofs.Adding.{draws_one}
+use Rattle.node_lists.proofs.Adding.{draws_one}
 use Rattle.query_shares.proofs.passes.push_all.Goals as goal
 
 pub loop-child-preserved : goal.loop-child-preserved

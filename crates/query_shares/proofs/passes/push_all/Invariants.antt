@@ -3,7 +3,7 @@ use Rattle.std.specs.Prelude.{vec_len, vec_capacity}
 use Rattle.json_tape.specs.Document.{node_at}
 use Rattle.json_tape.specs.Nodes.{children}
 use Rattle.tape_select.specs.Nodelists.{nodes_of}
-use Rattle.tape_select.proofs.Adding.{Draws}
+use Rattle.node_lists.proofs.Adding.{Draws}
 use Rattle.query_shares.proofs.passes.push_all.Given as goal
 
 abbrev pub invariant-loop-child : goal.invariant-loop-child

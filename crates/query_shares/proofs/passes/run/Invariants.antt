@@ -1,8 +1,8 @@
 use Rattle.std.proofs.Common.{◌≡◌, ◌+◌, drop}
 use Rattle.json_tape.specs.Document.{node_at}
 use Rattle.query_shares.specs.Passes.{Fits, IsSound, all_ahead, all_due, left_of, out_of}
-use Rattle.tape_select.specs.Planned.{claims_of}
-use Rattle.tape_select.specs.Slots.{AreClaimed}
+use Rattle.query_plan.specs.Planned.{claims_of}
+use Rattle.query_plan.specs.Slots.{AreClaimed}
 use Rattle.query_shares.proofs.passes.run.Given as goal
 
 abbrev pub invariant-loop-stage : goal.invariant-loop-stage

@@ -8,19 +8,21 @@ use Rattle.path_grammar.specs.Tree as tree
 use Rattle.path_grammar.specs.Tree.{OneSegment, selectors_of, filter}
 use Rattle.decisions.specs.Truth.{truth}
 use Rattle.decisions.specs.Views.{test_view}
-use Rattle.tape_select.specs.Evaluation.{selected, holds}
-use Rattle.tape_select.specs.Nodelists.{nodes_of}
-use Rattle.tape_select.specs.Charge.{total_of, charge_from, charge_expr}
-use Rattle.tape_select.specs.Extra.{extra_in, nodes_from, charge_at}
-use Rattle.tape_select.specs.Planned.{claims_of, query_of, path_of, links_view, trees, condition_view, operand_view, selection_view, stage_view, With, condition_step, operand_step, selection_step, nested_step, stage_step}
-use Rattle.tape_select.specs.declared.plan.Condition.TheFolds.{fold_out-Selection}
+use Rattle.node_lists.specs.Evaluation.{selected, holds}
+use Rattle.node_lists.specs.Nodelists.{nodes_of}
+use Rattle.node_lists.specs.Charge.{total_of, charge_from, charge_expr}
+use Rattle.node_lists.specs.Extra.{extra_in, nodes_from, charge_at}
+use Rattle.query_plan.specs.Planned.{claims_of, query_of, path_of, trees, condition_view, operand_view, selection_view, stage_view, With, condition_step, operand_step, selection_step, nested_step, stage_step}
+use Rattle.node_lists.specs.Links.{links_view}
+use Rattle.query_plan.specs.declared.plan.Condition.TheFolds.{fold_out-Selection}
 use Rattle.tape_select.proofs.Filtering.{stage_claimed, evaluated_step, charge_step, adds_paid, more_of, staying, staying_charge, descending, descending_charge, filter_charge, keep_more, keep_not, leaf_holds, leaf_costs, finds_linked}
-use Rattle.tape_select.proofs.Following.{refuses_from, nothing_from_nothing, nothing_for_nothing}
-use Rattle.tape_select.proofs.Links.{links_charged, links_charged_first, found_through}
-use Rattle.tape_select.proofs.Adding.{drawn, drawn_inside}
-use Rattle.tape_select.proofs.Naming.{adds_named, adds_wild}
-use Rattle.tape_select.proofs.Deciding.{free, paid, refused_first, refused_then}
-use Rattle.tape_select.proofs.Joining.{finds_some, finds_all}
+use Rattle.node_lists.proofs.Following.{refuses_from, nothing_from_nothing, nothing_for_nothing}
+use Rattle.query_plan.proofs.Links.{links_charged, links_charged_first}
+use Rattle.tape_select.proofs.Found.{found_through}
+use Rattle.node_lists.proofs.Adding.{drawn, drawn_inside}
+use Rattle.node_lists.proofs.Naming.{adds_named, adds_wild}
+use Rattle.query_plan.proofs.Deciding.{free, paid, refused_first, refused_then}
+use Rattle.query_plan.proofs.Joining.{finds_some, finds_all}
 use Rattle.tape_select.proofs.evaluation.+evaluation.Goals as goal
 
 pub all_selected-loop-stage-preserved : goal.all_selected-loop-stage-preserved
@@ -56,7 +58,7 @@ all_selected-returns-in_err-nodes-2-clause-found t c =
     (λ h. omega (arith, ch, before, h)) got)
 
 pub selected_by-returns-in-Where-clause-added : goal.selected_by-returns-in-Where-clause-added
-unfolding Rattle.tape_select.specs.declared.plan.Condition.TheViews.out-Selection denote.Hole.Carrier.out
+unfolding Rattle.query_plan.specs.declared.plan.Condition.TheViews.out-Selection denote.Hole.Carrier.out
 selected_by-returns-in-Where-clause-added t c =
     let f = charge_expr (node_at c.args.doc.now 0) (condition_view c.in-Where.condition.value).tree in
     let same = filter_charge f (children (node_at c.args.doc.now c.args.n.0)) in

@@ -4,14 +4,14 @@ use Rattle.std.specs.Prelude.{filter as keep}
 use Rattle.path_grammar.specs.Tree.{exprs_of, selectors_of}
 use Rattle.json_tape.specs.Document.{node_at, seen, counting}
 use Rattle.json_tape.specs.Nodes.{children}
-use Rattle.tape_select.specs.Evaluation.{evaluated, selected, holds, some_hold, all_hold}
-use Rattle.tape_select.specs.Nodelists.{nodes_of}
-use Rattle.tape_select.specs.Charge.{total_of, charge_from, charge_expr, charge_exprs}
-use Rattle.tape_select.specs.Extra.{extra_in, nodes_after, charge_after}
+use Rattle.node_lists.specs.Evaluation.{evaluated, selected, holds, some_hold, all_hold}
+use Rattle.node_lists.specs.Nodelists.{nodes_of}
+use Rattle.node_lists.specs.Charge.{total_of, charge_from, charge_expr, charge_exprs}
+use Rattle.node_lists.specs.Extra.{extra_in, nodes_after, charge_after}
 use Rattle.tape_select.specs.Memo.{Keeps}
-use Rattle.tape_select.specs.Paying.{Inside}
-use Rattle.tape_select.specs.Planned.{claims_of, query_of, trees, all_claims, condition_view, selection_view, stage_view}
-use Rattle.tape_select.specs.Slots.{AreClaimed}
+use Rattle.node_lists.specs.Paying.{Inside}
+use Rattle.query_plan.specs.Planned.{claims_of, query_of, trees, all_claims, condition_view, selection_view, stage_view}
+use Rattle.query_plan.specs.Slots.{AreClaimed}
 use Rattle.tape_select.proofs.evaluation.+evaluation.Given as goal
 
 abbrev pub invariant-filtered-loop-child : goal.invariant-filtered-loop-child

@@ -1,5 +1,5 @@
 use Rattle.tape_select.specs.Memo.{Right}
-use Rattle.tape_select.specs.Planned.{claims_of}
+use Rattle.query_plan.specs.Planned.{claims_of}
 use Rattle.tape_select.proofs.selecting.empty_slots.Given as goal
 
 abbrev pub invariant-loop : goal.invariant-loop

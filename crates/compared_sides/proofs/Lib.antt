@@ -1,0 +1,2 @@
+pub mod Learnt
+pub mod Counted

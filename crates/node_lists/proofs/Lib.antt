@@ -1,0 +1,9 @@
+pub mod Adding
+pub mod Totals
+pub mod Visits
+pub mod Below
+pub mod Naming
+pub mod Picking
+pub mod Turned
+pub mod Following
+pub mod Figures

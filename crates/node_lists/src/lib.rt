@@ -1,0 +1,23 @@
+//! Lists of nodes of a document, and the selectors that add to them without a condition (RFC 9535, sections 2.3 and 2.5), with an exact charge.
+//!
+//! Names, indexes, wildcards and slices select from one node, and some of them from a node and all its descendants. Each adds the nodes to a list and
+//! takes its charge from a [`Meter`], or refuses it. [`followed`] goes from node to node without a list.
+#![tactic(auto)]
+
+mod chains;
+mod descendants;
+mod fault;
+mod links;
+mod meter;
+mod nodes;
+mod slices;
+mod steps;
+
+pub use chains::{followed, step};
+pub use descendants::{children_below, named};
+pub use fault::SelectFault;
+pub use links::{Link, Name};
+pub use meter::Meter;
+pub use nodes::{child_total, lone, push, push_some, reserve, wild};
+pub use slices::sliced;
+pub use steps::stepped;

@@ -1,0 +1,166 @@
+-- Conditions that are decided beforehand.
+use Rattle.std.proofs.Common.{◌≡◌, ℕ, zero, suc, ◌+◌, ◌-◌, ◌*◌, ◌<◌, Bool, true, false, ◌&&◌, ◌||◌, Option, Some, None, refl, sym, ap, ◌∙◌, arith}
+use Rattle.std.specs.Prelude.{IsTrue}
+use Rattle.std.specs.Prelude.{not as opposite}
+use Rattle.std.proofs.Math.Nat.{suc-mul}
+use Rattle.std.specs.declared.result.Result.TheVariants.{Ok}
+use Rattle.path_grammar.specs.Tree.{Comparable}
+use Rattle.json_tape.specs.Nodes.{Node}
+use Rattle.tape_values.specs.Comparison.{Value, value_of, compared}
+use Rattle.decisions.specs.Laws.{TellsAsCompared}
+use Rattle.decisions.specs.Tree.{Tested, Tests, any, each, negated, value, against, two, present, itself, rooted, no_tests, tested, expr_of, exprs_of_tests, uses, all_uses, meets_root, some_meet}
+use Rattle.decisions.specs.Truth.{truth, some_true, all_true, versus, related, IsRelated}
+use Rattle.decisions.specs.declared.relation.Relation.{Relation}
+use Rattle.path_grammar.specs.declared.ast.Op.{Op}
+use Rattle.path_grammar.specs.declared.ast.Op.TheVariants.{Eq, Ne, Le, Ge, Lt, Gt}
+use Rattle.node_lists.specs.Charge.{charge_expr, charge_exprs, charge_side}
+use Rattle.node_lists.specs.Evaluation.{holds, some_hold, all_hold, result}
+use Rattle.node_lists.specs.Paying.{Refuses, Finds}
+use Rattle.node_lists.specs.declared.fault.SelectFault.{SelectFault}
+use Rattle.node_lists.proofs.Following.{refuses_from}
+
+-- ---- The charge
+
+shared : (a b c : ℕ) → a * c + b * c ≡ (a + b) * c
+shared zero b c = omega arith
+shared (suc a) b c =
+    let h = shared a b c in
+    let d : suc a * c ≡ a * c + c = suc-mul a c in
+    let f : suc a + b ≡ suc (a + b) = omega arith in
+    let e : (suc a + b) * c ≡ (a + b) * c + c = ap (λ k. k * c) f ∙ suc-mul (a + b) c in
+    omega arith
+
+or_first : (a b : Bool) → IsTrue a → IsTrue (a || b)
+or_first true b h = h
+or_first false b h = absurd cc
+
+or_second : (a b : Bool) → IsTrue b → IsTrue (a || b)
+or_second true b h = refl
+or_second false b h = h
+
+forth : (r : Relation) (v w : Option Value) (op : Op) → IsRelated r v w → compared op v w ≡ related r false op
+forth r v w Eq h = sym h.equal
+forth r v w Ne h = ap opposite (sym h.equal)
+forth r v w Lt h = sym h.less
+forth r v w Gt h = sym h.greater
+forth r v w Le h = λ i. sym h.less i || sym h.equal i
+forth r v w Ge h = λ i. sym h.greater i || sym h.back i
+
+back : (r : Relation) (v w : Option Value) (op : Op) → IsRelated r v w → compared op w v ≡ related r true op
+back r v w Eq h = sym h.back
+back r v w Ne h = ap opposite (sym h.back)
+back r v w Lt h = sym h.greater
+back r v w Gt h = sym h.less
+back r v w Le h = λ i. sym h.greater i || sym h.back i
+back r v w Ge h = λ i. sym h.less i || sym h.equal i
+
+module _ (root n : Node) (side : Comparable) where
+  mutual
+    pub charge_decided : (t : Tested) → charge_expr root (expr_of side t) n ≡ uses t * charge_side root side n
+    charge_decided (any ts) = charge_all ts
+    charge_decided (each ts) = charge_all ts
+    charge_decided (negated t) = charge_decided t
+    charge_decided (value op l) = omega arith
+    charge_decided (against l op) = omega arith
+    charge_decided (two l op m) = omega arith
+    charge_decided (present from_root) = omega arith
+    charge_decided (itself from_root op) = omega arith
+    charge_decided (rooted turned op) = omega arith
+
+    charge_all : (ts : Tests) → charge_exprs root (exprs_of_tests side ts) n ≡ all_uses ts * charge_side root side n
+    charge_all no_tests = omega arith
+    charge_all (tested t others) =
+        let a = charge_decided t in
+        let b = charge_all others in
+        let s = shared (uses t) (all_uses others) (charge_side root side n) in
+        omega (arith, a, b, s)
+
+  -- ---- The truth
+
+  module _ (law : TellsAsCompared) (r : Relation) where
+    mutual
+      holds_decided : (t : Tested) → (IsTrue (meets_root t) → IsRelated r (Some (value_of n.tree)) (Some (value_of root.tree))) → holds root (expr_of side t) n ≡ truth (result root side n) r t
+      holds_decided (any ts) h = some_decided ts h
+      holds_decided (each ts) h = all_decided ts h
+      holds_decided (negated t) h = ap opposite (holds_decided t h)
+      holds_decided (value op l) h = law.left op (result root side n) l
+      holds_decided (against l op) h = law.right op (result root side n) l
+      holds_decided (two l op m) h = refl
+      holds_decided (present from_root) h = refl
+      holds_decided (itself true op) h = law.itself op (Some (value_of root.tree))
+      holds_decided (itself false op) h = law.itself op (Some (value_of n.tree))
+      holds_decided (rooted false op) h = forth r (Some (value_of n.tree)) (Some (value_of root.tree)) op (h refl)
+      holds_decided (rooted true op) h = back r (Some (value_of n.tree)) (Some (value_of root.tree)) op (h refl)
+
+      some_decided : (ts : Tests) → (IsTrue (some_meet ts) → IsRelated r (Some (value_of n.tree)) (Some (value_of root.tree))) → some_hold root (exprs_of_tests side ts) n ≡ some_true (versus (result root side n)) r ts
+      some_decided no_tests h = refl
+      some_decided (tested t others) h =
+          let a = holds_decided t (λ m. h (or_first (meets_root t) (some_meet others) m)) in
+          let b = some_decided others (λ m. h (or_second (meets_root t) (some_meet others) m)) in
+          λ i. a i || b i
+
+      all_decided : (ts : Tests) → (IsTrue (some_meet ts) → IsRelated r (Some (value_of n.tree)) (Some (value_of root.tree))) → all_hold root (exprs_of_tests side ts) n ≡ all_true (versus (result root side n)) r ts
+      all_decided no_tests h = refl
+      all_decided (tested t others) h =
+          let a = holds_decided t (λ m. h (or_first (meets_root t) (some_meet others) m)) in
+          let b = all_decided others (λ m. h (or_second (meets_root t) (some_meet others) m)) in
+          λ i. a i && b i
+
+-- a side that is not written
+module _ (v w : Option Value) (r : Relation) where
+  mutual
+    unused : (t : Tested) → uses t ≡ 0 → truth v r t ≡ truth w r t
+    unused (any ts) e = some_unused ts e
+    unused (each ts) e = all_unused ts e
+    unused (negated t) e = ap opposite (unused t e)
+    unused (value op l) e = absurd (omega arith)
+    unused (against l op) e = absurd (omega arith)
+    unused (two l op m) e = refl
+    unused (present from_root) e = refl
+    unused (itself from_root op) e = refl
+    unused (rooted turned op) e = refl
+
+    some_unused : (ts : Tests) → all_uses ts ≡ 0 → some_true (versus v) r ts ≡ some_true (versus w) r ts
+    some_unused no_tests e = refl
+    some_unused (tested t others) e = let a = unused t (omega arith) in let b = some_unused others (omega arith) in λ i. a i || b i
+
+    all_unused : (ts : Tests) → all_uses ts ≡ 0 → all_true (versus v) r ts ≡ all_true (versus w) r ts
+    all_unused no_tests e = refl
+    all_unused (tested t others) e = let a = unused t (omega arith) in let b = all_unused others (omega arith) in λ i. a i && b i
+
+-- ---- Paid
+
+module _ (law : TellsAsCompared) (root n : Node) (side : Comparable) (t : Tested) where
+  pub free : (r : Relation) → (IsTrue (meets_root t) → IsRelated r (Some (value_of n.tree)) (Some (value_of root.tree))) → (old : ℕ) (found : Bool) → uses t ≡ 0 → found ≡ truth None r t → Finds {A = Bool} (Ok found) (holds root (expr_of side t) n) (charge_expr root (expr_of side t) n) old old
+  free r h old found none e =
+      let c = charge_decided root n side t in
+      let z : uses t * charge_side root side n ≡ 0 = rw none (omega arith) in
+      (e ∙ unused None (result root side n) r t none ∙ sym (holds_decided root n side law r t h), omega arith)
+
+  once_more : (k c : ℕ) → 0 < k → (k - 1) * c + c ≡ k * c
+  once_more zero c h = absurd (omega arith)
+  once_more (suc k) c h = let e : suc k - 1 ≡ k = omega arith in rw e (sym (suc-mul k c))
+
+  pub paid : (r : Relation) → (IsTrue (meets_root t) → IsRelated r (Some (value_of n.tree)) (Some (value_of root.tree))) → (old left new times once : ℕ) (found : Bool) → times ≡ uses t → 0 < times → left + charge_side root side n ≡ old → once + left ≡ old → new + (times - 1) * once ≡ left → found ≡ truth (result root side n) r t
+      → Finds {A = Bool} (Ok found) (holds root (expr_of side t) n) (charge_expr root (expr_of side t) n) old new
+  paid r h old left new times once found same some a b c e =
+      let charge = charge_decided root n side t in
+      let one : once ≡ charge_side root side n = omega arith in
+      let all = once_more times once some in
+      let whole : times * once ≡ charge_expr root (expr_of side t) n = rw (one, same) (sym charge) in
+      (e ∙ sym (holds_decided root n side law r t h), omega arith)
+
+  pub refused_first : (old times : ℕ) (f : SelectFault) → times ≡ uses t → 0 < times → Refuses (charge_side root side n) old f → Refuses (charge_expr root (expr_of side t) n) old f
+  refused_first old times f same some h =
+      let charge = charge_decided root n side t in
+      let all = once_more times (charge_side root side n) some in
+      let whole : times * charge_side root side n ≡ charge_expr root (expr_of side t) n = rw same (sym charge) in
+      refuses_from (charge_side root side n) old (charge_expr root (expr_of side t) n) old f (λ l. omega arith) h
+
+  pub refused_then : (old left times once : ℕ) (f : SelectFault) → times ≡ uses t → 0 < times → left + charge_side root side n ≡ old → once + left ≡ old → Refuses ((times - 1) * once) left f → Refuses (charge_expr root (expr_of side t) n) old f
+  refused_then old left times once f same some a b h =
+      let charge = charge_decided root n side t in
+      let one : once ≡ charge_side root side n = omega arith in
+      let all = once_more times once some in
+      let whole : times * once ≡ charge_expr root (expr_of side t) n = rw (one, same) (sym charge) in
+      refuses_from ((times - 1) * once) left (charge_expr root (expr_of side t) n) old f (λ l. omega arith) h
