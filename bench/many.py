@@ -32,7 +32,7 @@ STILL = {"is idle after a request": (request(USAGE), 21), "announces the longest
 BESIDE = {"nothing else": None, "one connection that repeats a query on 1 MiB": (query(COSTLY, b"q"), 1, 1),
           "four that send GET without a pause": (get(b"n"), 4, 0), "four with 64 queries on 1 MiB on their way": (query(COSTLY, b"q"), 4, 64)}
 # another tenant's connections, each with one query on its way: on many documents of 64 KiB, and on one as long as may be; Redis does the same by a script
-PART = LARGE[: LARGE.rindex(b",", 0, 65_535)] + b"]"
+PART = LARGE[: LARGE.rindex(b",{", 0, 65_535)] + b"]"
 PARTS = 150
 WHOLE = b"[" + b",".join(b'{"id":%d,"price":%d,"stock":%d}' % (at, at % 97, at % 1_009) for at in range(113_000)) + b"]"
 OF_ANOTHER = {"one connection that repeats a query on 150 documents of 64 KiB": (b"p", 1), "10 such connections": (b"p", 10),
@@ -124,12 +124,13 @@ def beside(seconds, turns=TURNS):
                 yield name, count, middle(rows)
 
 
-def stored(port, requests):
-    """Sends each request once, and returns the last reply, which has fewer bytes than one read gives."""
+def stored(port, requests, wanted=None):
+    """Sends each request once, and returns the last reply, which has fewer bytes than one read gives. Each reply is to be the wanted one, if one is named."""
     with socket.create_connection(("127.0.0.1", port)) as connection:
         for request in requests:
             connection.sendall(request)
             last = connection.recv(64)
+            assert wanted in (None, last), last
     return last
 
 
@@ -140,7 +141,7 @@ def beside_another(seconds, turns=TURNS):
         folder = stack.enter_context(tempfile.TemporaryDirectory())
         load, flood = compiled(folder, "many_load.c"), compiled(folder, "many_flood.c")
         port, theirs = stack.enter_context(listening(f"{KEY.hex()},{OTHER.hex()}"))[1], stack.enter_context(redis())[1]
-        stored(port, [put(*words, OTHER) for words in texts])
+        stored(port, [put(*words, OTHER) for words in texts], reply())
         servers = {"path_server": (port, OURS, lambda to: (query(COSTLY, to, OTHER), []))}
         if theirs:
             stored(theirs, [redis_words(b"RPUSH", to, text) for _, text, to in texts])

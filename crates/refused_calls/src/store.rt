@@ -5,6 +5,7 @@ use path_types::{ValidQuery, compile};
 use query_cache::Cache;
 use std::alloc::{AllocError, Global};
 use std::io;
+use tape_select::BUDGET;
 use tenant_store::{CollName, DocName, Progress, Queries, QueryTask, StoreFault, Tenant, Tenants};
 
 /// The keys of two tenants.
@@ -196,12 +197,12 @@ fn step_twice<R: Print + AllocGlobal>(rt: &R) -> io::Result<()> {
     ) else {
         return unprepared(rt);
     };
-    let Ok(query) = compile(rt.alloc(), b"$[0,0]") else {
+    let Ok(query) = compile(rt.alloc(), b"$[0,0][0]") else {
         return unprepared(rt);
     };
     let mut tenant = Tenant::new(rt.alloc());
-    if tenant.put(rt.alloc(), c, d, b"[\"s\"]").is_err()
-        || tenant.put(rt.alloc(), c, e, b"[1,2]").is_err()
+    if tenant.put(rt.alloc(), c, d, b"[[\"s\"]]").is_err()
+        || tenant.put(rt.alloc(), c, e, b"[[1,2]]").is_err()
     {
         return unprepared(rt);
     }
@@ -219,7 +220,7 @@ fn step_twice<R: Print + AllocGlobal>(rt: &R) -> io::Result<()> {
     Ok(())
 }
 
-// A query in a step for each of two documents, which are charged 2 units each. Whether it came so.
+// A query that pauses within the first of two documents, which are charged 4 units each, and then goes to its end. Whether it came so.
 fn query_in_steps(
     tenant: &Tenant,
     alloc: Global,
@@ -230,9 +231,9 @@ fn query_in_steps(
     match QueryTask::begin(tenant, alloc, query, collection, 0, out)? {
         Progress::Complete { .. } => Ok(false),
         Progress::Paused(task) => {
-            let left = task.work_left();
-            match task.step(tenant, alloc, query, collection, 0, out)? {
-                Progress::Complete { charge } => Ok(left == 1 && charge == 4),
+            let left = task.units_left();
+            match task.step(tenant, alloc, query, collection, BUDGET, out)? {
+                Progress::Complete { charge } => Ok(left == BUDGET - 3 && charge == 8),
                 Progress::Paused(_) => Ok(false),
             }
         }

@@ -9,6 +9,8 @@ mod planning;
 mod selecting;
 mod state;
 
+pub use evaluation::{does_hold, from_node, visit_total};
 pub use node_lists::SelectFault;
 pub use planning::{BUDGET, Plan, select};
-pub use selecting::Selected;
+pub use selecting::{Selected, empty_slots, select_all};
+pub use state::State;

@@ -23,7 +23,11 @@ use Rattle.tenant_store.specs.Hits.{Hit, hits}
 use Rattle.tenant_store.specs.Payloads.{Text, hit_bytes, hits_bytes, found_in, found_bytes, hit_count, payload, query_fault, IsFault, AnswersQuery, RefusesQuery}
 use Rattle.tenant_store.specs.TextsRead.{text_read, texts_read}
 use Rattle.tenant_store.specs.Steps.{Adds, AreSizes, FailsAt}
-use Rattle.tenant_store.specs.Walks.{Charges, IsAt, IsOnWay, IsStep, Passes, last_of, left_by}
+use Rattle.query_shares.specs.Evaluators.{query_in}
+use Rattle.query_shares.specs.declared.evaluator.Evaluator.{Evaluator}
+use Rattle.tenant_store.specs.declared.tasks.Progress.{Progress}
+use Rattle.tenant_store.specs.declared.tasks.Progress.TheVariants.{Complete}
+use Rattle.tenant_store.specs.Walks.{Charges, HasSpent, IsAt, IsOnWay, IsReady, IsStep, Passes, cut_in, documents_left, last_of, left_by}
 use Rattle.tenant_store.proofs.Single.{OneTree, texts_once}
 use Rattle.tenant_store.proofs.Walking.{all_read, length-hit, lt_false, lt_true, fault_over, fault_large, fault_next, no_fault_left}
 use Rattle.tenant_store.proofs.FourBytes.{length-number}
@@ -182,24 +186,28 @@ written_over old out new count t w = w ∙ ap (λ (x : List ℕ). x ++ (count ++
 
 -- ---- A query that pauses
 
-pub on_way : (q : Segments) (es : List (Vec ℕ Global × Doc)) (place : Place) (written : List ℕ) (task : QueryTask) → AreKept es → IsAt q (texts_read es) place written → 1 ≤ place.documents
-    → task.place ≡ place → task.payload.items ≡ written → IsOnWay q (texts es) task
-on_way q es place written task k at s p w = record {
+pub on_way : (q : Segments) (es : List (Vec ℕ Global × Doc)) (place : Place) (written : List ℕ) (e : Evaluator) (task : QueryTask) → AreKept es → IsAt q (texts_read es) place written → 1 ≤ place.documents → query_in e ≡ q
+    → IsReady (last_of place.documents (texts es)) place.units e → task.evaluator ≡ e → task.place ≡ place → task.payload.items ≡ written → IsOnWay q (texts es) task
+on_way q es place written e task k at s query ready v p w = record {
   texts = texts_read es;
   read = all_read es k;
   at = subst (λ x. IsAt q (texts_read es) task.place x) (sym w) (subst (λ x. IsAt q (texts_read es) x written) (sym p) at);
   some = subst (λ x. 1 ≤ x.documents) (sym p) s;
+  query = ap query_in v ∙ query;
+  ready = subst (λ x. IsReady (last_of x.documents (texts es)) x.units task.evaluator) (sym p) (subst (λ x. IsReady (last_of place.documents (texts es)) place.units x) (sym v) ready);
 }
 
 pub on_read : OneTree → (q : Segments) (es : List (Vec ℕ Global × Doc)) (task : QueryTask) → AreKept es → IsOnWay q (texts es) task → IsAt q (texts_read es) task.place task.payload.items
 on_read one q es task k w = subst (λ ts. IsAt q ts task.place task.payload.items) (texts_once one (texts es) w.texts (texts_read es) w.read (all_read es k)) w.at
 
-pub step_read : (q : Segments) (es : List (Vec ℕ Global × Doc)) (units before after : ℕ) → AreKept es → after ≡ length (left_by q units (last_of before (texts_read es))) → IsStep q (texts es) units before after
-step_read q es units before after k l = record { texts = texts_read es; read = all_read es k; left = l }
+pub step_read : (q : Segments) (es : List (Vec ℕ Global × Doc)) (units documents begun left : ℕ) (to : Progress) → AreKept es
+    → documents_left to ≡ length (left_by q (units + begun) (last_of documents (texts_read es))) + cut_in to → HasSpent units left to → IsStep q (texts es) units documents begun left to
+step_read q es units documents begun left to k l s = record { texts = texts_read es; read = all_read es k; passed = l; spent = s }
 
-pub step_of_none : (q : Segments) (units before : ℕ) → IsStep q [] units before 0
+pub step_of_none : (q : Segments) (units documents begun left charge : ℕ) → IsStep q [] units documents begun left (Complete charge)
 unfolding left_by
-step_of_none q units before = record { texts = []; read = tt; left = sym (ap (λ ts. length (left_by q units ts)) (drop_none (0 - before))) }
+step_of_none q units documents begun left charge =
+    record { texts = []; read = tt; passed = sym (ap (λ ts. length (left_by q (units + begun) ts) + 0) (drop_none (0 - documents))); spent = tt }
   where
     drop_none : (n : ℕ) → drop {A = Text} n [] ≡ []
     drop_none zero = refl
@@ -240,13 +248,23 @@ length-last n es last l f = omega (arith, ap (λ (ds : List (Vec ℕ Global × D
 pub last_read : (n : ℕ) (es last : List (Vec ℕ Global × Doc)) → last ≡ last_of n es → texts_read last ≡ last_of n (texts_read es)
 last_read n es last l = ap (λ ds. texts_read ds) l ∙ drop-read (length es - n) es ∙ ap (λ k. drop (k - n) (texts_read es)) (sym (length-read es))
 
+drop-texts : (k : ℕ) (es : List (Vec ℕ Global × Doc)) → texts (drop k es) ≡ drop k (texts es)
+drop-texts zero es = refl
+drop-texts (suc k) [] = refl
+drop-texts (suc k) (e ∷ es) = drop-texts k es
+
+pub last_texts : (n : ℕ) (es last : List (Vec ℕ Global × Doc)) → last ≡ last_of n es → texts last ≡ last_of n (texts es)
+last_texts n es last l = ap (λ ds. texts ds) l ∙ drop-texts (length es - n) es ∙ ap (λ k. drop (k - n) (texts es)) (sym (length-texts es))
+
 pub last_all : (n : ℕ) (ts : List Text) → n ≡ length ts → last_of n ts ≡ ts
 last_all n ts e = let z : length ts - n ≡ 0 = omega (arith, e) in ap (λ k. drop k ts) z
 
-pub step_begun : (q : Segments) (es : List (Vec ℕ Global × Doc)) (units after : ℕ) → AreKept es → after ≡ length (left_by q units (texts_read es)) → IsStep q (texts es) units (length (texts es)) after
-step_begun q es units after k l =
-    let ts = texts_read es in
-    step_read q es units (length (texts es)) after k (l ∙ ap (λ us. length (left_by q units us)) (sym (last_all (length (texts es)) ts (length-texts es ∙ sym (length-read es)))))
+pub step_begun : (q : Segments) (es : List (Vec ℕ Global × Doc)) (units : ℕ) (to : Progress) → AreKept es → documents_left to ≡ length (left_by q units (texts_read es)) + cut_in to → HasSpent units budget to
+    → IsStep q (texts es) units (length (texts es)) 0 budget to
+step_begun q es units to k l s =
+    let all = last_all (length (texts es)) (texts_read es) (length-texts es ∙ sym (length-read es)) in
+    let same : units ≡ units + 0 = omega arith in
+    step_read q es units (length (texts es)) 0 budget to k (l ∙ ap (λ us. length (left_by q units us) + cut_in to) (sym all) ∙ ap (λ n. length (left_by q n (last_of (length (texts es)) (texts_read es))) + cut_in to) same) s
 
 pub few_left : (q : Segments) (es : List (Vec ℕ Global × Doc)) (place : Place) (written : List ℕ) → IsAt q (texts_read es) place written → place.documents ≤ length es
 few_left q es place written at =
@@ -279,6 +297,12 @@ begins_at q es place start old out zeros s o z d u h =
 
 -- ---- A turn of the loop over them
 
+tail_drop : {X : Type 0} (i : ℕ) (xs t : List X) (x : X) → drop i xs ≡ x ∷ t → drop (suc i) xs ≡ t
+tail_drop zero [] t x h = absurd (cc)
+tail_drop zero (y ∷ ys) t x h = cc
+tail_drop (suc i) [] t x h = absurd (cc)
+tail_drop (suc i) (y ∷ ys) t x h = tail_drop i ys t x h
+
 -- a call of an iterator's `next`, whatever it gave
 pub next_left : {A X : Type 0} (shows : A → X) (i : ℕ) (xs s t : List X) (r : Option A) → s ≡ drop i xs → MatchOption r ((s ≡ []) × (t ≡ [])) (λ x. s ≡ shows x ∷ t) → t ≡ drop (i + 1) xs
 next_left shows i xs s t None e h = let k : suc i ≡ i + 1 = omega arith in h.1 ∙ sym (none_drop i xs (sym e ∙ h.0)) ∙ ap (λ j. drop j xs) k
@@ -289,12 +313,13 @@ next_left shows i xs s t None e h = let k : suc i ≡ i + 1 = omega arith in h.1
     none_drop (suc i) [] h = refl
     none_drop (suc i) (y ∷ ys) h = none_drop i ys h
 next_left shows i xs s t (Some x) e h = let k : suc i ≡ i + 1 = omega arith in sym (tail_drop i xs t (shows x) (sym e ∙ h)) ∙ ap (λ j. drop j xs) k
-  where
-    tail_drop : {X : Type 0} (i : ℕ) (xs t : List X) (x : X) → drop i xs ≡ x ∷ t → drop (suc i) xs ≡ t
-    tail_drop zero [] t x h = absurd (cc)
-    tail_drop zero (y ∷ ys) t x h = cc
-    tail_drop (suc i) [] t x h = absurd (cc)
-    tail_drop (suc i) (y ∷ ys) t x h = tail_drop i ys t x h
+
+-- what a step behind the first of the last ones has left
+pub last_next : (n m : ℕ) (es it rest : List (Vec ℕ Global × Doc)) (e : Vec ℕ Global × Doc) → it ≡ last_of n es → n ≡ length it → it ≡ e ∷ rest → m + 1 ≡ n → rest ≡ last_of m es
+last_next n m es it rest e l c i k =
+    let len : length it ≡ length es - (length es - n) = ap (λ (ds : List (Vec ℕ Global × Doc)). length ds) l ∙ length-drop (length es - n) es in
+    let next : suc (length es - n) ≡ length es - m = omega (arith, len, c, k) in
+    sym (tail_drop (length es - n) es rest e (sym l ∙ i)) ∙ ap (λ j. drop j es) next
 
 pub adds_next : (q : Segments) (es it rest : List (Vec ℕ Global × Doc)) (e : Vec ℕ Global × Doc) (name : List ℕ) (place next : Place) (start : ℕ) (before after : List ℕ) → it ≡ e ∷ rest → name ≡ e.0.items
     → Passes q (texts_read es) (texts_read it) place.units place.hits (drop start before) → Adds q (text_read name e.1) place next before after → AreSizes place start (length before) → AreSizes next start (length after)

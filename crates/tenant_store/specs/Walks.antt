@@ -1,8 +1,12 @@
--- A query that is evaluated in steps (this project's own): what it has done, what is left, and how far a step goes. The documents are passed one after the other, in key order.
-use Rattle.std.specs.Prelude.{◌≡◌, ◌≤◌, ◌+◌, ◌-◌, ℕ, List, [], ◌∷◌, ◌++◌, length, drop, nat_lt, if◌then◌else◌, None}
+-- A query that is evaluated in steps (this project's own): what it has done, what is left, and how far a step goes. The documents are passed one after the other, in key order,
+-- and a step ends within one of them or behind it.
+use Rattle.std.specs.Prelude.{◌≡◌, ◌<◌, ◌≤◌, ◌+◌, ◌-◌, ℕ, List, [], ◌∷◌, ◌++◌, length, drop, nat_lt, if◌then◌else◌, Option, None, Some}
 use Rattle.path_grammar.specs.Tree.{Segments}
 use Rattle.tape_select.specs.Budget.{budget}
 use Rattle.tape_select.specs.Charge.{total_of, charge}
+use Rattle.query_shares.specs.Evaluators.{IsAtRest, IsEvaluating, left_on, query_in}
+use Rattle.query_shares.specs.declared.evaluator.Evaluator.{Evaluator}
+use Rattle.query_shares.specs.declared.passes.Evaluation.{Evaluation}
 use Rattle.tenant_map.specs.Listings.{number}
 use Rattle.tenant_map.specs.Maps.{Documents}
 use Rattle.tenant_store.specs.declared.walk.Place.{Place}
@@ -27,16 +31,31 @@ pub record IsAt (q : Segments) (texts : List Text) (place : Place) (written : Li
   pub left : length rest ≡ place.documents
   pub passes : Passes q texts rest place.units place.hits written
 
+-- the last ones, so many
+abbrev pub last_of : {A : Type 0} → ℕ → List A → List A
+last_of n xs = drop (length xs - n) xs
+
+-- the evaluator begins with the first of these documents, or goes on with it, for so many units in all
+abbrev pub IsReady : Documents → (units : ℕ) → Evaluator → Type 0
+IsReady [] units e = IsAtRest e
+IsReady (d ∷ ds) units e = IsEvaluating d.1 units e
+
 -- the query is under way on the documents, of which some are left
 pub record IsOnWay (q : Segments) (ds : Documents) (task : QueryTask) : Type 0 where
   pub texts : List Text
   pub read : AreTextsOf ds texts
   pub at : IsAt q texts task.place task.payload.items
   pub some : 1 ≤ task.place.documents
+  pub query : query_in task.evaluator ≡ q
+  pub ready : IsReady (last_of task.place.documents ds) task.place.units task.evaluator
 
--- how many documents are left
+-- how many units are left
+abbrev pub units_left : QueryTask → ℕ
+units_left task = left_on task.place.units task.evaluator.evaluation
+
+-- a number that falls with each step
 abbrev pub work_left : QueryTask → ℕ
-work_left task = task.place.documents
+work_left task = units_left task + 1
 
 abbrev pub left_in : Progress → ℕ
 left_in (Complete units) = 0
@@ -58,17 +77,38 @@ abbrev pub IsComplete : Progress → Type 0
 IsComplete (Complete units) = Unit {0}
 IsComplete (Paused task) = ⊥
 
--- the last ones, so many
-abbrev pub last_of : {A : Type 0} → ℕ → List A → List A
-last_of n xs = drop (length xs - n) xs
+-- how many documents are left
+abbrev pub documents_left : Progress → ℕ
+documents_left (Complete units) = 0
+documents_left (Paused task) = task.place.documents
+
+-- 1 where it paused within the first of them
+abbrev pub cut_of : Option Evaluation → ℕ
+cut_of None = 0
+cut_of (Some e) = 1
+
+abbrev pub cut_in : Progress → ℕ
+cut_in (Complete units) = 0
+cut_in (Paused task) = cut_of task.evaluator.evaluation
+
+-- what was spent on it
+abbrev pub spent_on : (units : ℕ) → Evaluator → ℕ
+spent_on units e = units - left_on units e.evaluation
+
+-- it paused only where more than so many units were spent of those that were left
+abbrev pub HasSpent : (units left : ℕ) → Progress → Type 0
+HasSpent units left (Complete charge) = Unit {0}
+HasSpent units left (Paused task) = units + units_left task < left
 
 -- what a step of so many units leaves of these texts: it ends behind the one by which more are spent
 unfoldable pub left_by : Segments → (units : ℕ) → List Text → List Text
 left_by q units [] = []
 left_by q units (t ∷ ts) = if nat_lt units (charge t.tree q) then ts else left_by q (units - charge t.tree q) ts
 
--- a step of so many units, begun where so many documents are left, leaves so many
-pub record IsStep (q : Segments) (ds : Documents) (units before after : ℕ) : Type 0 where
+-- A step of so many units, begun where so many documents and units were left, and some units were spent on the first of these documents. It ends behind the one by which more
+-- are spent, or within it.
+pub record IsStep (q : Segments) (ds : Documents) (units documents begun left : ℕ) (to : Progress) : Type 0 where
   pub texts : List Text
   pub read : AreTextsOf ds texts
-  pub left : after ≡ length (left_by q units (last_of before texts))
+  pub passed : documents_left to ≡ length (left_by q (units + begun) (last_of documents texts)) + cut_in to
+  pub spent : HasSpent units left to

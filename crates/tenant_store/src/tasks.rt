@@ -8,13 +8,14 @@ ghost use Rattle.tape_select.specs.Budget.{budget};
 ghost use Rattle.tenant_map.specs.Kept.{AreKept, texts};
 ghost use Rattle.tenant_map.specs.Maps.{documents_of};
 ghost use Rattle.tenant_store.specs.Payloads.{RefusesQuery, IsFaultOfQuery};
-ghost use Rattle.tenant_store.specs.Walks.{IsComplete, IsOnWay, IsStep, Reaches, left_in, work_left};
+ghost use Rattle.tenant_store.specs.Walks.{IsComplete, IsOnWay, IsStep, Reaches, left_in, spent_on, units_left, work_left};
 
 use crate::numbers::put_number;
 use crate::walk::{Place, begin_behind, go_on};
 use json_tape::Document;
 use json_tape::laws::one_tree;
 use path_types::ValidQuery;
+use query_shares::Evaluator;
 use std::alloc::Global;
 use std::collections::BTreeMap;
 use store_names::CollName;
@@ -24,6 +25,7 @@ use tenant_map::{StoreFault, Tenant, big_endian};
 /// A query under way: how far it came, and what it has of its payload.
 #[derive(Drop)]
 pub struct QueryTask {
+    evaluator: Evaluator,
     place: Place,
     payload: Vec<u8>,
 }
@@ -36,12 +38,12 @@ pub enum Progress {
         /// The units that it was charged, on all documents.
         charge: u64,
     },
-    /// It goes on behind a document.
+    /// It goes on within a document or behind it.
     Paused(QueryTask),
 }
 
 impl QueryTask {
-    /// Begins a query on a collection, and goes to its end or behind the document by which more than so many units are spent.
+    /// Begins a query on a collection, and goes to its end or until more than so many units are spent, within a document or behind it.
     ///
     /// Where it is complete, its payload is appended, as [`crate::Queries::query`] appends it. Where it paused, the vector's bytes are unchanged,
     /// and [`QueryTask::step`] goes on.
@@ -58,7 +60,7 @@ impl QueryTask {
         out: &mut Vec<u8>,
     ) -> Result<Progress, StoreFault>
         ensures reached { IfOk result (λ progress. Reaches progress (query_view query.now) (documents_of collection.entry.bytes.now tenant.now) out.old.items out.new.items) }
-        ensures step { IfOk result (λ progress. IsStep (query_view query.now) (documents_of collection.entry.bytes.now tenant.now) units (length (documents_of collection.entry.bytes.now tenant.now)) (left_in progress)) }
+        ensures step { IfOk result (λ progress. IsStep (query_view query.now) (documents_of collection.entry.bytes.now tenant.now) units (length (documents_of collection.entry.bytes.now tenant.now)) 0 budget progress) }
         ensures all { IfOk result (λ progress. budget ≤ units → IsComplete progress) }
         ensures short { OnOk result (length out.new.items ≤ length out.old.items + payload_limit) }
         ensures refused { IfErr result (RefusesQuery (query_view query.now) (documents_of collection.entry.bytes.now tenant.now)) }
@@ -89,7 +91,7 @@ impl QueryTask {
     ) -> Result<Progress, StoreFault>
         requires { IsOnWay (query_view query.now) (documents_of collection.bytes.now tenant.now) self }
         ensures reached { IfOk result (λ progress. Reaches progress (query_view query.now) (documents_of collection.entry.bytes.now tenant.now) out.old.items out.new.items) }
-        ensures step { IfOk result (λ progress. IsStep (query_view query.now) (documents_of collection.entry.bytes.now tenant.now) units (work_left self) (left_in progress)) }
+        ensures step { IfOk result (λ progress. IsStep (query_view query.now) (documents_of collection.entry.bytes.now tenant.now) units self.place.documents (spent_on self.place.units self.evaluator) (units_left self) progress) }
         ensures fewer { IfOk result (λ progress. left_in progress < work_left self) }
         ensures short { OnOk result (length out.new.items ≤ length out.old.items + payload_limit) }
         ensures refused { IfErr result (RefusesQuery (query_view query.now) (documents_of collection.entry.bytes.now tenant.now)) }
@@ -104,23 +106,24 @@ impl QueryTask {
         }
     }
 
-    /// How many documents are left, and so how many steps there are at most.
-    pub fn work_left(&self) -> usize
-        ensures { result ≡ work_left self.now }
+    /// How many units are left, of which each step but the last spends some.
+    pub fn units_left(&self) -> u64
+        ensures { result ≡ units_left self.now }
     {
-        self.place.documents
+        self.evaluator.units_left(self.place.units)
     }
 }
 
 // Takes what a query has of its payload, which begins at `start`.
 fn pause(
     alloc: Global,
+    evaluator: Evaluator,
     place: Place,
     start: usize,
     out: &mut Vec<u8>,
 ) -> Result<QueryTask, StoreFault>
     requires { start ≤ length out.old.items }
-    ensures taken { IfOk result (λ task. (task.place ≡ place) × (task.payload.items ≡ drop start out.old.items)) }
+    ensures taken { IfOk result (λ task. (task.evaluator ≡ evaluator) × (task.place ≡ place) × (task.payload.items ≡ drop start out.old.items)) }
     ensures named { IfErr result (λ fault. fault ≡ StoreFault.NoMemory) }
     ensures left { out.new.items ≡ take start out.old.items }
     ensures capacity { vec_capacity out.old ≤ vec_capacity out.new }
@@ -128,6 +131,7 @@ fn pause(
     let payload = Vec::from_slice(alloc, &out[start..]);
     out.truncate(start);
     Ok(QueryTask {
+        evaluator,
         place,
         payload: payload?,
     })
@@ -143,7 +147,7 @@ fn begin(
 ) -> Result<Progress, StoreFault>
     requires { AreKept documents.now.entries }
     ensures reached { IfOk result (λ progress. Reaches progress (query_view query.now) (texts documents.now.entries) out.old.items out.new.items) }
-    ensures step { IfOk result (λ progress. IsStep (query_view query.now) (texts documents.now.entries) units (length (texts documents.now.entries)) (left_in progress)) }
+    ensures step { IfOk result (λ progress. IsStep (query_view query.now) (texts documents.now.entries) units (length (texts documents.now.entries)) 0 budget progress) }
     ensures all { IfOk result (λ progress. budget ≤ units → IsComplete progress) }
     ensures short { OnOk result (length out.new.items ≤ length out.old.items + payload_limit) }
     ensures refused { IfErr result (RefusesQuery (query_view query.now) (texts documents.now.entries)) }
@@ -151,15 +155,16 @@ fn begin(
     ensures unchanged { OnErr result (out.new.items ≡ out.old.items) }
     ensures capacity { vec_capacity out.old ≤ vec_capacity out.new }
 {
+    let mut evaluator = Evaluator::new(alloc, query)?;
     let before = out.len();
-    match begin_behind(alloc, query, documents, units, out) {
+    match begin_behind(alloc, documents, units, &mut evaluator, out) {
         Err(fault) => {
             out.truncate(before);
             Err(fault)
         }
         Ok(place) => {
             if place.documents > 0 {
-                let task = pause(alloc, place, before, out)?;
+                let task = pause(alloc, evaluator, place, before, out)?;
                 return Ok(Progress::Paused(task));
             }
             put_number(out, before, place.hits as u32);
@@ -182,7 +187,7 @@ fn step(
     requires kept { AreKept documents.now.entries }
     requires on_way { IsOnWay (query_view query.now) (texts documents.now.entries) task }
     ensures reached { IfOk result (λ progress. Reaches progress (query_view query.now) (texts documents.now.entries) out.old.items out.new.items) }
-    ensures step { IfOk result (λ progress. IsStep (query_view query.now) (texts documents.now.entries) units (work_left task) (left_in progress)) }
+    ensures step { IfOk result (λ progress. IsStep (query_view query.now) (texts documents.now.entries) units task.place.documents (spent_on task.place.units task.evaluator) (units_left task) progress) }
     ensures fewer { IfOk result (λ progress. left_in progress < work_left task) }
     ensures short { OnOk result (length out.new.items ≤ length out.old.items + payload_limit) }
     ensures refused { IfErr result (RefusesQuery (query_view query.now) (texts documents.now.entries)) }
@@ -191,10 +196,27 @@ fn step(
     ensures capacity { vec_capacity out.old ≤ vec_capacity out.new }
 {
     one_tree();
-    let QueryTask { place, mut payload } = task;
-    let place = go_on(alloc, query, documents, units, place, 0, &mut payload)?;
+    let _ = query;
+    let QueryTask {
+        mut evaluator,
+        place,
+        mut payload,
+    } = task;
+    let place = go_on(
+        alloc,
+        documents,
+        units,
+        place,
+        0,
+        &mut evaluator,
+        &mut payload,
+    )?;
     if place.documents > 0 {
-        return Ok(Progress::Paused(QueryTask { place, payload }));
+        return Ok(Progress::Paused(QueryTask {
+            evaluator,
+            place,
+            payload,
+        }));
     }
     put_number(&mut payload, 0, place.hits as u32);
     out.extend_from_slice(payload.as_slice())?;
@@ -206,7 +228,7 @@ fn step(
 // The payload of a query on no document.
 fn query_nothing(query: &ValidQuery, out: &mut Vec<u8>) -> Result<Progress, StoreFault>
     ensures reached { IfOk result (λ progress. Reaches progress (query_view query.now) [] out.old.items out.new.items) }
-    ensures step { IfOk result (λ progress. (units before : ℕ) → IsStep (query_view query.now) [] units before (left_in progress)) }
+    ensures step { IfOk result (λ progress. (units documents begun left : ℕ) → IsStep (query_view query.now) [] units documents begun left progress) }
     ensures complete { IfOk result IsComplete }
     ensures short { OnOk result (length out.new.items ≤ length out.old.items + payload_limit) }
     ensures refused { IfErr result (RefusesQuery (query_view query.now) []) }

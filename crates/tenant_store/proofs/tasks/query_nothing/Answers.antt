@@ -11,4 +11,4 @@ returns-clause-reached c = (
 )
 
 pub returns-clause-step : goal.returns-clause-step
-returns-clause-step c = λ units before. step_of_none (query_view c.args.query.now) units before
+returns-clause-step c = λ units documents begun left. step_of_none (query_view c.args.query.now) units documents begun left 0
