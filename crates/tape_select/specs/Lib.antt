@@ -4,6 +4,7 @@ pub mod Budget
 pub mod Charge
 pub mod Extra
 pub mod Paying
+pub mod Told
 pub mod Planned
 pub mod Making
 pub mod Slots

@@ -1,6 +1,6 @@
 //! Evaluation by a plan.
 
-ghost use Rattle.std.specs.Prelude.{◌≡◌, ◌<◌, ◌+◌, ◌*◌, ◌∷◌, [], ◌++◌, length, map, flat_map, filter, Some};
+ghost use Rattle.std.specs.Prelude.{◌≡◌, ◌<◌, ◌+◌, ◌*◌, ◌∷◌, [], ◌++◌, length, map, flat_map, filter, Some, IsTrue};
 ghost use Rattle.json_tape.specs.Document.{count, node_at};
 ghost use Rattle.json_tape.specs.Nodes.{children, visit};
 ghost use Rattle.path_grammar.specs.Tree.{exprs_of, selectors_of};
@@ -11,8 +11,9 @@ ghost use Rattle.tape_select.specs.Nodelists.{nodes_of};
 ghost use Rattle.tape_select.specs.Charge.{total_of, charge_from, charge_expr, charge_exprs, charge_side};
 ghost use Rattle.tape_select.specs.Extra.{extra_in, extra_by, nodes_from, charge_at, nodes_after, charge_after};
 ghost use Rattle.tape_select.specs.Paying.{Inside, Pays, Adds, Finds, FindsList};
-ghost use Rattle.tape_select.specs.Planned.{trees, joined, query_of, path_of, claims_of, all_claims, look, condition_view, operand_view, selection_view, nested_view, stage_view};
+ghost use Rattle.tape_select.specs.Planned.{a_query, a_condition, trees, joined, query_of, path_of, claims_of, all_claims, look, condition_view, operand_view, selection_view, nested_view, stage_view};
 ghost use Rattle.tape_select.specs.Slots.{AreClaimed};
+ghost use Rattle.tape_select.specs.Told.{is_told_on};
 ghost use Rattle.tape_select.specs.Memo.{FindsNodes, FindsFor, FindsSide, Keeps};
 
 use crate::chains::{followed, step};
@@ -20,12 +21,13 @@ use crate::descendants::{children_below, named};
 use crate::fault::SelectFault;
 use crate::nodes::{child_total, lone, push, push_some, wild};
 use crate::plan::{Condition, Link, Nested, Operand, Parts, Selection, Stage};
-use crate::sides::{compare, compare_length, length_of, related, side_found};
+use crate::sides::{cell_of, compare, compare_length, length_of, related, side_found};
 use crate::slices::sliced;
 use crate::state::{Found, State, found_by_links, found_in, keep, recall};
 use crate::steps::{is_wild, lone_link, only_link, stepped};
+use crate::truths::{keep as keep_truth, known};
 use crate::units::units_of;
-use decisions::{Decision, tells_as_compared};
+use decisions::{Decision, Scale, tells_as_compared, tells_by_marks};
 use json_tape::{Document, NodeId};
 use tape_values::{Side, compare_found};
 
@@ -121,10 +123,46 @@ fn holds_by_kind(
         Condition::Decided(operand, decision) => {
             decided(doc, plan, operand, decision, child, state)
         }
+        Condition::Remembered(slot, scale, operand) => {
+            remembered(doc, plan, *slot, scale, operand, child, state)
+        }
         Condition::Joined(is_any, numbers, parts) => {
             joined_hold(doc, plan, *is_any, numbers, parts, child, state)
         }
     }
+}
+
+// Whether a condition that is told on a scale holds: found once for each cell.
+#[cycle(evaluation)]
+#[inline(never)]
+fn remembered(
+    doc: &Document,
+    plan: &Parts,
+    slot: u32,
+    scale: &Scale,
+    condition: &Condition,
+    child: NodeId,
+    state: &mut State,
+) -> Result<bool, SelectFault>
+    requires inside { child.0 < count doc.now }
+    requires claimed { AreClaimed (claims_of plan.now.stages.items) (condition_view condition.now).claims }
+    requires told { IsTrue (is_told_on scale.now (condition_view condition.now).tree) }
+    requires mine { look (claims_of plan.now.stages.items) slot ≡ Some (a_condition scale.now (condition_view condition.now).tree) }
+    requires kept { Keeps doc.now (claims_of plan.now.stages.items) state.old }
+    ensures found { Finds result (holds (node_at doc.now 0) (condition_view condition.now).tree (node_at doc.now child.0)) (charge_expr (node_at doc.now 0) (condition_view condition.now).tree (node_at doc.now child.0)) state.old.meter.left state.new.meter.left }
+    ensures kept { Keeps doc.now (claims_of plan.now.stages.items) state.new }
+{
+    tells_as_compared();
+    tells_by_marks();
+    let Some(cell) = cell_of(doc, scale, child, &mut state.lengths, &mut state.answers) else {
+        return holds_by_kind(doc, plan, condition, child, state);
+    };
+    if let Some(held) = known(doc, plan, &state.truths, slot, cell) {
+        return Ok(held);
+    }
+    let held = holds_by_kind(doc, plan, condition, child, state)?;
+    keep_truth(state.alloc, doc, plan, &mut state.truths, slot, cell, held);
+    Ok(held)
 }
 
 // Whether one of the operands of all parts holds, or each.
@@ -355,7 +393,7 @@ fn found_once(
     slot: u32,
     state: &mut State,
 ) -> Result<Found, SelectFault>
-    requires mine { look (claims_of plan.now.stages.items) slot ≡ Some (path_of links.now stages.now) }
+    requires mine { look (claims_of plan.now.stages.items) slot ≡ Some (a_query (path_of links.now stages.now)) }
     requires claimed { AreClaimed (claims_of plan.now.stages.items) (claims_of stages.now) }
     requires kept { Keeps doc.now (claims_of plan.now.stages.items) state.old }
     ensures found { FindsNodes doc.now result (path_of links.now stages.now) (node_at doc.now 0) state.old.meter.left state.new.meter.left }

@@ -22,6 +22,8 @@ mod sides;
 mod slices;
 mod state;
 mod steps;
+mod told;
+mod truths;
 mod units;
 
 pub use fault::SelectFault;

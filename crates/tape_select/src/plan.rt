@@ -4,7 +4,7 @@ ghost use Rattle.std.specs.Prelude.{IsTrue};
 ghost use Rattle.path_grammar.specs.View.{literal_view};
 ghost use Rattle.path_types.specs.Validity.{is_literal};
 
-use decisions::Decision;
+use decisions::{Decision, Scale};
 use path_grammar::{IntLit, Literal, Op};
 use std::cell::Cell;
 
@@ -65,6 +65,8 @@ pub enum Condition {
     Exists(Nested),
     /// A condition that compares one side with literals, decided for each place of its value among them.
     Decided(Operand, Box<Decision>),
+    /// A condition that is told on this scale, and the number of its slot. Its truth is kept for each cell.
+    Remembered(u32, Scale, Box<Condition>),
     /// The operands of all of these with `||` between them, or with `&&`, as the flag says; one that has no such operands is itself one. The
     /// numbers say for each operand of the query in turn of which it is the next.
     Joined(bool, Vec<usize>, Vec<Condition>),

@@ -21,6 +21,7 @@ use Rattle.tape_select.proofs.Adding.{drawn, drawn_inside}
 use Rattle.tape_select.proofs.Naming.{adds_named, adds_wild}
 use Rattle.tape_select.proofs.Deciding.{free, paid, refused_first, refused_then}
 use Rattle.tape_select.proofs.Joining.{finds_some, finds_all}
+use Rattle.tape_select.proofs.Telling.{kept, recalled, charged_nothing}
 use Rattle.tape_select.proofs.evaluation.+evaluation.Goals as goal
 
 pub all_selected-loop-stage-preserved : goal.all_selected-loop-stage-preserved
@@ -288,3 +289,11 @@ pub joined_hold-returns-clause-found : goal.joined_hold-returns-clause-found
 joined_hold-returns-clause-found t c =
     let d = c.args.doc.now in
     finds_all (node_at d 0) (node_at d c.args.child.0) c.all_hold.result c.args.is_any c.args.numbers.now (trees (map condition_view c.args.parts.now)) c.args.state.now.meter.left c.all_hold.new.state.meter.left c.if-is_any.false c.all_hold.ensures.found
+
+pub remembered-returns-in-Some-clause-found : goal.remembered-returns-in-Some-clause-found
+remembered-returns-in-Some-clause-found t c =
+    let d = c.args.doc.now in
+    let e = (condition_view c.args.condition.now).tree in
+    let n = node_at d c.args.child.0 in
+    let nothing = charged_nothing (node_at d 0) n c.args.scale.now e c.requires.told in
+    ?
