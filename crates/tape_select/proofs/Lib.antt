@@ -16,5 +16,5 @@ pub mod Filtering
 pub mod Naming
 pub mod Deciding
 pub mod Joining
-pub mod Truths
+pub mod Rows
 pub mod Telling

@@ -1,6 +1,6 @@
 -- Conditions that the marks of `@` and its length tell.
 use Rattle.std.proofs.Common.{◌≡◌, ℕ, zero, suc, ◌+◌, ◌<◌, Bool, true, false, ◌&&◌, ◌||◌, List, [], ◌∷◌, ◌++◌, map, length, get_or, Option, Some, None, refl, sym, ap, subst, ◌∙◌, arith}
-use Rattle.std.specs.Prelude.{IsTrue, nat_eq, bytes_eq, codes, if◌then◌else◌}
+use Rattle.std.specs.Prelude.{IsTrue, IfSome, nat_eq, bytes_eq, codes, if◌then◌else◌}
 use Rattle.std.specs.Prelude.{not as opposite}
 use Rattle.std.specs.List.{Contains}
 use Rattle.std.specs.Ordering.{is_eq}
@@ -9,8 +9,10 @@ use Rattle.std.specs.declared.cmp.Ordering.TheVariants.{Less, Equal, Greater}
 use Rattle.std.proofs.lemmas.Bool.Decides.{nat_tests}
 use Rattle.std.proofs.lemmas.List.Elements.{Contains-append_left, Contains-append_right, Contains-push}
 use Rattle.path_grammar.specs.Tree as tree
-use Rattle.path_grammar.specs.Tree.{Literal, Comparable, Call, Arguments, Argument, Expr, Exprs, segments_of}
-use Rattle.path_grammar.specs.View.{segment_view}
+use Rattle.path_grammar.specs.Tree.{Literal, Comparable, Call, Arguments, Argument, Expr, Exprs, OneSegment, segments_of}
+use Rattle.path_grammar.specs.View.{segment_view, nested_view, argument_step, comparable_step, expr_step, selector_step, call_step, segment_step, nested_step}
+use Rattle.path_grammar.specs.declared.ast.Argument.TheFolds.{fold_out-SubQuery}
+use Rattle.path_grammar.specs.declared.ast.SubQuery.{SubQuery, out-SubQuery}
 use Rattle.path_grammar.specs.declared.ast.Op.{Op}
 use Rattle.path_grammar.specs.declared.ast.Segment.{Segment}
 use Rattle.json_tape.specs.Nodes.{Node}
@@ -18,23 +20,27 @@ use Rattle.json_tape.specs.Document.{Doc, node_at, length_of}
 use Rattle.tape_values.specs.Comparison.{Value, a_null, a_boolean, a_number, a_text, a_container, value_of, literal_value, compared}
 use Rattle.tape_values.specs.Functions.{Argued, only_value, value_argued, nodes_argued, whole_number, whole_number_of, length_value, applied}
 use Rattle.decisions.specs.Laws.{TellsAsCompared, TellsByMarks}
-use Rattle.decisions.specs.Marks.{mark, is_among, are_among}
+use Rattle.decisions.specs.Marks.{mark, cell, is_among, are_among}
 use Rattle.decisions.specs.Order.{value_cmp}
 use Rattle.decisions.specs.Places.{HasTie}
 use Rattle.decisions.specs.Tree.{listed}
-use Rattle.decisions.specs.Truth.{IsRelated}
-use Rattle.decisions.specs.declared.relation.Relation.{Relation}
 use Rattle.decisions.specs.declared.scale.Scale.{Scale}
+use Rattle.decisions.specs.Truth.{no_relation}
 use Rattle.tape_select.specs.Charge.{charge_expr, charge_exprs, charge_side, charge_call, charge_arguments, charge_argument}
 use Rattle.tape_select.specs.Evaluation.{holds, some_hold, all_hold, result, called, argued}
 use Rattle.tape_select.specs.Memo.{IsTruth, IsTruthKept}
 use Rattle.tape_select.specs.Planned.{Claimed, a_condition}
-use Rattle.tape_select.specs.Told.{is_alone, is_free_call, are_free, is_free_argument, is_free, is_told_pair, is_told, are_told, side_literals, literals, all_literals, values_on, is_told_on, are_told_on, IsCell}
+use Rattle.tape_select.specs.Told.{is_alone, is_free_call, are_free, is_free_argument, is_free, is_told_pair, is_told, are_told, side_literals, literals, all_literals, values_on, is_told_on, are_told_on, AreApart, IsCell}
 use Rattle.tape_select.proofs.Deciding.{forth, back}
 
 pub alone : (from_root : Bool) (ss : List Segment) → is_alone (tree.nested from_root (segments_of (map segment_view ss))) ≡ nat_eq (length ss) 0
 alone from_root [] = refl
 alone from_root (s ∷ ss) = let t : nat_eq (suc (length ss)) 0 ≡ false = grind (arith, nat_tests) in sym t
+
+pub alone_view : (q : SubQuery) → is_alone (nested_view q) ≡ nat_eq (length (out-SubQuery q).segments.items) 0
+alone_view q =
+    ap is_alone (fold_out-SubQuery tree.Argument tree.Comparable tree.Expr tree.Selector tree.Call OneSegment tree.Nested argument_step comparable_step expr_step selector_step call_step segment_step nested_step q)
+    ∙ alone (out-SubQuery q).from_root (out-SubQuery q).segments.items
 
 and_first : (a b : Bool) → IsTrue (a && b) → IsTrue a
 and_first true b h = refl
@@ -48,26 +54,31 @@ pub told_listed : (s : Scale) (is_any : Bool) (es : Exprs) → IsTrue (are_told_
 told_listed s true es h = h
 told_listed s false es h = h
 
+pub on_scale : (s : Scale) (es : Exprs) (is_rooted all : Bool) (ls : List Literal) → s.is_rooted ≡ is_rooted → all ≡ are_told is_rooted es → all ≡ true → ls ≡ all_literals es → IsTrue (are_among (values_on s) ls) → IsTrue (are_told_on s es)
+on_scale s es is_rooted all ls e f g h k =
+    let told : are_told s.is_rooted es ≡ true = ap (λ r. are_told r es) e ∙ sym f ∙ g in
+    rw told (subst (λ xs. IsTrue (are_among (values_on s) xs)) h k)
+
 -- ---- Literals on a scale
 
 tied : (vs : List (Option Value)) (l : Literal) → IsTrue (is_among vs l) → HasTie value_cmp vs (Some (literal_value l))
 tied [] l h = absurd cc
-tied (v ∷ vs) l h = go (value_cmp v (Some (literal_value l))) refl h
+tied (v ∷ vs) l h = go (λ k. tied vs l k) (value_cmp v (Some (literal_value l))) refl h
   where
-    more : IsTrue (is_among vs l) → HasTie value_cmp (v ∷ vs) (Some (literal_value l))
-    more k = let t = tied vs l k in let inside = t.1 in (suc t.0, omega arith, t.2)
+    one_more : HasTie value_cmp vs (Some (literal_value l)) → HasTie value_cmp (v ∷ vs) (Some (literal_value l))
+    one_more t = let inside = t.1 in (suc t.0, omega arith, t.2)
 
-    go : (o : Ordering) → value_cmp v (Some (literal_value l)) ≡ o → IsTrue (is_eq o || is_among vs l) → HasTie value_cmp (v ∷ vs) (Some (literal_value l))
-    go Less e k = more k
-    go Equal e k = (zero, omega arith, e)
-    go Greater e k = more k
+    go : (IsTrue (is_among vs l) → HasTie value_cmp vs (Some (literal_value l))) → (o : Ordering) → value_cmp v (Some (literal_value l)) ≡ o → IsTrue (is_eq o || is_among vs l) → HasTie value_cmp (v ∷ vs) (Some (literal_value l))
+    go more Less e k = one_more (more k)
+    go more Equal e k = (zero, omega arith, e)
+    go more Greater e k = one_more (more k)
 
 tied_at : (vs : List (Option Value)) (ls : List Literal) → IsTrue (are_among vs ls) → (l : Literal) (k : ℕ) → k < length ls → get_or ls k l ≡ l → HasTie value_cmp vs (Some (literal_value l))
 tied_at vs [] h l k lt e = absurd (omega arith)
 tied_at vs (m ∷ ls) h l zero lt e = tied vs l (subst (λ x. IsTrue (is_among vs x)) e (and_first (is_among vs m) (are_among vs ls) h))
 tied_at vs (m ∷ ls) h l (suc k) lt e = tied_at vs ls (and_second (is_among vs m) (are_among vs ls) h) l k (omega arith) e
 
-Ties : List (Option Value) → List Literal → Type 0
+abbrev Ties : List (Option Value) → List Literal → Type 0
 Ties vs ls = (l : Literal) → Contains ls l → HasTie value_cmp vs (Some (literal_value l))
 
 -- ---- Values of one mark
@@ -92,9 +103,6 @@ no_length (Some (a_container t)) = go (length_of t)
     go : (o : Option ℕ) → length_value (whole_number_of o) ≡ None
     go None = refl
     go (Some k) = refl
-
-apart : Relation
-apart = record { is_equal = false; is_equal_back = false; is_less = false; is_greater = false }
 
 -- ---- What is told at two nodes of one cell
 
@@ -133,15 +141,15 @@ module _ (ordered : TellsAsCompared) (law : TellsByMarks) (vs : List (Option Val
   side_alike (tree.single (tree.nested from_root (tree.segment descend ss others))) h = absurd cc
   side_alike (tree.func c) h = (called_alike c h).marks
 
-  module _ (is_rooted : Bool) (n_apart : IsTrue is_rooted → IsRelated apart (Some (value_of n.tree)) (Some (value_of root.tree))) (m_apart : IsTrue is_rooted → IsRelated apart (Some (value_of m.tree)) (Some (value_of root.tree))) where
+  module _ (is_rooted : Bool) (n_apart : IsTrue is_rooted → AreApart (Some (value_of n.tree)) (Some (value_of root.tree))) (m_apart : IsTrue is_rooted → AreApart (Some (value_of m.tree)) (Some (value_of root.tree))) where
     rooted_alike : (p q : tree.Nested) (op : Op) → IsTrue is_rooted → IsTrue (is_alone p) → IsTrue (is_alone q)
         → compared op (result root (tree.single p) n) (result root (tree.single q) n) ≡ compared op (result root (tree.single p) m) (result root (tree.single q) m)
     rooted_alike (tree.nested true tree.no_segments) (tree.nested true tree.no_segments) op r h k = refl
     rooted_alike (tree.nested false tree.no_segments) (tree.nested false tree.no_segments) op r h k = ordered.itself op (Some (value_of n.tree)) ∙ sym (ordered.itself op (Some (value_of m.tree)))
     rooted_alike (tree.nested false tree.no_segments) (tree.nested true tree.no_segments) op r h k =
-        forth apart (Some (value_of n.tree)) (Some (value_of root.tree)) op (n_apart r) ∙ sym (forth apart (Some (value_of m.tree)) (Some (value_of root.tree)) op (m_apart r))
+        forth no_relation (Some (value_of n.tree)) (Some (value_of root.tree)) op (n_apart r) ∙ sym (forth no_relation (Some (value_of m.tree)) (Some (value_of root.tree)) op (m_apart r))
     rooted_alike (tree.nested true tree.no_segments) (tree.nested false tree.no_segments) op r h k =
-        back apart (Some (value_of n.tree)) (Some (value_of root.tree)) op (n_apart r) ∙ sym (back apart (Some (value_of m.tree)) (Some (value_of root.tree)) op (m_apart r))
+        back no_relation (Some (value_of n.tree)) (Some (value_of root.tree)) op (n_apart r) ∙ sym (back no_relation (Some (value_of m.tree)) (Some (value_of root.tree)) op (m_apart r))
     rooted_alike (tree.nested s (tree.segment descend ss others)) q op r h k = absurd cc
     rooted_alike (tree.nested s tree.no_segments) (tree.nested t (tree.segment descend ss others)) op r h k = absurd cc
 
@@ -239,13 +247,18 @@ module _ (root n : Node) (is_rooted : Bool) where
 
 -- ---- Kept
 
+pub is_cell : (d : Doc) (s : Scale) (n : Node) (l : Option Value) (r : Option ℕ) → IfSome r (λ i. i ≡ cell (values_on s) (Some (value_of n.tree)) l) → l ≡ length_value (Some (value_of n.tree)) → (IsTrue s.is_rooted → AreApart (Some (value_of n.tree)) (Some (value_of (node_at d 0).tree)))
+    → IfSome r (λ i. IsCell (node_at d 0) n s i)
+is_cell d s n l None h e a = tt
+is_cell d s n l (Some i) h e a = record { marks = h ∙ ap (cell (values_on s) (Some (value_of n.tree))) e; apart = a }
+
 -- the truth at one node of a cell is that at each
 pub kept : TellsAsCompared → TellsByMarks → (d : Doc) (c : Option Claimed) (s : Scale) (e : Expr) (n : Node) (i : ℕ) (held : Bool) → c ≡ Some (a_condition s e) → IsTrue (is_told_on s e)
     → IsCell (node_at d 0) n s i → held ≡ holds (node_at d 0) e n → IsTruth d c i held
 kept ordered law d c s e n i held owner told cell is = rw owner (λ m there.
     let vs = values_on s in
     let all = and_second (is_told s.is_rooted e) (are_among vs (literals e)) told in
-    let two = law.cells vs _ _ _ _ (sym there.marks ∙ cell.marks) in
+    let two = law.cells vs (Some (value_of m.tree)) (length_value (Some (value_of m.tree))) (Some (value_of n.tree)) (length_value (Some (value_of n.tree))) (sym there.marks ∙ cell.marks) in
     told_alike ordered law vs (node_at d 0) m n (record { marks = two.0; lengths = two.1 }) s.is_rooted there.apart cell.apart e (and_first (is_told s.is_rooted e) (are_among vs (literals e)) told)
         (λ l k. tied_at vs (literals e) all l k.0 k.1 k.2)
     ∙ sym is)

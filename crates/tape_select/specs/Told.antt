@@ -5,7 +5,7 @@ use Rattle.json_tape.specs.Nodes.{Node}
 use Rattle.tape_values.specs.Comparison.{Value, value_of}
 use Rattle.tape_values.specs.Functions.{length_value}
 use Rattle.decisions.specs.Marks.{cell, are_among}
-use Rattle.decisions.specs.Truth.{IsRelated}
+use Rattle.decisions.specs.Truth.{IsRelated, no_relation}
 use Rattle.decisions.specs.Views.{constant_value}
 use Rattle.decisions.specs.declared.scale.Scale.{Scale}
 
@@ -93,7 +93,11 @@ is_told_on s e = is_told s.is_rooted e && are_among (values_on s) (literals e)
 abbrev pub are_told_on : Scale → Exprs → Bool
 are_told_on s es = are_told s.is_rooted es && are_among (values_on s) (all_literals es)
 
--- this is the cell of the node's value and its length; and where it may be compared with that of `$`, it is neither equal to it nor less nor greater
+-- neither equal nor less nor greater
+abbrev pub AreApart : (v w : Option Value) → Type 0
+AreApart v w = IsRelated no_relation v w
+
+-- this is the cell of the node's value and its length; and it is apart from that of `$`, where they may be compared
 pub record IsCell (root n : Node) (s : Scale) (i : ℕ) : Type 0 where
   pub marks : i ≡ cell (values_on s) (Some (value_of n.tree)) (length_value (Some (value_of n.tree)))
-  pub apart : IsTrue s.is_rooted → IsRelated (record { is_equal = false; is_equal_back = false; is_less = false; is_greater = false }) (Some (value_of n.tree)) (Some (value_of root.tree))
+  pub apart : IsTrue s.is_rooted → AreApart (Some (value_of n.tree)) (Some (value_of root.tree))

@@ -12,7 +12,7 @@ ghost use Rattle.decisions.specs.Views.{test_view};
 ghost use Rattle.tape_select.specs.Answered.{AreRight};
 ghost use Rattle.tape_select.specs.Counted.{AreCounted};
 ghost use Rattle.tape_select.specs.Memo.{value_found};
-ghost use Rattle.tape_select.specs.Told.{IsCell};
+ghost use Rattle.tape_select.specs.Told.{AreApart, IsCell};
 
 use crate::answers::{Answer, compare_once, make_room};
 use crate::lengths::{Lengths, length_once};
@@ -238,7 +238,7 @@ fn are_apart(
 ) -> bool
     requires inside { child.0 < count doc.now }
     requires before { AreRight doc.now answers.old.items }
-    ensures apart { IsTrue result → IsTrue is_rooted → IsRelated (record { is_equal = false; is_equal_back = false; is_less = false; is_greater = false }) (Some (value_of (node_at doc.now child.0).tree)) (Some (value_of (node_at doc.now 0).tree)) }
+    ensures apart { IsTrue result → IsTrue is_rooted → AreApart (Some (value_of (node_at doc.now child.0).tree)) (Some (value_of (node_at doc.now 0).tree)) }
     ensures after { AreRight doc.now answers.new.items }
 {
     if !is_rooted {

@@ -15,7 +15,6 @@ use path_grammar::{Argument, Call, Comparable, Expr, SubQuery};
 use std::alloc::{AllocError, Global};
 
 // Whether a query is `@` or `$` by itself.
-#[tactic(auto, using(crate::proofs::Telling::alone))]
 fn is_alone(query: &SubQuery) -> bool
     ensures { result ≡ is_alone (query_tree query.now) }
 {

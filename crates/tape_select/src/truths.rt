@@ -11,7 +11,7 @@ use std::alloc::Global;
 const CELLS: usize = 1 << 20;
 
 // The truth in a row.
-#[tactic(auto, using(crate::proofs::Truths::truths))]
+#[tactic(auto, using(crate::proofs::Rows::truths))]
 fn known_in(
     doc: &Document,
     plan: &Parts,
@@ -29,7 +29,7 @@ fn known_in(
 }
 
 /// The truth of the condition with this slot in a cell, where it is kept.
-#[tactic(auto, using(crate::proofs::Truths::rows))]
+#[tactic(auto, using(crate::proofs::Rows::rows))]
 pub fn known(
     doc: &Document,
     plan: &Parts,
@@ -49,7 +49,7 @@ pub fn known(
 }
 
 // Keeps the truth in a row, as far as there is memory.
-#[tactic(auto, using(crate::proofs::Truths::truths))]
+#[tactic(auto, using(crate::proofs::Rows::truths))]
 fn keep_in(
     doc: &Document,
     plan: &Parts,
@@ -77,7 +77,7 @@ fn keep_in(
 }
 
 /// Keeps the truth of the condition with this slot in a cell, as far as there is memory.
-#[tactic(auto, using(crate::proofs::Truths::rows))]
+#[tactic(auto, using(crate::proofs::Rows::rows))]
 pub fn keep(
     alloc: Global,
     doc: &Document,
