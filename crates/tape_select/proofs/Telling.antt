@@ -28,7 +28,7 @@ use Rattle.decisions.specs.declared.scale.Scale.{Scale}
 use Rattle.decisions.specs.Truth.{no_relation}
 use Rattle.tape_select.specs.Charge.{charge_expr, charge_exprs, charge_side, charge_call, charge_arguments, charge_argument}
 use Rattle.tape_select.specs.Evaluation.{holds, some_hold, all_hold, result, called, argued}
-use Rattle.tape_select.specs.Memo.{IsTruth, IsTruthKept}
+use Rattle.tape_select.specs.Memo.{IsTruth}
 use Rattle.tape_select.specs.Planned.{Claimed, a_condition}
 use Rattle.tape_select.specs.Told.{is_alone, is_free_call, are_free, is_free_argument, is_free, is_told_pair, is_told, are_told, side_literals, literals, all_literals, values_on, is_told_on, are_told_on, AreApart, IsCell}
 use Rattle.tape_select.proofs.Deciding.{forth, back}
@@ -263,7 +263,7 @@ kept ordered law d c s e n i held owner told cell is = rw owner (λ m there.
         (λ l k. tied_at vs (literals e) all l k.0 k.1 k.2)
     ∙ sym is)
 
-pub recalled : (d : Doc) (c : Option Claimed) (s : Scale) (e : Expr) (n : Node) (i : ℕ) (held : Bool) → c ≡ Some (a_condition s e) → IsCell (node_at d 0) n s i → IsTruthKept d c i (Some held) → holds (node_at d 0) e n ≡ held
+pub recalled : (d : Doc) (c : Option Claimed) (s : Scale) (e : Expr) (n : Node) (i : ℕ) (held : Bool) → c ≡ Some (a_condition s e) → IsCell (node_at d 0) n s i → IsTruth d c i held → holds (node_at d 0) e n ≡ held
 recalled d c s e n i held owner cell k = (rw owner at k) n cell
 
 pub charged_nothing : (root n : Node) (s : Scale) (e : Expr) → IsTrue (is_told_on s e) → charge_expr root e n ≡ 0

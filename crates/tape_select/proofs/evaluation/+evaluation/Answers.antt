@@ -12,7 +12,7 @@ use Rattle.tape_select.specs.Evaluation.{selected, holds}
 use Rattle.tape_select.specs.Nodelists.{nodes_of}
 use Rattle.tape_select.specs.Charge.{total_of, charge_from, charge_expr}
 use Rattle.tape_select.specs.Extra.{extra_in, nodes_from, charge_at}
-use Rattle.tape_select.specs.Planned.{claims_of, query_of, path_of, links_view, trees, condition_view, operand_view, selection_view, stage_view, With, condition_step, operand_step, selection_step, nested_step, stage_step}
+use Rattle.tape_select.specs.Planned.{look, claims_of, query_of, path_of, links_view, trees, condition_view, operand_view, selection_view, stage_view, With, condition_step, operand_step, selection_step, nested_step, stage_step}
 use Rattle.tape_select.specs.declared.plan.Condition.TheFolds.{fold_out-Selection}
 use Rattle.tape_select.proofs.Filtering.{stage_claimed, evaluated_step, charge_step, adds_paid, more_of, staying, staying_charge, descending, descending_charge, filter_charge, keep_more, keep_not, leaf_holds, leaf_costs, finds_linked}
 use Rattle.tape_select.proofs.Following.{refuses_from, nothing_from_nothing, nothing_for_nothing}
@@ -290,10 +290,16 @@ joined_hold-returns-clause-found t c =
     let d = c.args.doc.now in
     finds_all (node_at d 0) (node_at d c.args.child.0) c.all_hold.result c.args.is_any c.args.numbers.now (trees (map condition_view c.args.parts.now)) c.args.state.now.meter.left c.all_hold.new.state.meter.left c.if-is_any.false c.all_hold.ensures.found
 
-pub remembered-returns-in-Some-clause-found : goal.remembered-returns-in-Some-clause-found
-remembered-returns-in-Some-clause-found t c =
+pub remembered-returns-in-Some-known-clause-found : goal.remembered-returns-in-Some-known-clause-found
+remembered-returns-in-Some-known-clause-found t c =
     let d = c.args.doc.now in
     let e = (condition_view c.args.condition.now).tree in
     let n = node_at d c.args.child.0 in
     let nothing = charged_nothing (node_at d 0) n c.args.scale.now e c.requires.told in
-    ?
+    (sym (recalled d (look (claims_of c.args.plan.now.stages.items) c.args.slot) c.args.scale.now e n c.in-Some.cell c.in-Some-known.held c.requires.mine (c.in-Some.ensures).cell c.in-Some-known.ensures), omega (arith, nothing))
+
+pub remembered-keep-requires-clause-held : goal.remembered-keep-requires-clause-held
+remembered-keep-requires-clause-held t c =
+    let d = c.args.doc.now in
+    kept c.tells_as_compared.ensures c.tells_by_marks.ensures d (look (claims_of c.args.plan.now.stages.items) c.args.slot) c.args.scale.now (condition_view c.args.condition.now).tree (node_at d c.args.child.0)
+    c.in-Some.cell c.in_ok-held.held c.requires.mine c.requires.told (c.in-Some.ensures).cell (c.in_ok-held.ensures).found.0
