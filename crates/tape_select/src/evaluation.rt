@@ -29,6 +29,7 @@ use crate::truths::{keep as keep_truth, known};
 use crate::units::units_of;
 use decisions::{Decision, Scale, tells_as_compared, tells_by_marks};
 use json_tape::{Document, NodeId};
+use std::slice::from_ref;
 use tape_values::{Side, compare_found};
 
 // The children for which a condition holds.
@@ -460,9 +461,30 @@ fn found_behind(
     Ok(found_in(doc, &nodes, units - state.meter.left))
 }
 
-/// The nodes that the stages select from a node.
+/// The nodes that the stages select from a node. One stage, as most queries in filters have, takes no list of that node.
 #[cycle(evaluation)]
 pub fn all_selected(
+    doc: &Document,
+    plan: &Parts,
+    stages: &[Stage],
+    n: NodeId,
+    state: &mut State,
+) -> Result<Vec<NodeId>, SelectFault>
+    requires inside { n.0 < count doc.now }
+    requires claimed { AreClaimed (claims_of plan.now.stages.items) (claims_of stages.now) }
+    requires kept { Keeps doc.now (claims_of plan.now.stages.items) state.old }
+    ensures found { FindsList doc.now result (evaluated (node_at doc.now 0) (query_of stages.now) (node_at doc.now n.0 ∷ [])) (charge_from (node_at doc.now 0) (query_of stages.now) (node_at doc.now n.0 ∷ [])) state.old.meter.left state.new.meter.left }
+    ensures kept { Keeps doc.now (claims_of plan.now.stages.items) state.new }
+{
+    match stages {
+        [stage] => after_stage(doc, plan, stage, from_ref(&n), state),
+        _ => selected_in_turn(doc, plan, stages, n, state),
+    }
+}
+
+// The same, stage by stage.
+#[cycle(evaluation)]
+fn selected_in_turn(
     doc: &Document,
     plan: &Parts,
     stages: &[Stage],

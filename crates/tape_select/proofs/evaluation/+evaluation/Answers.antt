@@ -14,7 +14,7 @@ use Rattle.tape_select.specs.Charge.{total_of, charge_from, charge_expr}
 use Rattle.tape_select.specs.Extra.{extra_in, nodes_from, charge_at}
 use Rattle.tape_select.specs.Planned.{look, claims_of, query_of, path_of, links_view, trees, condition_view, operand_view, selection_view, stage_view, With, condition_step, operand_step, selection_step, nested_step, stage_step}
 use Rattle.tape_select.specs.declared.plan.Condition.TheFolds.{fold_out-Selection}
-use Rattle.tape_select.proofs.Filtering.{stage_claimed, evaluated_step, charge_step, adds_paid, more_of, staying, staying_charge, descending, descending_charge, filter_charge, keep_more, keep_not, leaf_holds, leaf_costs, finds_linked}
+use Rattle.tape_select.proofs.Filtering.{stage_claimed, evaluated_step, charge_step, adds_paid, more_of, staying, staying_charge, descending, descending_charge, filter_charge, keep_more, keep_not, leaf_holds, leaf_costs, finds_linked, one_stage, finds_one}
 use Rattle.tape_select.proofs.Following.{refuses_from, nothing_from_nothing, nothing_for_nothing}
 use Rattle.tape_select.proofs.Links.{links_charged, links_charged_first, found_through}
 use Rattle.tape_select.proofs.Adding.{drawn, drawn_inside}
@@ -24,8 +24,15 @@ use Rattle.tape_select.proofs.Joining.{finds_some, finds_all}
 use Rattle.tape_select.proofs.Telling.{kept, recalled, charged_nothing}
 use Rattle.tape_select.proofs.evaluation.+evaluation.Goals as goal
 
-pub all_selected-loop-stage-preserved : goal.all_selected-loop-stage-preserved
-all_selected-loop-stage-preserved t c =
+pub all_selected-returns-in-len1-clause-found : goal.all_selected-returns-in-len1-clause-found
+all_selected-returns-in-len1-clause-found t c =
+    let d = c.args.doc.now in
+    let one = one_stage c.args.stages.now c.stage-item.result c.in-len1.len_at_least c.in-len1.len_below c.stage-item.is in
+    let got = rw c.from_ref.ensures.value at (c.after_stage.ensures).found in
+    finds_one d c.after_stage.result (node_at d 0) (node_at d c.args.n.0) c.args.stages.now c.stage-item.result c.args.state.now.meter.left c.after_stage.new.state.meter.left one got
+
+pub selected_in_turn-loop-stage-preserved : goal.selected_in_turn-loop-stage-preserved
+selected_in_turn-loop-stage-preserved t c =
     let d = c.args.doc.now in
     let r = node_at d 0 in
     let ns = nodes_of d c.loop-stage.nodes.items in
@@ -43,8 +50,8 @@ all_selected-loop-stage-preserved t c =
       sound = got.0.inside;
     }
 
-pub all_selected-returns-in_err-nodes-2-clause-found : goal.all_selected-returns-in_err-nodes-2-clause-found
-all_selected-returns-in_err-nodes-2-clause-found t c =
+pub selected_in_turn-returns-in_err-nodes-2-clause-found : goal.selected_in_turn-returns-in_err-nodes-2-clause-found
+selected_in_turn-returns-in_err-nodes-2-clause-found t c =
     let d = c.args.doc.now in
     let r = node_at d 0 in
     let ns = nodes_of d c.loop-stage.nodes.items in
