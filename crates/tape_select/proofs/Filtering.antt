@@ -260,9 +260,6 @@ one_stage [] s l m e = absurd (omega arith)
 one_stage (x ∷ []) s l m e = ap (λ (y : Stage). y ∷ []) (sym e)
 one_stage (x ∷ y ∷ ss) s l m e = absurd (omega arith)
 
-pub one_claimed : (t : Claims) (ss : List Stage) (s : Stage) → ss ≡ s ∷ [] → AreClaimed t (claims_of ss) → AreClaimed t (stage_view s).claims
-one_claimed t ss s e h = (rw e at h).0
-
 pub finds_one : (d : Doc) (r : Result (Vec NodeId Global) SelectFault) (root n : Node) (ss : List Stage) (s : Stage) (old new : ℕ) → ss ≡ s ∷ []
     → FindsList d r (nodes_after root (stage_view s).tree (n ∷ [])) (charge_after root (stage_view s).tree (n ∷ [])) old new
     → FindsList d r (evaluated root (query_of ss) (n ∷ [])) (charge_from root (query_of ss) (n ∷ [])) old new

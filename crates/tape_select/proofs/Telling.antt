@@ -50,10 +50,6 @@ and_second : (a b : Bool) → IsTrue (a && b) → IsTrue b
 and_second true b h = h
 and_second false b h = absurd cc
 
-pub told_listed : (s : Scale) (is_any : Bool) (es : Exprs) → IsTrue (are_told_on s es) → IsTrue (is_told_on s (listed is_any es))
-told_listed s true es h = h
-told_listed s false es h = h
-
 pub on_scale : (s : Scale) (es : Exprs) (is_rooted all : Bool) (ls : List Literal) → s.is_rooted ≡ is_rooted → all ≡ are_told is_rooted es → all ≡ true → ls ≡ all_literals es → IsTrue (are_among (values_on s) ls) → IsTrue (are_told_on s es)
 on_scale s es is_rooted all ls e f g h k =
     let told : are_told s.is_rooted es ≡ true = ap (λ r. are_told r es) e ∙ sym f ∙ g in

@@ -334,8 +334,8 @@ fn with_slot(
     let slot = *next;
     match slot.checked_add(1) {
         None => Err(AllocError),
-        Some(more) => {
-            *next = more;
+        Some(behind) => {
+            *next = behind;
             Ok(Condition::Remembered(slot, scale, Box::new(alloc, made)?))
         }
     }
