@@ -50,7 +50,12 @@ impl Scale {
     }
 
     /// The cell of two values, where there is a number for it.
-    pub fn cell<'a>(&'a self, doc: &'a Document, first: &Side<'a>, second: &Side<'a>) -> Option<usize>
+    pub fn cell<'a>(
+        &'a self,
+        doc: &'a Document,
+        first: &Side<'a>,
+        second: &Side<'a>,
+    ) -> Option<usize>
         requires first { IsSide doc.now first.now }
         requires second { IsSide doc.now second.now }
         ensures { IfSome result (λ i. i ≡ cell (map constant_value self.now.literals.items) (side_value doc.now first.now) (side_value doc.now second.now)) }

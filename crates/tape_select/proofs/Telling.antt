@@ -256,7 +256,7 @@ kept ordered law d c s e n i held owner told cell is = rw owner (λ m there.
     let all = and_second (is_told s.is_rooted e) (are_among vs (literals e)) told in
     let two = law.cells vs (Some (value_of m.tree)) (length_value (Some (value_of m.tree))) (Some (value_of n.tree)) (length_value (Some (value_of n.tree))) (sym there.marks ∙ cell.marks) in
     told_alike ordered law vs (node_at d 0) m n (record { marks = two.0; lengths = two.1 }) s.is_rooted there.apart cell.apart e (and_first (is_told s.is_rooted e) (are_among vs (literals e)) told)
-        (λ l k. tied_at vs (literals e) all l k.0 k.1 k.2)
+    (λ l k. tied_at vs (literals e) all l k.0 k.1 k.2)
     ∙ sym is)
 
 pub recalled : (d : Doc) (c : Option Claimed) (s : Scale) (e : Expr) (n : Node) (i : ℕ) (held : Bool) → c ≡ Some (a_condition s e) → IsCell (node_at d 0) n s i → IsTruth d c i held → holds (node_at d 0) e n ≡ held

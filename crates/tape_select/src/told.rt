@@ -144,11 +144,7 @@ fn gather(alloc: Global, expr: &Expr, found: &mut Vec<Constant>) -> Result<(), A
 }
 
 #[cycle(gathering)]
-fn gather_all(
-    alloc: Global,
-    operands: &[Expr],
-    found: &mut Vec<Constant>,
-) -> Result<(), AllocError>
+fn gather_all(alloc: Global, operands: &[Expr], found: &mut Vec<Constant>) -> Result<(), AllocError>
     requires valid { IsTrue (are_valid_exprs (exprs_of (map expr_view operands.now))) }
     ensures { OnOk result (map known_view found.new.items ≡ map known_view found.old.items ++ all_literals (exprs_of (map expr_view operands.now))) }
 {
