@@ -1,2 +1,3 @@
 pub mod Learnt
 pub mod Counted
+pub mod Cells

@@ -10,4 +10,4 @@ mod sides;
 
 pub use answers::Answer;
 pub use lengths::{Lengths, no_lengths};
-pub use sides::{compare, compare_length, length_of, related, side_found};
+pub use sides::{cell_of, compare, compare_length, length_of, related, side_found};

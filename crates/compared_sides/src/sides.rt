@@ -1,6 +1,6 @@
 //! The sides of a comparison, found and compared.
 
-ghost use Rattle.std.specs.Prelude.{◌≡◌, ◌<◌, Some, None, option_map, IsTrue};
+ghost use Rattle.std.specs.Prelude.{◌≡◌, ◌<◌, Some, None, option_map, IsTrue, IfSome};
 ghost use Rattle.json_tape.specs.Document.{count, node_at, IsIn};
 ghost use Rattle.path_grammar.specs.View.{literal_view};
 ghost use Rattle.tape_values.specs.Comparison.{Value, compared, value_of, literal_value};
@@ -12,10 +12,11 @@ ghost use Rattle.decisions.specs.Views.{test_view};
 ghost use Rattle.compared_sides.specs.Answered.{AreRight};
 ghost use Rattle.compared_sides.specs.Counted.{AreCounted};
 ghost use Rattle.compared_sides.specs.Values.{value_found};
+ghost use Rattle.decisions.specs.Told.{AreApart, IsCell};
 
 use crate::answers::{Answer, compare_once, make_room};
 use crate::lengths::{Lengths, length_once};
-use decisions::{Constant, Decision, Relation};
+use decisions::{Constant, Decision, Relation, Scale};
 use json_tape::{Document, Kind, NodeId};
 use path_grammar::{Literal, Op};
 use tape_values::{Side, compare_sides, compare_whole};
@@ -225,4 +226,46 @@ pub fn related(
     } else {
         Relation::apart()
     }
+}
+
+// Whether the values of a node and the root are known to be of two kinds, or it does not matter.
+fn are_apart(
+    doc: &Document,
+    is_rooted: bool,
+    child: NodeId,
+    answers: &mut Vec<Option<Answer>>,
+) -> bool
+    requires inside { child.0 < count doc.now }
+    requires before { AreRight doc.now answers.old.items }
+    ensures apart { IsTrue result → IsTrue is_rooted → AreApart (Some (value_of (node_at doc.now child.0).tree)) (Some (value_of (node_at doc.now 0).tree)) }
+    ensures after { AreRight doc.now answers.new.items }
+{
+    if !is_rooted {
+        return true;
+    }
+    let relation = relation(doc, child, answers);
+    relation.is(Relation::apart())
+}
+
+/// The cell of a node on a scale, where it has one.
+pub fn cell_of(
+    doc: &Document,
+    scale: &Scale,
+    child: NodeId,
+    lengths: &mut Lengths,
+    answers: &mut Vec<Option<Answer>>,
+) -> Option<usize>
+    requires inside { child.0 < count doc.now }
+    requires lengths { AreCounted doc.now lengths.old.kept.items }
+    requires answers { AreRight doc.now answers.old.items }
+    ensures cell { IfSome result (λ i. IsCell (node_at doc.now 0) (node_at doc.now child.0) scale.now i) }
+    ensures lengths { AreCounted doc.now lengths.new.kept.items }
+    ensures answers { AreRight doc.now answers.new.items }
+{
+    if !are_apart(doc, scale.is_rooted, child, answers) {
+        return None;
+    }
+    let node = Side::Node(child);
+    let length = length_of(doc, Side::Node(child), lengths);
+    scale.cell(doc, &node, &length)
 }

@@ -117,3 +117,10 @@ module _ {K : Type 0} (cmp : K → K → Ordering) (total : IsTotalOrder cmp) wh
   -- the place of a value compares with that of what ties with an element as the value does with it
   pub place_tells : (xs : List K) (v l : K) → HasTie cmp xs l → nat_cmp (place cmp xs v) (place cmp xs l) ≡ cmp v l
   place_tells xs v l c = tells xs v l c.0 c.1 c.2 (cmp v l) refl
+
+  -- a lower value has no higher place
+  pub place_more : (xs : List K) (v w : K) → cmp v w ≡ Less → place cmp xs v ≤ place cmp xs w
+  place_more xs v w e =
+      let a = count_at_most (λ x. is_lt (cmp x v)) (λ x. is_lt (cmp x w)) (λ x h. below_more v w x e h) xs in
+      let b = count_at_most (λ x. is_le (cmp x v)) (λ x. is_le (cmp x w)) (λ x h. at_most_more v w x e h) xs in
+      omega (arith, a, b)

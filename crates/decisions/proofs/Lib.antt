@@ -6,3 +6,4 @@ pub mod Orders
 pub mod Exprs
 pub mod Itself
 pub mod Sorting
+pub mod Marks

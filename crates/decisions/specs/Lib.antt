@@ -4,4 +4,6 @@ pub mod Truth
 pub mod Views
 pub mod Places
 pub mod Turns
+pub mod Marks
+pub mod Told
 pub mod Laws

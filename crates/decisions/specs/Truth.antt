@@ -53,6 +53,10 @@ abbrev pub related : Relation → (turned : Bool) → Op → Bool
 related r false op = told_of r.is_equal r.is_equal_back r.is_less r.is_greater op
 related r true op = told_of r.is_equal_back r.is_equal r.is_greater r.is_less op
 
+-- how values compare that are neither equal nor less nor greater
+abbrev pub no_relation : Relation
+no_relation = record { is_equal = false; is_equal_back = false; is_less = false; is_greater = false }
+
 -- these two values compare so
 pub record IsRelated (r : Relation) (v w : Option Value) : Type 0 where
   pub equal : r.is_equal ≡ equal_results v w

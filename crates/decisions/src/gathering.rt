@@ -2,7 +2,7 @@
 
 ghost use Rattle.std.specs.Prelude.{◌≡◌, ◌++◌, map, Some, IfOk, OnOk};
 ghost use Rattle.std.specs.List.{All, Contains};
-ghost use Rattle.std.specs.List.Sorted.{IsSortedByKey};
+ghost use Rattle.std.specs.List.Sorted.{IsPermutation, IsSortedByKey};
 ghost use Rattle.path_grammar.specs.View.{literal_view};
 ghost use Rattle.tape_values.specs.Comparison.{literal_value};
 ghost use Rattle.decisions.specs.Order.{value_cmp};
@@ -56,14 +56,24 @@ fn gather_all(alloc: Global, operands: &[Test], found: &mut Vec<Constant>) -> Re
     Ok(())
 }
 
+/// These literals in order.
+pub fn in_order(found: Vec<Constant>) -> Result<Vec<Constant>, AllocError>
+    ensures kept { IfOk result (λ literals. IsPermutation found.items literals.items) }
+    ensures sorted { IfOk result (λ literals. IsSortedByKey constant_value value_cmp literals.items) }
+{
+    orders_values();
+    let mut literals = found;
+    literals.sort_by(|a, b| compare_literals(a, b))?;
+    Ok(literals)
+}
+
 /// The literals that stand against the side in a condition, in order.
 pub fn literals_of(alloc: Global, test: &Test) -> Result<Vec<Constant>, AllocError>
     ensures known { IfOk result (λ found. All (λ l. Contains (map constant_value found.items) (Some (literal_value l))) (literals (test_view test.now))) }
     ensures sorted { IfOk result (λ found. IsSortedByKey constant_value value_cmp found.items) }
 {
-    orders_values();
     let mut found = Vec::new(alloc);
     gather(alloc, test, &mut found)?;
-    found.sort_by(|a, b| compare_literals(a, b))?;
-    Ok(found)
+    let literals = in_order(found)?;
+    Ok(literals)
 }

@@ -45,9 +45,9 @@ fn are_on(operands: &[Expr], side: Option<&Comparable>) -> bool {
     true
 }
 
-// How many comparisons and tests there are.
+/// How many comparisons and tests there are.
 #[cycle(parts)]
-fn parts_in(expr: &Expr) -> usize {
+pub fn parts_in(expr: &Expr) -> usize {
     match expr {
         Expr::Any(operands) => parts_in_all(operands),
         Expr::Each(operands) => parts_in_all(operands),

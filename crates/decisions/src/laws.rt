@@ -1,6 +1,6 @@
 //! Functions that do nothing, and whose contracts are laws of the definitions.
 
-ghost use Rattle.decisions.specs.Laws.{TellsAsCompared, TellsByPlaces};
+ghost use Rattle.decisions.specs.Laws.{TellsAsCompared, TellsByMarks, TellsByPlaces};
 
 use decimal_order::orders_values;
 
@@ -18,6 +18,15 @@ pub fn tells_as_compared()
 /// It does nothing: a caller that tells comparisons by places has the law from its contract.
 pub fn tells_by_places()
     ensures { TellsByPlaces }
+{
+    orders_values();
+}
+
+/// Values of one mark compare alike with the literals among which they have it, and a cell is that of two marks.
+///
+/// It does nothing: a caller that keeps answers by cells has the law from its contract.
+pub fn tells_by_marks()
+    ensures { TellsByMarks }
 {
     orders_values();
 }

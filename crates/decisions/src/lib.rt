@@ -2,7 +2,8 @@
 //!
 //! A [`Test`] is such a condition: `||`, `&&` and `!` over comparisons (RFC 9535, section 2.3.5). Its [`Decision`] has the literals in order,
 //! and the truth for each kind of value at each place among them. Places are below the first literal, at it, between it and the next, and so on.
-//! [`Decision::holds`] finds the place by binary search and looks the truth up, whatever the number of comparisons.
+//! [`Decision::holds`] finds the place by binary search and looks the truth up, whatever the number of comparisons. A [`Scale`] has the literals
+//! of a condition on several sides, whose truth depends on the marks of these.
 #![tactic(auto)]
 
 mod counting;
@@ -14,13 +15,15 @@ mod order;
 mod places;
 mod reading;
 mod relation;
+mod scale;
 mod tables;
 mod telling;
 mod test;
 
 pub use decision::Decision;
-pub use groups::{Groups, grouped, side_in_group};
-pub use laws::{tells_as_compared, tells_by_places};
+pub use groups::{Groups, grouped, parts_in, side_in_group};
+pub use laws::{tells_as_compared, tells_by_marks, tells_by_places};
 pub use reading::{decide, decide_group, side_in};
 pub use relation::Relation;
+pub use scale::Scale;
 pub use test::{Constant, Test};

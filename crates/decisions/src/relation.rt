@@ -1,7 +1,7 @@
 //! How `@` compares with `$`.
 
 ghost use Rattle.std.specs.Prelude.{◌≡◌, IsTrue};
-ghost use Rattle.decisions.specs.Truth.{related, told_of};
+ghost use Rattle.decisions.specs.Truth.{no_relation, related, told_of};
 
 use path_grammar::Op;
 
@@ -17,7 +17,9 @@ pub struct Relation {
 
 impl Relation {
     /// That of values of two kinds.
-    pub fn apart() -> Relation {
+    pub fn apart() -> Relation
+        ensures { result ≡ no_relation }
+    {
         Relation {
             is_equal: false,
             is_equal_back: false,

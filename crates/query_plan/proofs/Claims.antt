@@ -1,8 +1,11 @@
 -- Slots with numbers in order are found.
 use Rattle.std.proofs.Common.{◌≡◌, ℕ, ◌+◌, ◌<◌, ◌≤◌, Bool, true, false, List, [], ◌∷◌, ◌++◌, map, Option, Some, None, refl, ◌∙◌, arith, cond, nat_eq}
+use Rattle.std.specs.Prelude.{IsTrue}
 use Rattle.std.proofs.lemmas.Bool.Decides.{nat_tests}
-use Rattle.path_grammar.specs.Tree.{Segments}
-use Rattle.query_plan.specs.Planned.{Claims, no_claims, claim, both, With, look, or_else, then_numbered, numbered, all_claims}
+use Rattle.path_grammar.specs.Tree.{Expr}
+use Rattle.decisions.specs.Told.{is_told_on}
+use Rattle.decisions.specs.declared.scale.Scale.{Scale}
+use Rattle.query_plan.specs.Planned.{Claimed, Claims, no_claims, claim, a_condition, told, both, With, look, or_else, then_numbered, numbered, all_claims}
 use Rattle.query_plan.specs.Slots.{AreClaimed}
 
 record Bounds (c : Claims) (k m : ℕ) : Type 0 where
@@ -10,7 +13,7 @@ record Bounds (c : Claims) (k m : ℕ) : Type 0 where
   below : (s : ℕ) → s < k → look c s ≡ None
   above : (s : ℕ) → m ≤ s → look c s ≡ None
 
-or_none : (a : Option Segments) → or_else a None ≡ a
+or_none : (a : Option Claimed) → or_else a None ≡ a
 or_none None = refl
 or_none (Some q) = refl
 
@@ -30,12 +33,23 @@ record IsOwn (slot k m : ℕ) : Type 0 where
   slot_is : slot ≡ k
   after : m ≡ k + 1
 
-own : (slot : ℕ) (q : Segments) (k m : ℕ) → numbered (claim slot q) k ≡ Some m → IsOwn slot k m
+own : (slot : ℕ) (q : Claimed) (k m : ℕ) → numbered (claim slot q) k ≡ Some m → IsOwn slot k m
 own slot q k m h = go (nat_eq slot k) refl h
   where
     go : (b : Bool) → nat_eq slot k ≡ b → cond b (Some (k + 1)) None ≡ Some m → IsOwn slot k m
     go true e h = record { slot_is = grind (arith, nat_tests, e); after = cc }
     go false e h = absurd cc
+
+record IsToldAt (s : Scale) (e : Expr) (k m : ℕ) : Type 0 where
+  holds : IsTrue (is_told_on s e)
+  same : k ≡ m
+
+told_at : (s : Scale) (e : Expr) (k m : ℕ) → numbered (told s e) k ≡ Some m → IsToldAt s e k m
+told_at s e k m h = go (is_told_on s e) refl h
+  where
+    go : (b : Bool) → is_told_on s e ≡ b → cond b (Some k) None ≡ Some m → IsToldAt s e k m
+    go true t g = record { holds = t; same = cc }
+    go false t g = absurd cc
 
 bounds : (c : Claims) (k m : ℕ) → numbered c k ≡ Some m → Bounds c k m
 bounds no_claims k m h = let e : k ≡ m = cc in record { ordered = omega arith; below = λ s l. refl; above = λ s l. refl }
@@ -48,6 +62,7 @@ bounds (claim slot q) k m h =
       below = λ s l. (let n : nat_eq slot s ≡ false = grind (arith, nat_tests, e, l) in rw n refl);
       above = λ s l. (let n : nat_eq slot s ≡ false = grind (arith, nat_tests, e, f, l) in rw n refl);
     }
+bounds (told s e) k m h = let same = (told_at s e k m h).same in record { ordered = omega arith; below = λ s l. refl; above = λ s l. refl }
 bounds (both a b) k m h =
     let p = parts a b k m h in
     let x = bounds a k p.middle p.first in
@@ -68,6 +83,7 @@ within table (claim slot q) k m h same =
     let f = o.after in
     let t : nat_eq slot slot ≡ true = grind (arith, nat_tests) in
     same slot (omega arith) (omega arith) ∙ rw t refl
+within table (told s e) k m h same = (told_at s e k m h).holds
 within table (both a b) k m h same =
     let p = parts a b k m h in
     let x = bounds a k p.middle p.first in
@@ -88,3 +104,7 @@ numbered_push f [] one k m n h g = let e : k ≡ m = cc in rw (e, g) refl
 numbered_push f (x ∷ xs) one k m n h g =
     let p = parts (f x).claims (all_claims (map f xs)) k m h in
     rw p.first (numbered_push f xs one p.middle m n p.others g)
+
+-- a condition that is kept has the slot behind those in it
+pub numbered_kept : (c : Claims) (s : Scale) (e : Expr) (k m : ℕ) → IsTrue (is_told_on s e) → numbered c k ≡ Some m → numbered (both c (both (told s e) (claim m (a_condition s e)))) k ≡ Some (m + 1)
+numbered_kept c s e k m h n = let t : nat_eq m m ≡ true = grind (arith, nat_tests) in rw (n, h, t) refl

@@ -38,7 +38,7 @@ or_second : (a b : Bool) → IsTrue b → IsTrue (a || b)
 or_second true b h = refl
 or_second false b h = h
 
-forth : (r : Relation) (v w : Option Value) (op : Op) → IsRelated r v w → compared op v w ≡ related r false op
+pub forth : (r : Relation) (v w : Option Value) (op : Op) → IsRelated r v w → compared op v w ≡ related r false op
 forth r v w Eq h = sym h.equal
 forth r v w Ne h = ap opposite (sym h.equal)
 forth r v w Lt h = sym h.less
@@ -46,7 +46,7 @@ forth r v w Gt h = sym h.greater
 forth r v w Le h = λ i. sym h.less i || sym h.equal i
 forth r v w Ge h = λ i. sym h.greater i || sym h.back i
 
-back : (r : Relation) (v w : Option Value) (op : Op) → IsRelated r v w → compared op w v ≡ related r true op
+pub back : (r : Relation) (v w : Option Value) (op : Op) → IsRelated r v w → compared op w v ≡ related r true op
 back r v w Eq h = sym h.back
 back r v w Ne h = ap opposite (sym h.back)
 back r v w Lt h = sym h.greater

@@ -6,3 +6,4 @@ pub mod LoneLinks
 pub mod Operands
 pub mod Deciding
 pub mod Joining
+pub mod Scales

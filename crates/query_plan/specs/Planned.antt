@@ -4,6 +4,8 @@ use Rattle.path_grammar.specs.Tree as tree
 use Rattle.path_grammar.specs.Tree.{OneSegment, Segments, segments_of, selectors_of, exprs_of}
 use Rattle.decisions.specs.Tree.{expr_of, listed}
 use Rattle.decisions.specs.Views.{constant_view, test_view}
+use Rattle.decisions.specs.Told.{is_told_on}
+use Rattle.decisions.specs.declared.scale.Scale.{Scale}
 use Rattle.node_lists.specs.Links.{link_selector, link_view}
 use Rattle.query_plan.specs.declared.plan.Condition.TheOpen.{Condition-F, Operand-F, Selection-F, Nested-F, Stage-F}
 use Rattle.query_plan.specs.declared.plan.Condition.{Condition, fold-Condition}
@@ -15,10 +17,16 @@ use Rattle.node_lists.specs.declared.links.Link.{Link}
 
 -- ---- Slots
 
--- which queries from the root have which slots; a tree, so that the facts of two parts are a pair
+-- what has a slot: a query from the root, and a condition whose truths are kept
+pub data Claimed : Type 0 where
+  a_query : (query : Segments) → Claimed
+  a_condition : (scale : Scale) (condition : tree.Expr) → Claimed
+
+-- which slots these have, and which conditions are told on their scales; a tree, so that the facts of two parts are a pair
 pub data Claims : Type 0 where
   no_claims : Claims
-  claim : (slot : ℕ) (query : Segments) → Claims
+  claim : (slot : ℕ) (owner : Claimed) → Claims
+  told : (scale : Scale) (condition : tree.Expr) → Claims
   both : (first others : Claims) → Claims
 
 -- a part of the syntax tree, and the slots in it
@@ -40,7 +48,7 @@ is_rooted (Some k) = true
 
 abbrev pub own_claim : Option ℕ → Segments → Claims
 own_claim None q = no_claims
-own_claim (Some k) q = claim k q
+own_claim (Some k) q = claim k (a_query q)
 
 -- ---- Lists of operands in parts
 
@@ -114,6 +122,7 @@ module _ where
   condition_step (Condition-F.Compare a op b) = record { tree = tree.compare a.tree op b.tree; claims = both a.claims b.claims }
   condition_step (Condition-F.Exists q) = record { tree = tree.test q.tree; claims = q.claims }
   condition_step (Condition-F.Decided a b) = record { tree = expr_of a.tree (test_view b.value); claims = a.claims }
+  condition_step (Condition-F.Remembered slot s b) = record { tree = b.value.tree; claims = both b.value.claims (both (told s b.value.tree) (claim slot (a_condition s b.value.tree))) }
   condition_step (Condition-F.Joined is_any ks v) = record { tree = listed is_any (joined is_any ks.items (map tree_in v.items)); claims = all_claims v.items }
 
   abbrev pub operand_step : Layer Operand-F → With tree.Comparable
@@ -169,24 +178,26 @@ path_of ls ss = segments_of (map link_view ls ++ trees (map stage_view ss))
 abbrev pub claims_of : List Stage → Claims
 claims_of ss = all_claims (map stage_view ss)
 
--- ---- The query of a slot
+-- ---- What has a slot
 
-abbrev pub or_else : Option Segments → Option Segments → Option Segments
+abbrev pub or_else : Option Claimed → Option Claimed → Option Claimed
 or_else None b = b
 or_else (Some a) b = Some a
 
--- the query that claims a slot first
-abbrev pub look : Claims → ℕ → Option Segments
+-- what claims a slot first
+abbrev pub look : Claims → ℕ → Option Claimed
 look no_claims k = None
-look (claim slot q) k = if nat_eq slot k then Some q else None
+look (claim slot c) k = if nat_eq slot k then Some c else None
+look (told s e) k = None
 look (both a b) k = or_else (look a k) (look b k)
 
 abbrev pub then_numbered : Option ℕ → (ℕ → Option ℕ) → Option ℕ
 then_numbered None f = None
 then_numbered (Some k) f = f k
 
--- the number after the last slot, where the slots have the numbers from this one on, in the order of the query
+-- the number after the last slot, where the slots have the numbers from this one on, in the order of the plan, and all conditions are told that should be
 abbrev pub numbered : Claims → ℕ → Option ℕ
 numbered no_claims k = Some k
-numbered (claim slot q) k = if nat_eq slot k then Some (k + 1) else None
+numbered (claim slot c) k = if nat_eq slot k then Some (k + 1) else None
+numbered (told s e) k = if is_told_on s e then Some k else None
 numbered (both a b) k = then_numbered (numbered a k) (λ j. numbered b j)

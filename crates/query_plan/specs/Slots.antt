@@ -1,9 +1,11 @@
--- Each slot is that of one query.
-use Rattle.std.specs.Prelude.{◌≡◌, Some}
-use Rattle.query_plan.specs.Planned.{Claims, no_claims, claim, both, look}
+-- Each slot is that of one query, or of one condition.
+use Rattle.std.specs.Prelude.{◌≡◌, Some, IsTrue}
+use Rattle.decisions.specs.Told.{is_told_on}
+use Rattle.query_plan.specs.Planned.{Claims, no_claims, claim, told, both, look}
 
--- each query with a slot is the one that is found under its number
+-- what has a slot is what is found under its number, and conditions are told on their scales
 abbrev pub AreClaimed : Claims → Claims → Type 0
 AreClaimed table no_claims = Unit {0}
-AreClaimed table (claim slot q) = look table slot ≡ Some q
+AreClaimed table (claim slot c) = look table slot ≡ Some c
+AreClaimed table (told s e) = IsTrue (is_told_on s e)
 AreClaimed table (both a b) = AreClaimed table a × AreClaimed table b

@@ -9,6 +9,7 @@ mod lone;
 mod making;
 mod plan;
 mod short;
+mod told;
 mod units;
 
 pub use lone::{is_wild, lone_link, only_link};

@@ -1,6 +1,6 @@
 //! A plan made of a query.
 
-ghost use Rattle.std.specs.Prelude.{◌≡◌, ◌<◌, ◌≤◌, ◌++◌, length, drop, map, Some, IfOk, IfSome, IsTrue, codes};
+ghost use Rattle.std.specs.Prelude.{◌≡◌, ℕ, ◌<◌, ◌≤◌, ◌++◌, length, drop, map, Some, IfOk, IfSome, IsTrue, codes};
 ghost use Rattle.std.specs.List.{All};
 ghost use Rattle.path_grammar.specs.Tree as tree;
 ghost use Rattle.path_grammar.specs.Tree.{Segments, exprs_of};
@@ -10,12 +10,14 @@ ghost use Rattle.decisions.specs.Tree.{listed};
 ghost use Rattle.decisions.specs.Turns.{dealt};
 ghost use Rattle.query_plan.specs.Planned.{trees, joined, all_claims, query_of, claims_of, is_rooted, own_claim, as_argument, calling, condition_view, operand_view, selection_view, nested_view, stage_view, numbered};
 ghost use Rattle.decisions.specs.Views.{constant_view};
+ghost use Rattle.decisions.specs.Told.{is_told_on};
 ghost use Rattle.node_lists.specs.Links.{link_view};
 ghost use Rattle.query_plan.specs.Making.{is_valid_nodes};
 
 use crate::plan::{Condition, Nested, Operand, Parts, Selection, Stage};
 use crate::short::{decided, decided_group};
-use decisions::{Constant, Groups, grouped};
+use crate::told::{in_groups, scale_of};
+use decisions::{Constant, Groups, Scale};
 use node_lists::{Link, Name};
 use path_grammar::{Argument, Call, Comparable, Expr, Literal, Segment, Selector, SubQuery};
 use path_types::ValidQuery;
@@ -32,7 +34,7 @@ fn name(alloc: Global, name: &[char]) -> Result<Name, AllocError>
     })
 }
 
-fn literal(alloc: Global, literal: &Literal) -> Result<Literal, AllocError>
+pub fn literal(alloc: Global, literal: &Literal) -> Result<Literal, AllocError>
     ensures { IfOk result (λ made. literal_view made ≡ literal_view literal.now) }
 {
     match literal {
@@ -210,11 +212,11 @@ fn condition_by_kind(alloc: Global, expr: &Expr, next: &mut u32) -> Result<Condi
     ensures numbered { IfOk result (λ made. numbered (condition_view made).claims next.old ≡ Some next.new) }
 {
     match expr {
-        Expr::Any(operands) => match grouped(alloc, operands)? {
+        Expr::Any(operands) => match in_groups(alloc, operands)? {
             None => Ok(Condition::Any(conditions(alloc, operands, next)?)),
             Some(groups) => joined_parts(alloc, true, operands, groups, next),
         },
-        Expr::Each(operands) => match grouped(alloc, operands)? {
+        Expr::Each(operands) => match in_groups(alloc, operands)? {
             None => Ok(Condition::Each(conditions(alloc, operands, next)?)),
             Some(groups) => joined_parts(alloc, false, operands, groups, next),
         },
@@ -292,7 +294,7 @@ fn parts(
     Ok(made)
 }
 
-// The operands of a group, decided together if they can be.
+// The operands of a group, decided together if they can be, or with their truths kept.
 #[cycle(making)]
 fn part(
     alloc: Global,
@@ -309,7 +311,36 @@ fn part(
 {
     match decided_group(alloc, is_any, operands, numbers, number, next)? {
         Some(made) => Ok(made),
-        None => part_by_kind(alloc, is_any, operands, numbers, number, next),
+        None => {
+            let scale = scale_of(alloc, operands, numbers, number)?;
+            let made = part_by_kind(alloc, is_any, operands, numbers, number, next)?;
+            with_slot(alloc, scale, made, next)
+        }
+    }
+}
+
+// The condition, with a slot for its truths where it has a scale.
+#[tactic(auto, using(crate::proofs::Claims::numbered_kept))]
+fn with_slot(
+    alloc: Global,
+    scale: Option<Scale>,
+    made: Condition,
+    next: &mut u32,
+) -> Result<Condition, AllocError>
+    requires { IfSome scale (λ s. IsTrue (is_told_on s (condition_view made).tree)) }
+    ensures same { IfOk result (λ kept. (condition_view kept).tree ≡ (condition_view made).tree) }
+    ensures numbered { IfOk result (λ kept. (k : ℕ) → numbered (condition_view made).claims k ≡ Some next.old → numbered (condition_view kept).claims k ≡ Some next.new) }
+{
+    let Some(scale) = scale else {
+        return Ok(made);
+    };
+    let slot = *next;
+    match slot.checked_add(1) {
+        None => Err(AllocError),
+        Some(behind) => {
+            *next = behind;
+            Ok(Condition::Remembered(slot, scale, Box::new(alloc, made)?))
+        }
     }
 }
 

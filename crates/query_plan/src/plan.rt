@@ -1,6 +1,6 @@
 //! A query made ready for evaluation: a tree in which the kind of each part is decided.
 
-use decisions::{Constant, Decision};
+use decisions::{Constant, Decision, Scale};
 use node_lists::Link;
 use path_grammar::{IntLit, Op};
 
@@ -39,6 +39,8 @@ pub enum Condition {
     Exists(Nested),
     /// A condition that compares one side with literals, decided for each place of its value among them.
     Decided(Operand, Box<Decision>),
+    /// A condition that is told on this scale, and the number of its slot. Its truth is kept for each cell.
+    Remembered(u32, Scale, Box<Condition>),
     /// The operands of all of these with `||` between them, or with `&&`, as the flag says; one that has no such operands is itself one. The
     /// numbers say for each operand of the query in turn of which it is the next.
     Joined(bool, Vec<usize>, Vec<Condition>),

@@ -99,6 +99,7 @@ pub fn units_of(doc: &Document, condition: &Condition, child: NodeId) -> Option<
         }
         Condition::Exists(query) => units_of_query(doc, query, child),
         Condition::Decided(operand, decision) => units_of_decided(doc, operand, decision, child),
+        Condition::Remembered(..) => None,
         Condition::Joined(is_any, numbers, parts) => {
             units_of_joined(doc, *is_any, numbers, parts, child)
         }

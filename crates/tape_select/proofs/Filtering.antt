@@ -224,6 +224,19 @@ charge_step root ns ss i item lt e =
     ap (λ (xs : List Stage). charge_from root (query_of xs) ns) (drop_more ss i item lt)
     ∙ ap (λ (x : Stage). charge_after root (stage_view x).tree ns + charge_from root (query_of (drop (i + 1) ss)) (nodes_after root (stage_view x).tree ns)) (sym e)
 
+-- one stage alone
+pub one_stage : (ss : List Stage) (s : Stage) → 1 ≤ length ss → length ss < 2 → s ≡ get_or ss 0 s → ss ≡ s ∷ []
+one_stage [] s l m e = absurd (omega arith)
+one_stage (x ∷ []) s l m e = ap (λ (y : Stage). y ∷ []) (sym e)
+one_stage (x ∷ y ∷ ss) s l m e = absurd (omega arith)
+
+pub finds_one : (d : Doc) (r : Result (Vec NodeId Global) SelectFault) (root n : Node) (ss : List Stage) (s : Stage) (old new : ℕ) → ss ≡ s ∷ []
+    → FindsList d r (nodes_after root (stage_view s).tree (n ∷ [])) (charge_after root (stage_view s).tree (n ∷ [])) old new
+    → FindsList d r (evaluated root (query_of ss) (n ∷ [])) (charge_from root (query_of ss) (n ∷ [])) old new
+finds_one d (Ok v) root n ss s old new e h = let paid = h.1 in rw e (h.0, omega (arith, paid))
+finds_one d (Err f) root n ss s old new e h =
+    rw e (refuses_from (charge_after root (stage_view s).tree (n ∷ [])) old (charge_from root (query_of (s ∷ [])) (n ∷ [])) old f (λ l. omega (arith, l)) h)
+
 -- ---- Descendants
 
 no_elements : (up : List Step) (k : ℕ) (t : Tree) → children_of up k t ≡ [] → elements_of up k t ≡ []

@@ -1,3 +1,5 @@
 pub mod Found
 pub mod Slots
 pub mod Filtering
+pub mod Rows
+pub mod Telling

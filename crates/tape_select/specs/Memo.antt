@@ -1,14 +1,17 @@
--- What was found for the queries from the root is right.
-use Rattle.std.specs.Prelude.{◌≡◌, ℕ, suc, ◌+◌, List, [], ◌∷◌, length, Option, Some, None, Result, MatchResult}
+-- What was found for the queries from the root is right, and so are the truths that are kept.
+use Rattle.std.specs.Prelude.{◌≡◌, ℕ, suc, ◌+◌, Bool, List, [], ◌∷◌, length, Option, Some, None, Result, MatchResult}
+use Rattle.std.specs.declared.alloc.Global.{Global}
+use Rattle.std.specs.declared.vec.Vec.{Vec}
 use Rattle.path_grammar.specs.Tree.{Segments, Nested, nested}
 use Rattle.json_tape.specs.Nodes.{Node}
 use Rattle.json_tape.specs.Document.{Doc, node_at, IsIn}
 use Rattle.tape_values.specs.Comparison.{Value}
 use Rattle.compared_sides.specs.Values.{value_found}
 use Rattle.tape_values.specs.Functions.{only_value}
-use Rattle.node_lists.specs.Evaluation.{evaluated, start}
+use Rattle.decisions.specs.Told.{IsCell}
+use Rattle.node_lists.specs.Evaluation.{evaluated, holds, start}
 use Rattle.node_lists.specs.Charge.{charge_from}
-use Rattle.query_plan.specs.Planned.{Claims, look}
+use Rattle.query_plan.specs.Planned.{Claimed, a_query, a_condition, Claims, look}
 use Rattle.tape_select.specs.declared.state.Found.{Found}
 use Rattle.tape_select.specs.declared.state.State.{State}
 use Rattle.compared_sides.specs.Answered.{AreRight}
@@ -26,13 +29,14 @@ pub record IsFound (d : Doc) (from : Node) (q : Segments) (f : Found) : Type 0 w
   pub charge : f.charge ≡ charge_from (node_at d 0) q (from ∷ [])
 
 -- where some query has the slot, this was found for it from the root
-abbrev pub IsFoundAt : Doc → Option Segments → Found → Type 0
+abbrev pub IsFoundAt : Doc → Option Claimed → Found → Type 0
 IsFoundAt d None f = Unit {0}
-IsFoundAt d (Some q) f = IsFound d (node_at d 0) q f
+IsFoundAt d (Some (a_query q)) f = IsFound d (node_at d 0) q f
+IsFoundAt d (Some (a_condition s e)) f = Unit {0}
 
-abbrev pub IsKept : Doc → Option Segments → Option Found → Type 0
-IsKept d q None = Unit {0}
-IsKept d q (Some f) = IsFoundAt d q f
+abbrev pub IsKept : Doc → Option Claimed → Option Found → Type 0
+IsKept d c None = Unit {0}
+IsKept d c (Some f) = IsFoundAt d c f
 
 -- each slot that is filled is right
 abbrev pub RightFrom : Doc → Claims → ℕ → List (Option Found) → Type 0
@@ -54,6 +58,33 @@ FindsFor d r (nested from_root q) n old new = FindsNodes d r q (start (node_at d
 abbrev pub FindsSide : Doc → Result Side SelectFault → Option Value → (charge old new : ℕ) → Type 0
 FindsSide d r value charge old new = MatchResult r (λ side. (side_value d side ≡ value) × IsSide d side × (new + charge ≡ old)) (λ e. Refuses charge old e)
 
+-- ---- Truths of conditions
+
+-- where some condition has the slot, it has this truth at each node of the cell with this number
+abbrev pub IsTruth : Doc → Option Claimed → ℕ → Bool → Type 0
+IsTruth d None i held = Unit {0}
+IsTruth d (Some (a_query q)) i held = Unit {0}
+IsTruth d (Some (a_condition s e)) i held = (n : Node) → IsCell (node_at d 0) n s i → holds (node_at d 0) e n ≡ held
+
+abbrev pub IsTruthKept : Doc → Option Claimed → ℕ → Option Bool → Type 0
+IsTruthKept d c i None = Unit {0}
+IsTruthKept d c i (Some held) = IsTruth d c i held
+
+-- each of a list, with its number from this one on
+abbrev pub EachFrom : {X : Type 0} → (ℕ → X → Type 0) → ℕ → List X → Type 0
+EachFrom P k [] = Unit {0}
+EachFrom P k (x ∷ xs) = P k x × EachFrom P (suc k) xs
+
+abbrev pub AreTruths : Doc → Option Claimed → List (Option Bool) → Type 0
+AreTruths d c xs = EachFrom (IsTruthKept d c) 0 xs
+
+-- a row for each slot
+abbrev pub IsRow : Doc → Claims → ℕ → Vec (Option Bool) Global → Type 0
+IsRow d table slot row = AreTruths d (look table slot) row.items
+
+abbrev pub AreRows : Doc → Claims → List (Vec (Option Bool) Global) → Type 0
+AreRows d table rows = EachFrom (IsRow d table) 0 rows
+
 -- what is kept is right
 abbrev pub Keeps : Doc → Claims → State → Type 0
-Keeps d table s = Right d table s.slots.items × AreRight d s.answers.items × AreCounted d s.lengths.kept.items
+Keeps d table s = Right d table s.slots.items × AreRight d s.answers.items × AreCounted d s.lengths.kept.items × AreRows d table s.truths.items

@@ -1,23 +1,25 @@
 //! Evaluation by a plan.
 
-ghost use Rattle.std.specs.Prelude.{◌≡◌, ◌<◌, ◌+◌, ◌*◌, ◌∷◌, [], ◌++◌, length, map, flat_map, filter, Some};
+ghost use Rattle.std.specs.Prelude.{◌≡◌, ◌<◌, ◌+◌, ◌*◌, ◌∷◌, [], ◌++◌, length, map, flat_map, filter, Some, IsTrue};
 ghost use Rattle.json_tape.specs.Document.{count, node_at};
 ghost use Rattle.json_tape.specs.Nodes.{children, visit};
 ghost use Rattle.path_grammar.specs.Tree.{exprs_of, selectors_of};
 ghost use Rattle.decisions.specs.Tree.{expr_of, listed};
 ghost use Rattle.decisions.specs.Views.{test_view};
+ghost use Rattle.decisions.specs.Told.{is_told_on};
 ghost use Rattle.node_lists.specs.Evaluation.{evaluated, selected, selected_by, holds, some_hold, all_hold, result as side_result};
 ghost use Rattle.node_lists.specs.Nodelists.{nodes_of};
 ghost use Rattle.node_lists.specs.Charge.{total_of, charge_from, charge_expr, charge_exprs, charge_side};
 ghost use Rattle.node_lists.specs.Extra.{extra_in, extra_by, nodes_from, charge_at, nodes_after, charge_after};
 ghost use Rattle.node_lists.specs.Paying.{Inside, Pays, Adds, Finds, FindsList};
-ghost use Rattle.query_plan.specs.Planned.{trees, joined, query_of, path_of, claims_of, all_claims, look, condition_view, operand_view, selection_view, nested_view, stage_view};
+ghost use Rattle.query_plan.specs.Planned.{a_query, a_condition, trees, joined, query_of, path_of, claims_of, all_claims, look, condition_view, operand_view, selection_view, nested_view, stage_view};
 ghost use Rattle.query_plan.specs.Slots.{AreClaimed};
 ghost use Rattle.tape_select.specs.Memo.{FindsNodes, FindsFor, FindsSide, Keeps};
 
 use crate::state::{Found, State, found_by_links, found_in, keep, recall};
-use compared_sides::{compare, compare_length, length_of, related, side_found};
-use decisions::{Decision, tells_as_compared};
+use crate::truths::{keep as keep_truth, known};
+use compared_sides::{cell_of, compare, compare_length, length_of, related, side_found};
+use decisions::{Decision, Scale, tells_as_compared, tells_by_marks};
 use json_tape::{Document, NodeId};
 use node_lists::{
     Link, SelectFault, child_total, children_below, followed, lone, named, push, push_some, sliced,
@@ -26,6 +28,7 @@ use node_lists::{
 use query_plan::{
     Condition, Nested, Operand, Parts, Selection, Stage, is_wild, lone_link, only_link, units_of,
 };
+use std::slice::from_ref;
 use tape_values::{Side, compare_found};
 
 // The children for which a condition holds.
@@ -120,10 +123,46 @@ fn holds_by_kind(
         Condition::Decided(operand, decision) => {
             decided(doc, plan, operand, decision, child, state)
         }
+        Condition::Remembered(slot, scale, operand) => {
+            remembered(doc, plan, *slot, scale, operand, child, state)
+        }
         Condition::Joined(is_any, numbers, parts) => {
             joined_hold(doc, plan, *is_any, numbers, parts, child, state)
         }
     }
+}
+
+// Whether a condition that is told on a scale holds: found once for each cell.
+#[cycle(evaluation)]
+#[inline(never)]
+fn remembered(
+    doc: &Document,
+    plan: &Parts,
+    slot: u32,
+    scale: &Scale,
+    condition: &Condition,
+    child: NodeId,
+    state: &mut State,
+) -> Result<bool, SelectFault>
+    requires inside { child.0 < count doc.now }
+    requires claimed { AreClaimed (claims_of plan.now.stages.items) (condition_view condition.now).claims }
+    requires told { IsTrue (is_told_on scale.now (condition_view condition.now).tree) }
+    requires mine { look (claims_of plan.now.stages.items) slot ≡ Some (a_condition scale.now (condition_view condition.now).tree) }
+    requires kept { Keeps doc.now (claims_of plan.now.stages.items) state.old }
+    ensures found { Finds result (holds (node_at doc.now 0) (condition_view condition.now).tree (node_at doc.now child.0)) (charge_expr (node_at doc.now 0) (condition_view condition.now).tree (node_at doc.now child.0)) state.old.meter.left state.new.meter.left }
+    ensures kept { Keeps doc.now (claims_of plan.now.stages.items) state.new }
+{
+    tells_as_compared();
+    tells_by_marks();
+    let Some(cell) = cell_of(doc, scale, child, &mut state.lengths, &mut state.answers) else {
+        return holds_by_kind(doc, plan, condition, child, state);
+    };
+    if let Some(held) = known(doc, plan, &state.truths, slot, cell) {
+        return Ok(held);
+    }
+    let held = holds_by_kind(doc, plan, condition, child, state)?;
+    keep_truth(state.alloc, doc, plan, &mut state.truths, slot, cell, held);
+    Ok(held)
 }
 
 // Whether one of the operands of all parts holds, or each.
@@ -354,7 +393,7 @@ fn found_once(
     slot: u32,
     state: &mut State,
 ) -> Result<Found, SelectFault>
-    requires mine { look (claims_of plan.now.stages.items) slot ≡ Some (path_of links.now stages.now) }
+    requires mine { look (claims_of plan.now.stages.items) slot ≡ Some (a_query (path_of links.now stages.now)) }
     requires claimed { AreClaimed (claims_of plan.now.stages.items) (claims_of stages.now) }
     requires kept { Keeps doc.now (claims_of plan.now.stages.items) state.old }
     ensures found { FindsNodes doc.now result (path_of links.now stages.now) (node_at doc.now 0) state.old.meter.left state.new.meter.left }
@@ -421,9 +460,30 @@ fn found_behind(
     Ok(found_in(doc, &nodes, units - state.meter.left))
 }
 
-/// The nodes that the stages select from a node.
+/// The nodes that the stages select from a node. One stage, as most queries in filters have, takes no list of that node.
 #[cycle(evaluation)]
 pub fn all_selected(
+    doc: &Document,
+    plan: &Parts,
+    stages: &[Stage],
+    n: NodeId,
+    state: &mut State,
+) -> Result<Vec<NodeId>, SelectFault>
+    requires inside { n.0 < count doc.now }
+    requires claimed { AreClaimed (claims_of plan.now.stages.items) (claims_of stages.now) }
+    requires kept { Keeps doc.now (claims_of plan.now.stages.items) state.old }
+    ensures found { FindsList doc.now result (evaluated (node_at doc.now 0) (query_of stages.now) (node_at doc.now n.0 ∷ [])) (charge_from (node_at doc.now 0) (query_of stages.now) (node_at doc.now n.0 ∷ [])) state.old.meter.left state.new.meter.left }
+    ensures kept { Keeps doc.now (claims_of plan.now.stages.items) state.new }
+{
+    match stages {
+        [stage] => after_stage(doc, plan, stage, from_ref(&n), state),
+        _ => selected_in_turn(doc, plan, stages, n, state),
+    }
+}
+
+// The same, stage by stage.
+#[cycle(evaluation)]
+fn selected_in_turn(
     doc: &Document,
     plan: &Parts,
     stages: &[Stage],

@@ -8,6 +8,7 @@ mod evaluation;
 mod planning;
 mod selecting;
 mod state;
+mod truths;
 
 pub use evaluation::{does_hold, from_node, visit_total};
 pub use node_lists::SelectFault;

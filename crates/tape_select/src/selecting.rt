@@ -59,6 +59,7 @@ pub fn select_all(
         slots,
         answers: Vec::new(alloc),
         lengths: no_lengths(alloc, doc),
+        truths: Vec::new(alloc),
     };
     let nodes = all_selected(doc, plan, &plan.stages, doc.root(), &mut state)?;
     Ok(Selected {

@@ -26,7 +26,7 @@ pub struct Found {
     pub charge: u64,
 }
 
-/// The units that are left, a slot for each query from the root, and comparisons and lengths that were found.
+/// The units that are left, a slot for each query from the root, and comparisons, lengths and truths that were found.
 #[derive(Drop)]
 pub struct State {
     pub alloc: Global,
@@ -34,6 +34,8 @@ pub struct State {
     pub slots: Vec<Option<Found>>,
     pub answers: Vec<Option<Answer>>,
     pub lengths: Lengths,
+    /// For each slot of a condition its truths, by cells.
+    pub truths: Vec<Vec<Option<bool>>>,
 }
 
 /// What the slot holds, where it is filled.

@@ -12,10 +12,10 @@ use Rattle.node_lists.specs.Evaluation.{selected, holds}
 use Rattle.node_lists.specs.Nodelists.{nodes_of}
 use Rattle.node_lists.specs.Charge.{total_of, charge_from, charge_expr}
 use Rattle.node_lists.specs.Extra.{extra_in, nodes_from, charge_at}
-use Rattle.query_plan.specs.Planned.{claims_of, query_of, path_of, trees, condition_view, operand_view, selection_view, stage_view, With, condition_step, operand_step, selection_step, nested_step, stage_step}
+use Rattle.query_plan.specs.Planned.{look, claims_of, query_of, path_of, trees, condition_view, operand_view, selection_view, stage_view, With, condition_step, operand_step, selection_step, nested_step, stage_step}
 use Rattle.node_lists.specs.Links.{links_view}
 use Rattle.query_plan.specs.declared.plan.Condition.TheFolds.{fold_out-Selection}
-use Rattle.tape_select.proofs.Filtering.{stage_claimed, evaluated_step, charge_step, adds_paid, more_of, staying, staying_charge, descending, descending_charge, filter_charge, keep_more, keep_not, leaf_holds, leaf_costs, finds_linked}
+use Rattle.tape_select.proofs.Filtering.{stage_claimed, evaluated_step, charge_step, adds_paid, more_of, staying, staying_charge, descending, descending_charge, filter_charge, keep_more, keep_not, leaf_holds, leaf_costs, finds_linked, one_stage, finds_one}
 use Rattle.node_lists.proofs.Following.{refuses_from, nothing_from_nothing, nothing_for_nothing}
 use Rattle.query_plan.proofs.Links.{links_charged, links_charged_first}
 use Rattle.tape_select.proofs.Found.{found_through}
@@ -23,10 +23,18 @@ use Rattle.node_lists.proofs.Adding.{drawn, drawn_inside}
 use Rattle.node_lists.proofs.Naming.{adds_named, adds_wild}
 use Rattle.query_plan.proofs.Deciding.{free, paid, refused_first, refused_then}
 use Rattle.query_plan.proofs.Joining.{finds_some, finds_all}
+use Rattle.tape_select.proofs.Telling.{kept, recalled, charged_nothing}
 use Rattle.tape_select.proofs.evaluation.+evaluation.Goals as goal
 
-pub all_selected-loop-stage-preserved : goal.all_selected-loop-stage-preserved
-all_selected-loop-stage-preserved t c =
+pub all_selected-returns-in-len1-clause-found : goal.all_selected-returns-in-len1-clause-found
+all_selected-returns-in-len1-clause-found t c =
+    let d = c.args.doc.now in
+    let one = one_stage c.args.stages.now c.stage-item.result c.in-len1.len_at_least c.in-len1.len_below c.stage-item.is in
+    let got = rw c.from_ref.ensures.value at (c.after_stage.ensures).found in
+    finds_one d c.after_stage.result (node_at d 0) (node_at d c.args.n.0) c.args.stages.now c.stage-item.result c.args.state.now.meter.left c.after_stage.new.state.meter.left one got
+
+pub selected_in_turn-loop-stage-preserved : goal.selected_in_turn-loop-stage-preserved
+selected_in_turn-loop-stage-preserved t c =
     let d = c.args.doc.now in
     let r = node_at d 0 in
     let ns = nodes_of d c.loop-stage.nodes.items in
@@ -44,8 +52,8 @@ all_selected-loop-stage-preserved t c =
       sound = got.0.inside;
     }
 
-pub all_selected-returns-in_err-nodes-2-clause-found : goal.all_selected-returns-in_err-nodes-2-clause-found
-all_selected-returns-in_err-nodes-2-clause-found t c =
+pub selected_in_turn-returns-in_err-nodes-2-clause-found : goal.selected_in_turn-returns-in_err-nodes-2-clause-found
+selected_in_turn-returns-in_err-nodes-2-clause-found t c =
     let d = c.args.doc.now in
     let r = node_at d 0 in
     let ns = nodes_of d c.loop-stage.nodes.items in
@@ -290,3 +298,17 @@ pub joined_hold-returns-clause-found : goal.joined_hold-returns-clause-found
 joined_hold-returns-clause-found t c =
     let d = c.args.doc.now in
     finds_all (node_at d 0) (node_at d c.args.child.0) c.all_hold.result c.args.is_any c.args.numbers.now (trees (map condition_view c.args.parts.now)) c.args.state.now.meter.left c.all_hold.new.state.meter.left c.if-is_any.false c.all_hold.ensures.found
+
+pub remembered-returns-in-Some-known-clause-found : goal.remembered-returns-in-Some-known-clause-found
+remembered-returns-in-Some-known-clause-found t c =
+    let d = c.args.doc.now in
+    let e = (condition_view c.args.condition.now).tree in
+    let n = node_at d c.args.child.0 in
+    let nothing = charged_nothing (node_at d 0) n c.args.scale.now e c.requires.told in
+    (sym (recalled d (look (claims_of c.args.plan.now.stages.items) c.args.slot) c.args.scale.now e n c.in-Some.cell c.in-Some-known.held c.requires.mine (c.in-Some.ensures).cell c.in-Some-known.ensures), omega (arith, nothing))
+
+pub remembered-keep-requires-clause-held : goal.remembered-keep-requires-clause-held
+remembered-keep-requires-clause-held t c =
+    let d = c.args.doc.now in
+    kept c.tells_as_compared.ensures c.tells_by_marks.ensures d (look (claims_of c.args.plan.now.stages.items) c.args.slot) c.args.scale.now (condition_view c.args.condition.now).tree (node_at d c.args.child.0)
+    c.in-Some.cell c.in_ok-held.held c.requires.mine c.requires.told (c.in-Some.ensures).cell (c.in_ok-held.ensures).found.0

@@ -76,8 +76,8 @@ invariant-after_each-loop-n l = record {
   sound : Inside l.doc l.out.items;
 }
 
-abbrev pub invariant-all_selected-loop-stage : goal.invariant-all_selected-loop-stage
-invariant-all_selected-loop-stage l = record {
+abbrev pub invariant-selected_in_turn-loop-stage : goal.invariant-selected_in_turn-loop-stage
+invariant-selected_in_turn-loop-stage l = record {
   same : evaluated (node_at l.doc 0) (query_of (drop l.stage-index l.stages)) (nodes_of l.doc l.nodes.items)
       ≡ evaluated (node_at l.doc 0) (query_of l.stages) (node_at l.doc l.fn.n.0 ∷ []);
   paid : l.state.meter.left + charge_from (node_at l.doc 0) (query_of l.stages) (node_at l.doc l.fn.n.0 ∷ [])

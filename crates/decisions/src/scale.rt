@@ -1,0 +1,69 @@
+//! Literals in order, among which a value has a mark.
+
+ghost use Rattle.std.specs.Prelude.{◌≡◌, map, IsTrue, IfOk, IfSome};
+ghost use Rattle.std.specs.List.Sorted.{IsSortedByKey};
+ghost use Rattle.tape_values.specs.Sides.{side_value, IsSide};
+ghost use Rattle.decisions.specs.Marks.{mark, cell, are_among};
+ghost use Rattle.decisions.specs.Order.{value_cmp};
+ghost use Rattle.decisions.specs.Views.{constant_view, constant_value};
+
+use crate::gathering::in_order;
+use crate::order::side_kind;
+use crate::places::side_place;
+use crate::test::Constant;
+use decimal_order::orders_values;
+use json_tape::Document;
+use std::alloc::AllocError;
+use tape_values::Side;
+
+/// The literals of a condition in order. A condition that compares `@` and its length with these alone is told by their marks.
+#[derive(Drop)]
+pub struct Scale {
+    pub literals: Vec<Constant>,
+    /// Whether the condition may compare `@` or `$` with these too.
+    pub is_rooted: bool,
+    ghost sorted: { IsSortedByKey constant_value value_cmp literals.items },
+}
+
+// The mark of a value.
+#[tactic(auto, using(crate::proofs::Decided::kinds_below))]
+fn mark<'a>(doc: &'a Document, literals: &'a [Constant], side: &Side<'a>) -> usize
+    requires side { IsSide doc.now side.now }
+    requires sorted { IsSortedByKey constant_value value_cmp literals.now }
+    ensures { result ≡ mark (map constant_value literals.now) (side_value doc.now side.now) }
+{
+    side_kind(doc, side) + side_place(doc, literals, side)
+}
+
+impl Scale {
+    /// That of these literals. `AllocError` where a growth was refused.
+    pub fn new(found: Vec<Constant>, is_rooted: bool) -> Result<Scale, AllocError>
+        ensures rooted { IfOk result (λ scale. scale.is_rooted ≡ is_rooted) }
+        ensures known { IfOk result (λ scale. IsTrue (are_among (map constant_value scale.literals.items) (map constant_view found.items))) }
+    {
+        orders_values();
+        let literals = in_order(found)?;
+        Ok(Scale {
+            literals,
+            is_rooted,
+        })
+    }
+
+    /// The cell of two values, where there is a number for it.
+    pub fn cell<'a>(
+        &'a self,
+        doc: &'a Document,
+        first: &Side<'a>,
+        second: &Side<'a>,
+    ) -> Option<usize>
+        requires first { IsSide doc.now first.now }
+        requires second { IsSide doc.now second.now }
+        ensures { IfSome result (λ i. i ≡ cell (map constant_value self.now.literals.items) (side_value doc.now first.now) (side_value doc.now second.now)) }
+    {
+        let width = (2 * self.literals.len()).checked_add(7)?;
+        let row = mark(doc, &self.literals, first);
+        let column = mark(doc, &self.literals, second);
+        let before = row.checked_mul(width)?;
+        before.checked_add(column)
+    }
+}
