@@ -1,5 +1,5 @@
 -- The orders that a document keeps.
-use Rattle.std.proofs.Common.{◌≡◌, ℕ, ◌<◌, List, length, Option, Some, None, MatchOption, subst}
+use Rattle.std.proofs.Common.{◌≡◌, ℕ, ◌<◌, List, length, Option, Some, None, MatchOption, Bor, subst}
 use Rattle.std.specs.List.{Contains}
 use Rattle.std.proofs.lemmas.List.Elements.{All-contains}
 use Rattle.json_text.specs.Tape.{entry_in}
@@ -7,13 +7,12 @@ use Rattle.json_text.specs.Suspects.{IsWide}
 use Rattle.json_tape.specs.Document.{Doc, count}
 use Rattle.name_order.specs.Ordered.{AreKept, IsOrderOf}
 use Rattle.name_order.specs.Orders.{Order}
-use Rattle.name_order.specs.declared.orders.Run.{Run}
 
 -- what was found among the orders of the fields, of the value
 module _ (i d : Doc) (e : i ≡ d) (orders : List Order) (kept : AreKept i.text i.entries (length i.entries) orders) where
-  pub order_found : (n : ℕ) → n < count d → (found : Option Run) → MatchOption found ((o : Order) → Contains orders o → o.object ≡ n → ⊥) (λ run. Contains orders (record { object = n; hashes = run.hashes.now; members = run.members.now }))
-      → MatchOption found (IsWide (entry_in d.entries n) → ⊥) (λ run. IsOrderOf d.text d.entries n run.hashes.now run.members.now)
+  pub order_found : (n : ℕ) → n < count d → (found : Option (Bor (List ℕ))) → MatchOption found ((o : Order) → Contains orders o → o.object ≡ n → ⊥) (λ words. Contains orders (record { object = n; words = words.now }))
+      → MatchOption found (IsWide (entry_in d.entries n) → ⊥) (λ words. IsOrderOf d.text d.entries n words.now)
   unfolding count
   order_found n h None none = λ w. let (o, c, q) = (subst (λ (x : Doc). AreKept x.text x.entries (length x.entries) orders) e kept).all n h w in none o c q
-  order_found n h (Some run) c = subst (λ (x : Doc). IsOrderOf x.text x.entries n run.hashes.now run.members.now) e
-      (All-contains (λ (o : Order). (o.object < length i.entries) × IsOrderOf i.text i.entries o.object o.hashes o.members) orders (record { object = n; hashes = run.hashes.now; members = run.members.now }) kept.each c).1
+  order_found n h (Some words) c = subst (λ (x : Doc). IsOrderOf x.text x.entries n words.now) e
+      (All-contains (λ (o : Order). (o.object < length i.entries) × IsOrderOf i.text i.entries o.object o.words) orders (record { object = n; words = words.now }) kept.each c).1

@@ -15,12 +15,12 @@ use Rattle.json_tape.specs.Document.{Doc, Spot, IsDocument, spots, spots_from, s
 use Rattle.json_text.specs.declared.tape.Kind.TheVariants as kinds
 use Rattle.json_text.specs.Repeats.{IsObject}
 use Rattle.json_strings.specs.Keys.{Keyed, key_number}
-use Rattle.name_order.specs.Ordered.{keyed, name_at, AreNamed, IsOrderOf}
+use Rattle.name_order.specs.Ordered.{keyed, name_at, members_of, AreNamed, IsOrderOf}
 use Rattle.json_tape.proofs.Spots.{top, inner, one_of, place_is, spot_count}
 use Rattle.json_tape.proofs.Readers.{none_there, kind_is}
 use Rattle.json_tape.proofs.TreeBuilt.{tree_is}
 use Rattle.name_order.proofs.KeysLeft.{IsGood, all_good}
-use Rattle.name_order.proofs.Halving.{one_place}
+use Rattle.name_order.proofs.Halving.{member_inside, one_place}
 use Rattle.name_order.proofs.TwinNames.{object_of}
 
 -- where the spots of a part stand
@@ -144,7 +144,10 @@ module _ (d : Doc) (s : IsDocument d) (name : List ℕ) where
   number_in (x ∷ ks) y (zero, l, e) = (0, omega arith, ap key_number e)
   number_in (x ∷ ks) y (suc i, l, e) = let r = number_in ks y (i, omega arith, e) in (suc r.0, (let h = r.1 in omega arith), r.2)
 
-  module _ (n : ℕ) (hashes members : List ℕ) (order : IsOrderOf d.text d.entries n hashes members) (ms : Members) (o : IsObject d.text d.entries n ms) where
+  module _ (n : ℕ) (words : List ℕ) (order : IsOrderOf d.text d.entries n words) (ms : Members) (o : IsObject d.text d.entries n ms) where
+    abbrev members : List ℕ
+    members = members_of words
+
     -- a member that is found is the first of its name
     pub found_first : (m : ℕ) → Contains members m → name_at d.text d.entries m ≡ name → node_at d m ∷ [] ≡ first_where (is_named name) (children (node_at d n))
     found_first m c e = go (object_first n ms o)
@@ -167,7 +170,7 @@ module _ (d : Doc) (s : IsDocument d) (name : List ℕ) where
             let b : get_or members j 0 ≡ m = get_or_default members j 0 m r ∙ p in
             let both : name_at d.text d.entries (get_or members j 0) ≡ name_at d.text d.entries (get_or members i 0) =
             ap (name_at d.text d.entries) b ∙ e ∙ sym g ∙ sym (good y h).named ∙ sym (ap (name_at d.text d.entries) a) in
-            let one = one_place d.text d.entries hashes members name order.named j i r l both in
+            let one = one_place d.text d.entries words name order.named j i r l both in
             ap (λ k. node_at d k ∷ []) (sym b ∙ one ∙ a) ∙ sym f
 
     -- where no member is found, none has the name
@@ -186,9 +189,9 @@ unfolding count
 object_in d s n h k = object_of d.text d.entries (tree_of d) s.accepted.0 s.tape n nothing_there h (kind_is d s n h (entry_in d.entries n) (get_or_default d.entries n nothing_there (entry_in d.entries n) h) ∙ k)
 
 -- a member that was found is a node
-pub found_in : (d : Doc) (hashes members : List ℕ) → AreNamed d.text d.entries hashes members → (m : ℕ) → Contains members m → m < count d
+pub found_in : (d : Doc) (words : List ℕ) → AreNamed d.text d.entries words → (m : ℕ) → Contains (members_of words) m → m < count d
 unfolding count
-found_in d hashes members named m (i, l, e) = let a : get_or members i 0 ≡ m = get_or_default members i 0 m l ∙ e in subst (λ k. k < length d.entries) a (named.inside i l)
+found_in d words named m (i, l, e) = subst (λ k. k < length d.entries) (get_or_default (members_of words) i 0 m l ∙ e) (member_inside d.text d.entries words [] named i l)
 
 -- from the fields to the value
 pub same_name : (i d : Doc) → i ≡ d → (text : List ℕ) → text ≡ i.text → (m : ℕ) → name_at text i.entries m ≡ name_at d.text d.entries m

@@ -26,7 +26,7 @@ use json_strings::{
 };
 use json_text::{BuildFault, Entry, Kind, Lead, NodeId, Role, TextFault};
 use json_walk::walk;
-use name_order::{NameOrder, Run, is_wide, member_in};
+use name_order::{NameOrder, is_wide, member_in};
 use std::alloc::Global;
 use std::marker::Model;
 use structural_index::{Index, Looks, index, index_and_copy};
@@ -215,11 +215,11 @@ impl Document {
         self.tape.after(n.0)
     }
 
-    // The order of a wide object's members; `None` of any other value.
-    fn run(&self, n: NodeId) -> Option<Run<'_>>
+    // The members of a wide object as words in their order; `None` of any other value.
+    fn run(&self, n: NodeId) -> Option<&[u64]>
         requires { n.0 < count self.now }
         ensures document { IsDocument self.now }
-        ensures order { MatchOption result (IsWide (entry_in self.now.entries n.0) → ⊥) (λ run. IsOrderOf self.now.text self.now.entries n.0 run.hashes.now run.members.now) }
+        ensures order { MatchOption result (IsWide (entry_in self.now.entries n.0) → ⊥) (λ words. IsOrderOf self.now.text self.now.entries n.0 words.now) }
     {
         if is_wide(self.entry(n)) {
             self.names.run(n.0)
@@ -491,7 +491,7 @@ impl Document {
     {
         match self.run(n) {
             None => self.first_meant(n, sought),
-            Some(run) => match member_in(&self.text, &self.tape, run, sought) {
+            Some(words) => match member_in(&self.text, &self.tape, words, sought) {
                 Some(number) => Some(NodeId(number)),
                 None => None,
             },

@@ -2,29 +2,43 @@
 use Rattle.std.proofs.Common.{◌≡◌, ℕ, ◌+◌, ◌<◌, ◌≤◌, List, length, get_or, inl, inr, sym, ap, ◌∙◌, subst, arith}
 use Rattle.std.proofs.lemmas.Bool.{cases_lt}
 use Rattle.std.proofs.lemmas.Cmp.{tied_itself}
+use Rattle.std.proofs.lemmas.List.{length-map, get_or-map}
+use Rattle.std.proofs.lemmas.List.Elements.{Contains-get_or}
+use Rattle.std.specs.List.{Contains}
 use Rattle.std.specs.Ordering.{ordering_reverse, is_eq}
 use Rattle.std.specs.Cmp.Lexicographic.{bytes_decides}
 use Rattle.std.specs.declared.cmp.Ordering.TheVariants.{Less, Equal, Greater}
 use Rattle.json_text.specs.declared.tape.Entry.{Entry}
-use Rattle.name_order.specs.Ordered.{AreNamed, name_at}
+use Rattle.name_order.specs.Ordered.{AreNamed, members_of, name_at, name_in}
+use Rattle.name_order.specs.Orders.{low_half}
 use Rattle.json_strings.specs.Keys.{name_cmp}
 use Rattle.json_strings.specs.KeyOrder.{names_total, names_tie}
 
 -- the name stands neither before the first place nor from the second on
-pub record Between (text : List ℕ) (tape : List Entry) (members : List ℕ) (name : List ℕ) (low high : ℕ) : Type 0 where
-  pub inside : high ≤ length members
-  pub below : (k : ℕ) → k < low → name_cmp (name_at text tape (get_or members k 0)) name ≡ Less
-  pub above : (k : ℕ) → high ≤ k → k < length members → name_cmp (name_at text tape (get_or members k 0)) name ≡ Greater
+pub record Between (text : List ℕ) (tape : List Entry) (words : List ℕ) (name : List ℕ) (low high : ℕ) : Type 0 where
+  pub inside : high ≤ length words
+  pub below : (k : ℕ) → k < low → name_cmp (name_in text tape (get_or words k 0)) name ≡ Less
+  pub above : (k : ℕ) → high ≤ k → k < length words → name_cmp (name_in text tape (get_or words k 0)) name ≡ Greater
 
 -- names that tie are the same
 pub tied : (x y : List ℕ) → name_cmp x y ≡ Equal → x ≡ y
 tied x y e = (bytes_decides x y).0 (names_tie x y ∙ ap is_eq e)
 
-module _ (text : List ℕ) (tape : List Entry) (hashes members : List ℕ) (name : List ℕ) (named : AreNamed text tape hashes members) where
-  abbrev at : ℕ → List ℕ
-  at k = name_at text tape (get_or members k 0)
+-- a member of a place
+pub member_of : (words : List ℕ) (k m : ℕ) → k < length words → m ≡ low_half (get_or words k 0) → Contains (members_of words) m
+member_of words k m h e = subst (Contains (members_of words)) (get_or-map low_half words k 0 0 h ∙ sym e) (Contains-get_or (members_of words) k 0 (let l = length-map words low_half in omega arith))
 
-  pub higher : (low high middle : ℕ) → Between text tape members name low high → middle < high → name_cmp (at middle) name ≡ Less → Between text tape members name (middle + 1) high
+module _ (text : List ℕ) (tape : List Entry) (words : List ℕ) (name : List ℕ) (named : AreNamed text tape words) where
+  abbrev at : ℕ → List ℕ
+  at k = name_in text tape (get_or words k 0)
+
+  number_at : (k : ℕ) → k < length (members_of words) → (k < length words) × (get_or (members_of words) k 0 ≡ low_half (get_or words k 0))
+  number_at k h = let l = length-map words low_half in let i : k < length words = omega arith in (i, get_or-map low_half words k 0 0 i)
+
+  pub member_inside : (k : ℕ) → k < length (members_of words) → get_or (members_of words) k 0 < length tape
+  member_inside k h = let (i, e) = number_at k h in subst (λ m. m < length tape) (sym e) (named.each k 0 i).inside
+
+  pub higher : (low high middle : ℕ) → Between text tape words name low high → middle < high → name_cmp (at middle) name ≡ Less → Between text tape words name (middle + 1) high
   higher low high middle b h e = record {
     inside = b.inside;
     below = λ k l. elim (cases_lt k middle) [
@@ -34,7 +48,7 @@ module _ (text : List ℕ) (tape : List Entry) (hashes members : List ℕ) (name
     above = b.above;
   }
 
-  pub lower : (low high middle : ℕ) → Between text tape members name low high → middle < high → name_cmp (at middle) name ≡ Greater → Between text tape members name low middle
+  pub lower : (low high middle : ℕ) → Between text tape words name low high → middle < high → name_cmp (at middle) name ≡ Greater → Between text tape words name low middle
   lower low high middle b h e = record {
     inside = (let i = b.inside in omega arith);
     below = b.below;
@@ -47,23 +61,28 @@ module _ (text : List ℕ) (tape : List Entry) (hashes members : List ℕ) (name
     ];
   }
 
-  pub nowhere : (low high : ℕ) → Between text tape members name low high → high ≤ low → (k : ℕ) → k < length members → at k ≡ name → ⊥
+  pub nowhere : (low high : ℕ) → Between text tape words name low high → high ≤ low → (k : ℕ) → k < length (members_of words) → name_at text tape (get_or (members_of words) k 0) ≡ name → ⊥
   nowhere low high b h k l e =
-      let tie : name_cmp (at k) name ≡ Equal = ap (λ x. name_cmp x name) e ∙ tied_itself names_total name in
+      let (i, s) = number_at k l in
+      let tie : name_cmp (at k) name ≡ Equal = ap (λ x. name_cmp x name) (ap (name_at text tape) (sym s) ∙ e) ∙ tied_itself names_total name in
       elim (cases_lt k low) [
         | inl g ↦ (let x = sym (b.below k g) ∙ tie in cc)
-        | inr g ↦ (let x = sym (b.above k (omega arith) l) ∙ tie in cc)
+        | inr g ↦ (let x = sym (b.above k (omega arith) i) ∙ tie in cc)
       ]
 
   -- members of one name are one
-  pub one_place : (j k : ℕ) → j < length members → k < length members → at j ≡ at k → get_or members j 0 ≡ get_or members k 0
+  pub one_place : (j k : ℕ) → j < length (members_of words) → k < length (members_of words) → name_at text tape (get_or (members_of words) j 0) ≡ name_at text tape (get_or (members_of words) k 0)
+      → get_or (members_of words) j 0 ≡ get_or (members_of words) k 0
   one_place j k l m e = elim (cases_lt j k) [
-    | inl g ↦ absurd (apart j k g m e)
+    | inl g ↦ absurd (apart j k g (number_at k m).0 same)
     | inr g ↦ elim (cases_lt k j) [
-      | inl h ↦ absurd (apart k j h l (sym e))
-      | inr h ↦ (let same : j ≡ k = omega arith in ap (λ i. get_or members i 0) same)
+      | inl h ↦ absurd (apart k j h (number_at j l).0 (sym same))
+      | inr h ↦ (let same : j ≡ k = omega arith in ap (λ i. get_or (members_of words) i 0) same)
     ]
   ]
     where
-      apart : (j k : ℕ) → j < k → k < length members → at j ≡ at k → ⊥
+      same : at j ≡ at k
+      same = ap (name_at text tape) (sym (number_at j l).1) ∙ e ∙ ap (name_at text tape) (number_at k m).1
+
+      apart : (j k : ℕ) → j < k → k < length words → at j ≡ at k → ⊥
       apart j k h m e = let x = sym (named.rising j k h m) ∙ ap (λ y. name_cmp y (at k)) e ∙ tied_itself names_total (at k) in cc

@@ -17,20 +17,20 @@ use Rattle.json_text.specs.Nodes.{size}
 use Rattle.json_text.specs.Meaning.{meaning}
 use Rattle.json_strings.specs.Spelling.{IsQuoted}
 use Rattle.json_text.specs.Repeats.{IsObject, repeats, meanings, repeats_by, repeats_next_by}
-use Rattle.json_strings.specs.Keys.{Keyed, key_number, key_hash, name_hash}
-use Rattle.name_order.specs.Ordered.{keyed, word_of, name_at, IsOrderOf}
+use Rattle.json_strings.specs.Keys.{Keyed, key_number, key_hash, name_cmp, name_hash}
+use Rattle.name_order.specs.Ordered.{keyed, word_of, name_at, name_in, IsNamed, IsOrderOf}
 use Rattle.name_order.specs.Orders.{high_half, low_half}
 use Rattle.json_text.specs.Tape.{entry_in}
 use Rattle.json_text.specs.declared.tape.Entry.{Entry}
 use Rattle.json_text.proofs.Repeats.{strict, sorted_repeats, hashes_apart}
 use Rattle.name_order.proofs.KeysLeft.{IsGood, all_good}
-use Rattle.name_order.proofs.Runs.{in_order}
+use Rattle.name_order.proofs.Runs.{in_order, no_key}
 
-low_is : (hash number : ℕ) → number < 4294967296 → low_half (hash * 4294967296 + number) ≡ number
+pub low_is : (hash number : ℕ) → number < 4294967296 → low_half (hash * 4294967296 + number) ≡ number
 unfolding low_half
 low_is hash number h = mod-mul-add hash 4294967296 number h
 
-high_is : (hash number : ℕ) → number < 4294967296 → high_half (hash * 4294967296 + number) ≡ hash
+pub high_is : (hash number : ℕ) → number < 4294967296 → high_half (hash * 4294967296 + number) ≡ hash
 unfolding high_half
 high_is hash number h = div-mul-add hash 4294967296 number h
 
@@ -69,14 +69,8 @@ hashes_named : (ms : Members) (k : ℕ) → map key_hash (keyed ms k) ≡ map na
 hashes_named NoMember k = refl
 hashes_named (Member n t ms) k = ap (λ l. name_hash (meaning n.characters) ∷ l) (hashes_named ms (k + size t))
 
--- the name of the member in a word stands where its entry says, and has the hash in it
-record IsGoodWord (text : List ℕ) (tape : List Entry) (word : ℕ) : Type 0 where
-  inside : low_half word < length tape
-  quoted : IsQuoted text (entry_in tape (low_half word)).label
-  hashed : high_half word ≡ name_hash (name_at text tape (low_half word))
-
 module _ (text : List ℕ) (tape : List Entry) (short : length tape < 2 ^ 31) where
-  good_word : (x : Keyed) → IsGood text tape x → IsGoodWord text tape (word_of x)
+  good_word : (x : Keyed) → IsGood text tape x → IsNamed text tape (word_of x)
   good_word x g =
       let i = g.inside in
       let l = low_is (key_hash x) x.number (omega arith) in
@@ -87,7 +81,7 @@ module _ (text : List ℕ) (tape : List Entry) (short : length tape < 2 ^ 31) wh
         hashed = h ∙ ap name_hash (sym g.named) ∙ ap (λ k. name_hash (name_at text tape k)) (sym l);
       }
 
-  good_words : (ks : List Keyed) → AllByRecursion (IsGood text tape) ks → AllByRecursion (IsGoodWord text tape) (map word_of ks)
+  good_words : (ks : List Keyed) → AllByRecursion (IsGood text tape) ks → AllByRecursion (IsNamed text tape) (map word_of ks)
   good_words [] h = tt
   good_words (x ∷ ks) h = (good_word x h.0, good_words ks h.1)
 
@@ -115,37 +109,48 @@ module _ (text : List ℕ) (tape : List Entry) (short : length tape < 2 ^ 31) wh
         let all : map high_half (words ms) ≡ map name_hash (meanings ms) = highs (keyed ms (n + 1)) (good_keys ms o) ∙ hashes_named ms (n + 1) in
         sym (hashes_apart name_hash (meanings ms) (sym (ap (repeats_by nat_eq) all) ∙ sym again ∙ highs_apart))
 
-    good : (ms : Members) → IsObject text tape n ms → All (IsGoodWord text tape) ys
+    good : (ms : Members) → IsObject text tape n ms → All (IsNamed text tape) ys
     good ms o =
-        All-permutation (IsGoodWord text tape) (words ms) ys (moved ms o) (All-from_recursion (IsGoodWord text tape) (words ms) (good_words (keyed ms (n + 1)) (good_keys ms o)))
+        All-permutation (IsNamed text tape) (words ms) ys (moved ms o) (All-from_recursion (IsNamed text tape) (words ms) (good_words (keyed ms (n + 1)) (good_keys ms o)))
 
-    pub ordered : (ms : Members) → IsObject text tape n ms → IsOrderOf text tape n (map high_half ys) (map low_half ys)
+    pub ordered : (ms : Members) → IsObject text tape n ms → IsOrderOf text tape n ys
     ordered ms o = record {
       named = record {
-        long = length-map ys high_half ∙ sym (length-map ys low_half);
-        inside = λ k h. let l = inner k h in subst (λ m. m < length tape) (sym (get_or-map low_half ys k 0 0 l)) (good ms o k 0 l).inside;
-        quoted = λ k h. let l = inner k h in subst (λ m. IsQuoted text (entry_in tape m).label) (sym (get_or-map low_half ys k 0 0 l)) (good ms o k 0 l).quoted;
-        hashed = hash_is;
+        each = good ms o;
         rising = λ j k h m.
-            (let i : j < length (map low_half ys) = omega arith in
-            ap (λ r. ordering_then r (slice_cmp nat_cmp (named j) (named k)))
-            (ap (λ x. nat_cmp x (name_hash (named k))) (sym (hash_is j i)) ∙ ap (nat_cmp (get_or (map high_half ys) j 0)) (sym (hash_is k m))
-            ∙ in_order nat_cmp (map high_half ys) 0 (strict nat_eq nat_cmp unsigned_ties (λ x y. nat_eq_equiv.symm x y) nat_cmp_total 0 (map high_half ys) (highs_sorted ys sorted) highs_apart) j k h (let a = length-map ys high_half in let b = length-map ys low_half in omega arith)));
+            (ap (λ r. ordering_then r (slice_cmp nat_cmp (named j) (named k)))
+            (ap (λ x. nat_cmp x (name_hash (named k))) (sym (hash_is j (omega arith))) ∙ ap (nat_cmp (get_or (map high_half ys) j 0)) (sym (hash_is k m))
+            ∙ in_order nat_cmp (map high_half ys) 0 (strict nat_eq nat_cmp unsigned_ties (λ x y. nat_eq_equiv.symm x y) nat_cmp_total 0 (map high_half ys) (highs_sorted ys sorted) highs_apart) j k h (let a = length-map ys high_half in omega arith)));
       };
       all = λ ms' o'. subst (λ l. IsPermutation l (map low_half ys)) (lows (keyed ms' (n + 1)) (good_keys ms' o')) (IsPermutation-map low_half (words ms') ys (moved ms' o'));
     }
       where
-        inner : (k : ℕ) → k < length (map low_half ys) → k < length ys
-        inner k h = let e = length-map ys low_half in omega arith
-
         named : ℕ → List ℕ
-        named k = name_at text tape (get_or (map low_half ys) k 0)
+        named k = name_in text tape (get_or ys k 0)
 
-        hash_is : (k : ℕ) → k < length (map low_half ys) → get_or (map high_half ys) k 0 ≡ name_hash (named k)
-        hash_is k h =
-            let l = inner k h in
-            get_or-map high_half ys k 0 0 l ∙ (good ms o k 0 l).hashed ∙ ap (λ m. name_hash (name_at text tape m)) (sym (get_or-map low_half ys k 0 0 l))
+        hash_is : (k : ℕ) → k < length ys → get_or (map high_half ys) k 0 ≡ name_hash (named k)
+        hash_is k h = get_or-map high_half ys k 0 0 h ∙ (good ms o k 0 h).hashed
 
-  -- the words of keys that were sorted by their names
-  pub ordered_keys : (n : ℕ) (ys : List Keyed) → All (IsGood text tape) ys → IsOrderOf text tape n (map key_hash ys) (map key_number ys) → IsOrderOf text tape n (map high_half (map word_of ys)) (map low_half (map word_of ys))
-  ordered_keys n ys all o = let g = recursion_from_All (IsGood text tape) ys all in rw (highs ys g, lows ys g) o
+  -- the words of keys in the order of their names
+  module _ (n : ℕ) (ys : List Keyed) (moved : (ms : Members) → IsObject text tape n ms → IsPermutation (keyed ms (n + 1)) ys) (good : All (IsGood text tape) ys)
+      (apart : (j k : ℕ) → j < k → k < length ys → name_cmp (get_or ys j no_key).name (get_or ys k no_key).name ≡ Less) where
+    every : AllByRecursion (IsGood text tape) ys
+    every = recursion_from_All (IsGood text tape) ys good
+
+    name_is : (k : ℕ) → k < length ys → name_in text tape (get_or (map word_of ys) k 0) ≡ (get_or ys k no_key).name
+    name_is k l =
+        let x = get_or ys k no_key in
+        let g = good k no_key l in
+        ap (name_in text tape) (get_or-map word_of ys k no_key 0 l) ∙ ap (name_at text tape) (low_is (key_hash x) x.number (let i = g.inside in omega arith)) ∙ g.named
+
+    pub ordered_keys : IsOrderOf text tape n (map word_of ys)
+    ordered_keys = record {
+      named = record {
+        each = All-from_recursion (IsNamed text tape) (map word_of ys) (good_words ys every);
+        rising = λ j k h m.
+            (let l : k < length ys = (let e = length-map ys word_of in omega arith) in
+            let i : j < length ys = omega arith in
+            ap (λ x. name_cmp x (name_in text tape (get_or (map word_of ys) k 0))) (name_is j i) ∙ ap (name_cmp (get_or ys j no_key).name) (name_is k l) ∙ apart j k h l);
+      };
+      all = λ ms o. subst (IsPermutation (map key_number (keyed ms (n + 1)))) (sym (lows ys every)) (IsPermutation-map key_number (keyed ms (n + 1)) ys (moved ms o));
+    }

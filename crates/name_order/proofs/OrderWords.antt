@@ -1,5 +1,5 @@
 -- The orders of objects, where the words of all stand in one list.
-use Rattle.std.proofs.Common.{◌≡◌, ℕ, ◌+◌, ◌-◌, ◌<◌, ◌≤◌, inl, inr, Ok, Err, List, [], ◌∷◌, ◌++◌, length, take, drop, get_or, refl, sym, ap, ◌∙◌, subst, arith, length-append, append_assoc, append-nil}
+use Rattle.std.proofs.Common.{◌≡◌, ℕ, ◌+◌, ◌-◌, ◌<◌, ◌≤◌, inl, inr, Ok, Err, List, [], ◌∷◌, ◌++◌, length, take, drop, get_or, refl, sym, ap, ◌∙◌, subst, arith, length-append}
 use Rattle.std.specs.List.{All, AllByRecursion, Contains}
 use Rattle.std.specs.List.Sorted.{IsNonDecreasingBy, IsBinarySearchResult}
 use Rattle.std.specs.Ordering.{nat_cmp, ordering_index}
@@ -10,7 +10,7 @@ use Rattle.std.proofs.lemmas.Cmp.{ranked}
 use Rattle.std.proofs.lemmas.List.{length-map, length-take, length-drop, take-append-le, drop-append-le, drop_at, take_at, take_all, map_push, get_or-map, get_or_default}
 use Rattle.std.proofs.lemmas.List.Elements.{All-push, All-weaker, recursion_from_All}
 use Rattle.std.proofs.lemmas.List.Sorted.{IsNonDecreasingBy-push}
-use Rattle.name_order.specs.Orders.{Order, no_order, part, order_in, orders_of, AreOrders}
+use Rattle.name_order.specs.Orders.{Order, no_order, part, low_half, order_in, orders_of, AreOrders}
 use Rattle.name_order.specs.declared.orders.Header.{Header}
 
 pub part_long : (start n : ℕ) (xs : List ℕ) → start + n ≤ length xs → length (part start n xs) ≡ n
@@ -20,8 +20,8 @@ part_left : (start n : ℕ) (xs ys : List ℕ) → start + n ≤ length xs → p
 part_left start n xs ys h = ap (take n) (drop-append-le start xs ys (omega arith)) ∙ take-append-le n (drop start xs) ys (let l = length-drop start xs in omega arith)
 
 -- what was added is the part that begins where the list ended
-part_right : (start n : ℕ) (xs ys zs : List ℕ) → length xs ≡ start → length ys ≡ n → part start n (xs ++ (ys ++ zs)) ≡ ys
-part_right start n xs ys zs e f = ap (take n) (drop_at xs (ys ++ zs) start e) ∙ take_at ys zs n f
+part_right : (start n : ℕ) (xs ys : List ℕ) → length xs ≡ start → length ys ≡ n → part start n (xs ++ ys) ≡ ys
+part_right start n xs ys e f = ap (take n) (drop_at xs ys start e) ∙ take_all n ys (omega arith)
 
 -- what a list begins with that was made longer
 pub resized_front : (xs ys more : List ℕ) (n len : ℕ) → ys ≡ take n xs ++ more → length xs ≡ len → len ≤ n → take len ys ≡ xs
@@ -32,13 +32,12 @@ pub sliced : (start n : ℕ) (ys xs : List ℕ) → ys ≡ xs → take (start + 
 sliced start n ys xs e = let z : start + n - start ≡ n = omega arith in rw (e, z) refl
 
 abbrev IsInside : List ℕ → Header → Type 0
-IsInside words h = h.start + h.count + h.count ≤ length words
+IsInside words h = h.start + h.count ≤ length words
 
 -- more words do not change the orders
 orders_kept : (words more : List ℕ) (headers : List Header) → AllByRecursion (IsInside words) headers → orders_of headers (words ++ more) ≡ orders_of headers words
 orders_kept words more [] h = refl
-orders_kept words more (x ∷ headers) h =
-    rw (part_left x.start x.count words more (let l = h.0 in omega arith), part_left (x.start + x.count) x.count words more h.0, orders_kept words more headers h.1) refl
+orders_kept words more (x ∷ headers) h = rw (part_left x.start x.count words more h.0, orders_kept words more headers h.1) refl
 
 module _ (headers : List Header) (words more : List ℕ) (are : AreOrders headers words) where
   pub still_orders : AreOrders headers (words ++ more)
@@ -51,29 +50,22 @@ module _ (headers : List Header) (words more : List ℕ) (are : AreOrders header
   same_orders = orders_kept words more headers (recursion_from_All (IsInside words) headers are.inside)
 
 -- one object more
-module _ (headers : List Header) (words hs ms : List ℕ) (orders : List Order) (are : AreOrders headers words) (shown : orders_of headers words ≡ orders) (new : Header)
-    (start : new.start ≡ length words) (long : length hs ≡ new.count) (long_too : length ms ≡ new.count) where
-  pub one_more : All (λ (o : Order). o.object < new.object) orders → AreOrders (headers ++ new ∷ []) (words ++ (hs ++ ms))
+module _ (headers : List Header) (words new : List ℕ) (orders : List Order) (are : AreOrders headers words) (shown : orders_of headers words ≡ orders) (h : Header) (start : h.start ≡ length words) (long : length new ≡ h.count) where
+  pub one_more : All (λ (o : Order). o.object < h.object) orders → AreOrders (headers ++ h ∷ []) (words ++ new)
   one_more behind = record {
-    rising = IsNonDecreasingBy-push (λ (h : Header). h.object) headers new are.rising (λ d l.
+    rising = IsNonDecreasingBy-push (λ (x : Header). x.object) headers h are.rising (λ d l.
         (let k : length orders ≡ length headers = sym (ap length shown) ∙ length-map headers (order_in words) in
         let last = length headers - 1 in
         let e : get_or orders last no_order ≡ order_in words (get_or headers last d) = sym (ap (λ os. get_or os last no_order) shown) ∙ get_or-map (order_in words) headers last d no_order (omega arith) in
         let b = behind last no_order (omega arith) in
         let q = ap (λ (o : Order). o.object) e in omega (arith, b, q)));
-    inside = All-push (IsInside (words ++ (hs ++ ms))) headers new (still_orders headers words (hs ++ ms) are).inside (let a = length-append words (hs ++ ms) in let b = length-append hs ms in omega arith);
+    inside = All-push (IsInside (words ++ new)) headers h (still_orders headers words new are).inside (let a = length-append words new in omega arith);
   }
 
-  pub one_shown : orders_of (headers ++ new ∷ []) (words ++ (hs ++ ms)) ≡ orders ++ record { object = new.object; hashes = hs; members = ms } ∷ []
+  pub one_shown : orders_of (headers ++ h ∷ []) (words ++ new) ≡ orders ++ record { object = h.object; words = new } ∷ []
   one_shown =
-      map_push (order_in (words ++ (hs ++ ms))) headers new ∙ ap (λ os. os ++ order_in (words ++ (hs ++ ms)) new ∷ []) (same_orders headers words (hs ++ ms) are ∙ shown)
-      ∙ ap (λ xs. orders ++ record { object = new.object; hashes = xs; members = part (new.start + new.count) new.count (words ++ (hs ++ ms)) } ∷ []) (part_right new.start new.count words hs ms (sym start) long)
-      ∙ ap (λ xs. orders ++ record { object = new.object; hashes = hs; members = xs } ∷ []) behind_hashes
-    where
-      behind_hashes : part (new.start + new.count) new.count (words ++ (hs ++ ms)) ≡ ms
-      behind_hashes =
-          ap (part (new.start + new.count) new.count) (sym (append_assoc words hs ms) ∙ ap (λ l. (words ++ hs) ++ l) (sym (append-nil ms)))
-          ∙ part_right (new.start + new.count) new.count (words ++ hs) ms [] (let a = length-append words hs in omega arith) long_too
+      map_push (order_in (words ++ new)) headers h ∙ ap (λ os. os ++ order_in (words ++ new) h ∷ []) (same_orders headers words new are ∙ shown)
+      ∙ ap (λ xs. orders ++ record { object = h.object; words = xs } ∷ []) (part_right h.start h.count words new (sym start) long)
 
 -- the order at a place
 module _ (headers : List Header) (words : List ℕ) (orders : List Order) (shown : orders_of headers words ≡ orders) where
@@ -85,24 +77,21 @@ module _ (headers : List Header) (words : List ℕ) (orders : List Order) (shown
 
   -- the words of a header that was read
   module _ (are : AreOrders headers words) (at : ℕ) (h : Header) (l : at < length headers) (read : h ≡ get_or headers at h) where
-    pub inside_at : h.start + h.count + h.count ≤ length words
+    pub inside_at : h.start + h.count ≤ length words
     inside_at = subst (IsInside words) (sym read) (are.inside at h l)
 
-    pub small_at : (shift bound : ℕ) → ((k : ℕ) → k < length (get_or orders at no_order).members → get_or (get_or orders at no_order).members k 0 + shift < bound) → (k : ℕ) → k < h.count
-        → get_or (part (h.start + h.count) h.count words) k 0 + shift < bound
+    pub small_at : (shift bound : ℕ) → ((k : ℕ) → k < length (get_or orders at no_order).words → low_half (get_or (get_or orders at no_order).words k 0) + shift < bound) → (k : ℕ) → k < h.count
+        → low_half (get_or (part h.start h.count words) k 0) + shift < bound
     small_at shift bound small k i =
-        subst (λ (o : Order). (j : ℕ) → j < length o.members → get_or o.members j 0 + shift < bound) (order_at at h l read) small k (let e = part_long (h.start + h.count) h.count words inside_at in omega arith)
+        subst (λ (o : Order). (j : ℕ) → j < length o.words → low_half (get_or o.words j 0) + shift < bound) (order_at at h l read) small k (let e = part_long h.start h.count words inside_at in omega arith)
 
   module _ (object : ℕ) where
     -- an object that is found, with the parts of the words that were read
-    pub found : (at : ℕ) → at < length headers → IsBinarySearchResult (λ (h : Header). nat_cmp h.object object) headers (Ok at) → (h : Header) → h ≡ get_or headers at h
-        → (hs ms : List ℕ) → hs ≡ part h.start h.count words → ms ≡ part (h.start + h.count) h.count words → Contains orders (record { object = object; hashes = hs; members = ms })
-    found at l b h read hs ms e f =
-        let same : h.object ≡ object = ranked h.object object Equal (sym (ap (λ (x : Header). nat_cmp x.object object) read ∙ b h)) in (
-          at,
-          omega (arith, orders_many, l),
-          get_or_default orders at _ no_order (omega (arith, orders_many, l)) ∙ order_at at h l read ∙ rw (same, e, f) refl,
-        )
+    pub found : (at : ℕ) → at < length headers → IsBinarySearchResult (λ (h : Header). nat_cmp h.object object) headers (Ok at) → (h : Header) → h ≡ get_or headers at h → (ws : List ℕ) → ws ≡ part h.start h.count words
+        → Contains orders (record { object = object; words = ws })
+    found at l b h read ws e =
+        let same : h.object ≡ object = ranked h.object object Equal (sym (ap (λ (x : Header). nat_cmp x.object object) read ∙ b h)) in
+        (at, omega (arith, orders_many, l), get_or_default orders at _ no_order (omega (arith, orders_many, l)) ∙ order_at at h l read ∙ rw (same, e) refl)
 
     -- an object that is not found is none of these
     pub absent : AreOrders headers words → (at : ℕ) → IsBinarySearchResult (λ (h : Header). nat_cmp h.object object) headers (Err at) → (o : Order) → Contains orders o → o.object ≡ object → ⊥

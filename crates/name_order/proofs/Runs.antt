@@ -1,21 +1,19 @@
 -- The members of wide objects, kept one object after the other.
-use Rattle.std.proofs.Common.{◌≡◌, ℕ, zero, suc, ◌+◌, ◌<◌, ◌≤◌, true, false, Bool, cond, inl, inr, List, [], ◌∷◌, ◌++◌, length, map, get_or, refl, sym, ap, ◌∙◌, subst, arith}
+use Rattle.std.proofs.Common.{◌≡◌, ℕ, zero, suc, ◌+◌, ◌<◌, ◌≤◌, true, false, Bool, cond, inl, inr, List, [], ◌∷◌, ◌++◌, length, get_or, refl, sym, ap, ◌∙◌, subst, arith}
 use Rattle.std.specs.Prelude.{nat_eq}
 use Rattle.std.proofs.lemmas.Bool.{cases_lt, cases_Bool, false≢true}
-use Rattle.std.proofs.lemmas.List.{length-map, get_or-map}
 use Rattle.std.specs.List.{All}
 use Rattle.std.proofs.lemmas.List.Elements.{All-from_recursion, All-push, All-weaker, Contains-append_left, Contains-push}
 use Rattle.std.specs.List.Sorted.{IsPermutation, IsSorted, IsStrictlySortedBy}
 use Rattle.std.specs.Ordering.{on}
-use Rattle.std.proofs.lemmas.List.Sorted.{IsPermutation-map, All-permutation}
+use Rattle.std.proofs.lemmas.List.Sorted.{All-permutation}
 use Rattle.std.specs.Cmp.Lexicographic.{pointwise}
 use Rattle.std.specs.declared.cmp.Ordering.{Ordering}
 use Rattle.std.specs.declared.cmp.Ordering.TheVariants.{Less}
 use Rattle.json_text.specs.Tree.{Members}
-use Rattle.json_strings.specs.Spelling.{IsQuoted}
 use Rattle.json_text.specs.Repeats.{IsObject, repeats, meanings, repeats_next_by}
-use Rattle.json_strings.specs.Keys.{Keyed, key_name, key_number, key_hash, name_cmp, name_hash}
-use Rattle.name_order.specs.Ordered.{keyed, name_at, IsOrderOf, AreKept}
+use Rattle.json_strings.specs.Keys.{Keyed, key_name, name_cmp}
+use Rattle.name_order.specs.Ordered.{keyed, IsOrderOf, AreKept}
 use Rattle.name_order.specs.Orders.{Order}
 use Rattle.json_text.specs.Tape.{entry_in}
 use Rattle.json_text.specs.Suspects.{IsWide}
@@ -28,7 +26,7 @@ use Rattle.json_text.proofs.Repeats.{strict, sorted_repeats}
 use Rattle.name_order.proofs.KeysLeft.{IsGood, all_good, repeats_keyed}
 use Rattle.tape_cells.proofs.WideObjects.{object_members}
 
-no_key : Keyed
+pub no_key : Keyed
 no_key = record { number = 0; name = [] }
 
 -- what is strictly in order, by two places
@@ -53,35 +51,14 @@ module _ (text : List ℕ) (tape : List Entry) (n : ℕ) (ys : List Keyed) (move
   pub good : (ms : Members) → IsObject text tape n ms → All (IsGood text tape) ys
   good ms o = All-permutation (IsGood text tape) (keyed ms (n + 1)) ys (moved ms o) (all_good text tape n ms o)
 
-  pub ordered : (ms : Members) → IsObject text tape n ms → repeats_next_by same_key ys ≡ false → IsOrderOf text tape n (map key_hash ys) (map key_number ys)
-  ordered ms o none = record {
-    named = record {
-      long = length-map ys key_hash ∙ sym (length-map ys key_number);
-      inside = λ k h. let l = inner k h in subst (λ m. m < length tape) (sym (get_or-map key_number ys k no_key 0 l)) (good ms o k no_key l).inside;
-      quoted = λ k h. let l = inner k h in subst (λ m. IsQuoted text (entry_in tape m).label) (sym (get_or-map key_number ys k no_key 0 l)) (good ms o k no_key l).quoted;
-      hashed = λ k h. let l = inner k h in get_or-map key_hash ys k no_key 0 l ∙ ap name_hash (sym (name_is k l));
-      rising = λ j k h m.
-          (let l = inner k m in
-          let i : j < length ys = omega arith in
-          ap (λ x. name_cmp x (name_at text tape (get_or (map key_number ys) k 0))) (name_is j i) ∙ ap (name_cmp (get_or ys j no_key).name) (name_is k l) ∙ in_order key_cmp ys no_key apart j k h l);
-    };
-    all = λ ms' o'. IsPermutation-map key_number (keyed ms' (n + 1)) ys (moved ms' o');
-  }
-    where
-      inner : (k : ℕ) → k < length (map key_number ys) → k < length ys
-      inner k h = let e = length-map ys key_number in omega arith
-
-      name_is : (k : ℕ) → k < length ys → name_at text tape (get_or (map key_number ys) k 0) ≡ (get_or ys k no_key).name
-      name_is k l = ap (name_at text tape) (get_or-map key_number ys k no_key 0 l) ∙ (good ms o k no_key l).named
-
-      apart : IsStrictlySortedBy key_cmp ys
-      apart = strict same_key key_cmp keys_tie (λ x y. keys_equiv.symm x y) keys_total no_key ys sorted none
+  pub apart : repeats_next_by same_key ys ≡ false → (j k : ℕ) → j < k → k < length ys → name_cmp (get_or ys j no_key).name (get_or ys k no_key).name ≡ Less
+  apart none = in_order key_cmp ys no_key (strict same_key key_cmp keys_tie (λ x y. keys_equiv.symm x y) keys_total no_key ys sorted none)
 
 -- ---- One object more
 
 module _ (text : List ℕ) (tape : List Entry) where
-  pub kept_more : (n : ℕ) (orders new : List Order) (hs ms : List ℕ) → AreKept text tape n orders → IsOrderOf text tape n hs ms → new ≡ orders ++ record { object = n; hashes = hs; members = ms } ∷ [] → AreKept text tape (n + 1) new
-  kept_more n orders new hs ms k o e = subst (AreKept text tape (n + 1)) (sym e) (record {
+  pub kept_more : (n : ℕ) (orders new : List Order) (words : List ℕ) → AreKept text tape n orders → IsOrderOf text tape n words → new ≡ orders ++ record { object = n; words = words } ∷ [] → AreKept text tape (n + 1) new
+  kept_more n orders new words k o e = subst (AreKept text tape (n + 1)) (sym e) (record {
     each = All-push (Keeps (n + 1)) orders one (All-weaker (Keeps n) (Keeps (n + 1)) (λ x h. (let l = h.0 in omega arith, h.1)) orders k.each) (omega arith, o);
     all = λ m h w. elim (cases_lt m n) [
       | inl g ↦ (let (x, c, f) = k.all m g w in (x, Contains-append_left orders (one ∷ []) x c, f))
@@ -90,10 +67,10 @@ module _ (text : List ℕ) (tape : List Entry) where
   })
     where
       Keeps : ℕ → Order → Type 0
-      Keeps below x = (x.object < below) × IsOrderOf text tape x.object x.hashes x.members
+      Keeps below x = (x.object < below) × IsOrderOf text tape x.object x.words
 
       one : Order
-      one = record { object = n; hashes = hs; members = ms }
+      one = record { object = n; words = words }
 
   pub objects_before : (n : ℕ) (orders : List Order) → AreKept text tape n orders → All (λ (o : Order). o.object < n) orders
   objects_before n orders k i d l = (k.each i d l).0

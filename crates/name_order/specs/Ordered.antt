@@ -12,7 +12,7 @@ use Rattle.json_text.specs.Limits.{bytes_at}
 use Rattle.json_text.specs.Repeats.{IsObject}
 use Rattle.json_text.specs.declared.tape.Entry.{Entry}
 use Rattle.json_strings.specs.Keys.{Keyed, key_number, key_hash, name_hash, name_cmp}
-use Rattle.name_order.specs.Orders.{Order, onward}
+use Rattle.name_order.specs.Orders.{Order, high_half, low_half}
 use Rattle.json_text.specs.Tape.{entry_in}
 use Rattle.json_text.specs.Suspects.{IsWide}
 
@@ -31,22 +31,31 @@ word_of x = key_hash x * 4294967296 + x.number
 abbrev pub name_at : List ℕ → List Entry → ℕ → List ℕ
 name_at text tape n = scalars_in (chars (unquoted (bytes_at text (entry_in tape n).label)))
 
--- the numbers of members whose names rise, and the hashes of their names
-pub record AreNamed (text : List ℕ) (tape : List Entry) (hashes members : List ℕ) : Type 0 where
-  pub long : length hashes ≡ length members
-  pub inside : (k : ℕ) → k < length members → get_or members k 0 < length tape
-  pub quoted : (k : ℕ) → k < length members → IsQuoted text (entry_in tape (get_or members k 0)).label
-  pub hashed : (k : ℕ) → k < length members → get_or hashes k 0 ≡ name_hash (name_at text tape (get_or members k 0))
-  pub rising : (j k : ℕ) → j < k → k < length members → name_cmp (name_at text tape (get_or members j 0)) (name_at text tape (get_or members k 0)) ≡ Less
+abbrev pub name_in : List ℕ → List Entry → ℕ → List ℕ
+name_in text tape word = name_at text tape (low_half word)
+
+abbrev pub members_of : List ℕ → List ℕ
+members_of words = map low_half words
+
+-- the name of the member in a word stands where its entry says, and has the hash in it
+pub record IsNamed (text : List ℕ) (tape : List Entry) (word : ℕ) : Type 0 where
+  pub inside : low_half word < length tape
+  pub quoted : IsQuoted text (entry_in tape (low_half word)).label
+  pub hashed : high_half word ≡ name_hash (name_in text tape word)
+
+-- members as words whose names rise
+pub record AreNamed (text : List ℕ) (tape : List Entry) (words : List ℕ) : Type 0 where
+  pub each : All (IsNamed text tape) words
+  pub rising : (j k : ℕ) → j < k → k < length words → name_cmp (name_in text tape (get_or words j 0)) (name_in text tape (get_or words k 0)) ≡ Less
 
 -- all members of the object with this number, in the order of their names
-pub record IsOrderOf (text : List ℕ) (tape : List Entry) (n : ℕ) (hashes members : List ℕ) : Type 0 where
-  pub named : AreNamed text tape hashes members
-  pub all : (ms : Members) → IsObject text tape n ms → IsPermutation (map key_number (keyed ms (n + 1))) members
+pub record IsOrderOf (text : List ℕ) (tape : List Entry) (n : ℕ) (words : List ℕ) : Type 0 where
+  pub named : AreNamed text tape words
+  pub all : (ms : Members) → IsObject text tape n ms → IsPermutation (map key_number (keyed ms (n + 1))) (members_of words)
 
 -- the orders that are kept are those of objects below a number, and each wide one has its own
 pub record AreKept (text : List ℕ) (tape : List Entry) (below : ℕ) (orders : List Order) : Type 0 where
-  pub each : All (λ (o : Order). (o.object < below) × IsOrderOf text tape o.object o.hashes o.members) orders
+  pub each : All (λ (o : Order). (o.object < below) × IsOrderOf text tape o.object o.words) orders
   pub all : (n : ℕ) → n < below → IsWide (entry_in tape n) → (o : Order) × Contains orders o × (o.object ≡ n)
 
 -- ---- An object like an earlier one
@@ -70,7 +79,7 @@ IsNameInside text tape n = (n < length tape) × ((entry_in tape n).label.start +
 
 -- the same name, so much further on
 abbrev pub moved : ℕ → Keyed → Keyed
-moved shift x = record { number = onward shift x.number; name = x.name }
+moved shift x = record { number = x.number + shift; name = x.name }
 
 -- the members of an object stand as those of an earlier one do, under the same names
 pub record AreAlike (text : List ℕ) (tape : List Entry) (n earlier : ℕ) : Type 0 where

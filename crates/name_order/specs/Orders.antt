@@ -1,34 +1,34 @@
 -- The orders that are kept, one list of words for all, as lists of their own.
-use Rattle.std.specs.Prelude.{ℕ, ◌+◌, ◌/◌, ◌%◌, ◌≤◌, List, [], length, map, take, drop}
+use Rattle.std.specs.Prelude.{ℕ, ◌+◌, ◌*◌, ◌/◌, ◌%◌, ◌≤◌, List, [], length, map, take, drop}
 use Rattle.std.specs.List.{All}
 use Rattle.std.specs.List.Sorted.{IsNonDecreasingBy}
 use Rattle.name_order.specs.declared.orders.Header.{Header}
 
--- the members of an object in the order of their names, and the hashes of these
+-- an object, and its members as words in the order of their names
 pub record Order : Type 0 where
   pub object : ℕ
-  pub hashes : List ℕ
-  pub members : List ℕ
+  pub words : List ℕ
 
 abbrev pub no_order : Order
-no_order = record { object = 0; hashes = []; members = [] }
+no_order = record { object = 0; words = [] }
 
 -- so many from a place on
 abbrev pub part : ℕ → ℕ → List ℕ → List ℕ
 part start n xs = take n (drop start xs)
 
-abbrev pub onward : ℕ → ℕ → ℕ
-onward shift k = k + shift
-
--- the hash and the number in a word
+-- the hash of a name and the number of its member, which are one word
 unfoldable pub high_half : ℕ → ℕ
 high_half word = word / 4294967296
 
 unfoldable pub low_half : ℕ → ℕ
 low_half word = word % 4294967296
 
+-- a name of the same hash, whose member stands further on
+abbrev pub onward : ℕ → ℕ → ℕ
+onward shift word = high_half word * 4294967296 + (low_half word + shift)
+
 abbrev pub order_in : List ℕ → Header → Order
-order_in words h = record { object = h.object; hashes = part h.start h.count words; members = part (h.start + h.count) h.count words }
+order_in words h = record { object = h.object; words = part h.start h.count words }
 
 abbrev pub orders_of : List Header → List ℕ → List Order
 orders_of headers words = map (order_in words) headers
@@ -36,4 +36,4 @@ orders_of headers words = map (order_in words) headers
 -- the objects ascend, and the words of each are there
 pub record AreOrders (headers : List Header) (words : List ℕ) : Type 0 where
   pub rising : IsNonDecreasingBy (λ (h : Header). h.object) headers
-  pub inside : All (λ (h : Header). h.start + h.count + h.count ≤ length words) headers
+  pub inside : All (λ (h : Header). h.start + h.count ≤ length words) headers

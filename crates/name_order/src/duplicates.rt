@@ -11,7 +11,7 @@ ghost use Rattle.json_text.specs.Suspects.{AreSuspects};
 ghost use Rattle.tape_cells.specs.Cells.{members_in};
 ghost use Rattle.json_text.specs.declared.tape.TextFault.TheVariants.{LoneSurrogate, DuplicateName};
 
-use crate::order::{NARROW, SIZES, order_members, repeats_in};
+use crate::order::{NARROW, SIZES, order_members, order_words};
 use crate::orders::NameOrder;
 use std::alloc::{AllocError, Global};
 use tape_cells::Tape;
@@ -93,6 +93,6 @@ fn repeats_at(
     if tape.members(n) > NARROW {
         order_members(alloc, text, tape, n, words, latest, order)
     } else {
-        repeats_in(alloc, text, tape, n, words)
+        order_words(alloc, text, tape, n, words)
     }
 }

@@ -9,4 +9,4 @@ mod orders;
 
 pub use duplicates::order_names;
 pub use order::{is_wide, member_in};
-pub use orders::{NameOrder, Run};
+pub use orders::NameOrder;

@@ -8,13 +8,13 @@ ghost use Rattle.std.specs.Cmp.Lexicographic.{pointwise};
 ghost use Rattle.json_text.specs.Tree.{Members};
 ghost use Rattle.json_text.specs.Repeats.{repeats, repeats_next_by, meanings, IsObject};
 ghost use Rattle.json_text.specs.Limits.{bytes_at};
-ghost use Rattle.name_order.specs.Ordered.{AreNamed, AreKept, AreSameFrom, IsLeafAlike, AreLeavesAlike, IsNameInside, AreAlike, name_at, keyed, word_of};
+ghost use Rattle.name_order.specs.Ordered.{AreNamed, IsNamed, IsOrderOf, AreKept, AreSameFrom, IsLeafAlike, AreLeavesAlike, IsNameInside, AreAlike, members_of, name_at, name_in, keyed, word_of};
 ghost use Rattle.name_order.specs.Orders.{no_order, high_half};
 ghost use Rattle.json_text.specs.Suspects.{IsWide};
 ghost use Rattle.json_text.specs.Tape.{entry_in};
 ghost use Rattle.json_strings.specs.Keys.{name_cmp, name_hash, key_name, key_number, key_hash, sought_name};
 
-use crate::orders::{NameOrder, Run, hash_in, word};
+use crate::orders::{NameOrder, hash_in, number_in, word};
 use json_strings::{Key, Sought, compare_sought, hash, mixed, part_at, sought_hash};
 use json_text::{Entry, Extent, Kind};
 use std::alloc::{AllocError, Global};
@@ -36,45 +36,38 @@ pub fn is_wide(entry: Entry) -> bool
     }
 }
 
-// How the member at a place compares with a name of this hash.
-fn compare_at(
-    text: &str,
-    tape: &Tape,
-    run: Run<'_>,
-    place: usize,
-    hash: u32,
-    sought: Sought<'_>,
-) -> Ordering
-    requires named { AreNamed text.now tape.now run.hashes.now run.members.now }
-    requires inside { place < length run.members.now }
+// How a member as a word compares with a name of this hash.
+fn compare_word(text: &str, tape: &Tape, member: u64, hash: u32, sought: Sought<'_>) -> Ordering
+    requires named { IsNamed text.now tape.now member }
     requires hash { hash ≡ name_hash (sought_name sought) }
-    ensures { result ≡ name_cmp (name_at text.now tape.now (get_or run.entry.members.now place 0)) (sought_name sought.entry) }
+    ensures { result ≡ name_cmp (name_in text.now tape.now member) (sought_name sought.entry) }
 {
-    match run.hashes[place].cmp(&hash) {
+    match hash_in(member).cmp(&hash) {
         Ordering::Less => Ordering::Less,
         Ordering::Greater => Ordering::Greater,
         Ordering::Equal => {
-            let name = tape.entry(run.members[place]).label;
+            let name = tape.entry(number_in(member)).label;
             compare_sought(text, name, sought)
         }
     }
 }
 
 /// The member of this name, by halving.
-pub fn member_in(text: &str, tape: &Tape, run: Run<'_>, sought: Sought<'_>) -> Option<u32>
-    requires { AreNamed text.now tape.now run.hashes.now run.members.now }
-    ensures found { IfSome result (λ m. Contains run.entry.members.now m × (name_at text.now tape.now m ≡ sought_name sought.entry)) }
-    ensures none { result ≡ None → (k : ℕ) → k < length run.entry.members.now → name_at text.now tape.now (get_or run.entry.members.now k 0) ≡ sought_name sought.entry → ⊥ }
+pub fn member_in(text: &str, tape: &Tape, words: &[u64], sought: Sought<'_>) -> Option<u32>
+    requires { AreNamed text.now tape.now words.now }
+    ensures found { IfSome result (λ m. Contains (members_of words.now) m × (name_at text.now tape.now m ≡ sought_name sought.entry)) }
+    ensures none { result ≡ None → (k : ℕ) → k < length (members_of words.now) → name_at text.now tape.now (get_or (members_of words.now) k 0) ≡ sought_name sought.entry → ⊥ }
 {
     let hash = sought_hash(sought);
     let mut low = 0;
-    let mut high = run.members.len();
+    let mut high = words.len();
     while low < high {
         let middle = low + (high - low) / 2;
-        match compare_at(text, tape, run, middle, hash, sought) {
+        let member = words[middle];
+        match compare_word(text, tape, member, hash, sought) {
             Ordering::Less => low = middle + 1,
             Ordering::Greater => high = middle,
-            Ordering::Equal => return Some(run.members[middle]),
+            Ordering::Equal => return Some(number_in(member)),
         }
     }
     None
@@ -159,10 +152,10 @@ fn set_words(keys: &[Key<'_>], words: &mut Vec<u64>) -> Result<(), AllocError>
     Ok(())
 }
 
-/// Whether two names of the object with this number mean the same. They are looked at only where hashes of theirs meet. The words are room
-/// to work in.
+/// Sets the words to the members of the object with this number in the order of their names, or finds two names that mean the same. Names
+/// are looked at only where hashes of theirs meet.
 #[inline(never)]
-pub fn repeats_in(
+pub fn order_words(
     alloc: Global,
     text: &str,
     tape: &Tape,
@@ -172,64 +165,18 @@ pub fn repeats_in(
     requires inside { n < length tape.now }
     requires object { (ms : Members) × IsObject text.now tape.now n ms }
     requires short { length tape.now < 2 ^ 31 }
-    ensures { IfOk result (λ found. (ms : Members) → IsObject text.now tape.now n ms → found ≡ repeats (meanings ms)) }
+    ensures found { IfOk result (λ found. (ms : Members) → IsObject text.now tape.now n ms → found ≡ repeats (meanings ms)) }
+    ensures ordered { IfOk result (λ found. found ≡ false → IsOrderOf text.now tape.now n words.new.items) }
 {
     sort_words(text, tape, n, words)?;
-    if hashes_meet(words.as_slice()) {
-        let keys = sorted_keys(alloc, text, tape, n)?;
-        return Ok(names_meet(keys.as_slice()));
+    if !hashes_meet(words.as_slice()) {
+        return Ok(false);
     }
-    Ok(false)
-}
-
-// Keeps the order of the members of one more object by their names, or finds one that comes again.
-fn order_by_names(
-    alloc: Global,
-    text: &str,
-    tape: &Tape,
-    n: u32,
-    words: &mut Vec<u64>,
-    order: &mut NameOrder,
-) -> Result<bool, AllocError>
-    requires inside { n < length tape.now }
-    requires object { (ms : Members) × IsObject text.now tape.now n ms }
-    requires wide { IsWide (entry_in tape.now n) }
-    requires short { length tape.now < 2 ^ 31 }
-    requires kept { AreKept text.now tape.now n order.old }
-    ensures found { IfOk result (λ found. (ms : Members) → IsObject text.now tape.now n ms → found ≡ repeats (meanings ms)) }
-    ensures kept { IfOk result (λ found. found ≡ false → AreKept text.now tape.now (n + 1) order.new) }
-{
     let keys = sorted_keys(alloc, text, tape, n)?;
     if names_meet(keys.as_slice()) {
         return Ok(true);
     }
     set_words(keys.as_slice(), words)?;
-    order.push(n, words.as_slice())?;
-    Ok(false)
-}
-
-// The same by their hashes, as far as none of them meet. The words are room to work in.
-fn order_by_hashes(
-    alloc: Global,
-    text: &str,
-    tape: &Tape,
-    n: u32,
-    words: &mut Vec<u64>,
-    order: &mut NameOrder,
-) -> Result<bool, AllocError>
-    requires inside { n < length tape.now }
-    requires object { (ms : Members) × IsObject text.now tape.now n ms }
-    requires wide { IsWide (entry_in tape.now n) }
-    requires short { length tape.now < 2 ^ 31 }
-    requires kept { AreKept text.now tape.now n order.old }
-    ensures found { IfOk result (λ found. (ms : Members) → IsObject text.now tape.now n ms → found ≡ repeats (meanings ms)) }
-    ensures kept { IfOk result (λ found. found ≡ false → AreKept text.now tape.now (n + 1) order.new) }
-{
-    sort_words(text, tape, n, words)?;
-    if hashes_meet(words.as_slice()) {
-        return order_by_names(alloc, text, tape, n, words, order);
-    }
-    order.push(n, words.as_slice())?;
     Ok(false)
 }
 
@@ -391,8 +338,30 @@ fn order_like(
     Ok(false)
 }
 
-/// Keeps the order of the members of one more object, or finds a name that comes again. The words are room to work in, and the
-/// latest objects say where one like it is looked for.
+// Keeps the order of the members of one more object, or finds a name that comes again. The words are room to work in.
+fn order_anew(
+    alloc: Global,
+    text: &str,
+    tape: &Tape,
+    n: u32,
+    words: &mut Vec<u64>,
+    order: &mut NameOrder,
+) -> Result<bool, AllocError>
+    requires inside { n < length tape.now }
+    requires object { (ms : Members) × IsObject text.now tape.now n ms }
+    requires short { length tape.now < 2 ^ 31 }
+    requires kept { AreKept text.now tape.now n order.old }
+    ensures found { IfOk result (λ found. (ms : Members) → IsObject text.now tape.now n ms → found ≡ repeats (meanings ms)) }
+    ensures kept { IfOk result (λ found. found ≡ false → AreKept text.now tape.now (n + 1) order.new) }
+{
+    if order_words(alloc, text, tape, n, words)? {
+        return Ok(true);
+    }
+    order.push(n, words.as_slice())?;
+    Ok(false)
+}
+
+/// The same, where an earlier object may be one like it. The latest objects say where that is looked for.
 #[inline(never)]
 pub fn order_members(
     alloc: Global,
@@ -413,6 +382,6 @@ pub fn order_members(
 {
     match find_alike(text, tape, n, order, latest) {
         Some(place) => order_like(text, tape, n, place, order),
-        None => order_by_hashes(alloc, text, tape, n, words, order),
+        None => order_anew(alloc, text, tape, n, words, order),
     }
 }

@@ -28,8 +28,8 @@ pub struct Header {
 pub struct NameOrder {
     // of the objects, ascending
     headers: Vec<Header>,
-    // for each object the hashes of its members' names, and behind them the members' numbers
-    words: Vec<u32>,
+    // of all objects the members as words
+    words: Vec<u64>,
 }
 
 impl Model for NameOrder {
@@ -41,13 +41,6 @@ impl Model for NameOrder {
     ghost view = { λ o. orders_of o.headers.items o.words.items };
 
     ghost invariant = { λ o. AreOrders o.headers.items o.words.items };
-}
-
-/// The members of one object in the order of their names, and the hashes of these.
-#[derive(Clone, Copy)]
-pub struct Run<'a> {
-    pub hashes: &'a [u32],
-    pub members: &'a [u32],
 }
 
 // A member as a word, in the order of the hashes.
@@ -68,62 +61,33 @@ pub(crate) fn hash_in(word: u64) -> u32
 
 #[inline(always)]
 #[tactic(auto, unfolding(crate::specs::Orders::low_half))]
-fn number_in(word: u64) -> u32
+pub(crate) fn number_in(word: u64) -> u32
     ensures { result ≡ low_half word }
 {
     (word % HALF) as u32
 }
 
-// Takes members as words apart.
-fn set_halves(words: &[u64], hashes: &mut [u32], members: &mut [u32])
-    requires hashes { length hashes.old ≡ length words.now }
-    requires members { length members.old ≡ length words.now }
-    ensures hashes { hashes.new ≡ map high_half words.now }
-    ensures members { members.new ≡ map low_half words.now }
-{
-    for k in 0..words.len() {
-        hashes[k] = hash_in(words[k]);
-        members[k] = number_in(words[k]);
-    }
-}
-
-// Adds the hashes of members as words, and behind them the members' numbers. Room that is filled first takes no test for each.
-fn add_words(list: &mut Vec<u32>, words: &[u64]) -> Result<(), AllocError>
-    ensures { list.new.items ≡ if is_ok result then list.old.items ++ (map high_half words.now ++ map low_half words.now) else list.old.items }
-{
-    let len = list.len();
-    let count = words.len();
-    list.resize(len + count + count, 0)?;
-    let (_, new) = list.as_mut_slice().split_at_mut(len);
-    let (hashes, members) = new.split_at_mut(count);
-    set_halves(words, hashes, members);
-    Ok(())
-}
-
-// Sets a list to the numbers of another one, further on by the shift.
-fn set_onward(from: &[u32], to: &mut [u32], shift: u32)
+// Sets a list to the words of another one, whose members stand further on by the shift.
+fn set_onward(from: &[u64], to: &mut [u64], shift: u32)
     requires len { length from.now ≡ length to.old }
-    requires small { (k : ℕ) → k < length from.now → get_or from.now k 0 + shift < 2 ^ 32 }
+    requires small { (k : ℕ) → k < length from.now → low_half (get_or from.now k 0) + shift < 2 ^ 32 }
     ensures { to.new ≡ map (onward shift) from.now }
 {
     for k in 0..to.len() {
-        to[k] = from[k] + shift;
+        to[k] = word(hash_in(from[k]), number_in(from[k]) + shift);
     }
 }
 
-// Adds the hashes that stand from a place on once more, and the numbers behind them further on by the shift.
-fn add_onward(list: &mut Vec<u32>, start: usize, count: usize, shift: u32) -> Result<(), AllocError>
-    requires inside { start + count + count ≤ length list.old.items }
-    requires small { (k : ℕ) → k < count → get_or (part (start + count) count list.old.items) k 0 + shift < 2 ^ 32 }
-    ensures { list.new.items ≡ if is_ok result then list.old.items ++ (part start count list.old.items ++ map (onward shift) (part (start + count) count list.old.items)) else list.old.items }
+// Adds the words that stand from a place on once more, with their members further on. Room that is filled first takes no test for each.
+fn add_onward(list: &mut Vec<u64>, start: usize, count: usize, shift: u32) -> Result<(), AllocError>
+    requires inside { start + count ≤ length list.old.items }
+    requires small { (k : ℕ) → k < count → low_half (get_or (part start count list.old.items) k 0) + shift < 2 ^ 32 }
+    ensures { list.new.items ≡ if is_ok result then list.old.items ++ map (onward shift) (part start count list.old.items) else list.old.items }
 {
     let len = list.len();
-    let middle = start + count;
-    list.resize(len + count + count, 0)?;
+    list.resize(len + count, 0)?;
     let (old, new) = list.as_mut_slice().split_at_mut(len);
-    let (hashes, members) = new.split_at_mut(count);
-    hashes.copy_from_slice(&old[start..middle]);
-    set_onward(&old[middle..middle + count], members, shift);
+    set_onward(&old[start..start + count], new, shift);
     Ok(())
 }
 
@@ -131,17 +95,15 @@ impl NameOrder {
     /// The bytes of memory that it takes.
     pub fn memory(&self) -> usize {
         let headers = self.headers.capacity().saturating_mul(HEADER_BYTES);
-        self.words
-            .capacity()
-            .saturating_mul(4)
-            .saturating_add(headers)
+        let words = self.words.capacity().saturating_mul(8);
+        words.saturating_add(headers)
     }
 
     /// Of no object, with room for so many members.
     pub fn new(alloc: Global, room: usize) -> Result<NameOrder, AllocError>
         ensures { IfOk result (λ order. order ≡ []) }
     {
-        let words = Vec::with_capacity(alloc, room.saturating_mul(2))?;
+        let words = Vec::with_capacity(alloc, room)?;
         Ok(NameOrder {
             headers: Vec::new(alloc),
             words,
@@ -173,15 +135,14 @@ impl NameOrder {
     /// Adds an object behind all others, with its members as words in their order.
     pub(crate) fn push(&mut self, object: u32, words: &[u64]) -> Result<(), AllocError>
         requires { All (λ (o : Order). o.object < object) self.old }
-        ensures { OnOk result (self.new ≡ self.old ++ record { object = object; hashes = map high_half words.now; members = map low_half words.now } ∷ []) }
+        ensures { OnOk result (self.new ≡ self.old ++ record { object = object; words = words.now } ∷ []) }
     {
-        let start = self.words.len();
-        add_words(&mut self.words, words)?;
         let header = Header {
             object,
             count: words.len(),
-            start,
+            start: self.words.len(),
         };
+        self.words.extend_from_slice(words)?;
         push(&mut self.headers, header)?;
         Ok(())
     }
@@ -190,25 +151,23 @@ impl NameOrder {
     pub(crate) fn push_like(&mut self, object: u32, at: usize, shift: u32) -> Result<(), AllocError>
         requires behind { All (λ (o : Order). o.object < object) self.old }
         requires at { at < length self.old }
-        requires small { (k : ℕ) → k < length (get_or self.old at no_order).members → get_or (get_or self.old at no_order).members k 0 + shift < 2 ^ 32 }
-        ensures { OnOk result (self.new ≡ self.old ++ record { object = object; hashes = (get_or self.old at no_order).hashes; members = map (onward shift) (get_or self.old at no_order).members } ∷ []) }
+        requires small { (k : ℕ) → k < length (get_or self.old at no_order).words → low_half (get_or (get_or self.old at no_order).words k 0) + shift < 2 ^ 32 }
+        ensures { OnOk result (self.new ≡ self.old ++ record { object = object; words = map (onward shift) (get_or self.old at no_order).words } ∷ []) }
     {
         let earlier = self.headers[at];
-        let start = self.words.len();
-        add_onward(&mut self.words, earlier.start, earlier.count, shift)?;
         let header = Header {
             object,
             count: earlier.count,
-            start,
+            start: self.words.len(),
         };
+        add_onward(&mut self.words, earlier.start, earlier.count, shift)?;
         push(&mut self.headers, header)?;
         Ok(())
     }
 
-    /// The members of an object in the order of their names, if it keeps them.
-    pub fn run(&self, object: u32) -> Option<Run<'_>>
-        ensures { MatchOption result ((o : Order) → Contains self.now o → o.object ≡ object → ⊥)
-            (λ run. Contains self.now (record { object = object; hashes = run.hashes.now; members = run.members.now })) }
+    /// The members of an object as words in their order, if it keeps them.
+    pub fn run(&self, object: u32) -> Option<&[u64]>
+        ensures { MatchOption result ((o : Order) → Contains self.now o → o.object ≡ object → ⊥) (λ words. Contains self.now (record { object = object; words = words.now })) }
     {
         let Ok(at) = self
             .headers
@@ -217,10 +176,6 @@ impl NameOrder {
             return None;
         };
         let header = self.headers[at];
-        let middle = header.start + header.count;
-        Some(Run {
-            hashes: &self.words[header.start..middle],
-            members: &self.words[middle..middle + header.count],
-        })
+        Some(&self.words[header.start..header.start + header.count])
     }
 }

@@ -7,11 +7,11 @@ push_like-requires-clause-behind c = objects_before _ _ _ _ c.requires.kept
 
 pub push_like-requires-clause-small : goal.push_like-requires-clause-small
 push_like-requires-clause-small c =
-    let r = c.requires in small_before c.args.text.now c.args.tape.now c.args.n c.args.order.now r.kept c.args.place r.place r.alike r.object _ c.object.ensures r.short r.inside
+    let r = c.requires in small_before c.args.text.now c.args.tape.now r.short c.args.n c.args.order.now r.kept c.args.place r.place r.alike r.object _ c.object.ensures r.inside
 
 pub returns-clause-found : goal.returns-clause-found
-returns-clause-found c = let r = c.requires in none_like c.args.text.now c.args.tape.now c.args.n c.args.order.now r.kept c.args.place r.place r.alike r.object
+returns-clause-found c = let r = c.requires in none_like c.args.text.now c.args.tape.now r.short c.args.n c.args.order.now r.kept c.args.place r.place r.alike r.object
 
 pub returns-clause-kept : goal.returns-clause-kept
 returns-clause-kept c = λ _.
-    let r = c.requires in kept_like c.args.text.now c.args.tape.now c.args.n c.args.order.now r.kept c.args.place r.place r.alike r.object _ _ c.object.ensures c.in_ok-push_like.ensures
+    let r = c.requires in kept_like c.args.text.now c.args.tape.now r.short c.args.n c.args.order.now r.kept c.args.place r.place r.alike r.object _ _ c.object.ensures c.in_ok-push_like.ensures
