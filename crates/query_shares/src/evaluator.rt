@@ -103,7 +103,29 @@ fn whole(alloc: Global, plan: &Parts, doc: &Document, units: u64) -> Result<Sele
     select_all(alloc, plan, doc, units)
 }
 
-// Goes on with an evaluation, or begins it. Where the share is all units, a document is evaluated at once, which is quicker.
+// What a query selects from a document at once, where its charge is within the share; None where it is above that, and within the units.
+fn whole_within(
+    alloc: Global,
+    plan: &Parts,
+    doc: &Document,
+    units: u64,
+    share: u64,
+) -> Result<Option<Selected>, SelectFault>
+    requires { numbered (claims_of plan.now.stages.items) 0 ≡ Some plan.now.slots }
+    ensures { MatchResult result (λ some. IfSome some (λ s. Ends doc.now plan.now units s None)) (λ e. Refuses (charge_from (node_at doc.now 0) (query_of plan.now.stages.items) (node_at doc.now 0 ∷ [])) units e) }
+{
+    if units <= share {
+        let selected = whole(alloc, plan, doc, units)?;
+        return Ok(Some(selected));
+    }
+    match whole(alloc, plan, doc, share) {
+        Ok(selected) => Ok(Some(selected)),
+        Err(SelectFault::Costly) => Ok(None),
+        Err(SelectFault::Memory) => Err(SelectFault::Memory),
+    }
+}
+
+// Goes on with an evaluation, or begins it. A document that is probably within the share is tried at once, which is quicker.
 fn advanced_or_whole(
     alloc: Global,
     plan: &Parts,
@@ -116,9 +138,10 @@ fn advanced_or_whole(
     requires within { IsWithin doc.now plan.now units evaluation.old }
     ensures { MatchResult result (λ some. Advances doc.now plan.now units share some evaluation.old evaluation.new) (λ e. Refuses (charge_from (node_at doc.now 0) (query_of plan.now.stages.items) (node_at doc.now 0 ∷ [])) units e) }
 {
-    if units <= share && evaluation.is_none() {
-        let selected = whole(alloc, plan, doc, units)?;
-        return Ok(Some(selected));
+    if evaluation.is_none() && (units <= share || u64::from(doc.node_count()) < share / 4) {
+        if let Some(selected) = whole_within(alloc, plan, doc, units, share)? {
+            return Ok(Some(selected));
+        }
     }
     advanced(alloc, plan, doc, units, share, evaluation)
 }
