@@ -42,6 +42,7 @@ fn begun(alloc: Global, plan: &Parts, doc: &Document, units: u64) -> Result<Eval
             slots,
             answers: Vec::new(alloc),
             lengths: no_lengths(alloc, doc),
+            truths: Vec::new(alloc),
         },
         stage: 0,
         is_second: false,
