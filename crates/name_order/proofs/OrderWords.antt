@@ -1,5 +1,5 @@
 -- The orders of objects, where the words of all stand in one list.
-use Rattle.std.proofs.Common.{◌≡◌, ℕ, ◌+◌, ◌-◌, ◌<◌, ◌≤◌, inl, inr, Ok, Err, List, [], ◌∷◌, ◌++◌, length, take, drop, get_or, refl, sym, ap, ◌∙◌, subst, arith, length-append}
+use Rattle.std.proofs.Common.{◌≡◌, ℕ, ◌+◌, ◌-◌, ◌<◌, ◌≤◌, inl, inr, Ok, Err, List, [], ◌∷◌, ◌++◌, length, map, take, drop, get_or, refl, sym, ap, ◌∙◌, subst, arith, length-append}
 use Rattle.std.specs.List.{All, AllByRecursion, Contains}
 use Rattle.std.specs.List.Sorted.{IsNonDecreasingBy, IsBinarySearchResult}
 use Rattle.std.specs.Ordering.{nat_cmp, ordering_index}
@@ -10,10 +10,10 @@ use Rattle.std.proofs.lemmas.Cmp.{ranked}
 use Rattle.std.proofs.lemmas.List.{length-map, length-take, length-drop, take-append-le, drop-append-le, drop_at, take_at, take_all, map_push, get_or-map, get_or_default}
 use Rattle.std.proofs.lemmas.List.Elements.{All-push, All-weaker, recursion_from_All}
 use Rattle.std.proofs.lemmas.List.Sorted.{IsNonDecreasingBy-push}
-use Rattle.name_order.specs.Orders.{Order, no_order, part, low_half, order_in, orders_of, AreOrders}
+use Rattle.name_order.specs.Orders.{Order, no_order, part, onward, order_in, orders_of, AreOrders}
 use Rattle.name_order.specs.declared.orders.Header.{Header}
 
-pub part_long : (start n : ℕ) (xs : List ℕ) → start + n ≤ length xs → length (part start n xs) ≡ n
+part_long : (start n : ℕ) (xs : List ℕ) → start + n ≤ length xs → length (part start n xs) ≡ n
 part_long start n xs h = let t = length-take n (drop start xs) in let d = length-drop start xs in omega arith
 
 part_left : (start n : ℕ) (xs ys : List ℕ) → start + n ≤ length xs → part start n (xs ++ ys) ≡ part start n xs
@@ -72,18 +72,17 @@ module _ (headers : List Header) (words : List ℕ) (orders : List Order) (shown
   pub orders_many : length headers ≡ length orders
   orders_many = sym (length-map headers (order_in words)) ∙ ap length shown
 
-  pub order_at : (at : ℕ) (h : Header) → at < length headers → h ≡ get_or headers at h → get_or orders at no_order ≡ order_in words h
-  order_at at h l read = sym (ap (λ os. get_or os at no_order) shown) ∙ get_or-map (order_in words) headers at h no_order l ∙ ap (order_in words) (sym read)
+  pub order_at : (at : ℕ) (h : Header) → at < length orders → h ≡ get_or headers at h → get_or orders at no_order ≡ order_in words h
+  order_at at h l read =
+      sym (ap (λ os. get_or os at no_order) shown) ∙ get_or-map (order_in words) headers at h no_order (omega (arith, orders_many, l)) ∙ ap (order_in words) (sym read)
 
   -- the words of a header that was read
-  module _ (are : AreOrders headers words) (at : ℕ) (h : Header) (l : at < length headers) (read : h ≡ get_or headers at h) where
-    pub inside_at : h.start + h.count ≤ length words
-    inside_at = subst (IsInside words) (sym read) (are.inside at h l)
+  module _ (are : AreOrders headers words) (at : ℕ) (h : Header) (l : at < length orders) (read : h ≡ get_or headers at h) where
+    inside_at : h.start + h.count ≤ length words
+    inside_at = subst (IsInside words) (sym read) (are.inside at h (omega (arith, orders_many, l)))
 
-    pub small_at : (shift bound : ℕ) → ((k : ℕ) → k < length (get_or orders at no_order).words → low_half (get_or (get_or orders at no_order).words k 0) + shift < bound) → (k : ℕ) → k < h.count
-        → low_half (get_or (part h.start h.count words) k 0) + shift < bound
-    small_at shift bound small k i =
-        subst (λ (o : Order). (j : ℕ) → j < length o.words → low_half (get_or o.words j 0) + shift < bound) (order_at at h l read) small k (let e = part_long h.start h.count words inside_at in omega arith)
+    pub like_long : (shift : ℕ) → length (map (onward shift) (part h.start h.count words)) ≡ h.count
+    like_long shift = length-map (part h.start h.count words) (onward shift) ∙ part_long h.start h.count words inside_at
 
   module _ (object : ℕ) where
     -- an object that is found, with the parts of the words that were read
@@ -91,14 +90,14 @@ module _ (headers : List Header) (words : List ℕ) (orders : List Order) (shown
         → Contains orders (record { object = object; words = ws })
     found at l b h read ws e =
         let same : h.object ≡ object = ranked h.object object Equal (sym (ap (λ (x : Header). nat_cmp x.object object) read ∙ b h)) in
-        (at, omega (arith, orders_many, l), get_or_default orders at _ no_order (omega (arith, orders_many, l)) ∙ order_at at h l read ∙ rw (same, e) refl)
+        (at, omega (arith, orders_many, l), get_or_default orders at _ no_order (omega (arith, orders_many, l)) ∙ order_at at h (omega (arith, orders_many, l)) read ∙ rw (same, e) refl)
 
     -- an object that is not found is none of these
     pub absent : AreOrders headers words → (at : ℕ) → IsBinarySearchResult (λ (h : Header). nat_cmp h.object object) headers (Err at) → (o : Order) → Contains orders o → o.object ≡ object → ⊥
     absent are at b o (k, l, e) q =
         let h = get_or headers k none in
         let i : k < length headers = omega (arith, orders_many, l) in
-        let here : h.object ≡ object = ap (λ (x : Order). x.object) (sym (order_at k h i (get_or_default headers k none h i)) ∙ get_or_default orders k no_order o l ∙ e) ∙ q in
+        let here : h.object ≡ object = ap (λ (x : Order). x.object) (sym (order_at k h l (get_or_default headers k none h i)) ∙ get_or_default orders k no_order o l ∙ e) ∙ q in
         let parted = b rising in
         elim (cases_lt k at) [
           | inl g ↦ (let less = ranked h.object object Less (sym (parted.0 k none (omega arith) g)) in omega (arith, less, here))
