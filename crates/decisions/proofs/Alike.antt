@@ -1,5 +1,5 @@
 -- Two ways of comparing that agree on each literal of a condition tell it alike.
-use Rattle.std.proofs.Common.{◌≡◌, ℕ, List, [], ◌∷◌, Bool, ◌&&◌, ◌||◌, Option, Some, None, refl, ap, ◌∙◌}
+use Rattle.std.proofs.Common.{◌≡◌, [], ◌&&◌, ◌||◌, Option, refl, ap}
 use Rattle.std.specs.Prelude.{not as opposite}
 use Rattle.std.specs.List.{Contains}
 use Rattle.std.specs.declared.cmp.Ordering.{Ordering}

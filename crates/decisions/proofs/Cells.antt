@@ -1,6 +1,6 @@
 -- Cells of tables.
-use Rattle.std.proofs.Common.{◌≡◌, ℕ, ◌∙◌, Bool, true, false}
-use Rattle.std.specs.Prelude.{Result, IfOk, nat_eq}
+use Rattle.std.proofs.Common.{◌≡◌, ℕ, ◌∙◌, Bool}
+use Rattle.std.specs.Prelude.{Result, IfOk}
 use Rattle.std.specs.declared.alloc.AllocError.{AllocError}
 use Rattle.std.specs.declared.alloc.Global.{Global}
 use Rattle.std.specs.declared.result.Result.TheVariants.{Ok, Err}

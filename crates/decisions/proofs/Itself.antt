@@ -12,7 +12,7 @@ use Rattle.json_tape.specs.Tape.{member_count}
 use Rattle.json_tape.specs.Tree.{Null, True, False, Num, Str, Tree, Leaf, Arr, Obj, Elements, NoElement, Element, Members, NoMember, Member}
 use Rattle.path_grammar.specs.declared.ast.Op.{Op}
 use Rattle.path_grammar.specs.declared.ast.Op.TheVariants.{Eq, Ne, Le, Ge, Lt, Gt}
-use Rattle.tape_values.specs.Comparison.{Value, a_null, a_boolean, a_number, a_text, a_container, has_member, equal_trees, equal_elements, each_in, equal_results, less_results, less_scalars, compared}
+use Rattle.tape_values.specs.Comparison.{Value, a_null, a_boolean, a_number, a_text, a_container, has_member, equal_trees, equal_elements, each_in, equal_results, less_results, compared}
 use Rattle.decisions.specs.Truth.{told}
 use Rattle.decisions.proofs.Orders.{same_letters, less_letters}
 

@@ -3,18 +3,18 @@ use Rattle.std.proofs.Common.{◌≡◌, ℕ, List, [], ◌∷◌, Bool, true, f
 use Rattle.std.specs.Prelude.{bytes_eq, nat_eq}
 use Rattle.std.specs.Cmp.{IsTotalOrder, on_total, then_total}
 use Rattle.std.specs.Cmp.Lexicographic.{slice_cmp, lists_ties}
-use Rattle.std.specs.Ordering.{nat_cmp, ordering_then, ordering_reverse, is_eq, is_lt, is_le, is_gt, is_ge, is_ne, is_some_and, MatchOrdering}
+use Rattle.std.specs.Ordering.{nat_cmp, ordering_then, ordering_reverse, is_eq, is_lt, is_gt, is_some_and}
 use Rattle.std.specs.declared.cmp.Ordering.{Ordering}
 use Rattle.std.specs.declared.cmp.Ordering.TheVariants.{Less, Equal, Greater}
-use Rattle.std.proofs.lemmas.Cmp.{nat_cmp_total, nat_list_cmp_total, tied_itself, ranked}
+use Rattle.std.proofs.lemmas.Cmp.{nat_cmp_total, nat_list_cmp_total, tied_itself}
 use Rattle.std.proofs.lemmas.Grind.{common_steps}
 use Rattle.decimal_order.specs.Order.{number_cmp}
 use Rattle.path_grammar.specs.Tree.{Literal, number, text, boolean, null}
 use Rattle.path_grammar.specs.declared.ast.Op.{Op}
 use Rattle.path_grammar.specs.declared.ast.Op.TheVariants.{Eq, Ne, Le, Ge, Lt, Gt}
-use Rattle.tape_values.specs.Comparison.{Value, a_null, a_boolean, a_number, a_text, a_container, literal_value, compared, equal_results, less_results, less_scalars}
+use Rattle.tape_values.specs.Comparison.{Value, a_null, a_boolean, a_number, a_text, literal_value, compared, equal_results, less_results, less_scalars}
 use Rattle.decisions.specs.Order.{kind, digits_of, scalars_of, value_cmp}
-use Rattle.decisions.specs.Truth.{told, told_apart, told_by, turned, versus}
+use Rattle.decisions.specs.Truth.{told, told_by, turned, versus}
 
 pub value_total : IsTotalOrder number_cmp → IsTotalOrder value_cmp
 unfolding value_cmp

@@ -1,5 +1,5 @@
 -- The condition that a test stands for: each level once, with what is inside already seen.
-use Rattle.std.specs.Prelude.{List, map, Option, Some}
+use Rattle.std.specs.Prelude.{Option, Some}
 use Rattle.path_grammar.specs.Tree.{Literal}
 use Rattle.path_grammar.specs.View.{literal_view}
 use Rattle.tape_values.specs.Comparison.{Value, literal_value}

@@ -1,4 +1,4 @@
-use Rattle.std.proofs.Common.{◌≡◌, arith}
+use Rattle.std.proofs.Common.{arith}
 use Rattle.decisions.proofs.Exprs.{paths_more}
 use Rattle.decisions.proofs.reading.are_one_path.Goals as goal
 

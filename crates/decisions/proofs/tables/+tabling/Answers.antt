@@ -1,8 +1,8 @@
-use Rattle.std.proofs.Common.{◌≡◌, map, length, Bool, true, refl, sym, ap, ◌∙◌}
+use Rattle.std.proofs.Common.{◌≡◌, map, refl, sym, ap, ◌∙◌}
 use Rattle.decisions.specs.Tree.{Tested, value, two, present}
 use Rattle.decisions.specs.declared.test.Test.TheFolds.{fold_out-Test}
 use Rattle.decisions.specs.Places.{from_place}
-use Rattle.decisions.specs.Truth.{told_by, truth_by}
+use Rattle.decisions.specs.Truth.{truth_by}
 use Rattle.decisions.specs.Views.{constant_view, constant_value, test_step, test_view}
 use Rattle.decisions.proofs.Cells.{same_cells}
 use Rattle.decisions.proofs.tables.+tabling.Goals as goal

@@ -1,5 +1,4 @@
 use Rattle.std.proofs.Common.{◌≡◌, ℕ, ◌<◌, length, get_or, map}
-use Rattle.std.specs.declared.vec.Vec.{Vec}
 use Rattle.decisions.specs.Places.{AreCells, from_place}
 use Rattle.decisions.specs.Truth.{truth_by}
 use Rattle.decisions.specs.Views.{constant_value, test_view}
