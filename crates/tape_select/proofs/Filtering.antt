@@ -1,5 +1,5 @@
 -- Walks of the evaluation: the part at the index first, and then the rest.
-use Rattle.std.proofs.Common.{◌≡◌, ℕ, suc, ◌+◌, ◌-◌, ◌*◌, ◌<◌, Bool, true, false, ◌&&◌, ◌||◌, List, [], ◌∷◌, ◌++◌, map, length, drop, get_or, reverse, Option, Some, None, Result, Ok, Err, ℤ, pos, nat_eq, refl, sym, ap, ◌∙◌, arith, append_assoc, cond}
+use Rattle.std.proofs.Common.{◌≡◌, ℕ, suc, ◌+◌, ◌≤◌, ◌-◌, ◌*◌, ◌<◌, Bool, true, false, ◌&&◌, ◌||◌, List, [], ◌∷◌, ◌++◌, map, length, drop, get_or, reverse, Option, Some, None, Result, Ok, Err, ℤ, pos, nat_eq, refl, sym, ap, ◌∙◌, arith, append_assoc, cond}
 use Rattle.std.specs.Prelude.{flat_map, int_lt}
 use Rattle.std.specs.Prelude.{filter as keep, not as opposite}
 use Rattle.std.proofs.lemmas.Bool.Decides.{nat_tests}
