@@ -12,7 +12,7 @@ The pages are README.md, CONTRIBUTING.md, those of docs/, and the README.md of e
 - Commands that prove, build, install or take long (LONG) are not run: that what they name is there is all that is tested.
 - A table below a line "On `TEXT`:" whose rows are a query and the values that it selects is asked of the program.
 - An example in Rust of a crate's page is a test. `rt try --test` compiles and runs them all, where there is rt.
-- A link to a file, and what stands between backquotes and begins with a folder of this repository, is there.
+- A link to a file, and what stands between backquotes and begins with a folder of this repository or with a crate and its folder, is there.
 - The pictures are what their script draws, and the figures of README and docs/BENCHMARKS.md those that bench/report.py recorded. A line beside
   "bin/definitions PATH" in a table, `N files, M lines`, is what that command counts. README's two counts of lines are those of docs/PROVED.md.
 
@@ -36,6 +36,7 @@ LONG = re.compile(r"(?:\w+=\S* )*(?:nice )?(bin/(?:check\b(?!-)|build\b|edits tr
                   r"git clone|pip|npm|install -|systemctl|docker|\./\w+$|\(cd )")
 FOLDERS = "bin|bench|clients|crates|deploy|docs|tests"
 PATH = re.compile(rf"`((?:{FOLDERS})/[\w./@-]*\w/?)(?:[ `].*)?")
+IN_CRATE = re.compile(r"`(\w+/(?:src|specs|proofs)/[\w./+-]*\w)`")
 ADDRESS = re.compile(r"((?:127\.0\.0\.1|TCP-LISTEN)[: ])([1-9]\d{3,4})")
 SCRIPT = re.compile(r"(?:bin/|deploy/|printf |echo |cat |export |exec |for [^\n]*; do|haproxy -db |key=|socat |sed -i |curl |\(\. )")
 SERVES = re.compile(r"^bin/path_server(?:_run)? (?:listen|serve) [^&|]*\Z", re.M)
@@ -207,6 +208,8 @@ def look_for_files(report, name, text):
     for path in [it for it in PATH.findall(text) if "NAME" not in it]:
         is_there = any(TOP.glob(path)) or "/out/" in path or (TOP / f"{path}.rt").exists() or (folder / path).exists()
         report.case(f"{name}: a file or folder", path, True, is_there)
+    for path in IN_CRATE.findall(text):
+        report.case(f"{name}: a file or folder of a crate", path, True, (TOP / "crates" / path).exists())
 
 
 def count_definitions(report, name, text):
