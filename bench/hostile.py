@@ -336,6 +336,10 @@ def mixed_sides(texts):
     lengths = "[" + ",".join('"' + "a" * (at % 120) + '"' for at in range(16_000 * MEBIBYTES)) + "]"
     yield "strings, lengths and keys for nothing", strings, distinct(f'@>="{key}"&&length(@)=={key}' for key in keys)
     yield "strings of many lengths, lengths and keys for nothing", lengths, distinct(f'@>="{key}"&&length(@)=={key}' for key in keys)
+    letters = [chr(at) for at in range(48, 123) if chr(at) not in '"\\']
+    starts, sizes = [a + b for a in letters for b in letters[::24]], range(2, 66)
+    cells = "[" + ",".join('"' + starts[at % len(starts)].ljust(sizes[at * 7919 // len(starts) % len(sizes)], "a") + '"' for at in range(28_000 * MEBIBYTES)) + "]"
+    yield "strings of most cells, lengths and keys for nothing", cells, distinct(f'@>="{starts[at * 3 % len(starts)]}"&&length(@)=={sizes[at % len(sizes)]}' for at in range(2_000))
     yield "strings, lengths or keys in ! for nothing", strings, distinct(f'!(@<"{key}"||length(@)!={key})' for key in keys)
     yield "strings, a name beside lengths and keys for nothing", strings, distinct(itertools.chain(["@.a"], (f'@>="{key}"&&length(@)=={key}' for key in keys)))
     yield "zeros, it and the text in one for nothing", zeros, filled("@<1&&$<1")
@@ -345,6 +349,7 @@ def mixed_sides(texts):
     yield "zeros, five sides in one for nothing", zeros, filled("@<1&&length(@)!=1&&count(@)==1&&value(@)<1&&$<1")
     deep = "(@<1&&(length(@)<1||" * 15 + "||".join(["@<1&&length(@)<1"] * 180) + "))" * 15
     yield "zeros, lengths 31 deep for nothing", zeros, "$[?" + deep + "]"
+    yield "zeros, a length beside one without a literal for nothing", zeros, filled("@<length($)&&@<1")
     yield "strings, the length of the value for nothing", strings, distinct(f"length(value(@))=={key}" for key in keys)
 
 
