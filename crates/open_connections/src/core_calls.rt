@@ -8,7 +8,7 @@ use hub_metrics::{MeasuredHub, Slow};
 use socket_poll::Time;
 
 /// The units for which a query goes on where others wait for turns.
-const SHARE: u64 = 1_000;
+const SHARE: u64 = 400;
 
 /// The units for which it goes on where nobody does.
 const LONG_SHARE: u64 = 10_000;
