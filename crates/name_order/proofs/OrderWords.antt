@@ -7,7 +7,7 @@ use Rattle.std.specs.declared.cmp.Ordering.TheVariants.{Less, Equal, Greater}
 use Rattle.std.proofs.lemmas.Bool.{cases_lt}
 use Rattle.std.proofs.lemmas.Bool.Decides.{nat_tests}
 use Rattle.std.proofs.lemmas.Cmp.{ranked}
-use Rattle.std.proofs.lemmas.List.{length-map, length-take, length-drop, take-append-le, drop-append-le, drop_at, take_at, take_all, map_push, get_or-map, get_or_default}
+use Rattle.std.proofs.lemmas.List.{length-map, length-take, length-drop, take-append-le, drop-append-le, drop_at, take_all, map_push, get_or-map, get_or_default}
 use Rattle.std.proofs.lemmas.List.Elements.{All-push, All-weaker, recursion_from_All}
 use Rattle.std.proofs.lemmas.List.Sorted.{IsNonDecreasingBy-push}
 use Rattle.name_order.specs.Orders.{Order, no_order, part, onward, order_in, orders_of, AreOrders}
@@ -22,10 +22,6 @@ part_left start n xs ys h = ap (take n) (drop-append-le start xs ys (omega arith
 -- what was added is the part that begins where the list ended
 part_right : (start n : ℕ) (xs ys : List ℕ) → length xs ≡ start → length ys ≡ n → part start n (xs ++ ys) ≡ ys
 part_right start n xs ys e f = ap (take n) (drop_at xs ys start e) ∙ take_all n ys (omega arith)
-
--- what a list begins with that was made longer
-pub resized_front : (xs ys more : List ℕ) (n len : ℕ) → ys ≡ take n xs ++ more → length xs ≡ len → len ≤ n → take len ys ≡ xs
-resized_front xs ys more n len e l h = ap (take len) (e ∙ ap (λ zs. zs ++ more) (take_all n xs (omega arith))) ∙ take_at xs more len l
 
 -- a part that was read as a slice
 pub sliced : (start n : ℕ) (ys xs : List ℕ) → ys ≡ xs → take (start + n - start) (drop start ys) ≡ part start n xs

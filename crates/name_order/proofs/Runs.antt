@@ -15,8 +15,6 @@ use Rattle.json_text.specs.Repeats.{IsObject, repeats, meanings, repeats_next_by
 use Rattle.json_strings.specs.Keys.{Keyed, key_name, name_cmp}
 use Rattle.name_order.specs.Ordered.{keyed, IsOrderOf, AreKept}
 use Rattle.name_order.specs.Orders.{Order}
-use Rattle.json_text.specs.Tape.{entry_in}
-use Rattle.json_text.specs.Suspects.{IsWide}
 use Rattle.json_strings.specs.KeyOrder.{keys_equiv, keys_total, keys_tie}
 use Rattle.json_text.specs.declared.tape.Entry.{Entry}
 use Rattle.json_text.specs.declared.tape.Kind.{Kind}
@@ -88,6 +86,3 @@ members_are e h = elim (cases_Bool (is_object e.kind)) [
 
 pub few_members : (e : Entry) (members : ℕ) → members ≡ members_in e → members ≤ 1 → (e.kind ≡ kinds.Object) × (1 < e.children) → ⊥
 few_members e members m l w = let q = object_members e w.0 in let h = w.1 in omega arith
-
-pub wide_by : (tape : List Entry) (n members : ℕ) → members ≡ members_in (entry_in tape n) → 16 < members → IsWide (entry_in tape n)
-wide_by tape n members m l = let w = members_are (entry_in tape n) (omega arith) in (w.0, let q = w.1 in omega arith)

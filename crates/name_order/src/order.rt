@@ -327,7 +327,6 @@ fn order_like(
     requires alike { AreAlike text.now tape.now n (get_or order.old place no_order).object }
     requires inside { n < length tape.now }
     requires object { (ms : Members) × IsObject text.now tape.now n ms }
-    requires wide { IsWide (entry_in tape.now n) }
     requires short { length tape.now < 2 ^ 31 }
     requires kept { AreKept text.now tape.now n order.old }
     ensures found { IfOk result (λ found. (ms : Members) → IsObject text.now tape.now n ms → found ≡ repeats (meanings ms)) }
