@@ -37,7 +37,7 @@ fn serve<R: Print + Eprint + Net + Clock + AllocGlobal>(
     keys: &[[u8; 16]],
 ) -> Result<(), Failure> {
     let mut server = bind(rt, wanted, keys)?;
-    serve_at(rt, wanted, keys, &mut server)
+    serve_at(rt, wanted, keys, &mut *server)
 }
 
 // Serves at an address that is bound.
@@ -184,11 +184,14 @@ fn bind<'r, R: Net + Clock + AllocGlobal>(
     rt: &'r R,
     wanted: &Listening<'_>,
     keys: &[[u8; 16]],
-) -> Result<Bound<'r, R>, Failure> {
+) -> Result<Box<Bound<'r, R>>, Failure> {
     let addr = address_of(rt, wanted.address)?;
     let hub = Hub::new(rt.alloc(), keys).map_err(Failure::Tenants)?;
     match Server::bind(rt, addr, HubCore::new(rt.alloc(), hub), limits_of(wanted)) {
-        Ok(server) => Ok(server),
+        Ok(server) => match Box::new(rt.alloc(), server) {
+            Ok(server) => Ok(server),
+            Err(_) => Err(Failure::Memory),
+        },
         Err(fault) => Err(failure_of(rt.alloc(), wanted.address, fault)),
     }
 }

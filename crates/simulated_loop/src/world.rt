@@ -361,7 +361,7 @@ fn go_on<R: Print + AllocGlobal>(
 /// A server, its pipes and its clock.
 #[derive(Drop)]
 struct Stage<'w> {
-    server: Server<Pipes<'w>, Watch<'w>>,
+    server: Box<Server<Pipes<'w>, Watch<'w>>>,
     ends: Ends<'w>,
     room: Room<'w>,
 }
@@ -530,7 +530,7 @@ fn staged<'w>(
     };
     match server(alloc, room, words.seed, limits, hub) {
         Some(server) => Ok(Stage {
-            server,
+            server: Box::new(alloc, server)?,
             ends: Ends {
                 pipes: room.pipes,
                 is_scarce: words.is_scarce,
