@@ -10,7 +10,7 @@ use event_loop::{Gate, Limits, LoopFault, Server, Since, Sockets, Totals};
 use path_hub::Hub;
 use path_listen::HubCore;
 use path_server::read_keys;
-use std::alloc::Global;
+use std::alloc::{AllocError, Global};
 use std::io::ErrorKind;
 use std::net::{Net, SocketAddr, ToSocketAddrs};
 use std::rt::{Clock, Files};
@@ -188,12 +188,17 @@ fn bind<'r, R: Net + Clock + AllocGlobal>(
     let addr = address_of(rt, wanted.address)?;
     let hub = Hub::new(rt.alloc(), keys).map_err(Failure::Tenants)?;
     match Server::bind(rt, addr, HubCore::new(rt.alloc(), hub), limits_of(wanted)) {
-        Ok(server) => match Box::new(rt.alloc(), server) {
-            Ok(server) => Ok(server),
-            Err(_) => Err(Failure::Memory),
-        },
+        Ok(server) => boxed(rt.alloc(), server).map_err(|_| Failure::Memory),
         Err(fault) => Err(failure_of(rt.alloc(), wanted.address, fault)),
     }
+}
+
+fn boxed<'r, R: Net + Clock + AllocGlobal>(
+    alloc: Global,
+    server: Bound<'r, R>,
+) -> Result<Box<Bound<'r, R>>, AllocError> {
+    let server = Box::new(alloc, server)?;
+    Ok(server)
 }
 
 // The first address that a text names.
