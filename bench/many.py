@@ -4,7 +4,8 @@
 It compiles bench/many_echo.c and bench/many_load.c (cc), starts the program as `path_server listen`, the loop in C and, where it is
 installed, Redis, and loads them in turns. Each line has for each of them the middle one of five rates and the times of a request. Then come
 the bytes that an idle connection takes in the process, and the times of requests beside others that take long or come without a pause,
-also of another tenant (bench/many_flood.c; the same beside Redis and PostgreSQL, by pgbench). The program is the one that bin/build makes, or the one that the environment's PATH_SERVER names.
+also of another tenant (bench/many_flood.c); of another tenant's so do those of Redis, and of PostgreSQL by pgbench. The program is the one that
+bin/build makes, or the one that the environment's PATH_SERVER names.
 """
 import contextlib
 import resource
@@ -55,6 +56,14 @@ def times(load, port, count, seconds, asked=OURS):
 def rates(load, port, count, seconds, asked=OURS):
     """Requests a second, and the median and the 99th percentile of their times in microseconds."""
     return times(load, port, count, seconds, asked)[:3]
+
+
+def rates_if_answered(load, port, count, seconds, asked):
+    """The same, and 0 requests of five seconds each where no reply came for so long: bench/many_load.c then gives up."""
+    try:
+        return rates(load, port, count, seconds, asked)
+    except subprocess.CalledProcessError:
+        return 0.0, 5e6, 5e6
 
 
 def middle(rows):
@@ -159,7 +168,7 @@ def beside_another(seconds, turns=TURNS):
                         flooding.stdin.write(request)
                         flooding.stdin.close()
                         time.sleep(0.5)
-                    rows[it].append(rates(load, port, 1, seconds, ask))
+                    rows[it].append((rates if it == "path_server" else rates_if_answered)(load, port, 1, seconds, ask))
                     if others:
                         flooding.wait()
             yield name, {it: middle(them) for it, them in rows.items()}
