@@ -1,7 +1,7 @@
 use Rattle.std.proofs.Common.{map, ap, sym, ◌∙◌, ◌++◌}
 use Rattle.path_grammar.specs.Tree.{exprs_of}
 use Rattle.path_grammar.specs.View.{expr_view}
-use Rattle.decisions.specs.Turns.{dealt}
+use Rattle.condition_reader.specs.Turns.{dealt}
 use Rattle.decisions.specs.Views.{constant_view}
 use Rattle.decisions.specs.Told.{all_literals}
 use Rattle.query_plan.proofs.Scales.{on_scale}
