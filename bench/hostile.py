@@ -349,7 +349,10 @@ def mixed_sides(texts):
     yield "zeros, five sides in one for nothing", zeros, filled("@<1&&length(@)!=1&&count(@)==1&&value(@)<1&&$<1")
     deep = "(@<1&&(length(@)<1||" * 15 + "||".join(["@<1&&length(@)<1"] * 180) + "))" * 15
     yield "zeros, lengths 31 deep for nothing", zeros, "$[?" + deep + "]"
-    yield "zeros, a length beside one without a literal for nothing", zeros, filled("@<length($)&&@<1")
+    yield "zeros, the text's length in one for nothing", zeros, filled("@<length($)&&@<1")
+    yield "zeros, its length and the text's in one for nothing", zeros, filled("length(@)<length($)&&@<1")
+    yield "zeros, counts without a literal in one for nothing", zeros, filled("@<count(@)&&$<1")
+    yield "strings, lengths of literals in one for nothing", strings, distinct(f'length(@)<=length("{"a" * (key % 60)}")&&@>="{key}"' for key in keys)
     yield "strings, the length of the value for nothing", strings, distinct(f"length(value(@))=={key}" for key in keys)
 
 

@@ -1,9 +1,9 @@
 #!/usr/bin/env python3
 """Compares what random conditions on a few sides select with a plain evaluator: tests/against_conditions.py [CONDITIONS [SEED]].
 
-A condition joins comparisons of sides with literals, and of `@` and `$`, by `||`, `&&`, `!` and parentheses, those of one side or of several in
-one operand; its values are the literals, others between and beyond them, and arrays and objects. The evaluator is plain_queries.py. The program is the one that bin/build makes or the
-one that the environment's PATH_SERVER names.
+A condition joins comparisons of sides with literals, and of sides that cost no units with each other, by `||`, `&&`, `!` and parentheses, those of
+one side or of several in one operand; its values are the literals, others between and beyond them, and arrays and objects. The evaluator is
+plain_queries.py. The program is the one that bin/build makes or the one that the environment's PATH_SERVER names.
 """
 import random
 import subprocess
@@ -18,6 +18,7 @@ STRINGS = ['""', '"a"', '"b"', '"ab"', '"aa"', '"\u00e9"', '"\\u00e9"', '"\U0001
 WORDS = ["null", "true", "false"]
 OTHERS = ["4", "6", "-2", "0.5", "1.5", "1e300", '"c"', '"abc"', '"\\ud83d\\ude00"', "[]", "[1]", "[[1],2]", "{}", '{"a":1}']
 SIDES = ["@", "@", "@", "length(@)", "value(@)", "count(@)", "$", "length($)", "@.a", "@[0]", "$[0]", "length(@[0])", "length(value(@))"]
+FREE = ["@", "@", "$", "length(@)", "length($)", "count(@)", "value(@)", "length('ab')", "length(value(@))", "length(count(@))"]
 OPERATORS = ["==", "!=", "<", "<=", ">", ">="]
 PER_TEXT = 10
 
@@ -31,7 +32,7 @@ def comparison(chance, sides):
     if kind < 0.05:
         return chance.choice(["@", "$", "@.a"])
     if kind < 0.12:
-        return chance.choice("@$") + chance.choice(OPERATORS) + chance.choice("@$")
+        return chance.choice(FREE) + chance.choice(OPERATORS) + chance.choice(FREE)
     left, right = (literal(chance) if kind < 0.2 else side), literal(chance)
     left, right = (left, right) if chance.randrange(2) else (right, left)
     return left + chance.choice(OPERATORS) + right

@@ -228,23 +228,42 @@ pub fn related(
     }
 }
 
-// Whether the values of a node and the root are known to be of two kinds, or it does not matter.
-fn are_apart(
-    doc: &Document,
-    is_rooted: bool,
-    child: NodeId,
-    answers: &mut Vec<Option<Answer>>,
-) -> bool
+// Whether the values of a node and the root are known to be of two kinds.
+fn are_apart(doc: &Document, child: NodeId, answers: &mut Vec<Option<Answer>>) -> bool
     requires inside { child.0 < count doc.now }
     requires before { AreRight doc.now answers.old.items }
-    ensures apart { IsTrue result → IsTrue is_rooted → AreApart (Some (value_of (node_at doc.now child.0).tree)) (Some (value_of (node_at doc.now 0).tree)) }
+    ensures apart { IsTrue result → AreApart (Some (value_of (node_at doc.now child.0).tree)) (Some (value_of (node_at doc.now 0).tree)) }
     ensures after { AreRight doc.now answers.new.items }
 {
-    if !is_rooted {
-        return true;
-    }
     let relation = relation(doc, child, answers);
     relation.is(Relation::apart())
+}
+
+// The cell of a node on a scale, beside the length of the root.
+fn cell_beside(
+    doc: &Document,
+    scale: &Scale,
+    child: NodeId,
+    lengths: &mut Lengths,
+    answers: &mut Vec<Option<Answer>>,
+) -> Option<usize>
+    requires inside { child.0 < count doc.now }
+    requires rooted { IsTrue scale.now.is_rooted }
+    requires lengths { AreCounted doc.now lengths.old.kept.items }
+    requires answers { AreRight doc.now answers.old.items }
+    ensures cell { IfSome result (λ i. IsCell (node_at doc.now 0) (node_at doc.now child.0) scale.now i) }
+    ensures lengths { AreCounted doc.now lengths.new.kept.items }
+    ensures answers { AreRight doc.now answers.new.items }
+{
+    if !are_apart(doc, child, answers) {
+        return None;
+    }
+    let node = Side::Node(child);
+    let length = length_of(doc, Side::Node(child), lengths);
+    match total_of(doc, Side::Node(doc.root()), lengths) {
+        None => None,
+        Some(total) => scale.cell_beside(doc, total, &node, &length),
+    }
 }
 
 /// The cell of a node on a scale, where it has one.
@@ -262,8 +281,8 @@ pub fn cell_of(
     ensures lengths { AreCounted doc.now lengths.new.kept.items }
     ensures answers { AreRight doc.now answers.new.items }
 {
-    if !are_apart(doc, scale.is_rooted, child, answers) {
-        return None;
+    if scale.is_rooted {
+        return cell_beside(doc, scale, child, lengths, answers);
     }
     let node = Side::Node(child);
     let length = length_of(doc, Side::Node(child), lengths);

@@ -58,6 +58,27 @@ count_map f p (x ∷ xs) = count_cons p (f x) (map f xs) ∙ ap (λ n. cond (p (
 
 -- ---- Places
 
+module _ {K : Type 0} (cmp : K → K → Ordering) where
+  -- a value's place among one more
+  pub place_with : (x : K) (xs : List K) (v : K) → place cmp (x ∷ xs) v ≡ place cmp xs v + place cmp (x ∷ []) v
+  place_with x xs v =
+      omega (
+        arith,
+        count_cons (λ y. is_lt (cmp y v)) x xs,
+        count_cons (λ y. is_le (cmp y v)) x xs,
+        count_cons (λ y. is_lt (cmp y v)) x [],
+        count_cons (λ y. is_le (cmp y v)) x [],
+        count_none (λ y. is_lt (cmp y v)),
+        count_none (λ y. is_le (cmp y v)),
+      )
+
+  place_one : (x v : K) → place cmp (x ∷ []) v ≡ cond (is_lt (cmp x v)) 1 0 + cond (is_le (cmp x v)) 1 0
+  place_one x v = omega (arith, count_cons (λ y. is_lt (cmp y v)) x [], count_cons (λ y. is_le (cmp y v)) x [], count_none (λ y. is_lt (cmp y v)), count_none (λ y. is_le (cmp y v)))
+
+  -- and beside one alone
+  pub place_beside : (x v : K) (o : Ordering) → cmp x v ≡ o → place cmp (x ∷ []) v ≡ cond (is_lt o) 1 0 + cond (is_le o) 1 0
+  place_beside x v o e = place_one x v ∙ ap (λ p. cond {A = ℕ} (is_lt p) 1 0 + cond {A = ℕ} (is_le p) 1 0) e
+
 nat_less : (a b : ℕ) → a < b → nat_cmp a b ≡ Less
 nat_less a b h = grind (arith, common_steps)
 

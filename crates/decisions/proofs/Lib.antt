@@ -3,7 +3,6 @@ pub mod Cells
 pub mod Counts
 pub mod Decided
 pub mod Orders
-pub mod Exprs
 pub mod Itself
 pub mod Sorting
 pub mod Marks

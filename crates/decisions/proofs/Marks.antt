@@ -1,6 +1,6 @@
 -- Values of one mark compare alike, and a cell has two marks.
 use Rattle.std.proofs.Common.{◌≡◌, ℕ, ◌+◌, ◌*◌, ◌<◌, List, [], ◌∷◌, length, get_or, zero, suc, Bool, true, false, ◌&&◌, ◌||◌, Option, Some, None, refl, sym, ap, ◌∙◌, arith}
-use Rattle.std.specs.Prelude.{IsTrue, nat_eq, if◌then◌else◌}
+use Rattle.std.specs.Prelude.{IsTrue, IfSome, nat_eq, if◌then◌else◌}
 use Rattle.std.specs.Cmp.{IsTotalOrder}
 use Rattle.std.specs.List.{All, Contains}
 use Rattle.std.specs.Ordering.{nat_cmp, is_eq, is_lt, is_le}
@@ -19,7 +19,7 @@ use Rattle.decisions.specs.Marks.{mark, cell, is_among, are_among}
 use Rattle.decisions.specs.Order.{kind, value_cmp}
 use Rattle.decisions.specs.Places.{place, HasTie}
 use Rattle.decisions.specs.Truth.{told_by, turned, versus}
-use Rattle.decisions.proofs.Counts.{place_tells, place_more}
+use Rattle.decisions.proofs.Counts.{place_tells, place_more, place_with}
 use Rattle.decisions.proofs.Decided.{kinds_below}
 use Rattle.decisions.proofs.Orders.{value_total, less_kind, compared_left, compared_right}
 
@@ -45,6 +45,18 @@ mark_below vs v =
 pub marked_cells : (vs : List (Option Value)) (a b c d : Option Value) → cell vs a b ≡ cell vs c d → (mark vs a ≡ mark vs c) × (mark vs b ≡ mark vs d)
 marked_cells vs a b c d e = same_from_place (mark vs a) (mark vs b) (mark vs c) (mark vs d) (2 * length vs + 7) (mark_below vs b) (mark_below vs d) e
 
+-- a mark and a cell among one more
+pub mark_with : (x : Option Value) (vs : List (Option Value)) (v : Option Value) → mark (x ∷ vs) v ≡ mark vs v + place value_cmp (x ∷ []) v
+mark_with x vs v = let e = place_with value_cmp x vs v in omega (arith, e)
+
+pub cell_with : (x : Option Value) (vs : List (Option Value)) (v w : Option Value) (row column count : ℕ) (r : Option ℕ) → row ≡ mark (x ∷ vs) v → column ≡ mark (x ∷ vs) w → count ≡ length vs + 1
+    → IfSome r (λ i. i ≡ row * (2 * count + 7) + column) → IfSome r (λ i. i ≡ cell (x ∷ vs) v w)
+cell_with x vs v w row column count None e f g h = tt
+cell_with x vs v w row column count (Some i) e f g h =
+    let long : 2 * count + 7 ≡ 2 * length (x ∷ vs) + 7 = omega (arith, g) in
+    let same : row * (2 * count + 7) + column ≡ cell (x ∷ vs) v w = λ j. e j * long j + f j in
+    h ∙ same
+
 record Parts (vs : List (Option Value)) (v w : Option Value) : Type 0 where
   kinds : kind v ≡ kind w
   places : place value_cmp vs v ≡ place value_cmp vs w
@@ -66,6 +78,9 @@ module _ (n : IsTotalOrder number_cmp) where
       go o p f g =
           let same : kind v ≡ kind w = grind (arith, common_steps, f, g) in
           record { kinds = same; places = omega arith }
+
+  pub marked_kinds : (vs : List (Option Value)) (v w : Option Value) → mark vs v ≡ mark vs w → kind v ≡ kind w
+  marked_kinds vs v w e = (parts vs v w e).kinds
 
   alike : (vs : List (Option Value)) (v w : Option Value) (l : Literal) → HasTie value_cmp vs (Some (literal_value l)) → mark vs v ≡ mark vs w → versus v l ≡ versus w l
   alike vs v w l tie e =

@@ -6,7 +6,7 @@ use Rattle.std.specs.declared.cmp.Ordering.TheVariants.{Equal}
 use Rattle.path_grammar.specs.Tree.{Literal}
 use Rattle.path_grammar.specs.declared.ast.Op.{Op}
 use Rattle.tape_values.specs.Comparison.{Value, literal_value, compared}
-use Rattle.decisions.specs.Order.{value_cmp}
+use Rattle.decisions.specs.Order.{kind, value_cmp}
 use Rattle.decisions.specs.Truth.{told, told_by, turned, versus}
 use Rattle.decisions.specs.Places.{place, HasTie}
 use Rattle.decisions.specs.Marks.{mark, cell}
@@ -23,8 +23,10 @@ pub record TellsByPlaces : Type 0 where
   pub order : IsTotalOrder value_cmp
   pub values : (vs : List (Option Value)) (v l : Option Value) → HasTie value_cmp vs l → nat_cmp (place value_cmp vs v) (place value_cmp vs l) ≡ value_cmp v l
 
--- Values of one mark compare alike with what ties with one of those among which they have it; and a cell is that of two marks.
+-- Values of one mark are of one kind, and compare alike with what ties with one of those among which they have it; and a cell is that of two marks.
 pub record TellsByMarks : Type 0 where
+  pub itself : (v : Option Value) → value_cmp v v ≡ Equal
+  pub kinds : (vs : List (Option Value)) (v w : Option Value) → mark vs v ≡ mark vs w → kind v ≡ kind w
   pub left : (vs : List (Option Value)) (v w : Option Value) (op : Op) (l : Literal) → HasTie value_cmp vs (Some (literal_value l)) → mark vs v ≡ mark vs w → compared op v (Some (literal_value l)) ≡ compared op w (Some (literal_value l))
   pub right : (vs : List (Option Value)) (v w : Option Value) (op : Op) (l : Literal) → HasTie value_cmp vs (Some (literal_value l)) → mark vs v ≡ mark vs w → compared op (Some (literal_value l)) v ≡ compared op (Some (literal_value l)) w
   pub cells : (vs : List (Option Value)) (a b c d : Option Value) → cell vs a b ≡ cell vs c d → (mark vs a ≡ mark vs c) × (mark vs b ≡ mark vs d)

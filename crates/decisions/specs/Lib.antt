@@ -3,7 +3,6 @@ pub mod Order
 pub mod Truth
 pub mod Views
 pub mod Places
-pub mod Turns
 pub mod Marks
 pub mod Told
 pub mod Laws

@@ -1,9 +1,9 @@
 -- Conditions that are charged nothing, and that the marks of `@` and its length tell.
-use Rattle.std.specs.Prelude.{◌≡◌, ℕ, List, [], ◌∷◌, ◌++◌, map, Bool, true, false, ◌&&◌, Option, Some, IsTrue}
-use Rattle.path_grammar.specs.Tree.{Literal, Nested, nested, no_segments, segment, Comparable, lit, single, func, Call, call, Arguments, no_arguments, argument, Argument, lit_argument, nodes_argument, func_argument, logical_argument, Expr, any, each, not, compare, test, test_call, Exprs, no_exprs, expr}
+use Rattle.std.specs.Prelude.{◌≡◌, ℕ, List, [], ◌∷◌, ◌++◌, map, length, Bool, true, false, ◌&&◌, ◌||◌, Option, Some, IsTrue, decimal}
+use Rattle.path_grammar.specs.Tree.{Literal, number, text, boolean, null, Nested, nested, no_segments, segment, Comparable, lit, single, func, Call, call, Arguments, no_arguments, argument, Argument, lit_argument, nodes_argument, func_argument, logical_argument, Expr, any, each, not, compare, test, test_call, Exprs, no_exprs, expr}
 use Rattle.json_tape.specs.Nodes.{Node}
 use Rattle.tape_values.specs.Comparison.{Value, value_of}
-use Rattle.tape_values.specs.Functions.{length_value}
+use Rattle.tape_values.specs.Functions.{length_value, whole_number}
 use Rattle.decisions.specs.Marks.{cell, are_among}
 use Rattle.decisions.specs.Truth.{IsRelated, no_relation}
 use Rattle.decisions.specs.Views.{constant_value}
@@ -36,15 +36,14 @@ is_free (lit l) = true
 is_free (single q) = is_alone q
 is_free (func c) = is_free_call c
 
--- a literal against such a side, or `@` or `$` against one of these where they may be compared
+abbrev pub is_written : Comparable → Bool
+is_written (lit l) = true
+is_written (single q) = false
+is_written (func c) = false
+
+-- two such sides, of which one is a literal where others may not be compared
 abbrev pub is_told_pair : (is_rooted : Bool) → (left right : Comparable) → Bool
-is_told_pair is_rooted (lit l) b = is_free b
-is_told_pair is_rooted (single p) (lit l) = is_alone p
-is_told_pair is_rooted (single p) (single q) = is_rooted && (is_alone p && is_alone q)
-is_told_pair is_rooted (single p) (func c) = false
-is_told_pair is_rooted (func c) (lit l) = is_free_call c
-is_told_pair is_rooted (func c) (single q) = false
-is_told_pair is_rooted (func c) (func d) = false
+is_told_pair is_rooted a b = (is_written a || (is_written b || is_rooted)) && (is_free a && is_free b)
 
 -- ---- Conditions
 
@@ -62,10 +61,39 @@ module _ (is_rooted : Bool) where
     are_told no_exprs = true
     are_told (expr e others) = is_told e && are_told others
 
+-- ---- Literals
+
+abbrev pub whole : ℕ → Literal
+whole n = number (decimal n)
+
+-- what a call counts of `@` or `$`, and of no nodes
+abbrev pub totals : List Literal
+totals = whole 0 ∷ whole 1 ∷ []
+
+abbrev pub literal_lengths : Literal → List Literal
+literal_lengths (number digits) = []
+literal_lengths (text scalars) = whole (length scalars) ∷ []
+literal_lengths (boolean b) = []
+literal_lengths null = []
+
+abbrev pub argument_lengths : Argument → List Literal
+argument_lengths (lit_argument l) = literal_lengths l
+argument_lengths (nodes_argument q) = []
+argument_lengths (func_argument c) = []
+argument_lengths (logical_argument e) = []
+
+abbrev pub lengths : Arguments → List Literal
+lengths no_arguments = []
+lengths (argument a others) = argument_lengths a ++ lengths others
+
+abbrev pub call_lengths : Call → List Literal
+call_lengths (call f arguments) = lengths arguments
+
+-- a literal, or the length of the string that a call is of
 abbrev pub side_literals : Comparable → List Literal
 side_literals (lit l) = l ∷ []
 side_literals (single q) = []
-side_literals (func c) = []
+side_literals (func c) = call_lengths c
 
 abbrev mutual
   -- the literals that are compared
@@ -86,18 +114,30 @@ abbrev mutual
 abbrev pub values_on : Scale → List (Option Value)
 values_on s = map constant_value s.literals.items
 
--- what a condition compares with literals alone stands on the scale
+-- what a condition compares stands on the scale, if it is the same in each document
 abbrev pub is_told_on : Scale → Expr → Bool
-is_told_on s e = is_told s.is_rooted e && are_among (values_on s) (literals e)
+is_told_on s e = is_told s.is_rooted e && are_among (values_on s) (totals ++ literals e)
 
 abbrev pub are_told_on : Scale → Exprs → Bool
-are_told_on s es = are_told s.is_rooted es && are_among (values_on s) (all_literals es)
+are_told_on s es = are_told s.is_rooted es && are_among (values_on s) (totals ++ all_literals es)
+
+abbrev pub beside : Bool → Option Value → List (Option Value) → List (Option Value)
+beside false v vs = vs
+beside true v vs = v ∷ vs
+
+-- and the length of `$`, where sides that are no literals may be compared
+abbrev pub values_in : (root : Node) → Scale → List (Option Value)
+values_in root s = beside s.is_rooted (length_value (Some (value_of root.tree))) (values_on s)
 
 -- neither equal nor less nor greater
 abbrev pub AreApart : (v w : Option Value) → Type 0
 AreApart v w = IsRelated no_relation v w
 
--- this is the cell of the node's value and its length; and it is apart from that of `$`, where they may be compared
+abbrev pub HasLength : Option Value → Type 0
+HasLength v = (k : ℕ) × (length_value v ≡ Some (whole_number k))
+
+-- This is the cell of the node's value and its length. Where sides that are no literals may be compared, it is apart from that of `$`, which has a length.
 pub record IsCell (root n : Node) (s : Scale) (i : ℕ) : Type 0 where
-  pub marks : i ≡ cell (values_on s) (Some (value_of n.tree)) (length_value (Some (value_of n.tree)))
+  pub marks : i ≡ cell (values_in root s) (Some (value_of n.tree)) (length_value (Some (value_of n.tree)))
   pub apart : IsTrue s.is_rooted → AreApart (Some (value_of n.tree)) (Some (value_of root.tree))
+  pub long : IsTrue s.is_rooted → HasLength (Some (value_of root.tree))

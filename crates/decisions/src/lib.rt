@@ -9,11 +9,9 @@
 mod counting;
 mod decision;
 mod gathering;
-mod groups;
 mod laws;
 mod order;
 mod places;
-mod reading;
 mod relation;
 mod scale;
 mod tables;
@@ -21,9 +19,7 @@ mod telling;
 mod test;
 
 pub use decision::Decision;
-pub use groups::{Groups, grouped, parts_in, side_in_group};
 pub use laws::{tells_as_compared, tells_by_marks, tells_by_places};
-pub use reading::{decide, decide_group, side_in};
 pub use relation::Relation;
 pub use scale::Scale;
 pub use test::{Constant, Test};

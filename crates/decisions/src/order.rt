@@ -20,6 +20,9 @@ use tape_values::{Side, compare_sides};
 /// How many kinds there are.
 pub const KINDS: usize = 7;
 
+/// The number of the kind of numbers.
+pub const WHOLE_KIND: usize = 4;
+
 /// The number of a literal's kind.
 pub fn literal_kind(literal: &Literal) -> usize
     ensures { result ≡ kind (Some (literal_value (literal_view literal.now))) }

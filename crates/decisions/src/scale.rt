@@ -1,7 +1,8 @@
 //! Literals in order, among which a value has a mark.
 
-ghost use Rattle.std.specs.Prelude.{◌≡◌, map, IsTrue, IfOk, IfSome};
+ghost use Rattle.std.specs.Prelude.{◌≡◌, ◌+◌, ◌*◌, ◌≤◌, ◌∷◌, length, map, Some, IsTrue, IfOk, IfSome};
 ghost use Rattle.std.specs.List.Sorted.{IsSortedByKey};
+ghost use Rattle.tape_values.specs.Functions.{whole_number};
 ghost use Rattle.tape_values.specs.Sides.{side_value, IsSide};
 ghost use Rattle.decisions.specs.Marks.{mark, cell, are_among};
 ghost use Rattle.decisions.specs.Order.{value_cmp};
@@ -9,18 +10,19 @@ ghost use Rattle.decisions.specs.Views.{constant_view, constant_value};
 
 use crate::gathering::in_order;
 use crate::order::side_kind;
-use crate::places::side_place;
+use crate::places::{side_place, total_place};
 use crate::test::Constant;
 use decimal_order::orders_values;
 use json_tape::Document;
 use std::alloc::AllocError;
 use tape_values::Side;
 
-/// The literals of a condition in order. A condition that compares `@` and its length with these alone is told by their marks.
+/// The literals of a condition in order. A condition that compares `@` and its length with these alone is told by their marks. Where it compares sides
+/// that are no literals too, the length of `$` stands beside these.
 #[derive(Drop)]
 pub struct Scale {
     pub literals: Vec<Constant>,
-    /// Whether the condition may compare `@` or `$` with these too.
+    /// Whether the condition may compare sides of which none is a literal.
     pub is_rooted: bool,
     ghost sorted: { IsSortedByKey constant_value value_cmp literals.items },
 }
@@ -30,9 +32,34 @@ pub struct Scale {
 fn mark<'a>(doc: &'a Document, literals: &'a [Constant], side: &Side<'a>) -> usize
     requires side { IsSide doc.now side.now }
     requires sorted { IsSortedByKey constant_value value_cmp literals.now }
-    ensures { result ≡ mark (map constant_value literals.now) (side_value doc.now side.now) }
+    ensures value { result ≡ mark (map constant_value literals.now) (side_value doc.now side.now) }
+    ensures within { result ≤ 2 * length literals.now + 6 }
 {
     side_kind(doc, side) + side_place(doc, literals, side)
+}
+
+// The same among one whole number more.
+fn mark_beside<'a>(
+    doc: &'a Document,
+    literals: &'a [Constant],
+    total: usize,
+    side: &Side<'a>,
+) -> usize
+    requires side { IsSide doc.now side.now }
+    requires sorted { IsSortedByKey constant_value value_cmp literals.now }
+    ensures { result ≡ mark (Some (whole_number total) ∷ map constant_value literals.now) (side_value doc.now side.now) }
+{
+    mark(doc, literals, side) + total_place(doc, total, side)
+}
+
+// Two marks among so many in one number, where there is one.
+fn joined(row: usize, column: usize, count: usize) -> Option<usize>
+    ensures { IfSome result (λ i. i ≡ row * (2 * count + 7) + column) }
+{
+    let twice = 2usize.checked_mul(count)?;
+    let width = twice.checked_add(7)?;
+    let before = row.checked_mul(width)?;
+    before.checked_add(column)
 }
 
 impl Scale {
@@ -65,5 +92,23 @@ impl Scale {
         let column = mark(doc, &self.literals, second);
         let before = row.checked_mul(width)?;
         before.checked_add(column)
+    }
+
+    /// The same with a whole number beside the literals.
+    pub fn cell_beside<'a>(
+        &'a self,
+        doc: &'a Document,
+        total: usize,
+        first: &Side<'a>,
+        second: &Side<'a>,
+    ) -> Option<usize>
+        requires first { IsSide doc.now first.now }
+        requires second { IsSide doc.now second.now }
+        ensures { IfSome result (λ i. i ≡ cell (Some (whole_number total) ∷ map constant_value self.now.literals.items) (side_value doc.now first.now) (side_value doc.now second.now)) }
+    {
+        let row = mark_beside(doc, &self.literals, total, first);
+        let column = mark_beside(doc, &self.literals, total, second);
+        let count = self.literals.len() + 1;
+        joined(row, column, count)
     }
 }

@@ -11,7 +11,7 @@ use Rattle.path_grammar.specs.declared.ast.Expr.{Expr as Source}
 use Rattle.path_types.specs.Validity.{is_valid_expr, are_valid_exprs}
 use Rattle.json_tape.specs.Nodes.{Node}
 use Rattle.decisions.specs.Tree.{listed}
-use Rattle.decisions.specs.Turns.{dealt}
+use Rattle.condition_reader.specs.Turns.{dealt}
 use Rattle.node_lists.specs.Charge.{charge_expr, charge_exprs}
 use Rattle.node_lists.specs.Evaluation.{holds, some_hold, all_hold}
 use Rattle.node_lists.specs.Paying.{Finds}

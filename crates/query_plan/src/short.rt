@@ -6,13 +6,14 @@ ghost use Rattle.path_grammar.specs.Tree.{exprs_of};
 ghost use Rattle.path_grammar.specs.View.{call_view, expr_view, nested_view as query_tree, comparable_view};
 ghost use Rattle.path_types.specs.Validity.{is_valid_expr, are_valid_exprs};
 ghost use Rattle.decisions.specs.Tree.{expr_of, listed};
-ghost use Rattle.decisions.specs.Turns.{dealt};
+ghost use Rattle.condition_reader.specs.Turns.{dealt};
 ghost use Rattle.decisions.specs.Views.{test_view};
 ghost use Rattle.query_plan.specs.Planned.{calling, numbered, condition_view, operand_view, nested_view};
 
 use crate::making::{links, slot};
 use crate::plan::{Condition, Nested, Operand};
-use decisions::{Decision, decide, decide_group, side_in, side_in_group};
+use condition_reader::{decide, decide_group, side_in, side_in_group};
+use decisions::Decision;
 use path_grammar::{Argument, Call, Comparable, Expr, SubQuery};
 use std::alloc::{AllocError, Global};
 

@@ -1,17 +1,21 @@
 //! Conditions that are charged nothing and have several sides: the marks of `@` and its length tell them.
 
-ghost use Rattle.std.specs.Prelude.{◌≡◌, ◌<◌, ◌≤◌, ◌++◌, length, map, IsTrue, IfOk, IfSome, OnOk};
+ghost use Rattle.std.specs.Prelude.{◌≡◌, ◌<◌, ◌≤◌, ◌++◌, length, map, decimal, IsTrue, IfOk, IfSome, OnOk};
 ghost use Rattle.std.specs.List.{All};
 ghost use Rattle.path_grammar.specs.Tree.{exprs_of, arguments_of};
 ghost use Rattle.path_grammar.specs.View.{literal_view, call_view, argument_view, comparable_view, expr_view, nested_view as query_tree};
 ghost use Rattle.path_types.specs.Validity.{is_literal, is_valid_comparable, is_valid_expr, are_valid_exprs};
-ghost use Rattle.decisions.specs.Turns.{dealt};
+ghost use Rattle.condition_reader.specs.Turns.{dealt};
 ghost use Rattle.decisions.specs.Views.{constant_view as known_view};
-ghost use Rattle.decisions.specs.Told.{is_alone, is_free_call, are_free, is_free_argument, is_free, is_told_pair, is_told, are_told, side_literals, literals, all_literals, are_told_on};
+ghost use Rattle.decisions.specs.Told.{is_alone, is_free_call, are_free, is_free_argument, is_free, is_written, is_told_pair, is_told, are_told, whole, totals, literal_lengths, argument_lengths, lengths, call_lengths, side_literals, literals, all_literals, are_told_on};
 
 use crate::making::literal;
-use decisions::{Constant, Groups, Scale, grouped, parts_in};
-use path_grammar::{Argument, Call, Comparable, Expr, SubQuery};
+use condition_reader::{Groups, grouped, parts_in};
+use decimal_order::writes_whole_numbers;
+use decisions::{Constant, Scale};
+use itoa::Buffer;
+use path_grammar::{Argument, Call, Comparable, Expr, Literal, SubQuery};
+use path_types::judges_numbers;
 use std::alloc::{AllocError, Global};
 
 // Whether a query is `@` or `$` by itself.
@@ -62,24 +66,23 @@ fn is_free(side: &Comparable) -> bool
     }
 }
 
-fn is_told_pair(left: &Comparable, right: &Comparable, is_rooted: bool) -> bool
-    ensures { result ≡ is_told_pair is_rooted (comparable_view left.now) (comparable_view right.now) }
+fn is_written(side: &Comparable) -> bool
+    ensures { result ≡ is_written (comparable_view side.now) }
 {
-    match left {
-        Comparable::Lit(_) => is_free(right),
-        Comparable::Func(call) => match right {
-            Comparable::Lit(_) => is_free_call(call),
-            Comparable::Single(_) | Comparable::Func(_) => false,
-        },
-        Comparable::Single(x) => match right {
-            Comparable::Lit(_) => is_alone(x),
-            Comparable::Single(y) => is_rooted && is_alone(x) && is_alone(y),
-            Comparable::Func(_) => false,
-        },
+    match side {
+        Comparable::Lit(_) => true,
+        Comparable::Single(_) | Comparable::Func(_) => false,
     }
 }
 
-// Whether a condition compares such sides with literals, and `@` or `$` with these too where it may.
+fn is_told_pair(left: &Comparable, right: &Comparable, is_rooted: bool) -> bool
+    ensures { result ≡ is_told_pair is_rooted (comparable_view left.now) (comparable_view right.now) }
+{
+    let may_be = is_written(left) || is_written(right) || is_rooted;
+    may_be && is_free(left) && is_free(right)
+}
+
+// Whether a condition compares such sides, and such of which none is a literal only where it may.
 #[cycle(telling)]
 fn is_told(expr: &Expr, is_rooted: bool) -> bool
     ensures { result ≡ is_told is_rooted (expr_view expr.now) }
@@ -106,7 +109,87 @@ fn are_told(operands: &[Expr], is_rooted: bool) -> bool
     all
 }
 
-// Adds the literal that a side is.
+fn digits_of(alloc: Global, n: usize) -> Result<Vec<u8>, AllocError>
+    ensures { IfOk result (λ made. made.items ≡ decimal n) }
+{
+    let mut buffer = Buffer::new();
+    buffer.format(n).as_bytes().to_vec(alloc)
+}
+
+fn whole(alloc: Global, n: usize) -> Result<Constant, AllocError>
+    ensures { IfOk result (λ made. known_view made ≡ whole n) }
+{
+    judges_numbers();
+    writes_whole_numbers();
+    let digits = digits_of(alloc, n)?;
+    let literal = Literal::Number(digits);
+    Ok(Constant { literal })
+}
+
+// What a call counts of `@` or `$`, and of no nodes.
+fn totals(alloc: Global) -> Result<Vec<Constant>, AllocError>
+    ensures { IfOk result (λ made. map known_view made.items ≡ totals) }
+{
+    let mut made = Vec::new(alloc);
+    let none = whole(alloc, 0)?;
+    made.push(none)?;
+    let one = whole(alloc, 1)?;
+    made.push(one)?;
+    Ok(made)
+}
+
+// Adds the length of a literal.
+fn gather_length(
+    alloc: Global,
+    literal: &Literal,
+    found: &mut Vec<Constant>,
+) -> Result<(), AllocError>
+    ensures { OnOk result (map known_view found.new.items ≡ map known_view found.old.items ++ literal_lengths (literal_view literal.now)) }
+{
+    match literal {
+        Literal::Text(scalars) => {
+            let length = whole(alloc, scalars.len())?;
+            found.push(length)?;
+            Ok(())
+        }
+        Literal::Number(_) | Literal::Bool(_) | Literal::Null => Ok(()),
+    }
+}
+
+fn gather_argument(
+    alloc: Global,
+    argument: &Argument,
+    found: &mut Vec<Constant>,
+) -> Result<(), AllocError>
+    ensures { OnOk result (map known_view found.new.items ≡ map known_view found.old.items ++ argument_lengths (argument_view argument.now)) }
+{
+    match argument {
+        Argument::Lit(literal) => gather_length(alloc, literal, found),
+        Argument::Nodes(_) | Argument::Func(_) | Argument::Logical(_) => Ok(()),
+    }
+}
+
+// Adds the lengths of literals that are arguments.
+fn gather_arguments(
+    alloc: Global,
+    arguments: &[Argument],
+    found: &mut Vec<Constant>,
+) -> Result<(), AllocError>
+    ensures { OnOk result (map known_view found.new.items ≡ map known_view found.old.items ++ lengths (arguments_of (map argument_view arguments.now))) }
+{
+    for argument in arguments {
+        gather_argument(alloc, argument, found)?;
+    }
+    Ok(())
+}
+
+fn gather_call(alloc: Global, call: &Call, found: &mut Vec<Constant>) -> Result<(), AllocError>
+    ensures { OnOk result (map known_view found.new.items ≡ map known_view found.old.items ++ call_lengths (call_view call.now)) }
+{
+    gather_arguments(alloc, &call.arguments, found)
+}
+
+// Adds the literal that a side is, or the lengths of those that it is of.
 fn gather_side(
     alloc: Global,
     side: &Comparable,
@@ -121,7 +204,8 @@ fn gather_side(
             found.push(Constant { literal })?;
             Ok(())
         }
-        Comparable::Single(_) | Comparable::Func(_) => Ok(()),
+        Comparable::Func(call) => gather_call(alloc, call, found),
+        Comparable::Single(_) => Ok(()),
     }
 }
 
@@ -180,7 +264,7 @@ fn gather_group(
     Ok(all)
 }
 
-// Whether some operand with this number is told only if `@` or `$` may be compared with these too.
+// Whether some operand with this number compares sides of which none is a literal.
 fn some_rooted(operands: &[Expr], numbers: &[usize], number: usize) -> bool {
     for i in 0..operands.len() {
         if i < numbers.len() && numbers[i] == number && !is_told(&operands[i], false) {
@@ -188,6 +272,17 @@ fn some_rooted(operands: &[Expr], numbers: &[usize], number: usize) -> bool {
         }
     }
     false
+}
+
+// How many comparisons there are in the operands with this number that are told.
+fn told_parts(operands: &[Expr], numbers: &[usize], number: usize) -> usize {
+    let mut sum: usize = 0;
+    for i in 0..operands.len() {
+        if i < numbers.len() && numbers[i] == number && is_told(&operands[i], true) {
+            sum = sum.saturating_add(parts_in(&operands[i]));
+        }
+    }
+    sum
 }
 
 // So many comparisons are made one by one.
@@ -206,24 +301,13 @@ pub fn scale_of(
     ensures { IfOk result (λ made. IfSome made (λ scale. IsTrue (are_told_on scale (exprs_of (map expr_view (dealt numbers.now number operands.now)))))) }
 {
     let is_rooted = some_rooted(operands, numbers, number);
-    let mut found = Vec::new(alloc);
+    let mut found = totals(alloc)?;
     let told = gather_group(alloc, operands, numbers, number, is_rooted, &mut found)?;
-    if !told || found.len() <= FEW {
+    if !told || told_parts(operands, numbers, number) <= FEW {
         return Ok(None);
     }
     let scale = Scale::new(found, is_rooted)?;
     Ok(Some(scale))
-}
-
-// How many comparisons there are in the operands that are told and in no group.
-fn told_parts(operands: &[Expr], numbers: &[usize]) -> usize {
-    let mut sum: usize = 0;
-    for i in 0..operands.len() {
-        if i < numbers.len() && numbers[i] == 0 && is_told(&operands[i], true) {
-            sum = sum.saturating_add(parts_in(&operands[i]));
-        }
-    }
-    sum
 }
 
 // Gives these a number.
@@ -245,7 +329,7 @@ fn with_told(operands: &[Expr], groups: Groups) -> Result<Groups, AllocError>
     ensures each { IfOk result (λ made. length made.numbers.items ≡ length operands.now) }
     ensures below { IfOk result (λ made. All (λ k. k < made.count) made.numbers.items) }
 {
-    if told_parts(operands, &groups.numbers) <= FEW {
+    if told_parts(operands, &groups.numbers, 0) <= FEW {
         return Ok(groups);
     }
     let number = groups.count;
@@ -277,7 +361,7 @@ fn in_one_group(alloc: Global, operands: &[Expr]) -> Result<Option<Groups>, Allo
     ensures below { IfOk result (λ made. IfSome made (λ groups. All (λ k. k < groups.count) groups.numbers.items)) }
 {
     let numbers = vec![in alloc; 0; operands.len()]?;
-    if told_parts(operands, &numbers) <= FEW {
+    if told_parts(operands, &numbers, 0) <= FEW {
         return Ok(None);
     }
     let groups = with_told(operands, Groups { numbers, count: 1 })?;

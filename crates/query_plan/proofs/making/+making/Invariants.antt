@@ -4,7 +4,7 @@ use Rattle.path_grammar.specs.Tree.{exprs_of}
 use Rattle.path_grammar.specs.View.{segments_view, selectors_view, segment_view, selector_view, expr_view}
 use Rattle.path_types.specs.Validity.{is_valid, are_valid, are_valid_exprs}
 use Rattle.query_plan.specs.Planned.{trees, operands_of, claims_of, all_claims, numbered, selection_view, stage_view, condition_view}
-use Rattle.decisions.specs.Turns.{dealt}
+use Rattle.condition_reader.specs.Turns.{dealt}
 use Rattle.query_plan.proofs.Joining.{groups_below}
 use Rattle.query_plan.proofs.making.+making.Given as goal
 

@@ -3,7 +3,7 @@ use Rattle.std.specs.Prelude.{IsTrue}
 use Rattle.path_grammar.specs.Tree.{exprs_of}
 use Rattle.path_grammar.specs.View.{expr_view}
 use Rattle.path_types.specs.Validity.{are_valid_exprs}
-use Rattle.decisions.specs.Turns.{dealt}
+use Rattle.condition_reader.specs.Turns.{dealt}
 use Rattle.decisions.specs.Views.{constant_view}
 use Rattle.decisions.specs.Told.{are_told, all_literals}
 use Rattle.query_plan.proofs.told.gather_group.Given as goal

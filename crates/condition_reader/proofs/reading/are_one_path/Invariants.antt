@@ -1,6 +1,6 @@
 use Rattle.std.proofs.Common.{◌≡◌, drop, length, map}
 use Rattle.path_grammar.specs.View.{segment_view}
-use Rattle.decisions.proofs.reading.are_one_path.Given as goal
+use Rattle.condition_reader.proofs.reading.are_one_path.Given as goal
 
 abbrev pub invariant-loop-i : goal.invariant-loop-i
 invariant-loop-i l = record {

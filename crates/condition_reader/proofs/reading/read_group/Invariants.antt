@@ -4,9 +4,9 @@ use Rattle.path_grammar.specs.Tree.{exprs_of}
 use Rattle.path_grammar.specs.View.{comparable_view, expr_view}
 use Rattle.path_types.specs.Validity.{are_valid_exprs}
 use Rattle.decisions.specs.Tree.{expr_of}
-use Rattle.decisions.specs.Turns.{dealt}
+use Rattle.condition_reader.specs.Turns.{dealt}
 use Rattle.decisions.specs.Views.{test_view}
-use Rattle.decisions.proofs.reading.read_group.Given as goal
+use Rattle.condition_reader.proofs.reading.read_group.Given as goal
 
 abbrev pub invariant-loop-i : goal.invariant-loop-i
 invariant-loop-i l = record {

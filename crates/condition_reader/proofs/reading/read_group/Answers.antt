@@ -1,7 +1,7 @@
 use Rattle.std.proofs.Common.{rules, arith}
 use Rattle.path_grammar.specs.View.{comparable_view}
-use Rattle.decisions.proofs.Exprs.{group_passed, valid_behind, read_group}
-use Rattle.decisions.proofs.reading.read_group.Goals as goal
+use Rattle.condition_reader.proofs.Exprs.{group_passed, valid_behind, read_group}
+use Rattle.condition_reader.proofs.reading.read_group.Goals as goal
 
 pub loop-i-preserved-then-numbers-i : goal.loop-i-preserved-then-numbers-i
 loop-i-preserved-then-numbers-i c =

@@ -5,7 +5,7 @@ use Rattle.path_grammar.specs.View.{comparable_view, expr_view}
 use Rattle.path_types.specs.Validity.{are_valid_exprs}
 use Rattle.decisions.specs.Tree.{expr_of}
 use Rattle.decisions.specs.Views.{test_view}
-use Rattle.decisions.proofs.reading.+reading.Given as goal
+use Rattle.condition_reader.proofs.reading.+reading.Given as goal
 
 abbrev pub invariant-read_all-loop-operand : goal.invariant-read_all-loop-operand
 invariant-read_all-loop-operand l = record {

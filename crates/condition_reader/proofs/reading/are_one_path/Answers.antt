@@ -1,6 +1,6 @@
 use Rattle.std.proofs.Common.{arith}
-use Rattle.decisions.proofs.Exprs.{paths_more}
-use Rattle.decisions.proofs.reading.are_one_path.Goals as goal
+use Rattle.condition_reader.proofs.Exprs.{paths_more}
+use Rattle.condition_reader.proofs.reading.are_one_path.Goals as goal
 
 pub loop-i-preserved : goal.loop-i-preserved
 loop-i-preserved c =

@@ -10,7 +10,7 @@ use Rattle.path_grammar.specs.View.{expr_view, segment_view}
 use Rattle.path_grammar.specs.declared.ast.Segment.{Segment}
 use Rattle.path_grammar.specs.declared.ast.Expr.{Expr}
 use Rattle.decisions.specs.Tree.{expr_of, exprs_of_tests, tests_of}
-use Rattle.decisions.specs.Turns.{dealt}
+use Rattle.condition_reader.specs.Turns.{dealt}
 use Rattle.decisions.specs.Views.{test_view}
 use Rattle.decisions.specs.declared.test.Test.{Test}
 

@@ -1,4 +1,4 @@
-//! Conditions read from the syntax tree of a query.
+//! Conditions on one side, read from the syntax tree of a query.
 
 ghost use Rattle.std.specs.Prelude.{◌≡◌, length, map, IsTrue, IfOk, IfSome};
 ghost use Rattle.path_grammar.specs.Tree as tree;
@@ -6,11 +6,10 @@ ghost use Rattle.path_grammar.specs.Tree.{exprs_of};
 ghost use Rattle.path_grammar.specs.View.{literal_view, comparable_view, call_view, expr_view, nested_view, segment_view};
 ghost use Rattle.path_types.specs.Validity.{is_literal, is_valid_expr, are_valid_exprs, is_valid_comparable};
 ghost use Rattle.decisions.specs.Tree.{expr_of, exprs_of_tests, tests_of, listed};
-ghost use Rattle.decisions.specs.Turns.{dealt};
+ghost use Rattle.condition_reader.specs.Turns.{dealt};
 ghost use Rattle.decisions.specs.Views.{constant_view, test_view};
 
-use crate::decision::Decision;
-use crate::test::{Constant, Test};
+use decisions::{Constant, Decision, Test};
 use path_grammar::{
     Argument, Call, Comparable, Expr, IntLit, Literal, Op, Segment, Selector, SubQuery,
 };
