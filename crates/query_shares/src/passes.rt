@@ -59,12 +59,18 @@ fn condition_of(selection: &Selection) -> Option<&Condition>
     }
 }
 
-// Whether a filter is among the selectors of a segment.
-fn has_filter(stage: &Stage) -> bool {
-    stage
-        .selections
-        .iter()
-        .any(|selection| matches!(selection, Selection::Where(_)))
+// So many selectors without a filter are little work at one node.
+const FEW: usize = 8;
+
+// Whether what a segment selects from one node of its list may be much work: one with a filter among its selectors, one of many selectors, or of several
+// that select from each descendant.
+fn goes_by_selector(stage: &Stage) -> bool {
+    let few = if stage.descend { 1 } else { FEW };
+    stage.selections.len() > few
+        || stage
+            .selections
+            .iter()
+            .any(|selection| matches!(selection, Selection::Where(_)))
 }
 
 // ---- From each node at once
@@ -512,7 +518,7 @@ fn go_on(
     ensures end { IfOk result (λ is_end. is_end ≡ true → IsThrough evaluation.new) }
     ensures cut { IfOk result (λ is_end. is_end ≡ false → evaluation.new.state.meter.left < least) }
 {
-    if !has_filter(stage) && is_between(evaluation) {
+    if !goes_by_selector(stage) && is_between(evaluation) {
         return list_on(doc, plan, stage, least, evaluation);
     }
     step_on(doc, plan, stage, least, evaluation)
