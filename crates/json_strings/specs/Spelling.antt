@@ -3,7 +3,7 @@ use Rattle.std.specs.Prelude.{◌≡◌, ◌≢◌, ◌<◌, ◌≤◌, get_or, 
 use Rattle.std.specs.List.{list_any}
 use Rattle.std.specs.Str.{chars}
 use Rattle.std.specs.Char.{digit_value}
-use Rattle.structural_index.specs.Known.{word_at}
+use Rattle.structural_index.specs.Letters.{word_at}
 use Rattle.json_text.specs.Tree.{Spelt, Plain, Short, Unit4}
 use Rattle.json_text.specs.Meaning.{meaning_after}
 use Rattle.json_text.specs.declared.tape.Extent.{Extent}

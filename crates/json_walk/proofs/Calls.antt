@@ -47,15 +47,3 @@ atoms_here bytes i j h q e =
       end = e ∙ r.end;
       taken = ap (take (j - i)) r.is ∙ take_at r.atoms r.rest (j - i) (sym long);
     }
-
-no_word : {i : ℕ} {vs rest : List ℕ} {tok : Token} → IsToken i vs tok rest → (b : ℕ) (cs atoms rest' : List ℕ) → is_atom b ≡ true → b ∷ cs ≡ atoms ++ rest' → AreAtoms atoms → NoAtomFirst rest' → WordIs atoms None → b ∷ cs ≡ vs ++ rest → ⊥
-no_word (sign {p = p} {b = b'} {tok = tok} h) b cs atoms rest' q e a o n f =
-    let g : b ≡ b' = cc in let c = sign_class p b' tok h in let d = class_atom b q in let k = ap class g in cc
-no_word (text ds h) b cs atoms rest' q e a o n f = let g : b ≡ 34 = (let x = h.2 in cc) in let d = class_atom b q in let k = ap class g in cc
-no_word (word {b = b'} {vs = vs} {rest = rest} {kind = kind} at over k) b cs atoms rest' q e a o n f =
-    let g = atoms_end atoms (b' ∷ vs) rest' rest a at o over (sym e ∙ f) in n kind (subst (λ l. IsWord l kind) (sym g) k)
-
-pub word_none : (bytes : List ℕ) (i j : ℕ) (s : State) → i < length bytes → is_atom (get_or bytes i 0) ≡ true → j ≡ atom_end i (drop i bytes) → WordIs (take (j - i) (drop i bytes)) None → Refused bytes i s
-word_none bytes i j s h q e w =
-    let a = atoms_here bytes i j h q e in
-    λ vs rest tok k g. absurd (no_word g (get_or bytes i 0) (drop (i + 1) bytes) a.vs a.rest q (sym (drop_more bytes i 0 h) ∙ a.stands) a.are a.over (subst (λ l. WordIs l None) a.taken w) (sym (drop_more bytes i 0 h) ∙ k))

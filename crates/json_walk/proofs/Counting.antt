@@ -166,7 +166,7 @@ cross_word bytes i b vs rest kind m e a n k =
 
 -- ---- the tree
 
-scalar_word : (bytes : List ℕ) (kind : Kind) → IsWord bytes kind → AreAtoms bytes
+pub scalar_word : (bytes : List ℕ) (kind : Kind) → IsWord bytes kind → AreAtoms bytes
 scalar_word bs kinds.Number h = number_atoms bs h
 scalar_word bs kinds.Null h = subst AreAtoms (sym h) (refl, (refl, (refl, (refl, tt))))
 scalar_word bs (kinds.Bool true) h = subst AreAtoms (sym h) (refl, (refl, (refl, (refl, tt))))

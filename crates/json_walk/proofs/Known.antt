@@ -1,26 +1,14 @@
--- What the bytes of a word or a number are known to be.
+-- Words and numbers that are within the limits of numbers.
 use Rattle.std.proofs.Common.{◌≡◌, ℕ, ◌+◌, ◌≤◌, List, length, take, drop, Bool, true, ap, ◌∙◌, arith}
 use Rattle.std.specs.Prelude.{Ok}
 use Rattle.decimal_order.specs.Limits.{IsWithinLimits}
 use Rattle.decimal_order.specs.Laws.{LateExponentsKeepLimits}
-use Rattle.structural_index.specs.Known.{IsKnown}
-use Rattle.structural_index.specs.declared.looks.Known.{Known}
-use Rattle.structural_index.specs.declared.looks.Known.TheVariants as knowns
-use Rattle.json_walk.specs.Lexing.{AreKnown, Marked}
+use Rattle.json_walk.specs.Lexing.{Marked}
 use Rattle.json_walk.proofs.Marks.{unmarked, word_marked}
-use Rattle.json_walk.proofs.Wholes.{decimal_is}
 
 -- ten bytes are within the limits of numbers, whatever they are
 few_limited : LateExponentsKeepLimits → (bytes : List ℕ) → length bytes ≤ 10 → IsWithinLimits bytes
 few_limited law bytes few = law bytes 0 (omega (arith, few)) (omega (arith, few)) (λ k below. absurd (omega arith))
-
-pub known_here : LateExponentsKeepLimits → (text bytes : List ℕ) (i : ℕ) (known : Known) → bytes ≡ take (length bytes) (drop i text) → IsKnown known text i (length bytes) → AreKnown bytes known
-known_here law text bytes i knowns.Decimal e d =
-    let w = decimal_is text bytes i e d in
-    let few = d.few in
-    (w.0, law bytes (length bytes) (omega (arith, few)) (omega (arith, few)) w.1)
-known_here law text bytes i knowns.Other e w = tt
-known_here law text bytes i _ e w = e ∙ w
 
 -- a number within the limits leaves the mark
 pub limited_marked : (bytes bs : List ℕ) (i : ℕ) (old : Bool) → bs ≡ take (length bs) (drop i bytes) → IsWithinLimits bs → Marked bytes i old (Ok (i + length bs)) old

@@ -9,6 +9,9 @@ pub mod ShortNumbers
 pub mod Gaps
 pub mod Marks
 pub mod Known
+pub mod ClearBits
+pub mod Words
+pub mod Runs
 pub mod Bridge
 pub mod Counting
 pub mod Walking

@@ -13,7 +13,7 @@ use Rattle.json_walk.specs.Walked.{IsListed, place}
 use Rattle.json_walk.specs.declared.slashes.Slashes.{Slashes}
 use Rattle.json_text.specs.Verdict.{text_limit}
 use Rattle.json_text.specs.Machine.{State, IsSmall}
-use Rattle.json_walk.proofs.Walking.{look_back, place_number}
+use Rattle.json_walk.proofs.Walking.{look_back, place_behind, place_number}
 use Rattle.json_walk.proofs.WalkEnds.{reads_small}
 use Rattle.json_walk.proofs.Bridge.{same_default}
 
@@ -120,11 +120,16 @@ module _ (text items : List ℕ) (listed : IsListed text items) where
   pub next_is : (k d : ℕ) → k < length items → get_or items k d ≡ get_or (places text) k (length text)
   next_is k d l = get_or_default items k d (length text) l ∙ ap (λ (ps : List ℕ). get_or ps k (length text)) listed.list
 
-  -- a quote before the next place closes the string
+  -- what begins there ends before the next place
   pub closes_before : (k next : ℕ) → k < length items → next ≡ get_or (places text) (k + 1) (length text) → ClosesBefore text (place items k) next
-  closes_before k next l e m is after quote closing =
+  closes_before k next l e =
       let z : suc k ≡ k + 1 = omega arith in
-      look_back text k (place items k) m listed.closed (stands_at k l) quote (ap (λ n. get_or (places text) n (length text)) z ∙ sym e ∙ is) after closing
+      let last : get_or (places text) (suc k) (length text) ≡ next = ap (λ n. get_or (places text) n (length text)) z ∙ sym e in
+      record {
+        string = λ m is after quote closing. look_back text k (place items k) m listed.closed (stands_at k l) quote (last ∙ is) after closing;
+        seam = (stands_at k l).seam;
+        next = sym last ∙ sym (place_behind text k (place items k) (in_text k l) (stands_at k l));
+      }
 
   pub indexed : (slashes : Slashes) → HoldSlashes text slashes → IsIndexed text slashes
   indexed slashes h = record { utf8 = listed.utf8; controls = listed.controls; escapes = h }

@@ -12,13 +12,13 @@ use Rattle.json_text.specs.declared.modes.Mode.{Mode}
 use Rattle.json_text.specs.declared.modes.Mode.TheVariants.{Between}
 use Rattle.json_text.specs.declared.modes.Turn.{Turn}
 use Rattle.json_text.specs.declared.modes.Turn.TheVariants.{Stop, Fail, Go}
-use Rattle.json_text.specs.Tokens.{quote_end, atom_end, is_atom, Taken, Refused, WordIs}
+use Rattle.json_text.specs.Tokens.{quote_end, atom_end, is_atom, Taken}
 use Rattle.json_text.specs.Machine.{State}
 use Rattle.json_walk.specs.Walking.{weight}
 use Rattle.json_walk.proofs.Bridge.{plain_spells, control_out, scan_ends, same_classes, same_default}
 use Rattle.json_strings.proofs.EscapeSteps.{held_ends}
 use Rattle.json_walk.proofs.Walking.{place_number, stands_value}
-use Rattle.json_walk.proofs.Calls.{behind, word_none}
+use Rattle.json_walk.proofs.Calls.{behind}
 use Rattle.json_walk.proofs.Tokens.{quote_found}
 use Rattle.json_walk.proofs.PlaceWalk.{Walks, walks_token}
 use Rattle.std.proofs.Math.Seq.{take-suc}
@@ -164,7 +164,7 @@ HasQuoteBefore bytes i next = (i + 1 < next) × (get_or bytes (next - 1) 0 ≡ 3
 span_before : (bytes : List ℕ) (i next : ℕ) → ClosesBefore bytes i next → next ≤ length bytes → get_or bytes i 0 ≡ 34 → HasQuoteBefore bytes i next → (m : ℕ) × (next ≡ suc m) × IsSpan bytes i m
 span_before bytes i next c l q (a, b) =
     let e : next ≡ suc (next - 1) = omega arith in
-    (next - 1, e, c (next - 1) e (omega arith) (sym (same_default bytes i (omega arith)) ∙ q) (sym (same_default bytes (next - 1) (omega arith)) ∙ b))
+    (next - 1, e, c.string (next - 1) e (omega arith) (sym (same_default bytes i (omega arith)) ∙ q) (sym (same_default bytes (next - 1) (omega arith)) ∙ b))
 
 pub plain_before : (bytes : List ℕ) (i next : ℕ) → IsUtf8 bytes → (HasControlInside bytes → ⊥) → AreSlashless bytes (i + 1) next → ClosesBefore bytes i next → next ≤ length bytes → get_or bytes i 0 ≡ 34 → HasQuoteBefore bytes i next → StringEnds bytes i (Some next)
 plain_before bytes i next u x none c l q h =
@@ -207,16 +207,6 @@ atom_run bytes (suc n) i l each over =
 
 pub run_ends : (bytes : List ℕ) (i n : ℕ) → IsAtomRun bytes i (i + n) → i + n ≡ atom_end i (drop i bytes)
 run_ends bytes i n r = sym (atom_run bytes n i r.to r.each r.over)
-
--- the bytes that a run lends
-size_back : (i n : ℕ) → i + n - i ≡ n
-size_back i n = omega arith
-
-run_bytes : (bytes bs : List ℕ) (i : ℕ) → bs ≡ take (length bs) (drop i bytes) → bs ≡ take (i + length bs - i) (drop i bytes)
-run_bytes bytes bs i e = e ∙ ap (λ n. take n (drop i bytes)) (sym (size_back i (length bs)))
-
-pub word_absent : (bytes bs : List ℕ) (i : ℕ) (s : State) → i < length bytes → is_atom (get_or bytes i 0) ≡ true → bs ≡ take (length bs) (drop i bytes) → IsAtomRun bytes i (i + length bs) → WordIs bs None → Refused bytes i s
-word_absent bytes bs i s h q e r w = word_none bytes i (i + length bs) s h q (run_ends bytes i (length bs) r) (subst (λ l. WordIs l None) (run_bytes bytes bs i e) w)
 
 -- ---- From place to place
 

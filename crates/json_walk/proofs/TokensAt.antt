@@ -5,22 +5,22 @@ use Rattle.std.proofs.lemmas.Bool.Decides.{nat_tests}
 use Rattle.std.proofs.lemmas.List.{drop_more}
 use Rattle.structural_index.specs.Places.{byte}
 use Rattle.structural_index.specs.Seams.{IsAtomRun}
+use Rattle.structural_index.specs.Runs.{EndsAtBlank}
 use Rattle.json_text.specs.declared.tape.Kind.{Kind}
 use Rattle.json_text.specs.declared.tape.Kind.TheVariants as kinds
 use Rattle.json_text.specs.declared.tape.Shape.TheVariants.{Array, Object}
 use Rattle.json_walk.specs.declared.lexing.Lexed.{Lexed}
 use Rattle.json_walk.specs.declared.lexing.Lexed.TheVariants as lexed
-use Rattle.json_text.specs.Machine.{Token, Opening, Closing, Comma, Between, Text, Word, run_at, step, start}
-use Rattle.json_text.specs.Tokens.{class, is_atom, sign_at, IsToken, sign, text, word, IsWord, WordIs}
+use Rattle.json_text.specs.Machine.{Token, Opening, Closing, Comma, Between, Text, Word, run_at}
+use Rattle.json_text.specs.Tokens.{class, is_atom, AreAtoms, sign_at, IsToken, sign, text, word, IsWord, WordIs}
 use Rattle.json_walk.specs.Lexing.{Marked}
-use Rattle.json_walk.specs.Placing.{StringEnds}
+use Rattle.json_walk.specs.Placing.{StringEnds, ClosesBefore}
 use Rattle.json_walk.specs.Walked.{TokenAt, begins_value, is_text, NoneAt, token_of, end_of}
 use Rattle.json_walk.proofs.Bridge.{same_classes, same_default}
 use Rattle.json_walk.proofs.Calls.{no_string, word_is, atoms_here}
 use Rattle.json_text.proofs.Chars.{number_some}
-use Rattle.json_walk.proofs.Placing.{word_absent, run_ends}
-use Rattle.json_text.proofs.Complete.{atom_by_class}
-use Rattle.std.proofs.lemmas.Bool.{cases_Bool}
+use Rattle.json_walk.proofs.Placing.{run_ends}
+use Rattle.json_walk.proofs.Runs.{word_run, token_run}
 
 -- ---- Strings
 
@@ -67,21 +67,15 @@ word_begins bytes bs i k h r w =
     let some = long_enough bs (word_some bs k w) in
     ap is_atom (same_default bytes i h) ∙ sym (same_classes (byte bytes i)).atom ∙ r.each i (omega arith) (omega arith)
 
-pub word_at : (bytes bs : List ℕ) (i : ℕ) (k : Kind) → i < length bytes → bs ≡ take (length bs) (drop i bytes) → IsAtomRun bytes i (i + length bs) → IsWord bs k → TokenAt bytes i (Word (run_at i (length bs)) k)
-word_at bytes bs i k h e r w =
+pub word_at : (bytes bs : List ℕ) (i next : ℕ) (k : Kind) → i < length bytes → ClosesBefore bytes i next → bs ≡ take (length bs) (drop i bytes) → EndsAtBlank bytes i next (i + length bs) → IsWord bs k → TokenAt bytes i (Word (run_at i (length bs)) k)
+word_at bytes bs i next k h c e ends w =
+    let r = word_run bytes i next h c bs e ends k w in
     let a = atoms_here bytes i (i + length bs) h (word_begins bytes bs i k h r w) (run_ends bytes i (length bs) r) in
     let last = a.end in
     let size : length a.vs ≡ length bs = omega arith in
     let back : i + length bs - i ≡ length bs = omega arith in
     let same : bs ≡ a.vs = e ∙ ap (λ n. take n (drop i bytes)) (sym back) ∙ a.taken in
     record { bytes = a.vs; rest = a.rest; stands = a.stands; is_token = subst (λ n. IsToken i a.vs (Word (run_at i n) k) a.rest) size (word_is i a.vs a.rest k a.are a.over (subst (λ l. IsWord l k) same w) a.some) }
-
--- what the machine refuses at first begins no value
-refused_begins : (tok : Token) → step tok start ≡ None → begins_value tok ≡ false
-refused_begins (Closing shape p) h = refl
-refused_begins Comma h = refl
-refused_begins Between h = refl
-refused_begins _ h = absurd (cc)
 
 sign_begins : (p b : ℕ) (tok : Token) → sign_at p b ≡ Some tok → b ≢ 91 → b ≢ 123 → begins_value tok ≡ false
 sign_begins p b (Opening Array q) h m n = absurd (m (grind (arith, nat_tests)))
@@ -90,17 +84,16 @@ sign_begins p b (Text x) h m n = absurd (grind (arith, nat_tests))
 sign_begins p b (Word x kind) h m n = absurd (grind (arith, nat_tests))
 sign_begins p b _ h m n = refl
 
-no_value : {p : ℕ} {vs rest : List ℕ} {tok : Token} → IsToken p vs tok rest → (b : ℕ) (cs : List ℕ) → b ∷ cs ≡ vs ++ rest → b ≢ 34 → b ≢ 91 → b ≢ 123 → is_atom b ≡ false → begins_value tok ≡ false
-no_value (sign {p = p} {b = b'} {tok = tok} h) b cs e q m n a = let f : b ≡ b' = cc in sign_begins p b' tok h (λ x. m (f ∙ x)) (λ x. n (f ∙ x))
-no_value {rest = rest} (text cs' (inside, a, f)) b cs e q m n a' = absurd (q (let g = ap (λ l. l ++ rest) f in cc))
-no_value (word {b = b'} a o k) b cs e q m n a' = absurd (let f : b ≡ b' = cc in let y = atom_by_class b (ap class f ∙ a.0) in cc)
+no_value : {p : ℕ} {vs rest : List ℕ} {tok : Token} → IsToken p vs tok rest → (b : ℕ) (cs : List ℕ) → b ∷ cs ≡ vs ++ rest → b ≢ 34 → b ≢ 91 → b ≢ 123 → ((kind : Kind) → AreAtoms vs → 0 < length vs → IsWord vs kind → ⊥) → begins_value tok ≡ false
+no_value (sign {p = p} {b = b'} {tok = tok} h) b cs e q m n none = let f : b ≡ b' = cc in sign_begins p b' tok h (λ x. m (f ∙ x)) (λ x. n (f ∙ x))
+no_value {rest = rest} (text cs' (inside, a, f)) b cs e q m n none = absurd (q (let g = ap (λ l. l ++ rest) f in cc))
+no_value (word {kind = kind} a o k) b cs e q m n none = absurd (none kind a (omega arith) k)
 
 -- where there is no word, no value begins, unless it is a string or a container
-pub no_value_at : (bytes bs : List ℕ) (i : ℕ) → i < length bytes → get_or bytes i 0 ≢ 34 → get_or bytes i 0 ≢ 91 → get_or bytes i 0 ≢ 123 → bs ≡ take (length bs) (drop i bytes) → IsAtomRun bytes i (i + length bs) → WordIs bs None → NoneAt begins_value bytes i
-no_value_at bytes bs i h q m n e r w = elim (cases_Bool (is_atom (get_or bytes i 0))) [
-  | inl a ↦ λ tok at. refused_begins tok (word_absent bytes bs i start h a e r w at.bytes at.rest tok at.stands at.is_token)
-  | inr a ↦ λ tok at. no_value at.is_token (get_or bytes i 0) (drop (i + 1) bytes) (sym (drop_more bytes i 0 h) ∙ at.stands) q m n a
-]
+pub no_value_at : (bytes bs : List ℕ) (i next : ℕ) → i < length bytes → ClosesBefore bytes i next → get_or bytes i 0 ≢ 34 → get_or bytes i 0 ≢ 91 → get_or bytes i 0 ≢ 123 → bs ≡ take (length bs) (drop i bytes) → EndsAtBlank bytes i next (i + length bs) → WordIs bs None → NoneAt begins_value bytes i
+no_value_at bytes bs i next h c q m n e ends w = λ tok at.
+    no_value at.is_token (get_or bytes i 0) (drop (i + 1) bytes) (sym (drop_more bytes i 0 h) ∙ at.stands) q m n
+    (λ kind are some k. w kind (subst (λ l. IsWord l kind) (token_run bytes i next h c bs e ends at.bytes at.rest tok at.is_token are some at.stands) k))
 
 -- ---- Signs
 

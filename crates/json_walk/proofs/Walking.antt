@@ -121,17 +121,20 @@ place_number bytes k i at = record {
   ];
 }
 
+-- the next place is the first behind it
+pub place_behind : (bytes : List ℕ) (k i : ℕ) → i < length bytes → StandsAt bytes k i → next_place bytes (suc i) ≡ get_or (places bytes) (suc k) (length bytes)
+place_behind bytes k i l at =
+    let first = seams.place_first bytes i l (seams.seam_place bytes i at.seam (first_solid bytes k i at l)) in
+    let left : places_from bytes (suc i) ≡ drop (suc k) (places bytes) = drop_step (places bytes) (places_from bytes (suc i)) k i (sym first ∙ at.left) in
+    ap (λ (ps : List ℕ). get_or ps 0 (length bytes)) left ∙ get_or_drop (places bytes) (suc k) (length bytes)
+
 pub look_back : (bytes : List ℕ) (k i m : ℕ) → (IsUnclosed bytes → ⊥) → StandsAt bytes k i → byte bytes i ≡ 0x22 → get_or (places bytes) (suc k) (length bytes) ≡ suc m → i < m → byte bytes m ≡ 0x22 → IsSpan bytes i m
 look_back bytes k i m u at q e l q' =
     let o = seams.opens_at_seam bytes i at.seam q in
     let c = seams.strings_close bytes i u o in
     let span = c.1 in
     let within = span.within in let after = span.after in
-    let p = seams.passes_string bytes i c.0 span in
-    let run = seams.run_to bytes (suc i) (suc c.0) (omega arith) (omega arith) (λ x a b. p.none x (omega arith) (omega arith)) in
-    let left : places_from bytes (suc c.0) ≡ drop (suc k) (places bytes) = drop_step (places bytes) (places_from bytes (suc c.0)) k i (sym p.one ∙ at.left) in
-    let next : next_place bytes (suc i) ≡ suc m = ap (λ (ps : List ℕ). get_or ps 0 (length bytes)) (run ∙ left) ∙ get_or_drop (places bytes) (suc k) (length bytes) ∙ e in
-    subst (IsSpan bytes i) (sym (seams.quote_closes bytes i c.0 m span next l q')) span
+    subst (IsSpan bytes i) (sym (seams.quote_closes bytes i c.0 m span (place_behind bytes k i (omega arith) at ∙ e) l q')) span
 
 pub step_paid : (bytes : List ℕ) (k i j before now later : ℕ) (s s' : State) → StandsAt bytes k i → (taken : Taken bytes i j s s') → IsPaid bytes k i before now → later ≤ now + 3 + weight taken.tok → IsPaid bytes (suc k) (next_place bytes j) before later
 step_paid bytes k i j before now later s s' at taken h l =

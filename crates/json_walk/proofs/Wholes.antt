@@ -5,7 +5,8 @@ use Rattle.std.proofs.lemmas.Bool.{cases_lt}
 use Rattle.std.proofs.lemmas.Bool.Decides.{nat_tests}
 use Rattle.decimal_order.specs.Number.{IsDigit, AreDigits, AreSomeDigits, Optional, IsMinus, IsInt, IsFrac, IsNumber}
 use Rattle.decimal_order.specs.Value.{is_e}
-use Rattle.structural_index.specs.Decimals.{IsDecimal, IsDigitAt}
+use Rattle.decimal_order.specs.Laws.{LateExponentsKeepLimits}
+use Rattle.decimal_order.specs.Limits.{IsWithinLimits}
 use Rattle.json_walk.specs.Lexing.{DigitsStand, IsFraction, HasNoExponent}
 
 -- the digits from a place on, as a list
@@ -84,10 +85,10 @@ before_point bs start point k one m digits l = elim (cases_lt k start) [
   | inr a ↦ (let d = digits k a l in no_e (get_or bs k 0) (omega (arith, d.1)))
 ]
 
-pub whole_plain : (bs : List ℕ) (start point : ℕ) → start ≤ 1 → (start ≡ 1 → get_or bs 0 0 ≡ 45) → point ≡ length bs → DigitsStand bs start point → HasNoExponent bs
+whole_plain : (bs : List ℕ) (start point : ℕ) → start ≤ 1 → (start ≡ 1 → get_or bs 0 0 ≡ 45) → point ≡ length bs → DigitsStand bs start point → HasNoExponent bs
 whole_plain bs start point one m p digits = λ k l. before_point bs start point k one m digits (omega arith)
 
-pub decimal_plain : (bs : List ℕ) (start point : ℕ) → start ≤ 1 → (start ≡ 1 → get_or bs 0 0 ≡ 45) → DigitsStand bs start point → IsFraction bs point → HasNoExponent bs
+decimal_plain : (bs : List ℕ) (start point : ℕ) → start ≤ 1 → (start ≡ 1 → get_or bs 0 0 ≡ 45) → DigitsStand bs start point → IsFraction bs point → HasNoExponent bs
 decimal_plain bs start point one m digits f = λ k l. elim (cases_lt k point) [
   | inl a ↦ before_point bs start point k one m digits a
   | inr a ↦ elim (cases_lt point k) [
@@ -96,25 +97,10 @@ decimal_plain bs start point one m digits f = λ k l. elim (cases_lt k point) [
   ]
 ]
 
--- ---- As it stands in a text
+-- ---- And it is within the limits of numbers, where it is short
 
-pub decimal_is : (text bytes : List ℕ) (i : ℕ) → bytes ≡ take (length bytes) (drop i text) → IsDecimal text i (length bytes) → IsNumber bytes × HasNoExponent bytes
-decimal_is text bytes i e d =
-    let same : (k : ℕ) → k < length bytes → get_or bytes k 0 ≡ get_or text (i + k) 0 = λ k l.
-    ap (λ (b : List ℕ). get_or b k 0) e ∙ get_or-take (length bytes) (drop i text) k 0 l ∙ get_or-drop i text k 0 in
-    let digit : (k : ℕ) → k < length bytes → IsDigitAt text (i + k) → IsDigit (get_or bytes k 0) = λ k l h. subst IsDigit (sym (same k l)) h in
-    let f = d.fraction in
-    let until = f.until in
-    let some = d.some in
-    let digits : DigitsStand bytes d.first d.point = λ k a b. digit k (omega (arith, until, b)) (d.digits k a b) in
-    let z : i + 0 ≡ i = omega arith in
-    let minus : d.first ≡ 1 → get_or bytes 0 0 ≡ 45 = λ m. same 0 (omega (arith, until, some)) ∙ ap (λ k. get_or text k 0) z ∙ d.minus m in
-    let lead : get_or bytes d.first 0 ≡ 48 → d.point ≤ d.first + 1 = λ o. d.lead (sym (same d.first (omega (arith, until, some))) ∙ o) in
-    elim (cases_lt d.point (length bytes)) [
-      | inl a ↦
-          (let fraction : IsFraction bytes d.point = (same d.point a ∙ f.point_is a, f.some a, λ k from to. digit k to (f.digits k from to)) in
-          (decimal_number bytes d.first d.point d.sign minus some a digits lead fraction, decimal_plain bytes d.first d.point d.sign minus digits fraction))
-      | inr a ↦
-          (let all : d.point ≡ length bytes = omega (arith, until, a) in
-          (whole_number bytes d.first d.point d.sign minus some all digits lead, whole_plain bytes d.first d.point d.sign minus all digits))
-    ]
+pub short_whole : LateExponentsKeepLimits → (bs : List ℕ) (start point : ℕ) → start ≤ 1 → (start ≡ 1 → get_or bs 0 0 ≡ 45) → point ≡ length bs → DigitsStand bs start point → point < 32 → IsWithinLimits bs
+short_whole law bs start point one m p digits few = law bs (length bs) (omega (arith, p, few)) (omega (arith, p, few)) (whole_plain bs start point one m p digits)
+
+pub short_decimal : LateExponentsKeepLimits → (bs : List ℕ) (start point : ℕ) → start ≤ 1 → (start ≡ 1 → get_or bs 0 0 ≡ 45) → DigitsStand bs start point → IsFraction bs point → length bs ≤ 32 → IsWithinLimits bs
+short_decimal law bs start point one m digits f few = law bs (length bs) (omega (arith, few)) (omega (arith, few)) (decimal_plain bs start point one m digits f)

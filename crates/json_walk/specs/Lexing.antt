@@ -5,8 +5,6 @@ use Rattle.decimal_order.specs.Limits.{IsWithinLimits}
 use Rattle.decimal_order.specs.Value.{is_e}
 use Rattle.json_text.specs.declared.tape.Kind.TheVariants as kinds
 use Rattle.json_text.specs.declared.tape.BuildFault.{BuildFault}
-use Rattle.structural_index.specs.declared.looks.Known.{Known}
-use Rattle.structural_index.specs.declared.looks.Known.TheVariants as knowns
 use Rattle.json_walk.specs.declared.lexing.WordKind.{WordKind}
 use Rattle.json_walk.specs.declared.lexing.WordKind.TheVariants as word_kinds
 use Rattle.json_text.specs.Tokens.{IsWord, WordIs, is_atom}
@@ -19,14 +17,6 @@ IsWordKind bs word_kinds.True = IsWord bs (kinds.Bool true)
 IsWordKind bs word_kinds.Number = IsNumber bs × IsWithinLimits bs
 IsWordKind bs word_kinds.LongNumber = IsNumber bs
 IsWordKind bs word_kinds.Nothing = WordIs bs None
-
--- bytes are what they are known to be
-abbrev pub AreKnown : List ℕ → Known → Type 0
-AreKnown bs knowns.Decimal = IsWordKind bs word_kinds.Number
-AreKnown bs knowns.Null = IsWordKind bs word_kinds.Null
-AreKnown bs knowns.False = IsWordKind bs word_kinds.False
-AreKnown bs knowns.True = IsWordKind bs word_kinds.True
-AreKnown bs knowns.Other = Unit {0}
 
 -- each byte from the first place to before the second is a digit
 abbrev pub DigitsStand : List ℕ → ℕ → ℕ → Type 0

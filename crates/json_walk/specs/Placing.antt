@@ -1,7 +1,7 @@
 -- What a builder that goes from place to place asks of the text, and what it finds of a string.
 use Rattle.std.specs.Prelude.{◌≡◌, ◌<◌, ◌≤◌, ℕ, suc, ◌+◌, Bool, List, drop, length, Option, Some, None, IsUtf8}
 use Rattle.structural_index.specs.Places.{byte, HasControlInside, AreSlashBlocks}
-use Rattle.structural_index.specs.Seams.{IsSpan, AreSlashless}
+use Rattle.structural_index.specs.Seams.{IsSpan, IsSeam, AreSlashless, next_place}
 use Rattle.json_walk.specs.declared.slashes.Slashes.{Slashes}
 use Rattle.json_text.specs.Tokens.{quote_end}
 use Rattle.json_walk.specs.Bridge.{SpellsString}
@@ -19,9 +19,11 @@ pub record IsIndexed (text : List ℕ) (slashes : Slashes) : Type 0 where
   pub controls : HasControlInside text → ⊥
   pub escapes : HoldSlashes text slashes
 
--- a quote right before the next place closes the string that begins at byte i
-abbrev pub ClosesBefore : List ℕ → (i next : ℕ) → Type 0
-ClosesBefore text i next = (m : ℕ) → next ≡ suc m → i < m → byte text i ≡ 0x22 → byte text m ≡ 0x22 → IsSpan text i m
+-- a token begins at byte i, and the next place is this one: a quote right before it closes the string that begins at byte i
+pub record ClosesBefore (text : List ℕ) (i n : ℕ) : Type 0 where
+  pub string : (m : ℕ) → n ≡ suc m → i < m → byte text i ≡ 0x22 → byte text m ≡ 0x22 → IsSpan text i m
+  pub seam : IsSeam text i
+  pub next : n ≡ next_place text (suc i)
 
 -- the place at which a string was found to end
 abbrev pub end_in : Option (ℕ × Bool) → Option ℕ

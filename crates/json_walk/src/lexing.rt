@@ -3,21 +3,23 @@
 ghost use Rattle.std.specs.Prelude.{◌≡◌, ◌≢◌, ◌+◌, ◌-◌, ◌≤◌, ◌<◌, ◌↔◌, Ok, length, slice_index, IfSome, IsTrue, true, false};
 ghost use Rattle.decimal_order.specs.Number.{IsNumber};
 ghost use Rattle.json_text.specs.Tokens.{is_blank as blank};
-ghost use Rattle.json_walk.specs.Lexing.{AreKnown, IsWordKind, Marked};
+ghost use Rattle.json_walk.specs.Lexing.{IsWordKind, Marked};
 ghost use Rattle.tape_cells.specs.Opened.{HasRoom};
 ghost use Rattle.json_walk.specs.Walked.{IsNameAt, IsValueAt, FitsTape, source_in, end_of, price_of};
 ghost use Rattle.json_text.specs.Verdict.{text_limit};
 ghost use Rattle.json_walk.specs.Placing.{IsIndexed, HoldSlashes, ClosesBefore, StringEnds, end_in};
 ghost use Rattle.name_stamps.specs.Stamps.{IsPlain};
 ghost use Rattle.structural_index.specs.Seams.{AreSlashless};
+ghost use Rattle.structural_index.specs.Runs.{AreDigitsBut};
 
 use crate::exponents::has_short_exponent;
+use crate::short_numbers::is_short_decimal;
 use crate::slashes::Slashes;
 use decimal_order::{late_exponents_keep_limits, scan};
 use json_strings::{escapes_hold, quote_past};
 use json_text::{Extent, Kind, Shape};
 use name_stamps::Quoted;
-use structural_index::{Atoms, Known, Looks};
+use structural_index::{Looks, Run, four_bytes};
 
 /// What a value begins with: all of it, or the bracket or brace that opens it. Strings and numbers are kinds of their own, so that
 /// the compiler knows their kinds where their entries are made.
@@ -83,19 +85,51 @@ fn word_kind_slowly(bytes: &[u8]) -> WordKind
     }
 }
 
-// What the bytes are, by what they are known to be.
+// The first four letters of the words, the first one the lowest byte.
+const NULL: u32 = 0x6c6c_756e;
+
+const TRUE: u32 = 0x6575_7274;
+
+const FALS: u32 = 0x736c_6166;
+
+// The word that the bytes are.
 #[inline(always)]
-fn word_kind(bytes: &[u8], known: Known) -> WordKind
-    requires { AreKnown bytes.now known }
+fn word_of(bytes: &[u8]) -> Option<WordKind>
+    ensures { IfSome result (λ kind. IsWordKind bytes.now kind) }
+{
+    if bytes.len() == 4 {
+        let letters = four_bytes(bytes, 0);
+        if letters == NULL {
+            return Some(WordKind::Null);
+        }
+        if letters == TRUE {
+            return Some(WordKind::True);
+        }
+        return None;
+    }
+    if bytes.len() == 5 && four_bytes(bytes, 0) == FALS && bytes[4] == b'e' {
+        return Some(WordKind::False);
+    }
+    None
+}
+
+// What the bytes are. A word begins with a letter, which is above all digits.
+#[inline(always)]
+fn word_kind(bytes: &[u8], others: u64) -> WordKind
+    requires some { 0 < length bytes.now }
+    requires others { AreDigitsBut bytes.now others }
     ensures { IsWordKind bytes.now result }
 {
-    match known {
-        Known::Decimal => WordKind::Number,
-        Known::Null => WordKind::Null,
-        Known::False => WordKind::False,
-        Known::True => WordKind::True,
-        Known::Other => word_kind_slowly(bytes),
+    if bytes[0] > b'9' {
+        return match word_of(bytes) {
+            Some(kind) => kind,
+            None => word_kind_slowly(bytes),
+        };
     }
+    if is_short_decimal(bytes, others) {
+        return WordKind::Number;
+    }
+    word_kind_slowly(bytes)
 }
 
 // Whether a quote other than the one at i stands right before this place.
@@ -217,9 +251,11 @@ pub fn name(
 
 // A word or a number. Marks where it may be beyond the limits of numbers.
 #[inline(always)]
-fn word(looks: &mut Looks<'_>, i: usize, may_exceed: &mut bool) -> Option<Lexed>
+fn word(looks: &mut Looks<'_>, i: usize, next: usize, may_exceed: &mut bool) -> Option<Lexed>
     requires in_text { i < length looks.old.0 }
+    requires near { next ≤ length looks.old.0 }
     requires short { length looks.old.0 ≤ text_limit }
+    requires closes { ClosesBefore looks.old.0 i next }
     requires no_string { slice_index looks.old.0 i ≢ 34 }
     requires no_array { slice_index looks.old.0 i ≢ 91 }
     requires no_object { slice_index looks.old.0 i ≢ 123 }
@@ -231,12 +267,12 @@ fn word(looks: &mut Looks<'_>, i: usize, may_exceed: &mut bool) -> Option<Lexed>
     ensures looked { IfSome result (λ l. looks.new.1 + 1 ≤ looks.old.1 + price_of l) }
 {
     late_exponents_keep_limits();
-    let Atoms { bytes, known } = looks.atoms(i);
+    let Run { bytes, others } = looks.run(i, next);
     let source = Extent {
         start: i as u32,
         len: bytes.len() as u32,
     };
-    match word_kind(bytes, known) {
+    match word_kind(bytes, others) {
         WordKind::Null => Some(Lexed::Word(Kind::Null, source)),
         WordKind::False => Some(Lexed::Word(Kind::Bool(false), source)),
         WordKind::True => Some(Lexed::Word(Kind::Bool(true), source)),
@@ -278,6 +314,6 @@ pub fn value(
         },
         b'{' => Some(Lexed::Opens(Shape::Object)),
         b'[' => Some(Lexed::Opens(Shape::Array)),
-        _ => word(looks, i, may_exceed),
+        _ => word(looks, i, next, may_exceed),
     }
 }

@@ -8,6 +8,7 @@ mod exponents;
 pub mod laws;
 mod lexing;
 mod second_stage;
+mod short_numbers;
 mod slashes;
 
 pub use exponents::has_short_exponent;

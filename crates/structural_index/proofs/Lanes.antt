@@ -4,8 +4,7 @@ use Rattle.std.specs.Int.{bit_at, trailing_zeros}
 use Rattle.std.proofs.lemmas.Bool.{cases_lt, eqb-true}
 use Rattle.std.proofs.lemmas.Bool.Decides.{nat_tests}
 use Rattle.std.proofs.lemmas.List.{length-map, get_or-map, get_or_past}
-use Rattle.std.proofs.Math.Nat.{div-le_self}
-use Rattle.std.proofs.lemmas.Nat.{or_lt, shr-shr}
+use Rattle.std.proofs.lemmas.Nat.{or_lt}
 use Rattle.std.proofs.lemmas.Nat.Bits.{bit_at-zero, bit_at-trailing_zeros, bit_at_set_same, bit_at_set_other}
 use Rattle.std.proofs.lemmas.Simd.{length-zip2, get_or-zip2, length-replicate, get_or-replicate, length-chunk, get_or-chunk, mask_l-mod, bit_mask_l}
 use lib.Lanes.{chunk, zip2, mask_l, top}
@@ -92,36 +91,6 @@ module _ (stops n : ℕ) (fits : stops < 2 ^ 64) (inside : n < 64) where
 
   pub none_before : (i : ℕ) → i < trailing_zeros w64 ended → bit_at stops i ≡ 0
   none_before i before = let most = no_more in let other : i ≢ n = λ e. omega arith in grind (arith, bit_at_set_other w64 stops n inside i other, lowest.2 i before)
-
--- bits from one on, where bit 32 is set
-module _ (mask from : ℕ) (fits : mask < 2 ^ 64) (most : from ≤ 32) (end : bit_at mask 32 ≡ 1) where
-  abbrev word : ℕ
-  word = mask / 2 ^ from
-
-  same_bit : (i : ℕ) → bit_at word i ≡ bit_at mask (from + i)
-  same_bit i = grind (arith, shr-shr mask from i)
-
-  ends : bit_at word (32 - from) ≡ 1
-  ends = let back : from + (32 - from) ≡ 32 = omega arith in grind (arith, same_bit (32 - from), back, end)
-
-  first_set : (trailing_zeros w64 word < 64) × (bit_at word (trailing_zeros w64 word) ≡ 1) × ((i : ℕ) → i < trailing_zeros w64 word → bit_at word i ≡ 0)
-  first_set = let less = div-le_self mask (2 ^ from) in bit_at-trailing_zeros w64 word (some_bit word (32 - from) ends) (omega (arith, less, fits))
-
-  pub few_clear : from + trailing_zeros w64 word ≤ 32
-  few_clear = elim (cases_lt (32 - from) (trailing_zeros w64 word)) [
-    | inl past ↦ absurd (let clear = first_set.2 (32 - from) past in let set = ends in omega arith)
-    | inr within ↦ omega arith
-  ]
-
-  pub clear_from : (i : ℕ) → i < trailing_zeros w64 word → bit_at mask (from + i) ≡ 0
-  clear_from i before = sym (same_bit i) ∙ first_set.2 i before
-
--- a bit that is set in front leaves the others
-pub set_behind : (stops n i : ℕ) → n < 64 → i ≢ n → bit_at (bit_or stops (1 * 2 ^ n % 2 ^ 64)) i ≡ 0 → bit_at stops i ≡ 0
-set_behind stops n i inside other clear = sym (bit_at_set_other w64 stops n inside i other) ∙ clear
-
-pub set_there : (stops n : ℕ) → n < 64 → bit_at (bit_or stops (1 * 2 ^ n % 2 ^ 64)) n ≡ 1
-set_there stops n inside = bit_at_set_same w64 stops n inside
 
 -- ---- Comparisons joined in a lane, none of which holds
 

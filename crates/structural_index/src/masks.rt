@@ -11,14 +11,3 @@ pub fn lanes_before(stops: u64, lanes: usize) -> usize
 {
     (stops | (1 << lanes)).trailing_zeros() as usize
 }
-
-/// How many bits from this one on come before the first that is set, where bit 32 is.
-#[inline(always)]
-pub fn clear_bits(mask: u64, from: usize) -> usize
-    requires from { from ≤ 32 }
-    requires end { bit_at mask 32 ≡ 1 }
-    ensures few { from + result ≤ 32 }
-    ensures clear { (i : ℕ) → i < result → bit_at mask (from + i) ≡ 0 }
-{
-    (mask >> from).trailing_zeros() as usize
-}

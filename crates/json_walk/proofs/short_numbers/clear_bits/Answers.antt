@@ -1,5 +1,5 @@
-use Rattle.structural_index.proofs.Lanes.{few_clear, clear_from}
-use Rattle.structural_index.proofs.masks.clear_bits.Goals as goal
+use Rattle.json_walk.proofs.ClearBits.{few_clear, clear_from}
+use Rattle.json_walk.proofs.short_numbers.clear_bits.Goals as goal
 
 pub returns-clause-few : goal.returns-clause-few
 returns-clause-few c = few_clear c.args.mask c.args.from c.ranges.mask.fits c.requires.from c.requires.end

@@ -1,0 +1,13 @@
+use Rattle.std.proofs.Common.{◌-◌, ◌≤◌}
+use Rattle.structural_index.specs.Runs.{AreSolid}
+use Rattle.structural_index.proofs.looks.first_blank.Given as goal
+
+abbrev pub invariant-loop-k : goal.invariant-loop-k
+invariant-loop-k l = record {
+  from : l.from ≤ l.k;
+  to : l.k ≤ l.to;
+  solid : AreSolid l.bytes l.from l.k;
+}
+
+abbrev pub decreases-loop-k : goal.decreases-loop-k
+decreases-loop-k l = l.to - l.k
