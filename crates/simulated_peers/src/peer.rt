@@ -30,8 +30,9 @@ const LONG: usize = 100_000;
 /// The letters of the longest text.
 const LONGEST: usize = 4_194_302;
 
-/// The selectors of a query that selects nothing. Each costs a unit for each text, so that it takes more than a share of work.
-const SELECTORS: usize = 2_040;
+/// The selectors of a query that selects nothing. Each costs a unit for each text, and all of them a little more than a share of work, so that it
+/// is cut within a text. A share takes a round here, which is far longer than in a server: more of them would only make others wait.
+const SELECTORS: usize = 450;
 
 const NOT_FOUND: u8 = 15;
 
@@ -503,7 +504,7 @@ impl Peer {
         self.say(b'$');
     }
 
-    // A query that selects nothing, and is cut behind each text.
+    // A query that selects nothing, and is cut within each text.
     fn ask_at_length(&mut self) {
         self.begin(5, None, 2 * SELECTORS + 2, Wanted::Hits([None; TEXTS]));
         self.say_all(b"$[0");
