@@ -38,6 +38,10 @@ PARTS = 150
 WHOLE = b"[" + b",".join(b'{"id":%d,"price":%d,"stock":%d}' % (at, at % 97, at % 1_009) for at in range(113_000)) + b"]"
 OF_ANOTHER = {"one connection that repeats a query on 150 documents of 64 KiB": (b"p", 1), "10 such connections": (b"p", 10),
               "100 such connections": (b"p", 100), "one connection that repeats a query on a document of 4 MiB": (b"w", 1)}
+# and a query whose one child's filter costs 6,900,000 units, on a chain of arrays of 30 KiB
+NESTED, CHAIN = b"$[?count(@..[?@..*])>9]", b"[" * 231 + b",".join([b"0"] * 15_000) + b"]" * 231
+DEAREST = {"one connection that repeats a filter in a filter": (b"c", 1), "10 such connections, each with a filter in a filter": (b"c", 10),
+           "100 such connections, each with a filter in a filter": (b"c", 100)}
 SCRIPT = b"""local n = 0
 for _, text in ipairs(redis.call('LRANGE', ARGV[1], 0, -1)) do
     for _, it in ipairs(cjson.decode(text)) do if it.price < 10 and it.stock > 250 then n = n + 1 end end
@@ -144,23 +148,26 @@ def stored(port, requests, wanted=None):
 
 
 def beside_another(seconds, turns=TURNS):
-    """The times of requests on one connection, alone and beside another tenant's queries, and the same of Redis where it is installed."""
-    texts = [*((b"d%d" % at, PART, b"p") for at in range(PARTS)), (b"d", WHOLE, b"w")]
+    """The times of requests on one connection, alone and beside another tenant's queries, and the same of Redis where it is installed, but for
+    filters in filters."""
+    texts = [*((b"d%d" % at, PART, b"p") for at in range(PARTS)), (b"d", WHOLE, b"w"), (b"d", CHAIN, b"c")]
     with contextlib.ExitStack() as stack:
         folder = stack.enter_context(tempfile.TemporaryDirectory())
         load, flood = compiled(folder, "many_load.c"), compiled(folder, "many_flood.c")
         port, theirs = stack.enter_context(listening(f"{KEY.hex()},{OTHER.hex()}"))[1], stack.enter_context(redis())[1]
         stored(port, [put(*words, OTHER) for words in texts], reply())
-        servers = {"path_server": (port, OURS, lambda to: (query(COSTLY, to, OTHER), []))}
+        servers = {"path_server": (port, OURS, lambda to: (query(NESTED if to == b"c" else COSTLY, to, OTHER), []))}
         if theirs:
-            stored(theirs, [redis_words(b"RPUSH", to, text) for _, text, to in texts])
+            stored(theirs, [redis_words(b"RPUSH", to, text) for _, text, to in texts if to != b"c"])
             asked = {to: redis_words(b"EVAL", SCRIPT, b"0", to) for to in (b"p", b"w")}
             lengths = {to: len(stored(theirs, [it])) for to, it in asked.items()}
             servers["Redis"] = (theirs, OF_REDIS, lambda to: (asked[to], [str(lengths[to])]))
-        for name, others in [("nothing else", None), *OF_ANOTHER.items()]:
-            rows = {it: [] for it in servers}
+        for name, others in [("nothing else", None), *OF_ANOTHER.items(), *DEAREST.items()]:
+            asking = ["path_server"] if name in DEAREST else list(servers)
+            rows = {it: [] for it in asking}
             for _ in range(turns):
-                for it, (port, ask, query_on) in servers.items():
+                for it in asking:
+                    port, ask, query_on = servers[it]
                     if others:
                         request, more = query_on(others[0])
                         words = [flood, str(port), str(others[1]), str(seconds + 1), "1", *more]

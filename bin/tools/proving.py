@@ -13,9 +13,9 @@ from pathlib import Path
 
 PARTS = ("src", "specs", "proofs", "c")
 BYTES_EACH = 2_500_000_000
-# lines of source from which more than one job makes a check shorter
+# lines of source from which two jobs make a check shorter; four have made none shorter than two do, and each job reads all that lies below anew
 LARGE = 300
-MOST_JOBS = 4
+MOST_JOBS = 2
 
 
 def rooms_in_memory():
@@ -113,9 +113,9 @@ def ways(tasks):
 
 def run_all(tasks, many, tell, silence):
     """Does the tasks, many at a time, those with the longest way before them first; one whose work did not go well, and all that wait for it, stay
-    undone. The end comes no sooner than that of the longest way: so where its next task is large, that one gets as many jobs as there are
-    lanes beside those of the others, which are behind it, if there is memory for both. Other large tasks get the lanes that no one else can use. tell gets
-    each task that is done, with whether it went well, and nothing but the names of those that run where none was done for so many seconds."""
+    undone. The end comes no sooner than that of the longest way: so where its next task is large, that one gets its jobs beside the lanes of the
+    others, which are behind it, if there is memory for both. Other large tasks get the lanes that no one else can use. tell gets each task that is
+    done, with whether it went well, and nothing but the names of those that run where none was done for so many seconds."""
     done, failed, running, runs, way, rooms = set(), set(), {}, {}, ways(tasks), rooms_in_memory()
     front = None
     with ThreadPoolExecutor(max(len(tasks), 1)) as pool:
