@@ -133,12 +133,20 @@ fn filter(alloc: Global, expr: Expr) -> Result<Selector, AllocError>
     Ok(Selector::Filter(Box::new(alloc, expr)?))
 }
 
+// What was read, behind which a parenthesis closes.
+#[tactic(auto, unfolding(crate::specs::Reading::closing))]
+fn closed_behind<T: Drop>(read: T, text: &[char]) -> Result<(T, &[char]), ParseFault>
+    ensures { Gives (λ x. (x.0, x.1.now)) result (closing 0x29 read text.now) }
+{
+    let rest = closed(skip_blanks(text), ')')?;
+    Ok((read, rest))
+}
+
 #[tactic(auto, unfolding(crate::specs::Reading::closing))]
 fn closed_expr(expr: Expr, text: &[char]) -> Result<(Expr, &[char]), ParseFault>
     ensures { Gives (λ x. (expr_view x.0, x.1.now)) result (closing 0x29 (expr_view expr) text.now) }
 {
-    let rest = closed(skip_blanks(text), ')')?;
-    Ok((expr, rest))
+    closed_behind(expr, text)
 }
 
 // The call of a name with these arguments, behind which its parenthesis closes.
