@@ -3,7 +3,7 @@
 //! `level` says how many more filters, parentheses and argument lists may be nested. Only a literal that begins an argument is
 //! read twice.
 
-ghost use Rattle.std.specs.Prelude.{◌≡◌, ◌∷◌, map, option_map, IfOk, IfSome, IsTrue};
+ghost use Rattle.std.specs.Prelude.{◌≡◌, ◌∷◌, ◌++◌, [], map, option_map, IfOk, IfSome, IsTrue};
 ghost use Rattle.std.specs.List.{list_all};
 ghost use Rattle.path_grammar.specs.Characters.{is_ascii};
 ghost use Rattle.path_grammar.specs.Grammar.{joined};
@@ -94,24 +94,37 @@ fn is_comparable(side: &Comparable) -> bool
     }
 }
 
-fn join_each(first: Expr, mut others: Vec<Expr>) -> Result<Expr, AllocError>
+// The first before the others.
+fn in_front<T: Drop>(first: T, mut others: Vec<T>) -> Result<Vec<T>, AllocError>
+    ensures { IfOk result (λ all. all.items ≡ first ∷ others.items) }
+{
+    others.insert(0, first)?;
+    Ok(others)
+}
+
+fn append<T: Drop>(list: &mut Vec<T>, item: T) -> Result<(), AllocError>
+    ensures { IfOk result (λ _. list.new.items ≡ list.old.items ++ item ∷ []) }
+{
+    list.push(item)?;
+    Ok(())
+}
+
+fn join_each(first: Expr, others: Vec<Expr>) -> Result<Expr, AllocError>
     ensures { IfOk result (λ e. expr_view e ≡ joined each (expr_view first ∷ map expr_view others.items)) }
 {
     if others.is_empty() {
         return Ok(first);
     }
-    others.insert(0, first)?;
-    Ok(Expr::Each(others))
+    Ok(Expr::Each(in_front(first, others)?))
 }
 
-fn join_any(first: Expr, mut others: Vec<Expr>) -> Result<Expr, AllocError>
+fn join_any(first: Expr, others: Vec<Expr>) -> Result<Expr, AllocError>
     ensures { IfOk result (λ e. expr_view e ≡ joined any (expr_view first ∷ map expr_view others.items)) }
 {
     if others.is_empty() {
         return Ok(first);
     }
-    others.insert(0, first)?;
-    Ok(Expr::Any(others))
+    Ok(Expr::Any(in_front(first, others)?))
 }
 
 fn as_argument(alloc: Global, expr: Expr, is_parenthesised: bool) -> Result<Argument, AllocError>
@@ -133,12 +146,20 @@ fn filter(alloc: Global, expr: Expr) -> Result<Selector, AllocError>
     Ok(Selector::Filter(Box::new(alloc, expr)?))
 }
 
+// What was read, behind which a parenthesis closes.
+#[tactic(auto, unfolding(crate::specs::Reading::closing))]
+fn closed_behind<T: Drop>(read: T, text: &[char]) -> Result<(T, &[char]), ParseFault>
+    ensures { Gives (λ x. (x.0, x.1.now)) result (closing 0x29 read text.now) }
+{
+    let rest = closed(skip_blanks(text), ')')?;
+    Ok((read, rest))
+}
+
 #[tactic(auto, unfolding(crate::specs::Reading::closing))]
 fn closed_expr(expr: Expr, text: &[char]) -> Result<(Expr, &[char]), ParseFault>
     ensures { Gives (λ x. (expr_view x.0, x.1.now)) result (closing 0x29 (expr_view expr) text.now) }
 {
-    let rest = closed(skip_blanks(text), ')')?;
-    Ok((expr, rest))
+    closed_behind(expr, text)
 }
 
 // The call of a name with these arguments, behind which its parenthesis closes.
@@ -227,14 +248,14 @@ fn selectors(
 {
     let (first, after_first) = selector(alloc, text, level)?;
     let mut out = Vec::new(alloc);
-    out.push(first)?;
+    append(&mut out, first)?;
     let mut rest = after_first;
     for _ in 0..text.len() {
         let Some(next) = next_selector(rest) else {
             return Ok((out, rest));
         };
         let (item, after) = selector(alloc, next, level)?;
-        out.push(item)?;
+        append(&mut out, item)?;
         rest = after;
     }
     Ok((out, rest))
@@ -275,7 +296,7 @@ pub fn segments(
             return Ok((out, rest));
         };
         let (item, after) = segment(alloc, next, level)?;
-        out.push(item)?;
+        append(&mut out, item)?;
         rest = after;
     }
     Ok((out, rest))
@@ -419,7 +440,7 @@ fn other_basics(
             return Ok((others, rest));
         };
         let (item, after) = basic(alloc, next, level)?;
-        others.push(item)?;
+        append(&mut others, item)?;
         rest = after;
     }
     Ok((others, rest))
@@ -451,7 +472,7 @@ fn other_and_exprs(
             return Ok((others, rest));
         };
         let (item, after) = and_expr(alloc, next, level)?;
-        others.push(item)?;
+        append(&mut others, item)?;
         rest = after;
     }
     Ok((others, rest))
@@ -512,14 +533,14 @@ fn some_arguments(
 {
     let (first, after_first) = argument(alloc, text, level)?;
     let mut out = Vec::new(alloc);
-    out.push(first)?;
+    append(&mut out, first)?;
     let mut rest = after_first;
     for _ in 0..text.len() {
         let Some(next) = next_argument(rest) else {
             return Ok((out, rest));
         };
         let (item, after) = argument(alloc, next, level)?;
-        out.push(item)?;
+        append(&mut out, item)?;
         rest = after;
     }
     Ok((out, rest))

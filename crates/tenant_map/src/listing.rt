@@ -1,6 +1,6 @@
 //! The payload of a list's reply.
 
-ghost use Rattle.std.specs.Prelude.{◌≡◌, ◌+◌, ◌*◌, ◌≤◌, ◌++◌, IfOk, OnOk, OnErr, length, take};
+ghost use Rattle.std.specs.Prelude.{◌≡◌, ◌+◌, ◌*◌, ◌≤◌, ◌++◌, ◌∷◌, IfOk, OnOk, OnErr, length, take};
 ghost use Rattle.std.specs.BTreeMap.{btree_map_len};
 ghost use Rattle.std.specs.Vec.{vec_capacity};
 ghost use Rattle.std.specs.Map.{keys_of};
@@ -27,6 +27,17 @@ fn names_length(documents: &BTreeMap<Vec<u8>, Document>) -> usize
     total
 }
 
+// Appends a name after its length; at a refusal the length may stand there.
+fn append_name(name: &[u8], out: &mut Vec<u8>) -> Result<(), AllocError>
+    requires { length name.now ≤ 128 }
+    ensures written { OnOk result (out.new.items ≡ out.old.items ++ length name.now ∷ name.now) }
+    ensures kept { take (length out.old.items) out.new.items ≡ out.old.items }
+    ensures capacity { vec_capacity out.old ≤ vec_capacity out.new }
+{
+    out.push(name.len() as u8)?;
+    out.extend_from_slice(name)
+}
+
 // Appends the names, each after its length; at a refusal a part of them may stand there.
 fn append_names(
     documents: &BTreeMap<Vec<u8>, Document>,
@@ -38,8 +49,7 @@ fn append_names(
     ensures capacity { vec_capacity out.old ≤ vec_capacity out.new }
 {
     for (name, _) in documents {
-        out.push(name.len() as u8)?;
-        out.extend_from_slice(name)?;
+        append_name(name, out)?;
     }
     Ok(())
 }

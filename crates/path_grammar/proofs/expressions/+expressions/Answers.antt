@@ -17,7 +17,7 @@ selectors-returns-in_err-first t c =
 pub selectors-loop-init : goal.selectors-loop-init
 unfolding selectors_at
 selectors-loop-init t c =
-    let e : map selector_view c.push.new.self.items ≡ selector_view c.in_ok-first.first ∷ [] = rw (c.in_ok-push.ensures.items, c.new-out.ensures.items) refl in
+    let e : map selector_view c.append.new.list.items ≡ selector_view c.in_ok-first.first ∷ [] = rw (c.in_ok-append.ensures, c.new-out.ensures.items) refl in
     let z : length c.args.text.now - 0 ≡ length c.args.text.now = omega arith in
     rw (e, z) (first_read next_selector (selector_at (condition_in c.args.level)) c.args.text.now c.in_ok-first.after_first.now (selector_view c.in_ok-first.first) c.in_ok-first.ensures)
 
@@ -32,7 +32,7 @@ selectors-returns-in_err-item t c =
 pub selectors-loop-preserved : goal.selectors-loop-preserved
 selectors-loop-preserved t c =
     let s = selector_view c.in_ok-item.item in
-    let e : map selector_view c.push-in-loop.new.self.items ≡ map selector_view c.loop.out.items ++ s ∷ [] = rw c.in_ok-push-2.ensures.items (map_push _ c.loop.out.items c.in_ok-item.item) in
+    let e : map selector_view c.append-in-loop.new.list.items ≡ map selector_view c.loop.out.items ++ s ∷ [] = rw c.in_ok-append-2.ensures (map_push _ c.loop.out.items c.in_ok-item.item) in
     rw e (goes_on next_selector (selector_at (condition_in c.args.level)) (map selector_view c.loop.out.items) (length c.args.text.now) c.loop.counter c.loop.rest.now (selectors_at (condition_in c.args.level) c.args.text.now) c.loop.invariant c.in-Some.next.now c.in_ok-item.after.now s c.loop-test.true (sym c.in-Some.ensures) c.in_ok-item.ensures)
 
 pub selectors-returns : goal.selectors-returns
@@ -55,7 +55,7 @@ segments-returns-in_err-item t c =
 pub segments-loop-preserved : goal.segments-loop-preserved
 segments-loop-preserved t c =
     let s = segment_view c.in_ok-item.item in
-    let e : map segment_view c.push.new.self.items ≡ map segment_view c.loop.out.items ++ s ∷ [] = rw c.in_ok-push.ensures.items (map_push _ c.loop.out.items c.in_ok-item.item) in
+    let e : map segment_view c.append.new.list.items ≡ map segment_view c.loop.out.items ++ s ∷ [] = rw c.in_ok-append.ensures (map_push _ c.loop.out.items c.in_ok-item.item) in
     rw e (goes_on next_segment (segment_at (condition_in c.args.level)) (map segment_view c.loop.out.items) (length c.args.text.now) c.loop.counter c.loop.rest.now (segments_at (condition_in c.args.level) c.args.text.now) c.loop.invariant c.in-Some.next.now c.in_ok-item.after.now s c.loop-test.true (sym c.in-Some.ensures) c.in_ok-item.ensures)
 
 pub segments-returns : goal.segments-returns
@@ -77,7 +77,7 @@ other_basics-returns-in_err-item t c =
 pub other_basics-loop-preserved : goal.other_basics-loop-preserved
 other_basics-loop-preserved t c =
     let s = expr_view c.in_ok-item.item in
-    let e : map expr_view c.push.new.self.items ≡ map expr_view c.loop.others.items ++ s ∷ [] = rw c.in_ok-push.ensures.items (map_push _ c.loop.others.items c.in_ok-item.item) in
+    let e : map expr_view c.append.new.list.items ≡ map expr_view c.loop.others.items ++ s ∷ [] = rw c.in_ok-append.ensures (map_push _ c.loop.others.items c.in_ok-item.item) in
     rw e (goes_on (next_operand 0x26) (basic_at (condition_in c.args.level) (arguments_in c.args.level)) (map expr_view c.loop.others.items) c.args.limit c.loop.counter c.loop.rest.now (repeat_at (next_operand 0x26) (basic_at (condition_in c.args.level) (arguments_in c.args.level)) c.args.limit c.args.text.now) c.loop.invariant c.in-Some.next.now c.in_ok-item.after.now s c.loop-test.true (sym c.in-Some.ensures) c.in_ok-item.ensures)
 
 pub other_basics-returns : goal.other_basics-returns
@@ -99,7 +99,7 @@ other_and_exprs-returns-in_err-item t c =
 pub other_and_exprs-loop-preserved : goal.other_and_exprs-loop-preserved
 other_and_exprs-loop-preserved t c =
     let s = expr_view c.in_ok-item.item in
-    let e : map expr_view c.push.new.self.items ≡ map expr_view c.loop.others.items ++ s ∷ [] = rw c.in_ok-push.ensures.items (map_push _ c.loop.others.items c.in_ok-item.item) in
+    let e : map expr_view c.append.new.list.items ≡ map expr_view c.loop.others.items ++ s ∷ [] = rw c.in_ok-append.ensures (map_push _ c.loop.others.items c.in_ok-item.item) in
     rw e (goes_on (next_operand 0x7C) (and_at (condition_in c.args.level) (arguments_in c.args.level)) (map expr_view c.loop.others.items) c.args.limit c.loop.counter c.loop.rest.now (repeat_at (next_operand 0x7C) (and_at (condition_in c.args.level) (arguments_in c.args.level)) c.args.limit c.args.text.now) c.loop.invariant c.in-Some.next.now c.in_ok-item.after.now s c.loop-test.true (sym c.in-Some.ensures) c.in_ok-item.ensures)
 
 pub other_and_exprs-returns : goal.other_and_exprs-returns
@@ -114,7 +114,7 @@ some_arguments-returns-in_err-first t c =
 pub some_arguments-loop-init : goal.some_arguments-loop-init
 unfolding some_arguments_at
 some_arguments-loop-init t c =
-    let e : map argument_view c.push.new.self.items ≡ argument_view c.in_ok-first.first ∷ [] = rw (c.in_ok-push.ensures.items, c.new-out.ensures.items) refl in
+    let e : map argument_view c.append.new.list.items ≡ argument_view c.in_ok-first.first ∷ [] = rw (c.in_ok-append.ensures, c.new-out.ensures.items) refl in
     let z : length c.args.text.now - 0 ≡ length c.args.text.now = omega arith in
     rw (e, z) (first_read next_argument (argument_at (condition_in c.args.level) (arguments_in c.args.level)) c.args.text.now c.in_ok-first.after_first.now (argument_view c.in_ok-first.first) c.in_ok-first.ensures)
 
@@ -129,7 +129,7 @@ some_arguments-returns-in_err-item t c =
 pub some_arguments-loop-preserved : goal.some_arguments-loop-preserved
 some_arguments-loop-preserved t c =
     let s = argument_view c.in_ok-item.item in
-    let e : map argument_view c.push-in-loop.new.self.items ≡ map argument_view c.loop.out.items ++ s ∷ [] = rw c.in_ok-push-2.ensures.items (map_push _ c.loop.out.items c.in_ok-item.item) in
+    let e : map argument_view c.append-in-loop.new.list.items ≡ map argument_view c.loop.out.items ++ s ∷ [] = rw c.in_ok-append-2.ensures (map_push _ c.loop.out.items c.in_ok-item.item) in
     rw e (goes_on next_argument (argument_at (condition_in c.args.level) (arguments_in c.args.level)) (map argument_view c.loop.out.items) (length c.args.text.now) c.loop.counter c.loop.rest.now (some_arguments_at (condition_in c.args.level) (arguments_in c.args.level) c.args.text.now) c.loop.invariant c.in-Some.next.now c.in_ok-item.after.now s c.loop-test.true (sym c.in-Some.ensures) c.in_ok-item.ensures)
 
 pub some_arguments-returns : goal.some_arguments-returns
