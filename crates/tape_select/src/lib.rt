@@ -4,12 +4,14 @@
 //! the units. [`select`] makes the plan too. What selects without a condition is in `node_lists`, and what filters compare in `compared_sides`.
 #![tactic(auto)]
 
+mod awaiting;
 mod evaluation;
 mod planning;
 mod selecting;
 mod state;
 mod truths;
 
+pub use awaiting::{Awaited, first_awaited};
 pub use evaluation::{does_hold, from_node, visit_total};
 pub use node_lists::SelectFault;
 pub use planning::{BUDGET, Plan, select};
