@@ -27,21 +27,21 @@ use Rattle.query_plan.proofs.Claims.{all_claimed}
 use Rattle.node_lists.proofs.Following.{refuses_from}
 use Rattle.query_shares.proofs.Stages.{begins, begins_due, fitting, none_inside}
 
-pub leads_first : (d : Doc) (plan : Parts) (s : State) (list out : Vec NodeId Global) → numbered (claims_of plan.stages.items) 0 ≡ Some plan.slots → out.items ≡ []
+pub leads_first : (d : Doc) (plan : Parts) (s : State) (list children out : Vec NodeId Global) → numbered (claims_of plan.stages.items) 0 ≡ Some plan.slots → children.items ≡ [] → out.items ≡ []
     → Holds d list.items (node_at d 0 ∷ []) → Keeps d (claims_of plan.stages.items) s
-    → LeadsOn d plan s.meter.left (record { state = s; stage = 0; is_second = false; list = list; place = 0; out = out })
-leads_first d plan s list out n o h k =
+    → LeadsOn d plan s.meter.left (record { state = s; stage = 0; list = list; place = 0; visit = 0; end = 0; selector = 0; asked = 0; children = children; child = 0; out = out })
+leads_first d plan s list children out n c o h k =
     let r = node_at d 0 in
     let b = begins_due r plan.stages.items (r ∷ []) in
     record {
       under_way = record {
         within = omega arith;
-        fits = fitting plan.stages.items (record { state = s; stage = 0; is_second = false; list = list; place = 0; out = out }) refl refl;
+        fits = fitting plan.stages.items (record { state = s; stage = 0; list = list; place = 0; visit = 0; end = 0; selector = 0; asked = 0; children = children; child = 0; out = out }) refl;
         claimed = all_claimed (claims_of plan.stages.items) plan.slots n;
-        sound = record { kept = k; within = omega arith; listed = h.inside; sound = rw o (none_inside d) };
+        sound = record { kept = k; within = omega arith; listed = h.inside; end = omega arith; child = omega arith; children = rw c (none_inside d); sound = rw o (none_inside d) };
       };
-      ahead = rw (o, h.same) (begins r plan.stages.items (r ∷ []));
-      due = rw (o, h.same) (omega (arith, b));
+      ahead = rw (c, o, h.same) (begins r plan.stages.items (r ∷ []));
+      due = rw (c, o, h.same) (omega (arith, b));
       within = omega arith;
     }
 

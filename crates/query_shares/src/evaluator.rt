@@ -45,9 +45,14 @@ fn begun(alloc: Global, plan: &Parts, doc: &Document, units: u64) -> Result<Eval
             truths: Vec::new(alloc),
         },
         stage: 0,
-        is_second: false,
         list,
         place: 0,
+        visit: 0,
+        end: 0,
+        selector: 0,
+        asked: 0,
+        children: Vec::new(alloc),
+        child: 0,
         out: Vec::new(alloc),
     })
 }
@@ -173,8 +178,8 @@ impl Evaluator {
     /// Begins on a document with so many units, or goes on with it, to its end or until more than a share of them are spent.
     ///
     /// The nodes that the query selects from the document, and its charge, where it came to the end. None where it did not, and then goes on
-    /// with the same text and units. The share is looked at behind each node from which a segment selects and each child that a lone
-    /// filter asks.
+    /// with the same text and units. The share is looked at behind each node from which a segment selects and each child that a filter
+    /// asks.
     ///
     /// # Errors
     ///

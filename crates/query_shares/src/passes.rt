@@ -1,26 +1,25 @@
 //! What the segments of a query select, from one list of nodes after the other.
 //!
-//! A segment that selects by a filter alone is two passes: the first lists the children, and the second selects among them. So a place in one
-//! list is all that has to be kept where an evaluation stops.
+//! A segment without a filter selects from each node of its list at once. One with a filter goes selector by selector, and a filter child by child.
+//! Where an evaluation stops it keeps a few numbers, and the children that a filter asks.
 
-ghost use Rattle.std.specs.Prelude.{◌≡◌, ◌<◌, ◌≤◌, ◌+◌, ◌∷◌, [], ◌++◌, length, drop, true, false, vec_len, vec_capacity, MatchOption, MatchResult, IfOk, IfErr, IfSome};
+ghost use Rattle.std.specs.Prelude.{◌≡◌, ◌<◌, ◌≤◌, ◌+◌, ◌∷◌, [], ◌++◌, length, drop, true, false, Some, None, get_or, flat_map, MatchOption, MatchResult, IfOk, IfSome};
 ghost use Rattle.std.specs.Prelude.{filter as keep};
 ghost use Rattle.json_tape.specs.Document.{count, node_at};
 ghost use Rattle.json_tape.specs.Nodes.{children};
-ghost use Rattle.path_grammar.specs.Tree.{filter};
-ghost use Rattle.tape_select.specs.Evaluation.{holds};
-ghost use Rattle.tape_select.specs.Charge.{total_of, charge_expr};
+ghost use Rattle.tape_select.specs.Evaluation.{holds, selected_by, starts};
+ghost use Rattle.tape_select.specs.Charge.{total_of, charge_by, charge_expr};
 ghost use Rattle.node_lists.specs.Extra.{nodes_from, charge_at, nodes_after, charge_after};
 ghost use Rattle.tape_select.specs.Memo.{Keeps};
-ghost use Rattle.tape_select.specs.Nodelists.{nodes_of};
-ghost use Rattle.query_shares.specs.Passes.{is_filter, is_lone, IsFilter, every, first_of, due, left_of, out_of, whole_due, Moves, IsSound, GoesOn, ChoosesOn, PassesOn, IsUnderWay, RunsOn};
-ghost use Rattle.node_lists.specs.Paying.{Inside, Holds, Adds, Refuses};
+ghost use Rattle.node_lists.specs.Nodelists.{nodes_of, nodes_between};
+ghost use Rattle.query_shares.specs.Passes.{beginning, condition_at, condition_in, due, position, weight, whole_due, GoesOn, IsAsked, IsBetween, IsSound, IsThrough, IsUnderWay, Moves, Passes, RunsOn, Steps};
+ghost use Rattle.node_lists.specs.Paying.{Inside, Adds, Refuses};
 ghost use Rattle.query_plan.specs.Planned.{claims_of, condition_view, selection_view, stage_view};
 ghost use Rattle.node_lists.specs.Links.{link_view};
 ghost use Rattle.query_plan.specs.Slots.{AreClaimed};
 
 use json_tape::{Document, NodeId};
-use node_lists::{Link, Meter, child_total, children_below, push, push_some, reserve, step};
+use node_lists::{Link, Meter, children_below, push, push_some, sliced, step, wild};
 use query_plan::{Condition, Parts, Selection, Stage, lone_link};
 use std::mem;
 use tape_select::{SelectFault, State, does_hold, from_node, visit_total};
@@ -31,20 +30,28 @@ pub struct Evaluation {
     pub state: State,
     /// How many segments are passed.
     pub stage: usize,
-    /// Whether the list has the children among which the next segment selects.
-    pub is_second: bool,
-    /// What the next segment selects from, or among.
+    /// What the next segment selects from.
     pub list: Vec<NodeId>,
     /// How many nodes of the list are passed.
     pub place: usize,
-    /// What was listed of these, or selected among them.
+    /// The numbers of the nodes, from one up to another, from which it selects next.
+    pub visit: u32,
+    pub end: u32,
+    /// How many selectors are passed at the first of these.
+    pub selector: usize,
+    /// The number of the filter that asks these children.
+    pub asked: usize,
+    pub children: Vec<NodeId>,
+    /// How many of the children are passed.
+    pub child: usize,
+    /// What it selected.
     pub out: Vec<NodeId>,
 }
 
 // The condition of a filter.
 fn condition_of(selection: &Selection) -> Option<&Condition>
-    ensures some { IfSome result (λ c. selection_view selection.now ≡ record { tree = filter (condition_view c.now).tree; claims = (condition_view c.now).claims }) }
-    ensures none { MatchOption result (is_filter (selection_view selection.now).tree ≡ false) (λ c. is_filter (selection_view selection.now).tree ≡ true) }
+    ensures some { IfSome result (λ c. (selection_view selection.now).claims ≡ (condition_view c.now).claims) }
+    ensures condition { MatchOption result (condition_in (selection_view selection.now).tree ≡ None) (λ c. condition_in (selection_view selection.now).tree ≡ Some (condition_view c.now).tree) }
 {
     match selection {
         Selection::Where(condition) => Some(condition),
@@ -52,67 +59,15 @@ fn condition_of(selection: &Selection) -> Option<&Condition>
     }
 }
 
-// The condition of a segment that selects by a filter alone.
-fn only_filter(stage: &Stage) -> Option<&Condition>
-    ensures { MatchOption result (is_lone (stage_view stage.now).tree.selectors ≡ false) (λ c. IsFilter (stage_view stage.now) (condition_view c.now)) }
-{
-    match stage.selections.as_slice() {
-        [selection] => condition_of(selection),
-        _ => None,
-    }
+// Whether a filter is among the selectors of a segment.
+fn has_filter(stage: &Stage) -> bool {
+    stage
+        .selections
+        .iter()
+        .any(|selection| matches!(selection, Selection::Where(_)))
 }
 
-// The children of a node, for which there is room.
-#[tactic(auto, using(crate::proofs::Stages::adding))]
-fn push_all(doc: &Document, n: NodeId, out: &mut Vec<NodeId>)
-    requires inside { n.0 < count doc.now }
-    requires sound { Inside doc.now out.old.items }
-    requires room { vec_len out.old + length (children (node_at doc.now n.0)) ≤ vec_capacity out.old }
-    ensures { Holds doc.now out.new.items (nodes_of doc.now out.old.items ++ children (node_at doc.now n.0)) }
-{
-    for child in doc.children(n) {
-        out.push_reserved(child);
-    }
-}
-
-// All children of a node.
-fn add_all(
-    doc: &Document,
-    n: NodeId,
-    meter: &mut Meter,
-    out: &mut Vec<NodeId>,
-) -> Result<(), SelectFault>
-    requires inside { n.0 < count doc.now }
-    requires sound { Inside doc.now out.old.items }
-    ensures { Adds doc.now result out.new.items (nodes_of doc.now out.old.items ++ children (node_at doc.now n.0)) (length (children (node_at doc.now n.0))) meter.old.left meter.new.left }
-{
-    let total = child_total(doc, n);
-    meter.spend(u64::from(total))?;
-    reserve(out, total)?;
-    push_all(doc, n, out);
-    Ok(())
-}
-
-// What `*` selects from a node, or from it and all its descendants.
-fn every_child(
-    doc: &Document,
-    descend: bool,
-    n: NodeId,
-    meter: &mut Meter,
-    out: &mut Vec<NodeId>,
-) -> Result<(), SelectFault>
-    requires inside { n.0 < count doc.now }
-    requires sound { Inside doc.now out.old.items }
-    ensures { Adds doc.now result out.new.items (nodes_of doc.now out.old.items ++ nodes_from (node_at doc.now 0) (every descend) (node_at doc.now n.0)) (charge_at (node_at doc.now 0) (every descend) (node_at doc.now n.0)) meter.old.left meter.new.left }
-{
-    if descend {
-        meter.spend(visit_total(doc, n))?;
-        children_below(doc, n, meter, out)
-    } else {
-        meter.spend(1)?;
-        add_all(doc, n, meter, out)
-    }
-}
+// ---- From each node at once
 
 // What a name or an index selects from a node, for one unit.
 #[inline(always)]
@@ -131,61 +86,54 @@ fn one_step(
     push_some(doc, out, step(doc, link, n))
 }
 
-// The first pass of a segment, over one node. A lone name or index, which is common, takes a function of its own.
+// What a segment selects from a node. A lone name or index, which is common, takes a function of its own.
 #[inline(always)]
 fn listed_from(
     doc: &Document,
     plan: &Parts,
     stage: &Stage,
     link: Option<&Link>,
-    lone: bool,
     n: NodeId,
     state: &mut State,
     out: &mut Vec<NodeId>,
 ) -> Result<(), SelectFault>
     requires inside { n.0 < count doc.now }
     requires link { IfSome link (λ l. (stage_view stage.now).tree ≡ link_view l.now) }
-    requires lone { lone ≡ is_lone (stage_view stage.now).tree.selectors }
     requires claimed { AreClaimed (claims_of plan.now.stages.items) (stage_view stage.now).claims }
     requires kept { Keeps doc.now (claims_of plan.now.stages.items) state.old }
     requires sound { Inside doc.now out.old.items }
-    ensures added { Adds doc.now result out.new.items (nodes_of doc.now out.old.items ++ nodes_from (node_at doc.now 0) (first_of (stage_view stage.now).tree) (node_at doc.now n.0)) (charge_at (node_at doc.now 0) (first_of (stage_view stage.now).tree) (node_at doc.now n.0)) state.old.meter.left state.new.meter.left }
+    ensures added { Adds doc.now result out.new.items (nodes_of doc.now out.old.items ++ nodes_from (node_at doc.now 0) (stage_view stage.now).tree (node_at doc.now n.0)) (charge_at (node_at doc.now 0) (stage_view stage.now).tree (node_at doc.now n.0)) state.old.meter.left state.new.meter.left }
     ensures kept { Keeps doc.now (claims_of plan.now.stages.items) state.new }
 {
     if let Some(link) = link {
         return one_step(doc, link, n, &mut state.meter, out);
     }
-    if lone {
-        return every_child(doc, stage.descend, n, &mut state.meter, out);
-    }
     from_node(doc, plan, stage, n, state, out)
 }
 
-// The first pass of a segment, until fewer units are left. How many nodes are passed.
+// What a segment selects from nodes, until fewer units are left. How many nodes are passed.
 #[tactic(auto, using(crate::proofs::Stages::each_input))]
 fn listed_some(
     doc: &Document,
     plan: &Parts,
     stage: &Stage,
-    lone: bool,
     list: &[NodeId],
     least: u64,
     state: &mut State,
     out: &mut Vec<NodeId>,
 ) -> Result<usize, SelectFault>
-    requires lone { lone ≡ is_lone (stage_view stage.now).tree.selectors }
     requires listed { Inside doc.now list.now }
     requires claimed { AreClaimed (claims_of plan.now.stages.items) (stage_view stage.now).claims }
     requires kept { Keeps doc.now (claims_of plan.now.stages.items) state.old }
     requires sound { Inside doc.now out.old.items }
-    ensures moved { Moves doc.now result list.now (nodes_after (node_at doc.now 0) (first_of (stage_view stage.now).tree)) (charge_after (node_at doc.now 0) (first_of (stage_view stage.now).tree)) out.old.items out.new.items state.old.meter.left state.new.meter.left }
+    ensures moved { Moves doc.now result list.now (nodes_after (node_at doc.now 0) (stage_view stage.now).tree) (charge_after (node_at doc.now 0) (stage_view stage.now).tree) out.old.items out.new.items state.old.meter.left state.new.meter.left }
     ensures cut { IfOk result (λ passed. passed < length list.now → state.new.meter.left < least) }
     ensures kept { Keeps doc.now (claims_of plan.now.stages.items) state.new }
 {
     let link = lone_link(stage);
     let mut passed = 0;
     for n in list {
-        listed_from(doc, plan, stage, link, lone, *n, state, out)?;
+        listed_from(doc, plan, stage, link, *n, state, out)?;
         passed += 1;
         if state.meter.left < least {
             break;
@@ -194,7 +142,51 @@ fn listed_some(
     Ok(passed)
 }
 
-// The second pass of a segment, until fewer units are left. How many children are passed.
+// Goes on to the end of a segment, node by node. Whether it is the end.
+fn list_on(
+    doc: &Document,
+    plan: &Parts,
+    stage: &Stage,
+    least: u64,
+    evaluation: &mut Evaluation,
+) -> Result<bool, SelectFault>
+    requires between { IsBetween evaluation.old }
+    requires claimed { AreClaimed (claims_of plan.now.stages.items) (stage_view stage.now).claims }
+    requires sound { IsSound doc.now plan.now evaluation.old }
+    ensures goes { Steps doc.now plan.now result (stage_view stage.now).tree evaluation.old evaluation.new }
+    ensures end { IfOk result (λ is_end. is_end ≡ true → IsThrough evaluation.new) }
+    ensures cut { IfOk result (λ is_end. is_end ≡ false → evaluation.new.state.meter.left < least) }
+{
+    let left = &evaluation.list[evaluation.place..];
+    let total = left.len();
+    let passed = listed_some(
+        doc,
+        plan,
+        stage,
+        left,
+        least,
+        &mut evaluation.state,
+        &mut evaluation.out,
+    )?;
+    evaluation.place += passed;
+    Ok(passed == total)
+}
+
+// ---- Selector by selector
+
+// The condition of the selector with this number, where it is a filter.
+fn condition_in_turn<'a>(plan: &Parts, stage: &'a Stage, number: usize) -> Option<&'a Condition>
+    requires { AreClaimed (claims_of plan.now.stages.items) (stage_view stage.now).claims }
+    ensures { MatchOption result (condition_at number (stage_view stage.now).tree.selectors ≡ None) (λ c. IsAsked (claims_of plan.now.stages.items) number (stage_view stage.now).tree (condition_view c.now)) }
+{
+    let _ = plan;
+    match stage.selections.get(number) {
+        Some(selection) => condition_of(selection),
+        None => None,
+    }
+}
+
+// The children for which a condition holds, until fewer units are left. How many are passed.
 fn chosen_some(
     doc: &Document,
     plan: &Parts,
@@ -210,6 +202,7 @@ fn chosen_some(
     requires sound { Inside doc.now out.old.items }
     ensures moved { Moves doc.now result list.now (keep (holds (node_at doc.now 0) (condition_view condition.now).tree)) (total_of (λ n. 1 + charge_expr (node_at doc.now 0) (condition_view condition.now).tree n)) out.old.items out.new.items state.old.meter.left state.new.meter.left }
     ensures cut { IfOk result (λ passed. passed < length list.now → state.new.meter.left < least) }
+    ensures less { IfOk result (λ passed. state.new.meter.left ≤ state.old.meter.left) }
     ensures kept { Keeps doc.now (claims_of plan.now.stages.items) state.new }
 {
     let mut passed = 0;
@@ -226,76 +219,27 @@ fn chosen_some(
     Ok(passed)
 }
 
-// Begins a list of what is out.
-fn turn_over(evaluation: &mut Evaluation)
-    ensures list { evaluation.new.list.items ≡ evaluation.old.out.items }
-    ensures fresh { evaluation.new.place ≡ 0 }
-    ensures empty { evaluation.new.out.items ≡ [] }
-    ensures state { evaluation.new.state ≡ evaluation.old.state }
-    ensures second { evaluation.new.is_second ≡ evaluation.old.is_second }
-    ensures stage { evaluation.new.stage ≡ evaluation.old.stage }
-{
-    evaluation.list = mem::replace(&mut evaluation.out, Vec::new(evaluation.state.alloc));
-    evaluation.place = 0;
-}
-
-// The first pass of a segment. Whether it came to its end, and the second begins.
-fn first_pass(
+// Asks the children that are left. Whether all are asked.
+fn ask(
     doc: &Document,
     plan: &Parts,
     stage: &Stage,
-    lone: bool,
     least: u64,
     evaluation: &mut Evaluation,
 ) -> Result<bool, SelectFault>
-    requires lone { lone ≡ is_lone (stage_view stage.now).tree.selectors }
-    requires first { evaluation.old.is_second ≡ false }
     requires claimed { AreClaimed (claims_of plan.now.stages.items) (stage_view stage.now).claims }
     requires sound { IsSound doc.now plan.now evaluation.old }
-    ensures goes_on { MatchResult result (λ is_end. GoesOn doc.now plan.now (stage_view stage.now).tree is_end evaluation.old evaluation.new) (λ e. Refuses (due (node_at doc.now 0) false (stage_view stage.now).tree (left_of doc.now evaluation.old) (out_of doc.now evaluation.old)) evaluation.old.state.meter.left e) }
-    ensures end { IfOk result (λ is_end. is_end ≡ true → (evaluation.new.place ≡ 0) × (evaluation.new.out.items ≡ [])) }
+    ensures goes { Steps doc.now plan.now result (stage_view stage.now).tree evaluation.old evaluation.new }
+    ensures end { IfOk result (λ is_end. is_end ≡ true → length evaluation.new.children.items ≤ evaluation.new.child) }
     ensures cut { IfOk result (λ is_end. is_end ≡ false → evaluation.new.state.meter.left < least) }
+    ensures less { IfOk result (λ is_end. weight evaluation.new ≤ weight evaluation.old) }
 {
-    let left = &evaluation.list[evaluation.place..];
+    let left = &evaluation.children[evaluation.child..];
     let total = left.len();
-    let passed = listed_some(
-        doc,
-        plan,
-        stage,
-        lone,
-        left,
-        least,
-        &mut evaluation.state,
-        &mut evaluation.out,
-    )?;
-    if passed < total {
-        evaluation.place += passed;
-        return Ok(false);
-    }
-    turn_over(evaluation);
-    evaluation.is_second = true;
-    Ok(true)
-}
-
-// The second pass of a segment. Whether it came to its end, and what was selected is the list.
-fn second_pass(
-    doc: &Document,
-    plan: &Parts,
-    stage: &Stage,
-    condition: &Condition,
-    least: u64,
-    evaluation: &mut Evaluation,
-) -> Result<bool, SelectFault>
-    requires filter { IsFilter (stage_view stage.now) (condition_view condition.now) }
-    requires second { evaluation.old.is_second ≡ true }
-    requires claimed { AreClaimed (claims_of plan.now.stages.items) (stage_view stage.now).claims }
-    requires sound { IsSound doc.now plan.now evaluation.old }
-    ensures passed { MatchResult result (λ is_end. ChoosesOn doc.now plan.now (stage_view stage.now).tree is_end evaluation.old evaluation.new) (λ e. Refuses (due (node_at doc.now 0) true (stage_view stage.now).tree (left_of doc.now evaluation.old) (out_of doc.now evaluation.old)) evaluation.old.state.meter.left e) }
-    ensures cut { IfOk result (λ is_end. is_end ≡ false → evaluation.new.state.meter.left < least) }
-{
-    let _ = stage;
-    let left = &evaluation.list[evaluation.place..];
-    let total = left.len();
+    let Some(condition) = condition_in_turn(plan, stage, evaluation.asked) else {
+        evaluation.child += total;
+        return Ok(true);
+    };
     let passed = chosen_some(
         doc,
         plan,
@@ -305,12 +249,295 @@ fn second_pass(
         &mut evaluation.state,
         &mut evaluation.out,
     )?;
-    if passed < total {
-        evaluation.place += passed;
-        return Ok(false);
+    evaluation.child += passed;
+    Ok(passed == total)
+}
+
+// The children of a node, or of it and all its descendants.
+fn list_children(
+    doc: &Document,
+    descend: bool,
+    n: NodeId,
+    meter: &mut Meter,
+    out: &mut Vec<NodeId>,
+) -> Result<(), SelectFault>
+    requires { n.0 < count doc.now }
+    ensures { Adds doc.now result out.new.items (flat_map children (starts descend (node_at doc.now n.0))) (length (starts descend (node_at doc.now n.0)) + length (flat_map children (starts descend (node_at doc.now n.0)))) meter.old.left meter.new.left }
+{
+    out.clear();
+    if descend {
+        meter.spend(visit_total(doc, n))?;
+        return children_below(doc, n, meter, out);
     }
-    turn_over(evaluation);
-    Ok(true)
+    meter.spend(1)?;
+    wild(doc, n, meter, out)
+}
+
+// What a selector that is no filter selects from a node.
+#[tactic(auto, using(crate::proofs::Stages::at_once))]
+fn select_at_once(
+    doc: &Document,
+    selection: &Selection,
+    n: NodeId,
+    meter: &mut Meter,
+    out: &mut Vec<NodeId>,
+) -> Result<(), SelectFault>
+    requires inside { n.0 < count doc.now }
+    requires no_filter { condition_in (selection_view selection.now).tree ≡ None }
+    requires sound { Inside doc.now out.old.items }
+    ensures { Adds doc.now result out.new.items (nodes_of doc.now out.old.items ++ selected_by (node_at doc.now 0) (selection_view selection.now).tree (node_at doc.now n.0)) (charge_by (node_at doc.now 0) (selection_view selection.now).tree (node_at doc.now n.0)) meter.old.left meter.new.left }
+{
+    meter.spend(1)?;
+    match selection {
+        Selection::One(link) => push_some(doc, out, step(doc, link, n)),
+        Selection::Wild => wild(doc, n, meter, out),
+        Selection::Sliced { start, stop, step } => {
+            sliced(doc, n, *start, *stop, *step, meter, out)
+        }
+        Selection::Where(_) => Ok(()),
+    }
+}
+
+// Passes a selector at the first node of those from which the segment selects next. The children that a filter asks are listed.
+fn pass_selector(
+    doc: &Document,
+    plan: &Parts,
+    stage: &Stage,
+    selection: &Selection,
+    evaluation: &mut Evaluation,
+) -> Result<(), SelectFault>
+    requires visits { evaluation.old.visit < evaluation.old.end }
+    requires within { evaluation.old.selector < length stage.now.selections.items }
+    requires next { selection.now ≡ get_or stage.now.selections.items evaluation.old.selector selection.now }
+    requires asked { length evaluation.old.children.items ≤ evaluation.old.child }
+    requires sound { IsSound doc.now plan.now evaluation.old }
+    ensures goes { Steps doc.now plan.now result (stage_view stage.now).tree evaluation.old evaluation.new }
+    ensures falls { IfOk result (λ _. weight evaluation.new < weight evaluation.old) }
+{
+    let _ = plan;
+    let _ = stage;
+    let n = NodeId(evaluation.visit);
+    match condition_of(selection) {
+        Some(_) => {
+            list_children(
+                doc,
+                false,
+                n,
+                &mut evaluation.state.meter,
+                &mut evaluation.children,
+            )?;
+            evaluation.child = 0;
+            evaluation.asked = evaluation.selector;
+            evaluation.selector += 1;
+            Ok(())
+        }
+        None => {
+            select_at_once(
+                doc,
+                selection,
+                n,
+                &mut evaluation.state.meter,
+                &mut evaluation.out,
+            )?;
+            evaluation.selector += 1;
+            Ok(())
+        }
+    }
+}
+
+// The number behind those of the nodes from which a segment selects for a node.
+fn visits_end(doc: &Document, descend: bool, n: NodeId) -> u32
+    requires { n.0 < count doc.now }
+    ensures nodes { nodes_between doc.now n.0 result ≡ starts descend (node_at doc.now n.0) }
+    ensures inside { result ≤ count doc.now }
+{
+    let _ = doc.root();
+    if descend { doc.after(n) } else { n.0 + 1 }
+}
+
+// Passes a node of the list: those from which the segment selects for it are next.
+fn pass_node(doc: &Document, plan: &Parts, stage: &Stage, evaluation: &mut Evaluation)
+    requires between { IsBetween evaluation.old }
+    requires left { evaluation.old.place < length evaluation.old.list.items }
+    requires sound { IsSound doc.now plan.now evaluation.old }
+    ensures goes { GoesOn doc.now plan.now (stage_view stage.now).tree evaluation.old evaluation.new }
+    ensures falls { weight evaluation.new < weight evaluation.old }
+{
+    let _ = plan;
+    let n = evaluation.list[evaluation.place];
+    evaluation.end = visits_end(doc, stage.descend, n);
+    evaluation.visit = n.0;
+    evaluation.selector = 0;
+    evaluation.place += 1;
+}
+
+// Passes a node of the list from which a segment selects by a filter alone, which asks all children at once.
+fn pass_for_filter(
+    doc: &Document,
+    plan: &Parts,
+    stage: &Stage,
+    condition: &Condition,
+    evaluation: &mut Evaluation,
+) -> Result<(), SelectFault>
+    requires filter { IsAsked (claims_of plan.now.stages.items) 0 (stage_view stage.now).tree (condition_view condition.now) }
+    requires alone { length stage.now.selections.items ≡ 1 }
+    requires between { IsBetween evaluation.old }
+    requires left { evaluation.old.place < length evaluation.old.list.items }
+    requires sound { IsSound doc.now plan.now evaluation.old }
+    ensures goes { Steps doc.now plan.now result (stage_view stage.now).tree evaluation.old evaluation.new }
+    ensures falls { IfOk result (λ _. weight evaluation.new < weight evaluation.old) }
+{
+    let _ = plan;
+    let _ = condition;
+    let n = evaluation.list[evaluation.place];
+    list_children(
+        doc,
+        stage.descend,
+        n,
+        &mut evaluation.state.meter,
+        &mut evaluation.children,
+    )?;
+    evaluation.child = 0;
+    evaluation.asked = 0;
+    evaluation.place += 1;
+    Ok(())
+}
+
+// The condition of a segment that selects by a filter alone.
+fn only_condition<'a>(plan: &Parts, stage: &'a Stage) -> Option<&'a Condition>
+    requires { AreClaimed (claims_of plan.now.stages.items) (stage_view stage.now).claims }
+    ensures filter { IfSome result (λ c. IsAsked (claims_of plan.now.stages.items) 0 (stage_view stage.now).tree (condition_view c.now)) }
+    ensures alone { IfSome result (λ c. length stage.now.selections.items ≡ 1) }
+{
+    if stage.selections.len() == 1 {
+        return condition_in_turn(plan, stage, 0);
+    }
+    None
+}
+
+// Passes a node at which all selectors are passed.
+fn pass_visit(doc: &Document, plan: &Parts, stage: &Stage, evaluation: &mut Evaluation)
+    requires visits { evaluation.old.visit < evaluation.old.end }
+    requires passed { length stage.now.selections.items ≤ evaluation.old.selector }
+    requires asked { length evaluation.old.children.items ≤ evaluation.old.child }
+    requires sound { IsSound doc.now plan.now evaluation.old }
+    ensures goes { GoesOn doc.now plan.now (stage_view stage.now).tree evaluation.old evaluation.new }
+    ensures falls { weight evaluation.new < weight evaluation.old }
+{
+    let _ = doc;
+    let _ = plan;
+    let _ = stage;
+    evaluation.visit += 1;
+    evaluation.selector = 0;
+}
+
+// One step from where all children are asked. Whether there was one to take.
+fn pass_one(
+    doc: &Document,
+    plan: &Parts,
+    stage: &Stage,
+    evaluation: &mut Evaluation,
+) -> Result<bool, SelectFault>
+    requires asked { length evaluation.old.children.items ≤ evaluation.old.child }
+    requires claimed { AreClaimed (claims_of plan.now.stages.items) (stage_view stage.now).claims }
+    requires sound { IsSound doc.now plan.now evaluation.old }
+    ensures goes { Steps doc.now plan.now result (stage_view stage.now).tree evaluation.old evaluation.new }
+    ensures falls { IfOk result (λ is_taken. is_taken ≡ true → weight evaluation.new < weight evaluation.old) }
+    ensures end { IfOk result (λ is_taken. is_taken ≡ false → IsThrough evaluation.new) }
+{
+    if evaluation.visit < evaluation.end {
+        match stage.selections.get(evaluation.selector) {
+            Some(selection) => pass_selector(doc, plan, stage, selection, evaluation)?,
+            None => pass_visit(doc, plan, stage, evaluation),
+        }
+        return Ok(true);
+    }
+    if evaluation.place < evaluation.list.len() {
+        match only_condition(plan, stage) {
+            Some(condition) => pass_for_filter(doc, plan, stage, condition, evaluation)?,
+            None => pass_node(doc, plan, stage, evaluation),
+        }
+        return Ok(true);
+    }
+    Ok(false)
+}
+
+// Goes on to the end of a segment, selector by selector. Whether it is the end.
+fn step_on(
+    doc: &Document,
+    plan: &Parts,
+    stage: &Stage,
+    least: u64,
+    evaluation: &mut Evaluation,
+) -> Result<bool, SelectFault>
+    requires claimed { AreClaimed (claims_of plan.now.stages.items) (stage_view stage.now).claims }
+    requires sound { IsSound doc.now plan.now evaluation.old }
+    ensures goes { Steps doc.now plan.now result (stage_view stage.now).tree evaluation.old evaluation.new }
+    ensures end { IfOk result (λ is_end. is_end ≡ true → IsThrough evaluation.new) }
+    ensures cut { IfOk result (λ is_end. is_end ≡ false → evaluation.new.state.meter.left < least) }
+{
+    loop {
+        if !ask(doc, plan, stage, least, evaluation)? {
+            return Ok(false);
+        }
+        if !pass_one(doc, plan, stage, evaluation)? {
+            return Ok(true);
+        }
+        if evaluation.state.meter.left < least {
+            return Ok(false);
+        }
+    }
+}
+
+// ---- Segments
+
+// Whether all is passed but for nodes of the list.
+fn is_between(evaluation: &Evaluation) -> bool
+    ensures { result ≡ true → IsBetween evaluation.now }
+{
+    evaluation.children.len() <= evaluation.child && evaluation.end <= evaluation.visit
+}
+
+// Goes on to the end of a segment. Whether it is the end.
+fn go_on(
+    doc: &Document,
+    plan: &Parts,
+    stage: &Stage,
+    least: u64,
+    evaluation: &mut Evaluation,
+) -> Result<bool, SelectFault>
+    requires claimed { AreClaimed (claims_of plan.now.stages.items) (stage_view stage.now).claims }
+    requires sound { IsSound doc.now plan.now evaluation.old }
+    ensures goes { Steps doc.now plan.now result (stage_view stage.now).tree evaluation.old evaluation.new }
+    ensures end { IfOk result (λ is_end. is_end ≡ true → IsThrough evaluation.new) }
+    ensures cut { IfOk result (λ is_end. is_end ≡ false → evaluation.new.state.meter.left < least) }
+{
+    if !has_filter(stage) && is_between(evaluation) {
+        return list_on(doc, plan, stage, least, evaluation);
+    }
+    step_on(doc, plan, stage, least, evaluation)
+}
+
+// Begins the next segment with what is out.
+fn turn_over(doc: &Document, plan: &Parts, evaluation: &mut Evaluation)
+    requires { IsSound doc.now plan.now evaluation.old }
+    ensures list { evaluation.new.list.items ≡ evaluation.old.out.items }
+    ensures begins { position doc.now evaluation.new ≡ beginning (nodes_of doc.now evaluation.old.out.items) }
+    ensures place { evaluation.new.place ≡ 0 }
+    ensures state { evaluation.new.state ≡ evaluation.old.state }
+    ensures stage { evaluation.new.stage ≡ evaluation.old.stage }
+    ensures sound { IsSound doc.now plan.now evaluation.new }
+{
+    let _ = doc;
+    let _ = plan;
+    evaluation.list = mem::replace(&mut evaluation.out, Vec::new(evaluation.state.alloc));
+    evaluation.place = 0;
+    evaluation.visit = 0;
+    evaluation.end = 0;
+    evaluation.selector = 0;
+    evaluation.asked = 0;
+    evaluation.children.clear();
+    evaluation.child = 0;
 }
 
 // Goes on in a segment. Whether it came to its end, and what it selected is the list.
@@ -322,25 +549,15 @@ fn pass_segment(
     evaluation: &mut Evaluation,
 ) -> Result<bool, SelectFault>
     requires within { evaluation.old.stage < length plan.now.stages.items }
-    requires fits { evaluation.old.is_second ≡ true → is_lone (stage_view stage.now).tree.selectors ≡ true }
     requires claimed { AreClaimed (claims_of plan.now.stages.items) (stage_view stage.now).claims }
     requires sound { IsSound doc.now plan.now evaluation.old }
-    ensures passed { MatchResult result (λ is_end. PassesOn doc.now plan.now (stage_view stage.now).tree is_end evaluation.old evaluation.new) (λ e. Refuses (due (node_at doc.now 0) evaluation.old.is_second (stage_view stage.now).tree (left_of doc.now evaluation.old) (out_of doc.now evaluation.old)) evaluation.old.state.meter.left e) }
-    ensures fits { IfOk result (λ is_end. is_end ≡ false → evaluation.new.is_second ≡ true → is_lone (stage_view stage.now).tree.selectors ≡ true) }
+    ensures passed { MatchResult result (λ is_end. Passes doc.now plan.now (stage_view stage.now).tree is_end evaluation.old evaluation.new) (λ e. Refuses (due (node_at doc.now 0) (stage_view stage.now).tree (position doc.now evaluation.old)) evaluation.old.state.meter.left e) }
     ensures cut { IfOk result (λ is_end. is_end ≡ false → evaluation.new.state.meter.left < least) }
 {
-    let filter = only_filter(stage);
-    if !evaluation.is_second {
-        if !first_pass(doc, plan, stage, filter.is_some(), least, evaluation)? {
-            return Ok(false);
-        }
+    if !go_on(doc, plan, stage, least, evaluation)? {
+        return Ok(false);
     }
-    if let Some(condition) = filter {
-        if !second_pass(doc, plan, stage, condition, least, evaluation)? {
-            return Ok(false);
-        }
-    }
-    evaluation.is_second = false;
+    turn_over(doc, plan, evaluation);
     evaluation.stage += 1;
     Ok(true)
 }

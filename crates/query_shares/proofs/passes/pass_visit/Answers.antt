@@ -1,0 +1,20 @@
+use Rattle.std.proofs.Common.{refl, ◌+◌}
+use Rattle.json_tape.specs.Document.{node_at}
+use Rattle.node_lists.specs.Nodelists.{nodes_between}
+use Rattle.query_plan.specs.Planned.{stage_view}
+use Rattle.query_shares.specs.Passes.{position}
+use Rattle.query_shares.proofs.Stages.{leaves, none_left, between_more, behind_all}
+use Rattle.query_shares.proofs.passes.pass_visit.Goals as goal
+
+pub returns-clause-goes : goal.returns-clause-goes
+returns-clause-goes c =
+    let d = c.args.doc.now in
+    let w = c.args.evaluation.now in
+    let i = c.requires.sound in
+    let a = none_left d w.child w.children.items c.requires.asked in
+    record {
+      goes = leaves (node_at d 0) (stage_view c.args.stage.now).tree (position d w) _ w.state.meter.left w.state.meter.left (node_at d w.visit) (nodes_between d (w.visit + 1) w.end) a (between_more d w.visit w.end c.requires.visits)
+          (behind_all c.args.stage.now w.selector c.requires.passed) a refl refl refl refl refl;
+      stage = refl;
+      sound = record { kept = i.kept; within = i.within; listed = i.listed; end = i.end; child = i.child; children = i.children; sound = i.sound };
+    }
