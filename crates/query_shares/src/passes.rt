@@ -26,7 +26,7 @@ use node_lists::{Link, Meter, children_below, lone, push, push_some, sliced, ste
 use query_plan::{Condition, Parts, Selection, Stage, lone_link};
 use std::alloc::Global;
 use std::mem;
-use tape_select::{Awaited, SelectFault, State, awaited, does_hold, from_node, visit_total};
+use tape_select::{Awaited, SelectFault, State, first_awaited, does_hold, from_node, visit_total};
 
 /// Where the evaluation of a query stands.
 #[derive(Drop)]
@@ -391,7 +391,7 @@ pub fn next_query<'p>(
     let stage = stages.get(evaluation.at.stage)?;
     let condition = condition_in_turn(plan, stage, evaluation.at.asked)?;
     let child = evaluation.at.children.get(evaluation.at.child)?;
-    let next = awaited(doc, plan, &evaluation.state.slots, condition, *child);
+    let next = first_awaited(doc, plan, &evaluation.state.slots, condition, *child);
     Some((next, *child))
 }
 
