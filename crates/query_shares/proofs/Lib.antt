@@ -1,3 +1,3 @@
 pub mod Stages
-pub mod Levels
+pub mod Stacks
 pub mod Shares

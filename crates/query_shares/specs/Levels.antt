@@ -39,36 +39,37 @@ pub record Leads (d : Doc) (q : Segments) (ss : List OneSegment) (from : Node) (
 abbrev pub left_in : Levels → ℕ
 left_in l = l.top.state.meter.left
 
-module _ (d : Doc) (plan : Parts) where
-  -- the whole query, which began with so many units
-  abbrev pub IsLowest : (units : ℕ) → Cursor → (left : ℕ) → Type 0
-  IsLowest units c left = Leads d (query_of plan.stages.items) (segments_in plan.stages.items) (node_at d 0) units left c
-
+module _ (plan : Parts) where
   abbrev pub path_at : Origin → Segments
   path_at o = path_of (look (claims_of plan.stages.items) o.slot)
 
   abbrev pub behind_at : Origin → List OneSegment
   behind_at o = behind_of (look (claims_of plan.stages.items) o.slot)
 
-  -- A query in a filter of the one below, which goes on with so many units where so much is due: its charge is part of that.
-  pub record IsAbove (lower_left lower_due : ℕ) (o : Origin) (c : Cursor) (left : ℕ) : Type 0 where
-    pub inside : o.from.0 < count d
-    pub leads : Leads d (path_at o) (behind_at o) (node_at d o.from.0) o.units left c
-    pub part : lower_left + charge_from (node_at d 0) (path_at o) (node_at d o.from.0 ∷ []) ≤ o.units + lower_due
-
-  -- those that wait, and the one on top
-  abbrev pub AreAbove : (lower_left lower_due : ℕ) → List Waiting → Origin → Cursor → (left : ℕ) → Type 0
-  AreAbove lower_left lower_due [] o c left = IsAbove lower_left lower_due o c left
-  AreAbove lower_left lower_due (w ∷ ws) o c left = IsAbove lower_left lower_due w.origin w.at w.left × AreAbove w.left (whole_due d (behind_at w.origin) w.at) ws o c left
-
-  abbrev pub Stack : (units : ℕ) → List Waiting → Origin → Cursor → (left : ℕ) → Type 0
-  Stack units [] o c left = IsLowest units c left
-  Stack units (w ∷ ws) o c left = IsLowest units w.at w.left × AreAbove w.left (whole_due d (segments_in plan.stages.items) w.at) ws o c left
-
   -- the segments of the query on top
   abbrev pub top_segments : List Waiting → Origin → List OneSegment
   top_segments [] o = segments_in plan.stages.items
   top_segments (w ∷ ws) o = behind_at o
+
+module _ (d : Doc) (plan : Parts) where
+  -- the whole query, which began with so many units
+  abbrev pub IsLowest : (units : ℕ) → Cursor → (left : ℕ) → Type 0
+  IsLowest units c left = Leads d (query_of plan.stages.items) (segments_in plan.stages.items) (node_at d 0) units left c
+
+  -- A query in a filter of the one below, which goes on with so many units where so much is due: its charge is part of that.
+  pub record IsAbove (lower_left lower_due : ℕ) (o : Origin) (c : Cursor) (left : ℕ) : Type 0 where
+    pub inside : o.from.0 < count d
+    pub leads : Leads d (path_at plan o) (behind_at plan o) (node_at d o.from.0) o.units left c
+    pub part : lower_left + charge_from (node_at d 0) (path_at plan o) (node_at d o.from.0 ∷ []) ≤ o.units + lower_due
+
+  -- those that wait, and the one on top
+  abbrev pub AreAbove : (lower_left lower_due : ℕ) → List Waiting → Origin → Cursor → (left : ℕ) → Type 0
+  AreAbove lower_left lower_due [] o c left = IsAbove lower_left lower_due o c left
+  AreAbove lower_left lower_due (w ∷ ws) o c left = IsAbove lower_left lower_due w.origin w.at w.left × AreAbove w.left (whole_due d (behind_at plan w.origin) w.at) ws o c left
+
+  abbrev pub Stack : (units : ℕ) → List Waiting → Origin → Cursor → (left : ℕ) → Type 0
+  Stack units [] o c left = IsLowest units c left
+  Stack units (w ∷ ws) o c left = IsLowest units w.at w.left × AreAbove w.left (whole_due d (segments_in plan.stages.items) w.at) ws o c left
 
   -- the query is under way, and what is kept is right
   pub record IsOnWay (units : ℕ) (l : Levels) : Type 0 where
@@ -82,7 +83,7 @@ module _ (d : Doc) (plan : Parts) where
 
   -- what the query on top selects is its list, and its charge is paid; or it waits no more
   abbrev pub IsFinished : (units : ℕ) → List Waiting → Origin → Cursor → (left : ℕ) → Type 0
-  IsFinished units ws o c left = (b : Cursor) × (before : ℕ) × Stack units ws o b before × Holds d c.list.items (whole_ahead d (top_segments ws o) b) × (left + whole_due d (top_segments ws o) b ≡ before)
+  IsFinished units ws o c left = (b : Cursor) × (before : ℕ) × Stack units ws o b before × Holds d c.list.items (whole_ahead d (top_segments plan ws o) b) × (left + whole_due d (top_segments plan ws o) b ≡ before)
 
   pub record Finished (units : ℕ) (l : Levels) : Type 0 where
     pub finished : IsFinished units l.below.items l.origin l.top.at l.top.state.meter.left

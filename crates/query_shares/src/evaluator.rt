@@ -6,14 +6,14 @@ ghost use Rattle.json_tape.specs.Document.{count, node_at, tree_of};
 ghost use Rattle.path_grammar.specs.View.{query_view};
 ghost use Rattle.tape_select.specs.Charge.{charge, charge_from};
 ghost use Rattle.query_shares.specs.Evaluators.{query_in, left_on, IsWithin, Advances, Ends, IsEvaluating, IsAtRest};
-ghost use Rattle.query_shares.specs.Levels.{left_in, IsOnWay};
+ghost use Rattle.query_shares.specs.Levels.{left_in, IsEnd, IsOnWay};
 ghost use Rattle.tape_select.specs.Evaluation.{nodes_selected};
 ghost use Rattle.tape_select.specs.Nodelists.{nodes_of};
 ghost use Rattle.node_lists.specs.Paying.{Refuses};
 ghost use Rattle.query_plan.specs.Planned.{query_of, claims_of, numbered};
 
 use crate::levels::{Levels, Move, Origin, move_on};
-use crate::passes::{Evaluation, cursor};
+use crate::passes::{Evaluation, cursor_from};
 use compared_sides::no_lengths;
 use json_tape::Document;
 use json_tape::laws::one_tree;
@@ -37,7 +37,7 @@ fn begun(alloc: Global, plan: &Parts, doc: &Document, units: u64) -> Result<Leve
 {
     let slots = empty_slots(alloc, doc, plan)?;
     let from = doc.root();
-    let at = cursor(alloc, doc, from)?;
+    let at = cursor_from(alloc, doc, from)?;
     let state = State {
         alloc,
         meter: Meter { left: units },
@@ -93,12 +93,7 @@ fn advanced(
     let least = on.top.state.meter.left.saturating_sub(share);
     for _ in 0..u32::MAX {
         match move_on(doc, plan, units, least, &mut on)? {
-            Move::Ends => {
-                return Ok(Some(Selected {
-                    charge: units - on.top.state.meter.left,
-                    nodes: on.top.at.list,
-                }));
-            }
+            Move::Ends => return Ok(Some(ended(plan, doc, units, on))),
             Move::Pauses => {
                 *levels = Some(on);
                 return Ok(None);
@@ -109,6 +104,22 @@ fn advanced(
     }
     let selected = whole(alloc, plan, doc, units)?;
     Ok(Some(selected))
+}
+
+// What an evaluation came to at its end.
+fn ended(plan: &Parts, doc: &Document, units: u64, levels: Levels) -> Selected
+    requires { IsEnd doc.now plan.now units levels }
+    ensures { Ends doc.now plan.now units result None }
+{
+    let _ = doc.root();
+    let _ = plan;
+    let charge = units - levels.top.state.meter.left;
+    let top = levels.top;
+    let at = top.at;
+    Selected {
+        charge,
+        nodes: at.list,
+    }
 }
 
 // What a query selects from a document, at once.

@@ -15,7 +15,7 @@ ghost use Rattle.query_shares.specs.Levels.{top_segments, Finished, IsAbove, IsO
 ghost use Rattle.query_shares.specs.Passes.{segments_in, whole_due, Begins};
 ghost use Rattle.query_shares.specs.declared.passes.Cursor.{Cursor};
 
-use crate::passes::{Cursor, Evaluation, Reached, ask_one, cursor, next_query, run};
+use crate::passes::{Cursor, Evaluation, Reached, ask_one, cursor_from, next_query, run};
 use json_tape::{Document, NodeId};
 use node_lists::{SelectFault, followed};
 use query_plan::{Nested, Parts, Stage};
@@ -130,7 +130,7 @@ fn put_above(
 {
     let _ = units;
     let _ = plan;
-    let next = cursor(levels.top.state.alloc, doc, first)?;
+    let next = cursor_from(levels.top.state.alloc, doc, first)?;
     let waiting = Waiting {
         origin: mem::replace(&mut levels.origin, origin),
         at: mem::replace(&mut levels.top.at, next),

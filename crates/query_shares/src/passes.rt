@@ -52,7 +52,7 @@ pub struct Cursor {
 }
 
 /// Where an evaluation begins that selects from a node.
-pub fn cursor(alloc: Global, doc: &Document, n: NodeId) -> Result<Cursor, SelectFault>
+pub fn cursor_from(alloc: Global, doc: &Document, n: NodeId) -> Result<Cursor, SelectFault>
     requires { n.0 < count doc.now }
     ensures { MatchResult result (λ c. Begins doc.now n c) (λ e. e ≡ SelectFault.Memory) }
 {
@@ -213,7 +213,7 @@ fn list_on(
         &mut evaluation.at.out,
     )?;
     evaluation.at.place += passed;
-    Ok(reached(passed == total, false))
+    Ok(stopped(passed == total, false))
 }
 
 // ---- Selector by selector
@@ -301,7 +301,7 @@ fn chosen_some(
 }
 
 // Where asking children stops that came so far.
-fn reached(is_end: bool, is_costly: bool) -> Reached
+fn stopped(is_end: bool, is_costly: bool) -> Reached
     ensures end { result ≡ End → is_end ≡ true }
     ensures share { result ≡ Share → (is_end ≡ false) × (is_costly ≡ false) }
 {
@@ -345,7 +345,7 @@ fn ask(
         &mut evaluation.at.out,
     )?;
     evaluation.at.child += passed;
-    Ok(reached(passed == total, is_costly))
+    Ok(stopped(passed == total, is_costly))
 }
 
 /// Asks the next child, whatever that costs.
