@@ -1,6 +1,6 @@
 -- Queries under way, each above the one that waits for it (this project's own). The lowest is the whole query, and each above it a query in a filter
 -- of the one below.
-use Rattle.std.specs.Prelude.{⊥, ◌≡◌, ℕ, ◌+◌, ◌<◌, ◌≤◌, List, [], ◌∷◌, ◌++◌, Option, Some, None}
+use Rattle.std.specs.Prelude.{◌≡◌, ℕ, ◌+◌, ◌<◌, ◌≤◌, List, [], ◌∷◌, ◌++◌, Option, Some, None}
 use Rattle.path_grammar.specs.Tree.{OneSegment, Segments, segments_of}
 use Rattle.json_tape.specs.Nodes.{Node}
 use Rattle.json_tape.specs.Document.{Doc, count, node_at}

@@ -168,12 +168,13 @@ fn ask_costly(
     plan: &Parts,
     stages: &[Stage],
     units: u64,
+    least: u64,
     levels: &mut Levels,
 ) -> Result<Move, SelectFault>
     requires same { segments_in stages.now ≡ top_segments plan.now levels.old.below.items levels.old.origin }
     requires claimed { AreClaimed (claims_of plan.now.stages.items) (claims_of stages.now) }
     requires on_way { IsOnWay doc.now plan.now units levels.old }
-    ensures { MatchResult result (λ move. Opens doc.now plan.now move units levels.new) (λ e. Refuses (charge_from (node_at doc.now 0) (query_of plan.now.stages.items) (node_at doc.now 0 ∷ [])) units e) }
+    ensures { MatchResult result (λ move. Moved doc.now plan.now move units least levels.new) (λ e. Refuses (charge_from (node_at doc.now 0) (query_of plan.now.stages.items) (node_at doc.now 0 ∷ [])) units e) }
 {
     let Some((awaited, child)) = next_query(doc, plan, stages, &levels.top) else {
         return Ok(Move::Lost);
@@ -186,6 +187,9 @@ fn ask_costly(
     };
     ask_one(doc, plan, stage, &mut levels.top)?;
     levels.is_costly = false;
+    if levels.top.state.meter.left < least {
+        return Ok(Move::Pauses);
+    }
     Ok(Move::GoesOn)
 }
 
@@ -205,7 +209,7 @@ pub fn move_on(
         return Ok(Move::Lost);
     };
     if levels.is_costly {
-        return ask_costly(doc, plan, stages, units, levels);
+        return ask_costly(doc, plan, stages, units, least, levels);
     }
     match run(doc, plan, stages, least, &mut levels.top)? {
         Reached::End => Ok(end_above(doc, plan, units, levels)),
