@@ -102,8 +102,8 @@ fn advanced(
             Move::Lost => break,
         }
     }
-    let selected = whole(alloc, plan, doc, units)?;
-    Ok(Some(selected))
+    let at_once = whole(alloc, plan, doc, units)?;
+    Ok(Some(at_once))
 }
 
 // What an evaluation came to at its end.

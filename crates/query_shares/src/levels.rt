@@ -1,7 +1,7 @@
 //! Queries in filters, evaluated in shares as the query is that they stand in.
 //!
-//! A filter that costs too much for one child is not asked at once. Its own queries are evaluated before it, one after the other, each a level above
-//! the query that the filter stands in, and what they find is kept in their slots. Then the filter finds it there.
+//! A filter that costs too much for one child is not asked at once. Its own queries are evaluated before it, one after the other. Each is a level above
+//! the query that the filter stands in, and what it finds is kept in its slot. Then the filter finds it there.
 
 ghost use Rattle.std.specs.Prelude.{◌≡◌, ◌<◌, ◌∷◌, [], Some, IfSome, MatchResult};
 ghost use Rattle.json_tape.specs.Document.{count, node_at};
