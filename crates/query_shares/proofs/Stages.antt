@@ -26,7 +26,10 @@ use Rattle.query_plan.specs.declared.plan.Selection.{Selection}
 use Rattle.query_plan.specs.declared.plan.Stage.{Stage}
 use Rattle.node_lists.proofs.Adding.{append_nil, has_none, flat_more, sum_more}
 use Rattle.query_plan.proofs.LoneLinks.{stage_is}
+use Rattle.tape_select.proofs.Awaits.{awaits_behind}
 use Rattle.tape_select.proofs.Filtering.{extra_linked}
+use Rattle.tape_select.specs.Awaiting.{AwaitsSome}
+use Rattle.query_plan.specs.declared.plan.Nested.{Nested}
 
 pub ruleset each_input = (append_nil, flat_more, sum_more, append_assoc, has_none)
 
@@ -184,18 +187,12 @@ module _ (root : Node) (s : OneSegment) (p q : Position) (old new : ℕ) where
       }
 
   -- one child is asked
-  module _ (c : Expr) (n : Node) where
-    asks_next : condition_at p.asks s.selectors ≡ Some c → p.asking ≡ n ∷ q.asking → q.asks ≡ p.asks → q.passed ≡ p.passed → q.visits ≡ p.visits → q.left ≡ p.left
-        → q.out ++ keep (holds root c) q.asking ≡ p.out ++ keep (holds root c) (n ∷ q.asking) → new + (1 + charge_expr root c n) ≡ old → Same root s p q old new
-    asks_next e k a j v l h m = asks c e a j v l (rw k h) (rw k (omega (arith, m)))
-
-    pub asks_kept : condition_at p.asks s.selectors ≡ Some c → p.asking ≡ n ∷ q.asking → q.asks ≡ p.asks → q.passed ≡ p.passed → q.visits ≡ p.visits → q.left ≡ p.left
-        → holds root c n ≡ true → q.out ≡ p.out ++ (n ∷ []) → new + (1 + charge_expr root c n) ≡ old → Same root s p q old new
-    asks_kept e k a j v l b o m = asks_next e k a j v l (rw (o, b) (append_assoc p.out (n ∷ []) (keep (holds root c) q.asking))) m
-
-    pub asks_left : condition_at p.asks s.selectors ≡ Some c → p.asking ≡ n ∷ q.asking → q.asks ≡ p.asks → q.passed ≡ p.passed → q.visits ≡ p.visits → q.left ≡ p.left
-        → holds root c n ≡ false → q.out ≡ p.out → new + (1 + charge_expr root c n) ≡ old → Same root s p q old new
-    asks_left e k a j v l b o m = asks_next e k a j v l (rw (o, b) refl) m
+  pub asks_one : (c : Expr) (n : Node) → condition_at p.asks s.selectors ≡ Some c → p.asking ≡ n ∷ q.asking → q.asks ≡ p.asks → q.passed ≡ p.passed → q.visits ≡ p.visits → q.left ≡ p.left
+      → q.out ≡ p.out ++ keep (holds root c) (n ∷ []) → new + (1 + charge_expr root c n) ≡ old → Same root s p q old new
+  asks_one c n e k a j v l o m =
+      asks c e a j v l
+      (rw (k, o) (append_assoc p.out (keep (holds root c) (n ∷ [])) (keep (holds root c) q.asking) ∙ ap (λ ns. p.out ++ ns) (sym (keep_append (holds root c) (n ∷ []) q.asking))))
+      (rw k (omega (arith, m)))
 
   -- they are passed by, where no filter asks them
   pub drops : condition_at p.asks s.selectors ≡ None → q.asking ≡ [] → q.passed ≡ p.passed → q.visits ≡ p.visits → q.left ≡ p.left → q.out ≡ p.out → new ≡ old → Same root s p q old new
@@ -453,3 +450,16 @@ module _ (d : Doc) (plan : Parts) (ss : List Stage) where
     where
       position_left : Doc → Cursor → List Node
       position_left d c = nodes_of d (drop c.place c.list.items)
+
+-- what is awaited for the next child
+pub next_awaits : (d : Doc) (table : Claims) (ss : List Stage) (at : Cursor) (stage : Stage) (e : Expr) (child : NodeId) (q : Option (Bor Nested)) (paid : ℕ) → at.stage < length ss → stage ≡ get_or ss at.stage stage
+    → condition_at at.asked (stage_view stage).tree.selectors ≡ Some e → at.child < length at.children.items → child ≡ get_or at.children.items at.child child
+    → AwaitsSome d table (node_at d child.0) q paid (charge_expr (node_at d 0) e (node_at d child.0)) → AwaitsSome d table (node_at d child.0) q paid (whole_due d (segments_in ss) at)
+next_awaits d table ss at stage e child q paid lt is cond clt cis h =
+    let r = node_at d 0 in
+    let s = (stage_view stage).tree in
+    let rest = drop (at.stage + 1) (segments_in ss) in
+    let more = segments_more ss at.stage stage lt is in
+    let x = (in_it r (drop at.stage (segments_in ss)) s rest (position d at) more).1 in
+    let a = asking_due r s (position d at) e (node_at d child.0) (nodes_of d (drop (at.child + 1) at.children.items)) cond (some_left d at.child at.children.items child clt cis) in
+    awaits_behind d table (node_at d child.0) q 0 paid paid (charge_expr r e (node_at d child.0)) (whole_due d (segments_in ss) at) (omega (arith, x, a)) (omega arith) h

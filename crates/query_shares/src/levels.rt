@@ -7,10 +7,10 @@ ghost use Rattle.std.specs.Prelude.{◌≡◌, ◌<◌, ◌∷◌, [], Some, IfS
 ghost use Rattle.json_tape.specs.Document.{count, node_at};
 ghost use Rattle.node_lists.specs.Charge.{charge_from};
 ghost use Rattle.node_lists.specs.Paying.{Refuses};
-ghost use Rattle.query_plan.specs.Planned.{claims_of, numbered, query_of};
+ghost use Rattle.query_plan.specs.Planned.{claims_of, look, numbered, query_of};
 ghost use Rattle.query_plan.specs.Slots.{AreClaimed};
 ghost use Rattle.tape_select.specs.Awaiting.{Awaits};
-ghost use Rattle.tape_select.specs.Memo.{Keeps};
+ghost use Rattle.tape_select.specs.Memo.{IsFoundAt, Keeps};
 ghost use Rattle.query_shares.specs.Levels.{top_segments, Finished, IsAbove, IsOnWay, Moved, MovedOn, Opens, Stack};
 ghost use Rattle.query_shares.specs.Passes.{segments_in, whole_due, Begins};
 ghost use Rattle.query_shares.specs.declared.passes.Cursor.{Cursor};
@@ -20,7 +20,7 @@ use json_tape::{Document, NodeId};
 use node_lists::{SelectFault, followed};
 use query_plan::{Nested, Parts, Stage};
 use std::mem;
-use tape_select::{beginning, found_in, keep};
+use tape_select::{Found, State, beginning, found_in, keep};
 
 /// Whose query it is: that with this slot, from this node. It began with so many units. (Those of the lowest are not looked at.)
 #[derive(Clone, Copy)]
@@ -72,6 +72,23 @@ fn stages_of<'p>(plan: &'p Parts, levels: &Levels) -> Option<&'p [Stage]>
     }
 }
 
+// Keeps what was found for a query.
+fn keep_found(
+    doc: &Document,
+    plan: &Parts,
+    origin: Origin,
+    found: Found,
+    state: &mut State,
+)
+    requires kept { Keeps doc.now (claims_of plan.now.stages.items) state.old }
+    requires found { IsFoundAt doc.now (look (claims_of plan.now.stages.items) origin.slot) (node_at doc.now origin.from.0) found }
+    ensures kept { Keeps doc.now (claims_of plan.now.stages.items) state.new }
+    ensures meter { state.new.meter ≡ state.old.meter }
+    ensures alloc { state.new.alloc ≡ state.old.alloc }
+{
+    keep(doc, plan, &mut state.slots, origin.slot, origin.from, found);
+}
+
 // Begins a query in a filter, which is above the one on top. Where its names and indexes lead nowhere, nothing is found.
 fn begin_above(
     doc: &Document,
@@ -94,18 +111,16 @@ fn begin_above(
     levels.top.state.meter.spend(paid)?;
     let own = levels.top.state.meter.left;
     let from = beginning(doc, query.from_root, child);
+    let origin = Origin {
+        slot,
+        from,
+        units: own,
+    };
     match followed(doc, &query.links, from, &mut levels.top.state.meter)? {
-        Some(first) => {
-            let origin = Origin {
-                slot,
-                from,
-                units: own,
-            };
-            put_above(doc, plan, origin, first, left, units, levels)
-        }
+        Some(first) => put_above(doc, plan, origin, first, left, units, levels),
         None => {
             let found = found_in(doc, &[], own - levels.top.state.meter.left);
-            keep(doc, plan, &mut levels.top.state.slots, slot, from, found);
+            keep_found(doc, plan, origin, found, &mut levels.top.state);
             levels.top.state.meter.left = left;
             Ok(Move::GoesOn)
         }
@@ -137,10 +152,10 @@ fn put_above(
         left,
     };
     levels.is_costly = false;
-    match levels.below.push(waiting) {
-        Ok(()) => Ok(Move::GoesOn),
-        Err(_) => Err(SelectFault::Memory),
+    if levels.below.push(waiting).is_err() {
+        return Err(SelectFault::Memory);
     }
+    Ok(Move::GoesOn)
 }
 
 // Keeps what the query on top found, and goes on with the one below.
@@ -154,7 +169,7 @@ fn end_above(doc: &Document, plan: &Parts, units: u64, levels: &mut Levels) -> M
     };
     let charge = levels.origin.units - levels.top.state.meter.left;
     let found = found_in(doc, &levels.top.at.list, charge);
-    keep(doc, plan, &mut levels.top.state.slots, levels.origin.slot, levels.origin.from, found);
+    keep_found(doc, plan, levels.origin, found, &mut levels.top.state);
     levels.origin = below.origin;
     levels.top.at = below.at;
     levels.top.state.meter.left = below.left;

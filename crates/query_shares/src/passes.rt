@@ -348,6 +348,30 @@ fn ask(
     Ok(stopped(passed == total, is_costly))
 }
 
+// A child, where a condition holds for it.
+fn choose(
+    doc: &Document,
+    plan: &Parts,
+    condition: &Condition,
+    child: NodeId,
+    state: &mut State,
+    out: &mut Vec<NodeId>,
+) -> Result<(), SelectFault>
+    requires inside { child.0 < count doc.now }
+    requires claimed { AreClaimed (claims_of plan.now.stages.items) (condition_view condition.now).claims }
+    requires kept { Keeps doc.now (claims_of plan.now.stages.items) state.old }
+    requires sound { Inside doc.now out.old.items }
+    ensures added { Adds doc.now result out.new.items (nodes_of doc.now out.old.items ++ keep (holds (node_at doc.now 0) (condition_view condition.now).tree) (node_at doc.now child.0 ∷ [])) (1 + charge_expr (node_at doc.now 0) (condition_view condition.now).tree (node_at doc.now child.0)) state.old.meter.left state.new.meter.left }
+    ensures kept { Keeps doc.now (claims_of plan.now.stages.items) state.new }
+{
+    let held = does_hold(doc, plan, condition, child, state)?;
+    state.meter.spend(1)?;
+    if held {
+        return push(doc, out, child);
+    }
+    Ok(())
+}
+
 /// Asks the next child, whatever that costs.
 pub fn ask_one(
     doc: &Document,
@@ -359,18 +383,20 @@ pub fn ask_one(
     requires sound { IsSound doc.now plan.now evaluation.old }
     ensures goes { Steps doc.now plan.now result (stage_view stage.now).tree evaluation.old evaluation.new }
 {
-    let _ = doc.root();
     let Some(condition) = condition_in_turn(plan, stage, evaluation.at.asked) else {
         return Ok(());
     };
     let Some(child) = evaluation.at.children.get(evaluation.at.child) else {
         return Ok(());
     };
-    let held = does_hold(doc, plan, condition, *child, &mut evaluation.state)?;
-    evaluation.state.meter.spend(1)?;
-    if held {
-        push(doc, &mut evaluation.at.out, *child)?;
-    }
+    choose(
+        doc,
+        plan,
+        condition,
+        *child,
+        &mut evaluation.state,
+        &mut evaluation.at.out,
+    )?;
     evaluation.at.child += 1;
     Ok(())
 }

@@ -18,3 +18,6 @@ returns-clause-goes c =
       stage = refl;
       sound = record { kept = i.kept; placed = record { within = i.placed.within; listed = i.placed.listed; end = i.placed.end; child = i.placed.child; children = i.placed.children; sound = i.placed.sound } };
     }
+
+pub overflow_add-evaluation : goal.overflow_add-evaluation
+overflow_add-evaluation c = ?
