@@ -24,13 +24,14 @@ use Rattle.query_plan.specs.declared.plan.Parts.{Parts}
 use Rattle.tape_select.specs.Awaiting.{Awaits}
 use Rattle.tape_select.specs.Memo.{IsFound, IsFoundAt, Keeps}
 use Rattle.tape_select.specs.declared.state.Found.{Found}
-use Rattle.query_shares.specs.Levels.{path_of, behind_of, left_in, Leads, IsAbove, AreAbove, Stack, IsEnd, IsFinished, IsOnWay, Opens, behind_at, path_at, top_segments}
+use Rattle.query_shares.specs.Levels.{path_of, behind_of, left_in, Leads, IsAbove, AreAbove, Stack, IsEnd, IsFinished, IsOnWay, Moved, Opens, behind_at, path_at, top_segments}
 use Rattle.query_shares.specs.Passes.{position, beginning, segments_in, whole_ahead, whole_due, Begins, IsUnderWay, Ran, Remains}
 use Rattle.query_shares.specs.declared.passes.Cursor.{Cursor}
 use Rattle.query_shares.specs.declared.passes.Evaluation.{Evaluation}
 use Rattle.query_shares.specs.declared.passes.Reached.TheVariants.{End}
 use Rattle.query_shares.specs.declared.levels.Levels.{Levels}
 use Rattle.query_shares.specs.declared.levels.Move.{Move}
+use Rattle.query_shares.specs.declared.levels.Move.TheVariants.{Ends, Pauses, GoesOn, Lost}
 use Rattle.query_shares.specs.declared.levels.Origin.{Origin}
 use Rattle.query_shares.specs.declared.levels.Waiting.{Waiting}
 use Rattle.node_lists.proofs.Following.{refuses_from, nothing_from_nothing, nothing_for_nothing}
@@ -213,9 +214,6 @@ module _ (d : Doc) (plan : Parts) (q : Nested) (slot : ℕ) (is : (out-Nested q)
 -- ---- The levels
 
 module _ (d : Doc) (plan : Parts) where
-  whole_charge : ℕ
-  whole_charge = charge_from (node_at d 0) (query_of plan.stages.items) (node_at d 0 ∷ [])
-
   -- where the units do not suffice on top, the whole query is refused
   pub refuses_whole : (units : ℕ) (ws : List Waiting) (o : Origin) (c : Cursor) (left : ℕ) (e : SelectFault) → Stack d plan units ws o c left → Refuses (whole_due d (top_segments plan ws o) c) left e
       → Refuses (charge_from (node_at d 0) (query_of plan.stages.items) (node_at d 0 ∷ [])) units e
@@ -232,12 +230,13 @@ module _ (d : Doc) (plan : Parts) where
 
   -- the whole query came to its end
   pub ends_lowest : (units : ℕ) (l : Levels) → l.below.items ≡ [] → IsFinished d plan units l.below.items l.origin l.top.at (left_in l) → IsEnd d plan units l
-  ends_lowest units l none (b, before, stack, held, paid) =
-      let h = subst (λ ws. Stack d plan units ws l.origin b before) none stack in
-      let same = subst (λ ws. Holds d l.top.at.list.items (whole_ahead d (top_segments plan ws l.origin) b)) none held in
-      let due = subst (λ ws. left_in l + whole_due d (top_segments plan ws l.origin) b ≡ before) none paid in
+  ends_lowest units l none f =
+      let b = f.0 in
+      let h : Leads d (query_of plan.stages.items) (segments_in plan.stages.items) (node_at d 0) units f.1 b = subst (λ ws. Stack d plan units ws l.origin b f.1) none f.2 in
+      let held : Holds d l.top.at.list.items (whole_ahead d (segments_in plan.stages.items) b) = subst (λ ws. Holds d l.top.at.list.items (whole_ahead d (top_segments plan ws l.origin) b)) none f.3 in
+      let due : left_in l + whole_due d (segments_in plan.stages.items) b ≡ f.1 = subst (λ ws. left_in l + whole_due d (top_segments plan ws l.origin) b ≡ f.1) none f.4 in
       let e = h.due in
-      record { nodes = record { same = same.same ∙ h.ahead; inside = same.inside }; paid = omega (arith, e, due) }
+      record { nodes = record { same = held.same ∙ h.ahead; inside = held.inside }; paid = omega (arith, e, due) }
 
   -- the query on top came to its end: what is kept for it is right, and the one below goes on
   pub record EndsAbove (units : ℕ) (ws : List Waiting) (w : Waiting) (o : Origin) (ids : List NodeId) (left : ℕ) : Type 0 where
@@ -247,14 +246,15 @@ module _ (d : Doc) (plan : Parts) where
     pub paid : left + charge_from (node_at d 0) (path_at plan o) (node_at d o.from.0 ∷ []) ≡ o.units
 
   ends_top : (units : ℕ) (ws : List Waiting) (w : Waiting) (o : Origin) (c : Cursor) (left : ℕ) → IsFinished d plan units (ws ++ (w ∷ [])) o c left → EndsAbove units ws w o c.list.items left
-  ends_top units ws w o c left (b, before, stack, held, paid) =
-      let t = take_off d plan units ws w o b before stack in
+  ends_top units ws w o c left f =
+      let b = f.0 in
+      let t = take_off d plan units ws w o b f.1 f.2 in
       let l = t.1.leads in
       let top = top_behind ws w o in
       let e = l.due in
-      let same = rw top at held in
-      let p = rw top at paid in
-      record { below = t.0; inside = t.1.inside; held = record { same = same.same ∙ l.ahead; inside = same.inside }; paid = omega (arith, e, p) }
+      let held : Holds d c.list.items (whole_ahead d (behind_at plan o) b) = subst (λ ss. Holds d c.list.items (whole_ahead d ss b)) top f.3 in
+      let p : left + whole_due d (behind_at plan o) b ≡ f.1 = subst (λ ss. left + whole_due d ss b ≡ f.1) top f.4 in
+      record { below = t.0; inside = t.1.inside; held = record { same = held.same ∙ l.ahead; inside = held.inside }; paid = omega (arith, e, p) }
     where
       top_behind : (ws : List Waiting) (w : Waiting) (o : Origin) → top_segments plan (ws ++ (w ∷ [])) o ≡ behind_at plan o
       top_behind [] w o = refl
@@ -274,6 +274,14 @@ module _ (d : Doc) (plan : Parts) where
       → MatchResult r (λ move. Opens d plan move units l) (λ e. Refuses (charge_from (node_at d 0) (query_of plan.stages.items) (node_at d 0 ∷ [])) units e)
   opens_or units (Ok move) l h = h
   opens_or units (Err e) l h = rw h tt
+
+-- what opens moves on
+pub opens_moves : (d : Doc) (plan : Parts) (units least : ℕ) (r : Result Move SelectFault) (l : Levels) (X : SelectFault → Type 0) → MatchResult r (λ move. Opens d plan move units l) X → MatchResult r (λ move. Moved d plan move units least l) X
+opens_moves d plan units least (Ok Ends) l X h = absurd h
+opens_moves d plan units least (Ok Pauses) l X h = absurd h
+opens_moves d plan units least (Ok GoesOn) l X h = h
+opens_moves d plan units least (Ok Lost) l X h = h
+opens_moves d plan units least (Err e) l X h = h
 
 -- where some wait, the one on top has a slot
 pub top_is : (plan : Parts) (ws : List Waiting) (o : Origin) → 0 < length ws → top_segments plan ws o ≡ behind_at plan o

@@ -361,7 +361,7 @@ pub record InTurn (ss : List Stage) (k : ℕ) (item : Stage) : Type 0 where
 pub in_turn : (ss : List Stage) (k i j : ℕ) (item : Stage) → j ≡ k + i → i < length (drop k ss) → item ≡ get_or (drop k ss) i item → InTurn ss j item
 in_turn ss k i j item e lt h = let n = length-drop k ss in record { within = omega (arith, e, n, lt); item = rw e (h ∙ behind_item ss k i item) }
 
-fitting : (rest : List OneSegment) (c : Cursor) → c.place ≡ 0 → Fits rest c
+pub fitting : (rest : List OneSegment) (c : Cursor) → c.place ≡ 0 → Fits rest c
 fitting [] c p = p
 fitting (x ∷ rest) c p = tt
 
