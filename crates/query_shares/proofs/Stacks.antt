@@ -24,7 +24,7 @@ use Rattle.query_plan.specs.declared.plan.Parts.{Parts}
 use Rattle.tape_select.specs.Awaiting.{Awaits}
 use Rattle.tape_select.specs.Memo.{IsFound, IsFoundAt, Keeps}
 use Rattle.tape_select.specs.declared.state.Found.{Found}
-use Rattle.query_shares.specs.Levels.{path_of, behind_of, left_in, Leads, IsAbove, AreAbove, Stack, IsEnd, IsFinished, IsOnWay, Moved, Opens, behind_at, path_at, top_segments}
+use Rattle.query_shares.specs.Levels.{path_of, behind_of, left_in, Leads, IsAbove, AreAbove, Stack, IsEnd, IsFinished, IsOnWay, Moved, MovedOn, Opens, behind_at, path_at, top_segments}
 use Rattle.query_shares.specs.Passes.{position, beginning, segments_in, whole_ahead, whole_due, Begins, IsUnderWay, Ran, Remains}
 use Rattle.query_shares.specs.declared.passes.Cursor.{Cursor}
 use Rattle.query_shares.specs.declared.passes.Evaluation.{Evaluation}
@@ -275,6 +275,22 @@ module _ (d : Doc) (plan : Parts) where
   opens_or units (Ok move) l h = h
   opens_or units (Err e) l h = rw h tt
 
+module _ (d : Doc) (plan : Parts) (units : ℕ) (ws : List Waiting) (o : Origin) (ss : List OneSegment) (same : ss ≡ top_segments plan ws o) where
+  pub way_of : (c : Cursor) (left : ℕ) → Stack d plan units ws o c left → IsUnderWay d ss c
+  way_of c left h = subst (λ xs. IsUnderWay d xs c) (sym same) (top_under_way d plan units ws o c left h)
+
+  -- the query on top goes on
+  pub ran_on : (v w : Evaluation) → Stack d plan units ws o v.at v.state.meter.left → Remains d ss v w → Stack d plan units ws o w.at w.state.meter.left
+  ran_on v w h r = top_goes_on d plan units ws o v w h (subst (λ xs. Remains d xs v w) same r)
+
+  -- it is refused
+  pub ran_refused : (c : Cursor) (left : ℕ) (e : SelectFault) → Stack d plan units ws o c left → Refuses (whole_due d ss c) left e → Refuses (charge_from (node_at d 0) (query_of plan.stages.items) (node_at d 0 ∷ [])) units e
+  ran_refused c left e h r = refuses_whole d plan units ws o c left e h (subst (λ xs. Refuses (whole_due d xs c) left e) same r)
+
+  -- it came to its end
+  pub ran_out : (v w : Evaluation) → Stack d plan units ws o v.at v.state.meter.left → Ran End d ss v w → IsFinished d plan units ws o w.at w.state.meter.left
+  ran_out v w h r = (v.at, v.state.meter.left, h, subst (λ xs. Holds d w.at.list.items (whole_ahead d xs v.at)) same r.0, subst (λ xs. w.state.meter.left + whole_due d xs v.at ≡ v.state.meter.left) same r.1)
+
 -- what opens moves on
 pub opens_moves : (d : Doc) (plan : Parts) (units least : ℕ) (r : Result Move SelectFault) (l : Levels) (X : SelectFault → Type 0) → MatchResult r (λ move. Opens d plan move units l) X → MatchResult r (λ move. Moved d plan move units least l) X
 opens_moves d plan units least (Ok Ends) l X h = absurd h
@@ -282,6 +298,12 @@ opens_moves d plan units least (Ok Pauses) l X h = absurd h
 opens_moves d plan units least (Ok GoesOn) l X h = h
 opens_moves d plan units least (Ok Lost) l X h = h
 opens_moves d plan units least (Err e) l X h = h
+
+pub ended_moves : (d : Doc) (plan : Parts) (units least : ℕ) (move : Move) (l : Levels) → MovedOn d plan move units l → Moved d plan move units least l
+ended_moves d plan units least Ends l h = h
+ended_moves d plan units least Pauses l h = absurd h
+ended_moves d plan units least GoesOn l h = h
+ended_moves d plan units least Lost l h = h
 
 -- where some wait, the one on top has a slot
 pub top_is : (plan : Parts) (ws : List Waiting) (o : Origin) → 0 < length ws → top_segments plan ws o ≡ behind_at plan o

@@ -91,7 +91,7 @@ module _ (d : Doc) (plan : Parts) where
 
   abbrev pub MovedOn : Move → (units : ℕ) → Levels → Type 0
   MovedOn Ends units l = IsEnd units l
-  MovedOn Pauses units l = IsOnWay units l
+  MovedOn Pauses units l = ⊥
   MovedOn GoesOn units l = IsOnWay units l
   MovedOn Lost units l = Unit {0}
 

@@ -73,13 +73,7 @@ fn stages_of<'p>(plan: &'p Parts, levels: &Levels) -> Option<&'p [Stage]>
 }
 
 // Keeps what was found for a query.
-fn keep_found(
-    doc: &Document,
-    plan: &Parts,
-    origin: Origin,
-    found: Found,
-    state: &mut State,
-)
+fn keep_found(doc: &Document, plan: &Parts, origin: Origin, found: Found, state: &mut State)
     requires kept { Keeps doc.now (claims_of plan.now.stages.items) state.old }
     requires found { IsFoundAt doc.now (look (claims_of plan.now.stages.items) origin.slot) (node_at doc.now origin.from.0) found }
     ensures kept { Keeps doc.now (claims_of plan.now.stages.items) state.new }

@@ -26,7 +26,7 @@ use node_lists::{Link, Meter, children_below, lone, push, push_some, sliced, ste
 use query_plan::{Condition, Parts, Selection, Stage, lone_link};
 use std::alloc::Global;
 use std::mem;
-use tape_select::{Awaited, SelectFault, State, first_awaited, does_hold, from_node, visit_total};
+use tape_select::{Awaited, SelectFault, State, does_hold, first_awaited, from_node, visit_total};
 
 /// Where the evaluation of a query stands.
 #[derive(Drop)]
@@ -647,7 +647,8 @@ fn step_on(
     loop {
         match ask(doc, plan, stage, least, evaluation)? {
             Reached::End => {}
-            other => return Ok(other),
+            Reached::Share => return Ok(Reached::Share),
+            Reached::Child => return Ok(Reached::Child),
         }
         if !pass_one(doc, plan, stage, evaluation)? {
             return Ok(Reached::End);
@@ -727,7 +728,8 @@ fn pass_segment(
             turn_over(doc, plan, evaluation);
             Ok(Reached::End)
         }
-        other => Ok(other),
+        Reached::Share => Ok(Reached::Share),
+        Reached::Child => Ok(Reached::Child),
     }
 }
 
@@ -749,7 +751,8 @@ pub fn run(
     for stage in &stages[evaluation.at.stage..] {
         match pass_segment(doc, plan, stage, least, evaluation)? {
             Reached::End => evaluation.at.stage += 1,
-            other => return Ok(other),
+            Reached::Share => return Ok(Reached::Share),
+            Reached::Child => return Ok(Reached::Child),
         }
     }
     Ok(Reached::End)
