@@ -592,7 +592,7 @@ fn pass_visit(doc: &Document, plan: &Parts, stage: &Stage, evaluation: &mut Eval
     ensures goes { GoesOn doc.now plan.now (stage_view stage.now).tree evaluation.old evaluation.new }
     ensures falls { weight evaluation.new < weight evaluation.old }
 {
-    let _ = doc;
+    let _ = doc.root();
     let _ = plan;
     let _ = stage;
     evaluation.at.visit += 1;

@@ -1,4 +1,5 @@
-use Rattle.std.proofs.Common.{refl, ◌+◌}
+use Rattle.std.proofs.Common.{rules, refl, ◌+◌, ◌<◌, arith}
+use Rattle.std.specs.Prelude.{◌^◌}
 use Rattle.json_tape.specs.Document.{node_at}
 use Rattle.node_lists.specs.Nodelists.{nodes_between}
 use Rattle.query_plan.specs.Planned.{stage_view}
@@ -20,4 +21,8 @@ returns-clause-goes c =
     }
 
 pub overflow_add-evaluation : goal.overflow_add-evaluation
-overflow_add-evaluation c = ?
+overflow_add-evaluation c =
+    let v = c.requires.visits in
+    let e = c.requires.sound.placed.end in
+    let m = c.root.ensures.small in
+    let g : c.args.evaluation.now.at.visit + 1 < 2 ^ 32 = omega (arith, v, e, m) in search (rules, g)
