@@ -356,10 +356,10 @@ behind_item (s ∷ ss) (suc k) i item = behind_item ss k i item
 -- the stage in turn, where so many are passed of those that were ahead
 pub record InTurn (ss : List Stage) (k : ℕ) (item : Stage) : Type 0 where
   pub within : k < length ss
-  pub item : item ≡ get_or ss k item
+  pub is : item ≡ get_or ss k item
 
 pub in_turn : (ss : List Stage) (k i j : ℕ) (item : Stage) → j ≡ k + i → i < length (drop k ss) → item ≡ get_or (drop k ss) i item → InTurn ss j item
-in_turn ss k i j item e lt h = let n = length-drop k ss in record { within = omega (arith, e, n, lt); item = rw e (h ∙ behind_item ss k i item) }
+in_turn ss k i j item e lt h = let n = length-drop k ss in record { within = omega (arith, e, n, lt); is = rw e (h ∙ behind_item ss k i item) }
 
 pub fitting : (rest : List OneSegment) (c : Cursor) → c.place ≡ 0 → Fits rest c
 fitting [] c p = p
@@ -382,7 +382,7 @@ module _ (d : Doc) (plan : Parts) (ss : List Stage) where
         let r = node_at d 0 in
         let s = (stage_view item).tree in
         let rest = drop (u.at.stage + 1) (segments_in ss) in
-        let more = segments_more ss u.at.stage item t.within t.item in
+        let more = segments_more ss u.at.stage item t.within t.is in
         let more_then : drop v.at.stage (segments_in ss) ≡ s ∷ rest = subst (λ k. drop k (segments_in ss) ≡ s ∷ rest) (sym g.stage) more in
         let a = in_it r (drop u.at.stage (segments_in ss)) s rest (position d u.at) more in
         let b = in_it r (drop v.at.stage (segments_in ss)) s rest (position d v.at) more_then in
@@ -405,7 +405,7 @@ module _ (d : Doc) (plan : Parts) (ss : List Stage) where
         let r = node_at d 0 in
         let s = (stage_view item).tree in
         let rest = drop (u.at.stage + 1) (segments_in ss) in
-        let more = segments_more ss u.at.stage item t.within t.item in
+        let more = segments_more ss u.at.stage item t.within t.is in
         let next : w.at.stage ≡ u.at.stage + 1 = j ∙ ap (λ k. k + 1) g.stage in
         let a = in_it r (drop u.at.stage (segments_in ss)) s rest (position d u.at) more in
         let made = ahead r s (position d u.at) in
@@ -427,7 +427,7 @@ module _ (d : Doc) (plan : Parts) (ss : List Stage) where
     refuses_in e h =
         let r = node_at d 0 in
         let s = (stage_view item).tree in
-        let more = segments_more ss u.at.stage item t.within t.item in
+        let more = segments_more ss u.at.stage item t.within t.is in
         let x = (in_it r (drop u.at.stage (segments_in ss)) s (drop (u.at.stage + 1) (segments_in ss)) (position d u.at) more).1 in
         refuses_from (due r s (position d u.at)) u.state.meter.left (whole_due d (segments_in ss) u.at) u.state.meter.left e (λ lt. omega (arith, x, lt)) h
 
@@ -452,14 +452,14 @@ module _ (d : Doc) (plan : Parts) (ss : List Stage) where
       position_left d c = nodes_of d (drop c.place c.list.items)
 
 -- what is awaited for the next child
-pub next_awaits : (d : Doc) (table : Claims) (ss : List Stage) (at : Cursor) (stage : Stage) (e : Expr) (child : NodeId) (q : Option (Bor Nested)) (paid : ℕ) → at.stage < length ss → stage ≡ get_or ss at.stage stage
-    → condition_at at.asked (stage_view stage).tree.selectors ≡ Some e → at.child < length at.children.items → child ≡ get_or at.children.items at.child child
-    → AwaitsSome d table (node_at d child.0) q paid (charge_expr (node_at d 0) e (node_at d child.0)) → AwaitsSome d table (node_at d child.0) q paid (whole_due d (segments_in ss) at)
-next_awaits d table ss at stage e child q paid lt is cond clt cis h =
+pub next_awaits : (d : Doc) (table : Claims) (ss : List Stage) (c : Cursor) (stage : Stage) (e : Expr) (child : NodeId) (q : Option (Bor Nested)) (paid : ℕ) → c.stage < length ss → stage ≡ get_or ss c.stage stage
+    → condition_at c.asked (stage_view stage).tree.selectors ≡ Some e → c.child < length c.children.items → child ≡ get_or c.children.items c.child child
+    → AwaitsSome d table (node_at d child.0) q paid (charge_expr (node_at d 0) e (node_at d child.0)) → AwaitsSome d table (node_at d child.0) q paid (whole_due d (segments_in ss) c)
+next_awaits d table ss c stage e child q paid lt is cond clt cis h =
     let r = node_at d 0 in
     let s = (stage_view stage).tree in
-    let rest = drop (at.stage + 1) (segments_in ss) in
-    let more = segments_more ss at.stage stage lt is in
-    let x = (in_it r (drop at.stage (segments_in ss)) s rest (position d at) more).1 in
-    let a = asking_due r s (position d at) e (node_at d child.0) (nodes_of d (drop (at.child + 1) at.children.items)) cond (some_left d at.child at.children.items child clt cis) in
-    awaits_behind d table (node_at d child.0) q 0 paid paid (charge_expr r e (node_at d child.0)) (whole_due d (segments_in ss) at) (omega (arith, x, a)) (omega arith) h
+    let rest = drop (c.stage + 1) (segments_in ss) in
+    let more = segments_more ss c.stage stage lt is in
+    let x = (in_it r (drop c.stage (segments_in ss)) s rest (position d c) more).1 in
+    let a = asking_due r s (position d c) e (node_at d child.0) (nodes_of d (drop (c.child + 1) c.children.items)) cond (some_left d c.child c.children.items child clt cis) in
+    awaits_behind d table (node_at d child.0) q 0 paid paid (charge_expr r e (node_at d child.0)) (whole_due d (segments_in ss) c) (omega (arith, x, a)) (omega arith) h

@@ -91,7 +91,7 @@ fn advanced(
 {
     let mut on = resumed(alloc, plan, doc, units, levels.take())?;
     let least = on.top.state.meter.left.saturating_sub(share);
-    for _ in 0..u32::MAX {
+    'moves: for _ in 0..u32::MAX {
         match move_on(doc, plan, units, least, &mut on)? {
             Move::Ends => return Ok(Some(ended(plan, doc, units, on))),
             Move::Pauses => {
@@ -99,7 +99,7 @@ fn advanced(
                 return Ok(None);
             }
             Move::GoesOn => {}
-            Move::Lost => break,
+            Move::Lost => break 'moves,
         }
     }
     let at_once = whole(alloc, plan, doc, units)?;

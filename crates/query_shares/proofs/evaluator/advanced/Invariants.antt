@@ -1,5 +1,5 @@
 use Rattle.query_shares.specs.Levels.{IsOnWay}
 use Rattle.query_shares.proofs.evaluator.advanced.Given as goal
 
-abbrev pub invariant-loop-index : goal.invariant-loop-index
-invariant-loop-index l = IsOnWay l.doc l.plan l.units l.on
+abbrev pub invariant-moves : goal.invariant-moves
+invariant-moves l = IsOnWay l.doc l.plan l.units l.on

@@ -33,7 +33,7 @@ returns-in_err-ask_one c =
     let p = err_from_is_err_and c.from_residual.result c.from_residual.ensures.1 in
     rw (p.1, p.2)
     (ran_refused d plan c.args.units l.below.items l.origin _ c.requires.same l.top.at l.top.state.meter.left c.in_err-ask_one.field-0.0 c.requires.on_way.stack
-    (refuses_in d plan c.args.stages.now c.in-Some-get.stage.now l.top l.top (record { within = search rules; item = search rules }) c.in_err-ask_one.field-0.0 c.in_err-ask_one.ensures))
+    (refuses_in d plan c.args.stages.now c.in-Some-get.stage.now l.top l.top (record { within = search rules; is = search rules }) c.in_err-ask_one.field-0.0 c.in_err-ask_one.ensures))
 
 pub returns-then-levels : goal.returns-then-levels
 returns-then-levels c =
@@ -43,7 +43,7 @@ returns-then-levels c =
     let g = c.in_ok-ask_one.ensures in (
       record {
         stack = ran_on d plan c.args.units l.below.items l.origin _ c.requires.same l.top c.ask_one.new.evaluation c.requires.on_way.stack
-            (remains_in d plan c.args.stages.now c.in-Some-get.stage.now l.top c.ask_one.new.evaluation (record { within = search rules; item = search rules }) g);
+            (remains_in d plan c.args.stages.now c.in-Some-get.stage.now l.top c.ask_one.new.evaluation (record { within = search rules; is = search rules }) g);
         kept = g.sound.kept;
       },
       search rules,
@@ -57,6 +57,6 @@ returns c =
     let g = c.in_ok-ask_one.ensures in
     record {
       stack = ran_on d plan c.args.units l.below.items l.origin _ c.requires.same l.top c.ask_one.new.evaluation c.requires.on_way.stack
-          (remains_in d plan c.args.stages.now c.in-Some-get.stage.now l.top c.ask_one.new.evaluation (record { within = search rules; item = search rules }) g);
+          (remains_in d plan c.args.stages.now c.in-Some-get.stage.now l.top c.ask_one.new.evaluation (record { within = search rules; is = search rules }) g);
       kept = g.sound.kept;
     }

@@ -12,7 +12,7 @@ pass_segment-requires-clause-claimed c =
     let total = length-drop k ss in
     let before_end = c.loop-stage-test.true in
     let t = in_turn ss k c.loop-stage.stage-index c.loop-stage.evaluation.at.stage c.stage-item.result c.loop-stage.invariant.count (omega (arith, total, before_end)) (rw (part_is k ss) at c.stage-item.is) in
-    claimed_stage (claims_of c.args.plan.now.stages.items) ss c.loop-stage.evaluation.at.stage c.stage-item.result t.within t.item c.requires.claimed
+    claimed_stage (claims_of c.args.plan.now.stages.items) ss c.loop-stage.evaluation.at.stage c.stage-item.result t.within t.is c.requires.claimed
 
 pub returns-in_err-pass_segment-clause-gone : goal.returns-in_err-pass_segment-clause-gone
 returns-in_err-pass_segment-clause-gone c =
