@@ -13,7 +13,7 @@ ghost use Rattle.node_lists.specs.Paying.{Refuses};
 ghost use Rattle.query_plan.specs.Planned.{query_of, claims_of, numbered};
 
 use crate::levels::{Levels, Move, Origin, move_on};
-use crate::passes::{Evaluation, cursor_from};
+use crate::passes::{Evaluation, MOST, cursor_from};
 use compared_sides::no_lengths;
 use json_tape::Document;
 use json_tape::laws::one_tree;
@@ -52,7 +52,11 @@ fn begun(alloc: Global, plan: &Parts, doc: &Document, units: u64) -> Result<Leve
             from,
             units,
         },
-        top: Evaluation { state, at },
+        top: Evaluation {
+            state,
+            at,
+            most: MOST,
+        },
         is_costly: false,
         below: Vec::new(alloc),
     })

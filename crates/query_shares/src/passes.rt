@@ -76,6 +76,8 @@ pub fn cursor_from(alloc: Global, doc: &Document, n: NodeId) -> Result<Cursor, S
 pub struct Evaluation {
     pub state: State,
     pub at: Cursor,
+    /// The most that a filter may cost for a child that it is asked at once, in units.
+    pub most: u64,
 }
 
 /// Where an evaluation stops: at the end, where the share is spent, or where a filter costs too much for a child to be asked at once.
@@ -230,8 +232,14 @@ fn condition_in_turn<'a>(plan: &Parts, stage: &'a Stage, number: usize) -> Optio
     }
 }
 
-// The most that a filter may cost for one child that it is asked at once, in units.
-const MOST: u64 = 10_000;
+/// The most that a filter may ever cost for a child that it is asked at once, in units.
+pub const MOST: u64 = 10_000;
+
+// The most for the next child, where so many units were spent on children. So the units of tries in vain are about as many as are spent.
+fn most_after(most: u64, spent: u64) -> u64 {
+    let more = most.saturating_add(spent);
+    if more < MOST { more } else { MOST }
+}
 
 // Whether a condition holds for a child. None where that costs too much, and nothing is spent.
 #[inline(always)]
@@ -240,6 +248,7 @@ fn holds_within(
     plan: &Parts,
     condition: &Condition,
     child: NodeId,
+    most: u64,
     state: &mut State,
 ) -> Result<Option<bool>, SelectFault>
     requires inside { child.0 < count doc.now }
@@ -249,7 +258,7 @@ fn holds_within(
     ensures kept { Keeps doc.now (claims_of plan.now.stages.items) state.new }
 {
     let left = state.meter.left;
-    let beyond = left.saturating_sub(MOST);
+    let beyond = left.saturating_sub(most);
     state.meter.left = left - beyond;
     match does_hold(doc, plan, condition, child, state) {
         Ok(held) => {
@@ -271,6 +280,7 @@ fn chosen_some(
     condition: &Condition,
     list: &[NodeId],
     least: u64,
+    most: u64,
     state: &mut State,
     out: &mut Vec<NodeId>,
 ) -> Result<(usize, bool), SelectFault>
@@ -285,7 +295,7 @@ fn chosen_some(
 {
     let mut passed = 0;
     for child in list {
-        let Some(held) = holds_within(doc, plan, condition, *child, state)? else {
+        let Some(held) = holds_within(doc, plan, condition, *child, most, state)? else {
             return Ok((passed, true));
         };
         state.meter.spend(1)?;
@@ -335,16 +345,21 @@ fn ask(
         evaluation.at.child += total;
         return Ok(Reached::End);
     };
+    let units = evaluation.state.meter.left;
+    let most = evaluation.most;
     let (passed, is_costly) = chosen_some(
         doc,
         plan,
         condition,
         left,
         least,
+        most,
         &mut evaluation.state,
         &mut evaluation.at.out,
     )?;
     evaluation.at.child += passed;
+    let spent = units.saturating_sub(evaluation.state.meter.left);
+    evaluation.most = most_after(if is_costly { 0 } else { most }, spent);
     Ok(stopped(passed == total, is_costly))
 }
 
@@ -389,6 +404,7 @@ pub fn ask_one(
     let Some(child) = evaluation.at.children.get(evaluation.at.child) else {
         return Ok(());
     };
+    let units = evaluation.state.meter.left;
     choose(
         doc,
         plan,
@@ -398,6 +414,8 @@ pub fn ask_one(
         &mut evaluation.at.out,
     )?;
     evaluation.at.child += 1;
+    let spent = units.saturating_sub(evaluation.state.meter.left);
+    evaluation.most = most_after(evaluation.most, spent);
     Ok(())
 }
 
