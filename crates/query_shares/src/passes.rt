@@ -236,8 +236,9 @@ fn condition_in_turn<'a>(plan: &Parts, stage: &'a Stage, number: usize) -> Optio
 pub const MOST: u64 = 10_000;
 
 // The most for the next child, where so many units were spent on children. So the units of tries in vain are about as many as are spent.
-fn most_after(most: u64, spent: u64) -> u64 {
-    let more = most.saturating_add(spent);
+fn most_after(most: u64, is_in_vain: bool, spent: u64) -> u64 {
+    let left = if is_in_vain { 0 } else { most };
+    let more = left.saturating_add(spent);
     if more < MOST { more } else { MOST }
 }
 
@@ -359,7 +360,7 @@ fn ask(
     )?;
     evaluation.at.child += passed;
     let spent = units.saturating_sub(evaluation.state.meter.left);
-    evaluation.most = most_after(if is_costly { 0 } else { most }, spent);
+    evaluation.most = most_after(most, is_costly, spent);
     Ok(stopped(passed == total, is_costly))
 }
 
@@ -415,7 +416,7 @@ pub fn ask_one(
     )?;
     evaluation.at.child += 1;
     let spent = units.saturating_sub(evaluation.state.meter.left);
-    evaluation.most = most_after(evaluation.most, spent);
+    evaluation.most = most_after(evaluation.most, false, spent);
     Ok(())
 }
 
