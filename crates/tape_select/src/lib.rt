@@ -16,4 +16,4 @@ pub use evaluation::{does_hold, from_node, visit_total};
 pub use node_lists::SelectFault;
 pub use planning::{BUDGET, Plan, select};
 pub use selecting::{Selected, empty_slots, select_all};
-pub use state::State;
+pub use state::{State, beginning, found_in, keep};

@@ -1,0 +1,21 @@
+use Rattle.std.proofs.Common.{arith}
+use Rattle.query_shares.proofs.Stacks.{ends_above, ends_lowest, found_above}
+use Rattle.query_shares.proofs.levels.end_above.Goals as goal
+
+pub overflow_sub-charge : goal.overflow_sub-charge
+overflow_sub-charge c =
+    let e = ends_above c.args.doc.now c.args.plan.now c.args.units c.args.levels.now c.pop.new.self.items c.in-Some.below (rw c.in-Some.is at c.pop.ensures.items) c.requires.finished in
+    let p = e.paid in
+    omega (arith, p)
+
+pub keep_found-requires-clause-found : goal.keep_found-requires-clause-found
+keep_found-requires-clause-found c =
+    let l = c.args.levels.now in
+    let e = ends_above c.args.doc.now c.args.plan.now c.args.units l c.pop.new.self.items c.in-Some.below (rw c.in-Some.is at c.pop.ensures.items) c.requires.finished in
+    found_above c.args.doc.now c.args.plan.now l.origin l.top.at.list.items l.top.state.meter.left c.found_in.result e.held e.paid
+    (rw c.deref.ensures.value at c.found_in.ensures.value) c.found_in.ensures.inside (rw c.deref.ensures.value at c.found_in.ensures.total) c.found_in.ensures.charge
+
+pub returns : goal.returns
+returns c =
+    let e = ends_above c.args.doc.now c.args.plan.now c.args.units c.args.levels.now c.pop.new.self.items c.in-Some.below (rw c.in-Some.is at c.pop.ensures.items) c.requires.finished in
+    record { stack = e.below; kept = c.keep_found.ensures.kept }
