@@ -1,5 +1,5 @@
 -- Queries above one another: what is put on top and taken off, and that what is spent on all of them is part of the whole charge.
-use Rattle.std.proofs.Common.{◌≡◌, ℕ, zero, suc, ◌+◌, ◌-◌, ◌<◌, ◌≤◌, Bool, List, [], ◌∷◌, ◌++◌, map, length, refl, sym, ap, subst, ◌∙◌, arith, Option, Some, None, Result, Ok, Err}
+use Rattle.std.proofs.Common.{◌≡◌, ℕ, zero, suc, ◌+◌, ◌-◌, ◌<◌, ◌≤◌, Bool, List, [], ◌∷◌, ◌++◌, map, length, drop, refl, sym, ap, subst, ◌∙◌, arith, Option, Some, None, Result, Ok, Err}
 use Rattle.std.specs.Prelude.{MatchResult}
 use Rattle.json_tape.specs.Document.{Doc, count, node_at, IsIn}
 use Rattle.json_tape.specs.Nodes.{Node}
@@ -25,7 +25,7 @@ use Rattle.tape_select.specs.Awaiting.{Awaits}
 use Rattle.tape_select.specs.Memo.{IsFound, IsFoundAt, Keeps}
 use Rattle.tape_select.specs.declared.state.Found.{Found}
 use Rattle.query_shares.specs.Levels.{path_of, behind_of, left_in, Leads, IsAbove, AreAbove, Stack, IsEnd, IsFinished, IsOnWay, Moved, MovedOn, Opens, behind_at, path_at, top_segments}
-use Rattle.query_shares.specs.Passes.{position, beginning, segments_in, whole_ahead, whole_due, Begins, IsUnderWay, Ran, Remains}
+use Rattle.query_shares.specs.Passes.{Fits, position, beginning, segments_in, whole_ahead, whole_due, Begins, IsUnderWay, Ran, Remains}
 use Rattle.query_shares.specs.declared.passes.Cursor.{Cursor}
 use Rattle.query_shares.specs.declared.passes.Evaluation.{Evaluation}
 use Rattle.query_shares.specs.declared.passes.Reached.TheVariants.{End}
@@ -147,7 +147,7 @@ begun_ahead : (d : Doc) (ss : List OneSegment) (n : NodeId) (c : Cursor) → Beg
 begun_ahead d ss n c b = rw (b.stage, b.begins) (begins (node_at d 0) ss (node_at d n.0 ∷ []), begins_due (node_at d 0) ss (node_at d n.0 ∷ []))
 
 begun_way : (d : Doc) (ss : List OneSegment) (n : NodeId) (c : Cursor) → Begins d n c → IsUnderWay d ss c
-begun_way d ss n c b = let z = b.stage in record { within = omega (arith, z); fits = rw z (fitting ss c b.place); placed = b.placed }
+begun_way d ss n c b = let z = b.stage in record { within = omega (arith, z); fits = subst (λ k. Fits (drop k ss) c) (sym z) (fitting ss c b.place); placed = b.placed }
 
 -- the whole query begins at the root
 pub begins_lowest : (d : Doc) (plan : Parts) (units : ℕ) (n : NodeId) (c : Cursor) → node_at d n.0 ≡ node_at d 0 → Begins d n c

@@ -37,11 +37,6 @@ pub ruleset at_once = (extra_linked)
 
 -- ---- Lists
 
-pub asked_some : (f : Node → ℕ) (d : Doc) (ids : List NodeId) (i : ℕ) → i < length ids → 1 ≤ total_of (λ n. 1 + f n) (nodes_of d (drop i ids))
-asked_some f d [] i lt = absurd (omega arith)
-asked_some f d (x ∷ xs) zero lt = omega arith
-asked_some f d (x ∷ xs) (suc i) lt = asked_some f d xs i (omega arith)
-
 pub none_inside : (d : Doc) → Inside d []
 none_inside d = λ k x lt. absurd (omega (arith, lt))
 
@@ -54,6 +49,11 @@ none_left d n ids h = ap (nodes_of d) (drop_all n ids h)
 
 pub some_left : (d : Doc) (n : ℕ) (ids : List NodeId) (id : NodeId) → n < length ids → id ≡ get_or ids n id → nodes_of d (drop n ids) ≡ node_at d id.0 ∷ nodes_of d (drop (n + 1) ids)
 some_left d n ids id lt e = ap (nodes_of d) (drop_more ids n id lt ∙ ap (λ (x : NodeId). x ∷ drop (n + 1) ids) (sym e))
+
+pub asked_some : (f : Node → ℕ) (d : Doc) (ids : List NodeId) (i : ℕ) (k : NodeId) → i < length ids → 1 + f (node_at d (get_or ids i k).0) ≤ total_of (λ n. 1 + f n) (nodes_of d (drop i ids))
+asked_some f d [] i k lt = absurd (omega arith)
+asked_some f d (x ∷ xs) zero k lt = omega arith
+asked_some f d (x ∷ xs) (suc i) k lt = asked_some f d xs i k (omega arith)
 
 pub between_none : (d : Doc) (k e : ℕ) → e ≤ k → nodes_between d k e ≡ []
 between_none d k e h = let z : e - k ≡ 0 = omega arith in rw z refl
@@ -334,14 +334,14 @@ module _ (root : Node) where
 pub segments_more : (ss : List Stage) (k : ℕ) (item : Stage) → k < length ss → item ≡ get_or ss k item → drop k (segments_in ss) ≡ (stage_view item).tree ∷ drop (k + 1) (segments_in ss)
 segments_more [] k item lt e = absurd (omega arith)
 segments_more (s ∷ ss) zero item lt e = ap (λ (x : Stage). (stage_view x).tree ∷ segments_in ss) (sym e)
-segments_more (s ∷ ss) (suc k) item lt e = segments_more ss k item (omega arith) e
+segments_more (s ∷ ss) (suc k) item lt e = let n : suc k + 1 ≡ suc (k + 1) = omega arith in rw n (segments_more ss k item (omega arith) e)
 
 pub claimed_stage : (t : Claims) (ss : List Stage) (k : ℕ) (item : Stage) → k < length ss → item ≡ get_or ss k item → AreClaimed t (claims_of ss) → AreClaimed t (stage_view item).claims
 claimed_stage t [] k item lt e h = absurd (omega arith)
 claimed_stage t (s ∷ ss) zero item lt e h = subst (λ x. AreClaimed t (stage_view x).claims) (sym e) h.0
 claimed_stage t (s ∷ ss) (suc k) item lt e h = claimed_stage t ss k item (omega arith) e h.1
 
-segment_total : (ss : List Stage) → length (segments_in ss) ≡ length ss
+pub segment_total : (ss : List Stage) → length (segments_in ss) ≡ length ss
 segment_total [] = refl
 segment_total (s ∷ ss) = ap suc (segment_total ss)
 
@@ -349,9 +349,9 @@ pub ruleset totals = (segment_total)
 
 -- an item behind so many
 pub behind_item : (ss : List Stage) (k i : ℕ) (item : Stage) → get_or (drop k ss) i item ≡ get_or ss (k + i) item
-behind_item ss zero i item = refl
+behind_item ss zero i item = let n : 0 + i ≡ i = omega arith in rw n refl
 behind_item [] (suc k) i item = refl
-behind_item (s ∷ ss) (suc k) i item = behind_item ss k i item
+behind_item (s ∷ ss) (suc k) i item = let n : suc k + i ≡ suc (k + i) = omega arith in rw n (behind_item ss k i item)
 
 -- the stage in turn, where so many are passed of those that were ahead
 pub record InTurn (ss : List Stage) (k : ℕ) (item : Stage) : Type 0 where

@@ -20,7 +20,7 @@ use json_tape::{Document, NodeId};
 use node_lists::{SelectFault, followed};
 use query_plan::{Nested, Parts, Stage};
 use std::mem;
-use tape_select::{Found, State, beginning, found_in, keep};
+use tape_select::{beginning, found_in, keep};
 
 /// Whose query it is: that with this slot, from this node. It began with so many units. (Those of the lowest are not looked at.)
 #[derive(Clone, Copy)]
@@ -72,17 +72,6 @@ fn stages_of<'p>(plan: &'p Parts, levels: &Levels) -> Option<&'p [Stage]>
     }
 }
 
-// Keeps what was found for a query.
-fn keep_found(doc: &Document, plan: &Parts, origin: Origin, found: Found, state: &mut State)
-    requires kept { Keeps doc.now (claims_of plan.now.stages.items) state.old }
-    requires found { IsFoundAt doc.now (look (claims_of plan.now.stages.items) origin.slot) (node_at doc.now origin.from.0) found }
-    ensures kept { Keeps doc.now (claims_of plan.now.stages.items) state.new }
-    ensures meter { state.new.meter ≡ state.old.meter }
-    ensures alloc { state.new.alloc ≡ state.old.alloc }
-{
-    keep(doc, plan, &mut state.slots, origin.slot, origin.from, found);
-}
-
 // Begins a query in a filter, which is above the one on top. Where its names and indexes lead nowhere, nothing is found.
 fn begin_above(
     doc: &Document,
@@ -114,7 +103,7 @@ fn begin_above(
         Some(first) => put_above(doc, plan, origin, first, left, units, levels),
         None => {
             let found = found_in(doc, &[], own - levels.top.state.meter.left);
-            keep_found(doc, plan, origin, found, &mut levels.top.state);
+            keep(doc, plan, &mut levels.top.state.slots, slot, from, found);
             levels.top.state.meter.left = left;
             Ok(Move::GoesOn)
         }
@@ -141,10 +130,11 @@ fn put_above(
     let _ = plan;
     let next = cursor_from(levels.top.state.alloc, doc, first)?;
     let waiting = Waiting {
-        origin: mem::replace(&mut levels.origin, origin),
+        origin: levels.origin,
         at: mem::replace(&mut levels.top.at, next),
         left,
     };
+    levels.origin = origin;
     levels.is_costly = false;
     if levels.below.push(waiting).is_err() {
         return Err(SelectFault::Memory);
@@ -154,7 +144,7 @@ fn put_above(
 
 // Keeps what the query on top found, and goes on with the one below.
 fn end_above(doc: &Document, plan: &Parts, units: u64, levels: &mut Levels) -> Move
-    requires ends { Finished doc.now plan.now units levels.old }
+    requires { Finished doc.now plan.now units levels.old }
     ensures { MovedOn doc.now plan.now result units levels.new }
 {
     let _ = units;
@@ -163,7 +153,14 @@ fn end_above(doc: &Document, plan: &Parts, units: u64, levels: &mut Levels) -> M
     };
     let charge = levels.origin.units - levels.top.state.meter.left;
     let found = found_in(doc, &levels.top.at.list, charge);
-    keep_found(doc, plan, levels.origin, found, &mut levels.top.state);
+    keep(
+        doc,
+        plan,
+        &mut levels.top.state.slots,
+        levels.origin.slot,
+        levels.origin.from,
+        found,
+    );
     levels.origin = below.origin;
     levels.top.at = below.at;
     levels.top.state.meter.left = below.left;

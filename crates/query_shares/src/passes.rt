@@ -397,7 +397,7 @@ pub fn ask_one(
 ) -> Result<(), SelectFault>
     requires claimed { AreClaimed (claims_of plan.now.stages.items) (stage_view stage.now).claims }
     requires sound { IsSound doc.now plan.now evaluation.old }
-    ensures goes { Steps doc.now plan.now result (stage_view stage.now).tree evaluation.old evaluation.new }
+    ensures { Steps doc.now plan.now result (stage_view stage.now).tree evaluation.old evaluation.new }
 {
     let Some(condition) = condition_in_turn(plan, stage, evaluation.at.asked) else {
         return Ok(());

@@ -2,7 +2,7 @@ use Rattle.std.proofs.Common.{rules, arith}
 use Rattle.query_shares.proofs.evaluator.advanced.Goals as goal
 
 pub returns-in-Ends : goal.returns-in-Ends
-returns-in-Ends c = let e = c.ended.ensures in record { nodes = e.nodes; charge = e.charge; within = e.within; rest = search rules }
+returns-in-Ends c = let e = c.ended.ensures in record { nodes = e.nodes; charge = e.charge; within = e.within; rest = c.moves.invariant.none }
 
 pub returns-in-Pauses : goal.returns-in-Pauses
 returns-in-Pauses c =

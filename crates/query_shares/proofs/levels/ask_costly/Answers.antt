@@ -35,8 +35,8 @@ returns-in_err-ask_one c =
     (ran_refused d plan c.args.units l.below.items l.origin _ c.requires.same l.top.at l.top.state.meter.left c.in_err-ask_one.field-0.0 c.requires.on_way.stack
     (refuses_in d plan c.args.stages.now c.in-Some-get.stage.now l.top l.top (record { within = search rules; is = search rules }) c.in_err-ask_one.field-0.0 c.in_err-ask_one.ensures))
 
-pub returns-then-levels : goal.returns-then-levels
-returns-then-levels c =
+pub returns-then-levels-least : goal.returns-then-levels-least
+returns-then-levels-least c =
     let d = c.args.doc.now in
     let plan = c.args.plan.now in
     let l = c.args.levels.now in

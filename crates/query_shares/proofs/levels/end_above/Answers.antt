@@ -1,4 +1,4 @@
-use Rattle.std.proofs.Common.{arith}
+use Rattle.std.proofs.Common.{rules, arith}
 use Rattle.query_shares.proofs.Stacks.{ends_above, ends_lowest, found_above}
 use Rattle.query_shares.proofs.levels.end_above.Goals as goal
 
@@ -8,14 +8,15 @@ overflow_sub-charge c =
     let p = e.paid in
     omega (arith, p)
 
-pub keep_found-requires-clause-found : goal.keep_found-requires-clause-found
-keep_found-requires-clause-found c =
+pub keep-requires-clause-found : goal.keep-requires-clause-found
+keep-requires-clause-found c =
     let l = c.args.levels.now in
     let e = ends_above c.args.doc.now c.args.plan.now c.args.units l c.pop.new.self.items c.in-Some.below (rw c.in-Some.is at c.pop.ensures.items) c.requires.finished in
-    found_above c.args.doc.now c.args.plan.now l.origin l.top.at.list.items l.top.state.meter.left c.found_in.result e.held e.paid
-    (rw c.deref.ensures.value at c.found_in.ensures.value) c.found_in.ensures.inside (rw c.deref.ensures.value at c.found_in.ensures.total) c.found_in.ensures.charge
+    found_above c.args.doc.now c.args.plan.now l.origin l.top.at.list.items l.top.state.meter.left c.found_in-found.result e.held e.paid
+    (rw c.deref.ensures.value at c.found_in-found.ensures.value) c.found_in-found.ensures.inside (rw c.deref.ensures.value at c.found_in-found.ensures.total) c.found_in-found.ensures.charge
 
 pub returns : goal.returns
 returns c =
     let e = ends_above c.args.doc.now c.args.plan.now c.args.units c.args.levels.now c.pop.new.self.items c.in-Some.below (rw c.in-Some.is at c.pop.ensures.items) c.requires.finished in
-    record { stack = e.below; kept = c.keep_found.ensures.kept }
+    let k = c.requires.kept in
+    record { stack = e.below; kept = (search rules, k.1, k.2, k.3) }

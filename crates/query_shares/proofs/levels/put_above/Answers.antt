@@ -10,7 +10,7 @@ returns c =
     let ok : is_ok c.push.result ≡ true = search rules in
     let items = rw ok at c.push.ensures.items in
     record {
-      stack = rw items
+      stack = rw (items, c.replace.ensures.value, c.replace.ensures.after)
           (put_on c.args.doc.now c.args.plan.now c.args.units l.below.items (record { origin = l.origin; at = l.top.at; left = c.args.left }) c.args.origin at l.top.state.meter.left c.requires.stack (c.requires.above at c.in_ok-next.ensures));
       kept = c.requires.kept;
     }

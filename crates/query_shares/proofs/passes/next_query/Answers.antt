@@ -5,9 +5,9 @@ use Rattle.query_shares.proofs.passes.next_query.Goals as goal
 
 pub condition_in_turn-requires : goal.condition_in_turn-requires
 condition_in_turn-requires c =
-    claimed_stage (claims_of c.args.plan.now.stages.items) c.args.stages.now c.args.evaluation.now.at.stage c.in_some-stage.stage.now (search rules) (search rules) c.requires.claimed
+    claimed_stage (claims_of c.args.plan.now.stages.items) c.args.stages.now c.args.evaluation.now.at.stage c.in_ok-stage.stage.now (search rules) (search rules) c.requires.claimed
 
 pub returns-clause-awaits : goal.returns-clause-awaits
 returns-clause-awaits c =
-    next_awaits c.args.doc.now (claims_of c.args.plan.now.stages.items) c.args.stages.now c.args.evaluation.now.at c.in_some-stage.stage.now (condition_view c.in_some-condition.condition.now).tree c.in_some-child.child.now
-    c.first_awaited.result.query c.first_awaited.result.paid (search rules) (search rules) c.in_some-condition.ensures.condition (search rules) (search rules) c.first_awaited.ensures
+    next_awaits c.args.doc.now (claims_of c.args.plan.now.stages.items) c.args.stages.now c.args.evaluation.now.at c.in_ok-stage.stage.now (condition_view c.in_ok-condition.condition.now).tree c.in_ok-child.child.now
+    c.first_awaited-next.result.query c.first_awaited-next.result.paid (search rules) (search rules) c.in_ok-condition.ensures.condition (search rules) (search rules) c.first_awaited-next.ensures

@@ -28,8 +28,8 @@ returns-in_err-pass_segment-clause-gone c =
     (refuses_then d c.args.plan.now ss c.args.evaluation.now u c.in_err-pass_segment.field-0.0 c.loop-stage.invariant.remains
     (refuses_in d c.args.plan.now ss c.stage-item.result u u t c.in_err-pass_segment.field-0.0 c.in_err-pass_segment.ensures.passed))
 
-pub loop-stage-preserved-in-End : goal.loop-stage-preserved-in-End
-loop-stage-preserved-in-End c =
+pub loop-stage-preserved : goal.loop-stage-preserved
+loop-stage-preserved c =
     let d = c.args.doc.now in
     let plan = c.args.plan.now in
     let ss = c.args.stages.now in
