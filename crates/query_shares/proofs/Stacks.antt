@@ -1,5 +1,5 @@
 -- Queries above one another: what is put on top and taken off, and that what is spent on all of them is part of the whole charge.
-use Rattle.std.proofs.Common.{◌≡◌, ℕ, zero, suc, ◌+◌, ◌-◌, ◌<◌, ◌≤◌, Bool, List, [], ◌∷◌, ◌++◌, map, length, drop, refl, sym, ap, subst, ◌∙◌, arith, Option, Some, None, Result, Ok, Err}
+use Rattle.std.proofs.Common.{◌≡◌, ℕ, zero, suc, ◌+◌, ◌-◌, ◌<◌, ◌≤◌, Bool, List, [], ◌∷◌, ◌++◌, map, length, take, drop, refl, sym, ap, subst, ◌∙◌, arith, Option, Some, None, Result, Ok, Err}
 use Rattle.std.specs.Prelude.{MatchResult}
 use Rattle.json_tape.specs.Document.{Doc, count, node_at, IsIn}
 use Rattle.json_tape.specs.Nodes.{Node}
@@ -22,8 +22,9 @@ use Rattle.query_plan.specs.declared.plan.Condition.TheFolds.{fold_out-Nested}
 use Rattle.query_plan.specs.declared.plan.Nested.{Nested, out-Nested}
 use Rattle.query_plan.specs.declared.plan.Parts.{Parts}
 use Rattle.tape_select.specs.Awaiting.{Awaits}
-use Rattle.tape_select.specs.Memo.{IsFound, IsFoundAt, Keeps}
+use Rattle.tape_select.specs.Memo.{IsFound, IsFoundAt, Keeps, Right, RightFrom}
 use Rattle.tape_select.specs.declared.state.Found.{Found}
+use Rattle.tape_select.specs.declared.state.Kept.{Kept}
 use Rattle.query_shares.specs.Levels.{path_of, behind_of, left_in, Leads, IsAbove, AreAbove, Stack, IsEnd, IsFinished, IsOnWay, Moved, MovedOn, Opens, behind_at, path_at, top_segments}
 use Rattle.query_shares.specs.Passes.{Fits, position, beginning, segments_in, whole_ahead, whole_due, Begins, IsUnderWay, Ran, Remains}
 use Rattle.query_shares.specs.declared.passes.Cursor.{Cursor}
@@ -34,6 +35,7 @@ use Rattle.query_shares.specs.declared.levels.Move.{Move}
 use Rattle.query_shares.specs.declared.levels.Move.TheVariants.{Ends, Pauses, GoesOn, Lost}
 use Rattle.query_shares.specs.declared.levels.Origin.{Origin}
 use Rattle.query_shares.specs.declared.levels.Waiting.{Waiting}
+use Rattle.std.proofs.lemmas.List.{append-nil}
 use Rattle.node_lists.proofs.Following.{refuses_from, nothing_from_nothing, nothing_for_nothing}
 use Rattle.query_plan.proofs.Links.{through_links, links_charged_first}
 use Rattle.tape_select.proofs.Found.{found_through}
@@ -115,6 +117,22 @@ pub found_at : (d : Doc) (c : Option Claimed) (n : Node) (f : Found) → IsFound
 found_at d None n f h = tt
 found_at d (Some (a_query r before behind)) n f h = h
 found_at d (Some (a_condition s e)) n f h = tt
+
+-- ---- What is kept
+
+right_part : (d : Doc) (table : Claims) (k n : ℕ) (ss : List (Option Kept)) → RightFrom d table k ss → RightFrom d table k (take n ss)
+right_part d table k zero ss h = tt
+right_part d table k (suc n) [] h = tt
+right_part d table k (suc n) (s ∷ ss) h = (h.0, right_part d table (suc k) n ss h.1)
+
+right_over : (d : Doc) (table : Claims) (k : ℕ) (xs ys : List (Option Kept)) → RightFrom d table k xs → RightFrom d table k ys → RightFrom d table k (xs ++ drop (length xs) ys)
+right_over d table k [] ys h g = g
+right_over d table k (x ∷ xs) [] h g = rw (append-nil xs) h
+right_over d table k (x ∷ xs) (y ∷ ys) h g = (h.0, right_over d table (suc k) xs ys h.1 g.1)
+
+-- slots that are written over others
+pub right_again : (d : Doc) (table : Claims) (n : ℕ) (xs ys : List (Option Kept)) → Right d table xs → Right d table ys → Right d table (take n (xs ++ drop (length xs) ys))
+right_again d table n xs ys h g = right_part d table 0 n (xs ++ drop (length xs) ys) (right_over d table 0 xs ys h g)
 
 -- ---- A query in a filter
 

@@ -1,5 +1,6 @@
-use Rattle.std.proofs.Common.{rules, arith}
-use Rattle.query_shares.proofs.Stacks.{ends_above, ends_lowest, found_above}
+use Rattle.std.proofs.Common.{arith}
+use Rattle.query_plan.specs.Planned.{claims_of}
+use Rattle.query_shares.proofs.Stacks.{ends_above, ends_lowest, found_above, right_again}
 use Rattle.query_shares.proofs.levels.end_above.Goals as goal
 
 pub overflow_sub-charge : goal.overflow_sub-charge
@@ -19,4 +20,4 @@ pub returns : goal.returns
 returns c =
     let e = ends_above c.args.doc.now c.args.plan.now c.args.units c.args.levels.now c.pop.new.self.items c.in-Some.below (rw c.in-Some.is at c.pop.ensures.items) c.requires.finished in
     let k = c.requires.kept in
-    record { stack = e.below; kept = (search rules, k.1, k.2, k.3) }
+    record { stack = e.below; kept = (right_again c.args.doc.now (claims_of c.args.plan.now.stages.items) c.args.levels.now.top.state.slots.len c.keep.new.slots c.args.levels.now.top.state.slots.items c.keep.ensures k.0, k.1, k.2, k.3) }
