@@ -1,5 +1,5 @@
 -- An evaluation in shares, from its beginning to its end.
-use Rattle.std.proofs.Common.{◌≡◌, ℕ, ◌+◌, ◌<◌, ◌≤◌, true, false, List, [], ◌∷◌, refl, sym, ap, ◌∙◌, subst, arith, Option, Some, None, Result, Ok, Err}
+use Rattle.std.proofs.Common.{◌≡◌, ℕ, ◌+◌, ◌<◌, ◌≤◌, List, [], ◌∷◌, refl, sym, ap, ◌∙◌, subst, arith, Option, Some, None, Result, Ok, Err}
 use Rattle.json_tape.specs.Document.{Doc, IsDocument, node_at, tree_of, count}
 use Rattle.json_tape.specs.Grammar.{IsText}
 use Rattle.json_tape.specs.Tape.{Top, tape_of}
@@ -10,17 +10,12 @@ use Rattle.query_shares.specs.Evaluators.{Advances, Ends, IsWithin, IsWithinText
 use Rattle.query_shares.specs.Levels.{IsOnWay}
 use Rattle.query_shares.specs.declared.levels.Levels.{Levels}
 use Rattle.tape_select.specs.Evaluation.{evaluated}
-use Rattle.tape_select.specs.Memo.{Keeps}
 use Rattle.tape_select.specs.Nodelists.{nodes_of}
 use Rattle.node_lists.specs.Paying.{Holds, Refuses}
-use Rattle.query_plan.specs.Planned.{query_of, claims_of, numbered}
+use Rattle.query_plan.specs.Planned.{query_of}
 use Rattle.query_plan.specs.declared.plan.Parts.{Parts}
 use Rattle.std.specs.Prelude.{◌^◌, IfSome, MatchResult}
-use Rattle.std.specs.declared.vec.Vec.{Vec}
-use Rattle.std.specs.declared.alloc.Global.{Global}
 use Rattle.json_tape.specs.Nodes.{Node}
-use Rattle.json_text.specs.declared.tape.NodeId.{NodeId}
-use Rattle.tape_select.specs.declared.state.State.{State}
 use Rattle.tape_select.specs.declared.selecting.Selected.{Selected}
 use Rattle.node_lists.specs.declared.fault.SelectFault.{SelectFault}
 use Rattle.query_shares.proofs.Stacks.{spent_is_charged}

@@ -1,5 +1,5 @@
 -- Queries above one another: what is put on top and taken off, and that what is spent on all of them is part of the whole charge.
-use Rattle.std.proofs.Common.{◌≡◌, ℕ, zero, suc, ◌+◌, ◌-◌, ◌<◌, ◌≤◌, Bool, List, [], ◌∷◌, ◌++◌, map, length, take, drop, refl, sym, ap, subst, ◌∙◌, arith, Option, Some, None, Result, Ok, Err}
+use Rattle.std.proofs.Common.{◌≡◌, ℕ, zero, suc, ◌+◌, ◌-◌, ◌<◌, ◌≤◌, List, [], ◌∷◌, ◌++◌, map, length, take, drop, refl, sym, ap, subst, ◌∙◌, arith, Option, Some, None, Result, Ok, Err}
 use Rattle.std.specs.Prelude.{MatchResult}
 use Rattle.json_tape.specs.Document.{Doc, count, node_at, IsIn}
 use Rattle.json_tape.specs.Nodes.{Node}
@@ -14,19 +14,18 @@ use Rattle.node_lists.specs.Links.{link_view, links_view}
 use Rattle.node_lists.specs.Nodelists.{nodes_of}
 use Rattle.node_lists.specs.Paying.{Holds, Refuses}
 use Rattle.node_lists.specs.declared.fault.SelectFault.{SelectFault}
-use Rattle.node_lists.specs.declared.fault.SelectFault.TheVariants.{Costly, Memory}
+use Rattle.node_lists.specs.declared.fault.SelectFault.TheVariants.{Memory}
 use Rattle.query_plan.specs.Planned.{With, Claimed, a_query, a_condition, Claims, both, look, own_claim, is_rooted, query_of, claims_of, nested_view, stage_view, trees, condition_step, operand_step, selection_step, nested_step, stage_step}
 use Rattle.query_plan.specs.Planned.{path_of as links_path}
 use Rattle.query_plan.specs.Slots.{AreClaimed}
 use Rattle.query_plan.specs.declared.plan.Condition.TheFolds.{fold_out-Nested}
 use Rattle.query_plan.specs.declared.plan.Nested.{Nested, out-Nested}
 use Rattle.query_plan.specs.declared.plan.Parts.{Parts}
-use Rattle.tape_select.specs.Awaiting.{Awaits}
-use Rattle.tape_select.specs.Memo.{IsFound, IsFoundAt, Keeps, Right, RightFrom}
+use Rattle.tape_select.specs.Memo.{IsFound, IsFoundAt, Right, RightFrom}
 use Rattle.tape_select.specs.declared.state.Found.{Found}
 use Rattle.tape_select.specs.declared.state.Kept.{Kept}
-use Rattle.query_shares.specs.Levels.{path_of, behind_of, left_in, Leads, IsAbove, AreAbove, Stack, IsEnd, IsFinished, IsOnWay, Moved, MovedOn, Opens, behind_at, path_at, top_segments}
-use Rattle.query_shares.specs.Passes.{Fits, position, beginning, segments_in, whole_ahead, whole_due, Begins, IsUnderWay, Ran, Remains}
+use Rattle.query_shares.specs.Levels.{path_of, behind_of, left_in, Leads, IsAbove, AreAbove, Stack, IsEnd, IsFinished, Moved, MovedOn, Opens, behind_at, path_at, top_segments}
+use Rattle.query_shares.specs.Passes.{Fits, segments_in, whole_ahead, whole_due, Begins, IsUnderWay, Ran, Remains}
 use Rattle.query_shares.specs.declared.passes.Cursor.{Cursor}
 use Rattle.query_shares.specs.declared.passes.Evaluation.{Evaluation}
 use Rattle.query_shares.specs.declared.passes.Reached.TheVariants.{End}
@@ -322,8 +321,3 @@ ended_moves d plan units least Ends l h = h
 ended_moves d plan units least Pauses l h = absurd h
 ended_moves d plan units least GoesOn l h = h
 ended_moves d plan units least Lost l h = h
-
--- where some wait, the one on top has a slot
-pub top_is : (plan : Parts) (ws : List Waiting) (o : Origin) → 0 < length ws → top_segments plan ws o ≡ behind_at plan o
-top_is plan [] o lt = absurd (omega arith)
-top_is plan (w ∷ ws) o lt = refl

@@ -341,11 +341,9 @@ claimed_stage t [] k item lt e h = absurd (omega arith)
 claimed_stage t (s ∷ ss) zero item lt e h = subst (λ x. AreClaimed t (stage_view x).claims) (sym e) h.0
 claimed_stage t (s ∷ ss) (suc k) item lt e h = claimed_stage t ss k item (omega arith) e h.1
 
-pub segment_total : (ss : List Stage) → length (segments_in ss) ≡ length ss
+segment_total : (ss : List Stage) → length (segments_in ss) ≡ length ss
 segment_total [] = refl
 segment_total (s ∷ ss) = ap suc (segment_total ss)
-
-pub ruleset totals = (segment_total)
 
 -- an item behind so many
 pub behind_item : (ss : List Stage) (k i : ℕ) (item : Stage) → get_or (drop k ss) i item ≡ get_or ss (k + i) item

@@ -7,7 +7,7 @@ use Rattle.json_tape.specs.Document.{Doc, count, node_at}
 use Rattle.node_lists.specs.Evaluation.{evaluated}
 use Rattle.node_lists.specs.Charge.{charge_from}
 use Rattle.node_lists.specs.Paying.{Holds}
-use Rattle.query_plan.specs.Planned.{Claimed, a_query, a_condition, Claims, claims_of, look, query_of}
+use Rattle.query_plan.specs.Planned.{Claimed, a_query, a_condition, claims_of, look, query_of}
 use Rattle.query_plan.specs.declared.plan.Parts.{Parts}
 use Rattle.tape_select.specs.Memo.{Keeps}
 use Rattle.query_shares.specs.Passes.{IsUnderWay, segments_in, whole_ahead, whole_due}

@@ -1,6 +1,6 @@
 -- The segments of a query, and where an evaluation may stop in one of them (this project's own). From one node after the other it goes selector by
 -- selector, and a filter child by child.
-use Rattle.std.specs.Prelude.{◌≡◌, ℕ, zero, suc, ◌+◌, ◌*◌, ◌-◌, ◌^◌, ◌≤◌, ◌<◌, List, [], ◌∷◌, ◌++◌, drop, length, map, flat_map, Option, Some, None, Result, MatchResult}
+use Rattle.std.specs.Prelude.{◌≡◌, ℕ, zero, suc, ◌+◌, ◌*◌, ◌-◌, ◌^◌, ◌≤◌, List, [], ◌∷◌, ◌++◌, drop, length, map, flat_map, Option, Some, None, Result, MatchResult}
 use Rattle.std.specs.Prelude.{filter as keep}
 use Rattle.path_grammar.specs.Tree.{OneSegment, segments_of, Selectors, no_selectors, selector, Selector, name, wild, index, filter, slice, Expr}
 use Rattle.json_tape.specs.Nodes.{Node}

@@ -1,6 +1,6 @@
 use Rattle.std.proofs.Common.{arith}
 use Rattle.query_plan.specs.Planned.{claims_of}
-use Rattle.query_shares.proofs.Stacks.{ends_above, ends_lowest, found_above, right_again}
+use Rattle.query_shares.proofs.Stacks.{ends_above, found_above, right_again}
 use Rattle.query_shares.proofs.levels.end_above.Goals as goal
 
 pub overflow_sub-charge : goal.overflow_sub-charge

@@ -1,4 +1,4 @@
-use Rattle.std.proofs.Common.{◌+◌, drop, refl, arith}
+use Rattle.std.proofs.Common.{refl, arith}
 use Rattle.std.proofs.lemmas.List.{drop-drop, length-drop}
 use Rattle.json_tape.specs.Document.{node_at}
 use Rattle.query_plan.specs.Planned.{condition_view, stage_view}

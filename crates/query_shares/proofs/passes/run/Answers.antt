@@ -1,8 +1,8 @@
-use Rattle.std.proofs.Common.{◌+◌, ◌≡◌, length, drop, refl, ap, arith}
+use Rattle.std.proofs.Common.{refl, arith}
 use Rattle.std.proofs.lemmas.List.{length-drop}
 use Rattle.std.proofs.lemmas.Result.{err_from_is_err_and}
 use Rattle.query_plan.specs.Planned.{claims_of}
-use Rattle.query_shares.proofs.Stages.{claimed_stage, ended, in_turn, part_is, refuses_in, refuses_then, remains_behind, remains_further, remains_in, segment_total}
+use Rattle.query_shares.proofs.Stages.{claimed_stage, ended, in_turn, part_is, refuses_in, refuses_then, remains_behind, remains_further, remains_in}
 use Rattle.query_shares.proofs.passes.run.Goals as goal
 
 pub pass_segment-requires-clause-claimed : goal.pass_segment-requires-clause-claimed
