@@ -26,7 +26,7 @@ left_within text units e h = by e.evaluation h.within
   where
     by : (o : Option Levels) → IsWithinText text e.parts units o → left_on units o ≤ units
     by None w = omega arith
-    by (Some v) w = w.3.within
+    by (Some v) w = w.4
 
 pub ready_within : (ds : Documents) (units : ℕ) (e : Evaluator) → IsReady ds units e → left_on units e.evaluation ≤ units
 ready_within [] units e h = rw h.rest (omega arith)
