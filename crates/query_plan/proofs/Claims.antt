@@ -1,12 +1,16 @@
 -- Slots with numbers in order are found.
-use Rattle.std.proofs.Common.{◌≡◌, ℕ, ◌+◌, ◌<◌, ◌≤◌, Bool, true, false, List, [], ◌∷◌, ◌++◌, map, Option, Some, None, refl, ◌∙◌, arith, cond, nat_eq}
+use Rattle.std.proofs.Common.{◌≡◌, ℕ, ◌+◌, ◌<◌, ◌≤◌, Bool, true, false, List, [], ◌∷◌, ◌++◌, map, length, drop, get_or, Option, Some, None, refl, ap, ◌∙◌, arith, cond, nat_eq}
 use Rattle.std.specs.Prelude.{IsTrue}
 use Rattle.std.proofs.lemmas.Bool.Decides.{nat_tests}
+use Rattle.std.proofs.lemmas.List.{drop_more}
 use Rattle.path_grammar.specs.Tree.{Expr}
 use Rattle.decisions.specs.Told.{is_told_on}
 use Rattle.decisions.specs.declared.scale.Scale.{Scale}
-use Rattle.query_plan.specs.Planned.{Claimed, Claims, no_claims, claim, a_condition, told, both, With, look, or_else, then_numbered, numbered, all_claims}
+use Rattle.query_plan.specs.Planned.{Claimed, Claims, no_claims, claim, a_condition, told, both, With, look, or_else, then_numbered, numbered, all_claims, claims_of, condition_view, selection_view, stage_view}
 use Rattle.query_plan.specs.Slots.{AreClaimed}
+use Rattle.query_plan.specs.declared.plan.Condition.{Condition}
+use Rattle.query_plan.specs.declared.plan.Selection.{Selection}
+use Rattle.query_plan.specs.declared.plan.Stage.{Stage}
 
 record Bounds (c : Claims) (k m : ℕ) : Type 0 where
   ordered : k ≤ m
@@ -108,3 +112,19 @@ numbered_push f (x ∷ xs) one k m n h g =
 -- a condition that is kept has the slot behind those in it
 pub numbered_kept : (c : Claims) (s : Scale) (e : Expr) (k m : ℕ) → IsTrue (is_told_on s e) → numbered c k ≡ Some m → numbered (both c (both (told s e) (claim m (a_condition s e)))) k ≡ Some (m + 1)
 numbered_kept c s e k m h n = let t : nat_eq m m ≡ true = grind (arith, nat_tests) in rw (n, h, t) refl
+
+-- ---- Parts of a list
+
+pub operand_claims : (es : List Condition) (i : ℕ) (d : Condition) → i < length es
+    → all_claims (map condition_view (drop i es)) ≡ both (condition_view (get_or es i d)).claims (all_claims (map condition_view (drop (i + 1) es)))
+operand_claims es i d lt = ap (λ (xs : List Condition). all_claims (map condition_view xs)) (drop_more es i d lt)
+
+pub selection_claims : (ss : List Selection) (i : ℕ) (d : Selection) → i < length ss
+    → all_claims (map selection_view (drop i ss)) ≡ both (selection_view (get_or ss i d)).claims (all_claims (map selection_view (drop (i + 1) ss)))
+selection_claims ss i d lt = ap (λ (xs : List Selection). all_claims (map selection_view xs)) (drop_more ss i d lt)
+
+pub stages_claims : (ss : List Stage) (i : ℕ) (d : Stage) → i < length ss
+    → claims_of (drop i ss) ≡ both (stage_view (get_or ss i d)).claims (claims_of (drop (i + 1) ss))
+stages_claims ss i d lt = ap (λ (xs : List Stage). claims_of xs) (drop_more ss i d lt)
+
+pub ruleset parts_claimed = (operand_claims, selection_claims, stages_claims)

@@ -17,9 +17,9 @@ use Rattle.node_lists.specs.declared.links.Link.{Link}
 
 -- ---- Slots
 
--- what has a slot: a query from the root, and a condition whose truths are kept
+-- what has a slot: a query, in two parts, and a condition whose truths are kept
 pub data Claimed : Type 0 where
-  a_query : (query : Segments) → Claimed
+  a_query : (from_root : Bool) (before behind : List OneSegment) → Claimed
   a_condition : (scale : Scale) (condition : tree.Expr) → Claimed
 
 -- which slots these have, and which conditions are told on their scales; a tree, so that the facts of two parts are a pair
@@ -41,14 +41,14 @@ abbrev pub all_claims : {A : Type 0} → List (With A) → Claims
 all_claims [] = no_claims
 all_claims (x ∷ xs) = both x.claims (all_claims xs)
 
--- a query with a slot begins at the root
-abbrev pub is_rooted : Option ℕ → Bool
-is_rooted None = false
-is_rooted (Some k) = true
+-- a query without a slot begins at the child
+abbrev pub is_rooted : Option ℕ → (from_root : Bool) → Bool
+is_rooted None from_root = false
+is_rooted (Some k) from_root = from_root
 
-abbrev pub own_claim : Option ℕ → Segments → Claims
-own_claim None q = no_claims
-own_claim (Some k) q = claim k (a_query q)
+abbrev pub own_claim : Option ℕ → (from_root : Bool) (before behind : List OneSegment) → Claims
+own_claim None from_root before behind = no_claims
+own_claim (Some k) from_root before behind = claim k (a_query from_root before behind)
 
 -- ---- Lists of operands in parts
 
@@ -140,8 +140,8 @@ module _ where
 
   abbrev pub nested_step : Layer Nested-F → With tree.Nested
   nested_step q = record {
-    tree = tree.nested (is_rooted q.slot) (segments_of (map link_view q.links.items ++ map tree_in q.stages.items));
-    claims = both (own_claim q.slot (segments_of (map link_view q.links.items ++ map tree_in q.stages.items))) (all_claims q.stages.items);
+    tree = tree.nested (is_rooted q.slot q.from_root) (segments_of (map link_view q.links.items ++ map tree_in q.stages.items));
+    claims = both (own_claim q.slot q.from_root (map link_view q.links.items) (map tree_in q.stages.items)) (all_claims q.stages.items);
   }
 
   abbrev pub stage_step : Layer Stage-F → With OneSegment

@@ -1,9 +1,9 @@
 //! A plan made of a query.
 
-ghost use Rattle.std.specs.Prelude.{◌≡◌, ℕ, ◌<◌, ◌≤◌, ◌++◌, length, drop, map, Some, IfOk, IfSome, IsTrue, codes};
+ghost use Rattle.std.specs.Prelude.{◌≡◌, ℕ, List, ◌<◌, ◌≤◌, ◌++◌, length, drop, map, Some, IfOk, IfSome, IsTrue, codes};
 ghost use Rattle.std.specs.List.{All};
 ghost use Rattle.path_grammar.specs.Tree as tree;
-ghost use Rattle.path_grammar.specs.Tree.{Segments, exprs_of};
+ghost use Rattle.path_grammar.specs.Tree.{OneSegment, exprs_of};
 ghost use Rattle.path_grammar.specs.View.{segments_view, selectors_view, segment_view, selector_view, expr_view, nested_view as query_tree, comparable_view, call_view, argument_view, literal_view, query_view};
 ghost use Rattle.path_types.specs.Validity.{is_literal, is_valid, are_valid, is_valid_selector, is_valid_expr, are_valid_exprs, is_valid_nested, is_valid_comparable, is_valid_call, is_valid_argument};
 ghost use Rattle.decisions.specs.Tree.{listed};
@@ -54,14 +54,27 @@ fn constant(alloc: Global, written: &Literal) -> Result<Constant, AllocError>
     Ok(Constant { literal })
 }
 
-// The slot of a query from the root: the next number.
-pub fn slot(from_root: bool, next: &mut u32) -> Result<Option<u32>, AllocError>
-    ensures rooted { IfOk result (λ slot. is_rooted slot ≡ from_root) }
-    ensures numbered { IfOk result (λ slot. (q : Segments) → numbered (own_claim slot q) next.old ≡ Some next.new) }
+// The slot of a query from the root, or of one with segments behind its names and indexes.
+pub fn slot(from_root: bool, has_stages: bool, next: &mut u32) -> Result<Option<u32>, AllocError>
+    ensures rooted { IfOk result (λ slot. is_rooted slot from_root ≡ from_root) }
+    ensures numbered { IfOk result (λ slot. (before behind : List OneSegment) → numbered (own_claim slot from_root before behind) next.old ≡ Some next.new) }
 {
-    if !from_root {
-        return Ok(None);
+    if from_root {
+        return next_slot(from_root, next);
     }
+    if has_stages {
+        next_slot(from_root, next)
+    } else {
+        Ok(None)
+    }
+}
+
+// The slot with the next number.
+fn next_slot(from_root: bool, next: &mut u32) -> Result<Option<u32>, AllocError>
+    ensures rooted { IfOk result (λ slot. is_rooted slot from_root ≡ from_root) }
+    ensures numbered { IfOk result (λ slot. (before behind : List OneSegment) → numbered (own_claim slot from_root before behind) next.old ≡ Some next.new) }
+{
+    let _ = from_root;
     let slot = *next;
     match slot.checked_add(1) {
         None => Err(AllocError),
@@ -183,11 +196,13 @@ fn nested(alloc: Global, query: &SubQuery, next: &mut u32) -> Result<Nested, All
     ensures same { IfOk result (λ made. (nested_view made).tree ≡ query_tree query.now) }
     ensures numbered { IfOk result (λ made. numbered (nested_view made).claims next.old ≡ Some next.new) }
 {
-    let slot = slot(query.from_root, next)?;
     let links = links(alloc, &query.segments)?;
+    let has_stages = links.len() < query.segments.len();
+    let slot = slot(query.from_root, has_stages, next)?;
     let stages = stages(alloc, &query.segments, links.len(), next)?;
     Ok(Nested {
         slot,
+        from_root: query.from_root,
         links,
         stages,
     })

@@ -61,8 +61,10 @@ pub enum Operand {
 #[derive(Drop)]
 #[cycle(plan)]
 pub struct Nested {
-    /// For a query from the root the number of its slot.
+    /// The number of its slot, where it begins at the root or has segments behind.
     pub slot: Option<u32>,
+    /// Whether it begins at the root. One without a slot begins at the child.
+    pub from_root: bool,
     pub links: Vec<Link>,
     pub stages: Vec<Stage>,
 }

@@ -30,10 +30,11 @@ fn short_nested(
     if links.len() != query.segments.len() {
         return Ok(None);
     }
-    let slot = slot(query.from_root, next)?;
+    let slot = slot(query.from_root, false, next)?;
     let stages = Vec::new(alloc);
     Ok(Some(Nested {
         slot,
+        from_root: query.from_root,
         links,
         stages,
     }))

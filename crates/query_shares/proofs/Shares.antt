@@ -1,74 +1,29 @@
 -- An evaluation in shares, from its beginning to its end.
-use Rattle.std.proofs.Common.{◌≡◌, ℕ, ◌+◌, ◌<◌, ◌≤◌, true, false, List, [], ◌∷◌, refl, sym, ap, ◌∙◌, subst, arith, Option, Some, None, Result, Ok, Err}
+use Rattle.std.proofs.Common.{◌≡◌, ℕ, ◌+◌, ◌<◌, ◌≤◌, List, [], ◌∷◌, refl, sym, ap, ◌∙◌, subst, arith, Option, Some, None, Result, Ok, Err}
 use Rattle.json_tape.specs.Document.{Doc, IsDocument, node_at, tree_of, count}
 use Rattle.json_tape.specs.Grammar.{IsText}
 use Rattle.json_tape.specs.Tape.{Top, tape_of}
 use Rattle.json_tape.specs.Tree.{Tree}
 use Rattle.json_tape.specs.Verdict.{IsAccepted}
 use Rattle.tape_select.specs.Charge.{charge_from}
-use Rattle.query_shares.specs.Evaluators.{LeadsOn, Advances, Ends, IsWithin, IsWithinText, left_on}
+use Rattle.query_shares.specs.Evaluators.{Advances, Ends, IsWithin, IsWithinText, left_on}
+use Rattle.query_shares.specs.Levels.{IsOnWay}
+use Rattle.query_shares.specs.declared.levels.Levels.{Levels}
 use Rattle.tape_select.specs.Evaluation.{evaluated}
-use Rattle.tape_select.specs.Memo.{Keeps}
 use Rattle.tape_select.specs.Nodelists.{nodes_of}
-use Rattle.query_shares.specs.Passes.{RunsOn, whole_due}
 use Rattle.node_lists.specs.Paying.{Holds, Refuses}
-use Rattle.query_plan.specs.Planned.{query_of, claims_of, numbered}
+use Rattle.query_plan.specs.Planned.{query_of}
 use Rattle.query_plan.specs.declared.plan.Parts.{Parts}
 use Rattle.std.specs.Prelude.{◌^◌, IfSome, MatchResult}
-use Rattle.std.specs.declared.vec.Vec.{Vec}
-use Rattle.std.specs.declared.alloc.Global.{Global}
 use Rattle.json_tape.specs.Nodes.{Node}
-use Rattle.json_text.specs.declared.tape.NodeId.{NodeId}
-use Rattle.tape_select.specs.declared.state.State.{State}
 use Rattle.tape_select.specs.declared.selecting.Selected.{Selected}
-use Rattle.query_shares.specs.declared.passes.Evaluation.{Evaluation}
 use Rattle.node_lists.specs.declared.fault.SelectFault.{SelectFault}
-use Rattle.query_plan.proofs.Claims.{all_claimed}
-use Rattle.node_lists.proofs.Following.{refuses_from}
-use Rattle.query_shares.proofs.Stages.{begins, begins_due, fitting, none_inside}
+use Rattle.query_shares.proofs.Stacks.{spent_is_charged}
 
-pub leads_first : (d : Doc) (plan : Parts) (s : State) (list children out : Vec NodeId Global) → numbered (claims_of plan.stages.items) 0 ≡ Some plan.slots → children.items ≡ [] → out.items ≡ []
-    → Holds d list.items (node_at d 0 ∷ []) → Keeps d (claims_of plan.stages.items) s
-    → LeadsOn d plan s.meter.left (record { state = s; stage = 0; list = list; place = 0; visit = 0; end = 0; selector = 0; asked = 0; children = children; child = 0; out = out })
-leads_first d plan s list children out n c o h k =
-    let r = node_at d 0 in
-    let b = begins_due r plan.stages.items (r ∷ []) in
-    record {
-      under_way = record {
-        within = omega arith;
-        fits = fitting plan.stages.items (record { state = s; stage = 0; list = list; place = 0; visit = 0; end = 0; selector = 0; asked = 0; children = children; child = 0; out = out }) refl;
-        claimed = all_claimed (claims_of plan.stages.items) plan.slots n;
-        sound = record { kept = k; within = omega arith; listed = h.inside; end = omega arith; child = omega arith; children = rw c (none_inside d); sound = rw o (none_inside d) };
-      };
-      ahead = rw (c, o, h.same) (begins r plan.stages.items (r ∷ []));
-      due = rw (c, o, h.same) (omega (arith, b));
-      within = omega arith;
-    }
-
-pub nodes_found : (d : Doc) (plan : Parts) (units share : ℕ) (root : Node) (some : Option Selected) (before after : Option Evaluation) → node_at d 0 ≡ root → Advances d plan units share some before after
+pub nodes_found : (d : Doc) (plan : Parts) (units share : ℕ) (root : Node) (some : Option Selected) (before after : Option Levels) → node_at d 0 ≡ root → Advances d plan units share some before after
     → IfSome some (λ s. nodes_of d s.nodes.items ≡ evaluated root (query_of plan.stages.items) (root ∷ []))
 nodes_found d plan units share root None before after e h = tt
 nodes_found d plan units share root (Some s) before after e h = rw (← e) h.nodes.same
-
-pub leads_further : (d : Doc) (plan : Parts) (units : ℕ) (w v : Evaluation) → LeadsOn d plan units w → RunsOn d plan false w v → v.state.meter.left ≤ w.state.meter.left → LeadsOn d plan units v
-leads_further d plan units w v l r less =
-    let p = r.ran.2 in
-    let q = l.due in
-    let n = l.within in
-    record { under_way = r.ran.0; ahead = r.ran.1 ∙ l.ahead; due = omega (arith, p, q); within = omega (arith, n, less) }
-
-pub leads_to_end : (d : Doc) (plan : Parts) (units : ℕ) (w v : Evaluation) → LeadsOn d plan units w → RunsOn d plan true w v
-    → Holds d v.list.items (evaluated (node_at d 0) (query_of plan.stages.items) (node_at d 0 ∷ [])) × (v.state.meter.left + charge_from (node_at d 0) (query_of plan.stages.items) (node_at d 0 ∷ []) ≡ units)
-leads_to_end d plan units w v l r =
-    let p = r.ran.1 in
-    let q = l.due in
-    (record { same = r.ran.0 ∙ l.ahead; inside = r.listed }, omega (arith, p, q))
-
-pub leads_to_refusal : (d : Doc) (plan : Parts) (units : ℕ) (w : Evaluation) (e : SelectFault) → LeadsOn d plan units w → Refuses (whole_due d plan w) w.state.meter.left e
-    → Refuses (charge_from (node_at d 0) (query_of plan.stages.items) (node_at d 0 ∷ [])) units e
-leads_to_refusal d plan units w e l h =
-    let q = l.due in
-    refuses_from (whole_due d plan w) w.state.meter.left (charge_from (node_at d 0) (query_of plan.stages.items) (node_at d 0 ∷ [])) units e (λ lt. omega (arith, q, lt)) h
 
 -- ---- A document with the same text
 
@@ -82,23 +37,23 @@ one_document one d e a b h =
     let entries : e.entries ≡ d.entries = b.tape ∙ ap (λ t. tape_of t 0 Top 0) tree ∙ sym a.tape in
     λ i. record { text = h i; entries = entries i }
 
-pub within_here : OneTree → (d : Doc) (plan : Parts) (units : ℕ) (o : Option Evaluation) → IsDocument d → IsWithinText d.text plan units o → IsWithin d plan units o
+pub within_here : OneTree → (d : Doc) (plan : Parts) (units : ℕ) (o : Option Levels) → IsDocument d → IsWithinText d.text plan units o → IsWithin d plan units o
 within_here one d plan units None a h = tt
-within_here one d plan units (Some w) a h = subst (λ e. LeadsOn e plan units w) (one_document one d h.0 a h.1 h.2) h.3
+within_here one d plan units (Some w) a h = subst (λ e. IsOnWay e plan units w × (w.top.state.meter.left ≤ units)) (one_document one d h.0 a h.1 h.2) (h.3, h.4)
 
-pub within_text : (d : Doc) (plan : Parts) (units : ℕ) (o : Option Evaluation) → IsDocument d → IsWithin d plan units o → IsWithinText d.text plan units o
+pub within_text : (d : Doc) (plan : Parts) (units : ℕ) (o : Option Levels) → IsDocument d → IsWithin d plan units o → IsWithinText d.text plan units o
 within_text d plan units None a h = tt
-within_text d plan units (Some w) a h = (d, a, refl, h)
+within_text d plan units (Some w) a h = (d, a, refl, h.0, h.1)
 
-pub within_after : (d : Doc) (plan : Parts) (units share : ℕ) (some : Option Selected) (before after : Option Evaluation) → Advances d plan units share some before after → IsWithin d plan units after
+pub within_after : (d : Doc) (plan : Parts) (units share : ℕ) (some : Option Selected) (before after : Option Levels) → Advances d plan units share some before after → IsWithin d plan units after
 within_after d plan units share None before after h = h.0
 within_after d plan units share (Some s) before after h = rw h.rest tt
 
 -- what is spent is charged
-pub charged : (d : Doc) (plan : Parts) (units : ℕ) (root : Node) (o : Option Evaluation) → node_at d 0 ≡ root → IsWithin d plan units o
+pub charged : (d : Doc) (plan : Parts) (units : ℕ) (root : Node) (o : Option Levels) → node_at d 0 ≡ root → IsWithin d plan units o
     → units ≤ left_on units o + charge_from root (query_of plan.stages.items) (root ∷ [])
 charged d plan units root None e h = omega arith
-charged d plan units root (Some w) e h = let due = rw e at h.due in omega (arith, due)
+charged d plan units root (Some w) e h = rw e at (spent_is_charged d plan units w.below.items w.origin w.top.at w.top.state.meter.left h.0.stack)
 
 pub document_is : (d : Doc) → IsAccepted d.text (tree_of d) → d.entries ≡ tape_of (tree_of d) 0 Top 0 → count d < 2 ^ 31 → IsDocument d
 unfolding count

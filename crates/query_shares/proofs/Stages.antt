@@ -3,7 +3,7 @@ use Rattle.std.proofs.Common.{◌≡◌, ℕ, zero, suc, ◌+◌, ◌-◌, ◌<�
 use Rattle.std.specs.Prelude.{flat_map, IfSome, MatchOption}
 use Rattle.std.specs.Prelude.{filter as keep}
 use Rattle.std.proofs.lemmas.List.{length-append, length-drop, drop_more, drop_all, take_all}
-use Rattle.path_grammar.specs.Tree.{OneSegment, Selectors, Selector, name, wild, index, filter, slice, Expr, no_selectors, selector, selectors_of}
+use Rattle.path_grammar.specs.Tree.{OneSegment, segments_of, Selectors, Selector, name, wild, index, filter, slice, Expr, no_selectors, selector, selectors_of}
 use Rattle.json_tape.specs.Nodes.{Node, children}
 use Rattle.json_tape.specs.Document.{Doc, node_at, seen, counting}
 use Rattle.json_text.specs.declared.tape.NodeId.{NodeId}
@@ -14,28 +14,28 @@ use Rattle.node_lists.specs.Nodelists.{nodes_of, nodes_between}
 use Rattle.node_lists.specs.Paying.{Inside, Refuses}
 use Rattle.node_lists.specs.declared.fault.SelectFault.{SelectFault}
 use Rattle.node_lists.proofs.Following.{refuses_from}
-use Rattle.query_shares.specs.Passes.{Position, Same, ahead, asked, beginning, behind, condition_at, condition_in, due, kept, position, visited, visits_due, all_ahead, all_due, Fits, Gives, GoesOn, IsAsked, IsSound, IsThrough, first_condition}
+use Rattle.query_shares.specs.Passes.{Position, Same, ahead, asked, beginning, behind, condition_at, condition_in, due, kept, position, visited, visits_due, all_ahead, all_due, segments_in, whole_ahead, whole_due, Fits, Gives, GoesOn, IsAsked, IsPlaced, IsSound, IsThrough, IsUnderWay, Ran, Remains, first_condition}
+use Rattle.query_shares.specs.declared.passes.Cursor.{Cursor}
+use Rattle.query_shares.specs.declared.passes.Reached.TheVariants.{End}
 use Rattle.query_plan.specs.Slots.{AreClaimed}
 use Rattle.query_shares.specs.declared.passes.Evaluation.{Evaluation}
 use Rattle.query_plan.specs.declared.plan.Parts.{Parts}
-use Rattle.query_plan.specs.Planned.{Claims, trees, all_claims, claims_of, query_of, condition_view, selection_view, stage_view}
+use Rattle.query_plan.specs.Planned.{Claims, trees, all_claims, claims_of, condition_view, selection_view, stage_view}
 use Rattle.query_plan.specs.declared.plan.Condition.{Condition}
 use Rattle.query_plan.specs.declared.plan.Selection.{Selection}
 use Rattle.query_plan.specs.declared.plan.Stage.{Stage}
 use Rattle.node_lists.proofs.Adding.{append_nil, has_none, flat_more, sum_more}
 use Rattle.query_plan.proofs.LoneLinks.{stage_is}
+use Rattle.tape_select.proofs.Awaits.{awaits_behind}
 use Rattle.tape_select.proofs.Filtering.{extra_linked}
+use Rattle.tape_select.specs.Awaiting.{AwaitsSome}
+use Rattle.query_plan.specs.declared.plan.Nested.{Nested}
 
 pub ruleset each_input = (append_nil, flat_more, sum_more, append_assoc, has_none)
 
 pub ruleset at_once = (extra_linked)
 
 -- ---- Lists
-
-pub asked_some : (f : Node → ℕ) (d : Doc) (ids : List NodeId) (i : ℕ) → i < length ids → 1 ≤ total_of (λ n. 1 + f n) (nodes_of d (drop i ids))
-asked_some f d [] i lt = absurd (omega arith)
-asked_some f d (x ∷ xs) zero lt = omega arith
-asked_some f d (x ∷ xs) (suc i) lt = asked_some f d xs i (omega arith)
 
 pub none_inside : (d : Doc) → Inside d []
 none_inside d = λ k x lt. absurd (omega (arith, lt))
@@ -49,6 +49,11 @@ none_left d n ids h = ap (nodes_of d) (drop_all n ids h)
 
 pub some_left : (d : Doc) (n : ℕ) (ids : List NodeId) (id : NodeId) → n < length ids → id ≡ get_or ids n id → nodes_of d (drop n ids) ≡ node_at d id.0 ∷ nodes_of d (drop (n + 1) ids)
 some_left d n ids id lt e = ap (nodes_of d) (drop_more ids n id lt ∙ ap (λ (x : NodeId). x ∷ drop (n + 1) ids) (sym e))
+
+pub asked_some : (f : Node → ℕ) (d : Doc) (ids : List NodeId) (i : ℕ) (k : NodeId) → i < length ids → 1 + f (node_at d (get_or ids i k).0) ≤ total_of (λ n. 1 + f n) (nodes_of d (drop i ids))
+asked_some f d [] i k lt = absurd (omega arith)
+asked_some f d (x ∷ xs) zero k lt = omega arith
+asked_some f d (x ∷ xs) (suc i) k lt = asked_some f d xs i k (omega arith)
 
 pub between_none : (d : Doc) (k e : ℕ) → e ≤ k → nodes_between d k e ≡ []
 between_none d k e h = let z : e - k ≡ 0 = omega arith in rw z refl
@@ -181,6 +186,14 @@ module _ (root : Node) (s : OneSegment) (p q : Position) (old new : ℕ) where
         paid = rw (a, k, v, l, e, asked_by root c p.asking, asked_by root c q.asking) (omega (arith, m));
       }
 
+  -- one child is asked
+  pub asks_one : (c : Expr) (n : Node) → condition_at p.asks s.selectors ≡ Some c → p.asking ≡ n ∷ q.asking → q.asks ≡ p.asks → q.passed ≡ p.passed → q.visits ≡ p.visits → q.left ≡ p.left
+      → q.out ≡ p.out ++ keep (holds root c) (n ∷ []) → new + (1 + charge_expr root c n) ≡ old → Same root s p q old new
+  asks_one c n e k a j v l o m =
+      asks c e a j v l
+      (rw (k, o) (append_assoc p.out (keep (holds root c) (n ∷ [])) (keep (holds root c) q.asking) ∙ ap (λ ns. p.out ++ ns) (sym (keep_append (holds root c) (n ∷ []) q.asking))))
+      (rw k (omega (arith, m)))
+
   -- they are passed by, where no filter asks them
   pub drops : condition_at p.asks s.selectors ≡ None → q.asking ≡ [] → q.passed ≡ p.passed → q.visits ≡ p.visits → q.left ≡ p.left → q.out ≡ p.out → new ≡ old → Same root s p q old new
   drops e a k v l o m = record { same = rw (a, k, v, l, o, e, kept_none root p.asking) refl; paid = rw (a, k, v, l, e, asked_none root p.asking) (omega (arith, m)) }
@@ -256,6 +269,10 @@ module _ (root : Node) (s : OneSegment) (p q : Position) (old new : ℕ) where
           parts : (xs ys zs us : List Node) → xs ++ ((ys ++ zs) ++ us) ≡ ((xs ++ ys) ++ zs) ++ us
           parts xs ys zs us = rw (append_assoc xs ys zs, append_assoc xs (ys ++ zs) us) refl
 
+-- asking the next child is a part of what is due
+pub asking_due : (root : Node) (s : OneSegment) (p : Position) (c : Expr) (n : Node) (ns : List Node) → condition_at p.asks s.selectors ≡ Some c → p.asking ≡ n ∷ ns → 1 + charge_expr root c n ≤ due root s p
+asking_due root s p c n ns e k = rw (k, e) (omega arith)
+
 -- nothing is ahead
 pub through : (root : Node) (s : OneSegment) (p : Position) → p.asking ≡ [] → p.visits ≡ [] → p.left ≡ [] → (ahead root s p ≡ p.out) × (due root s p ≡ 0)
 through root s p a v l = (rw (a, v, l) (append_nil p.out), rw (a, v, l) refl)
@@ -269,73 +286,178 @@ module _ (d : Doc) (plan : Parts) (s : OneSegment) where
 
   pub goes_further : (u v w : Evaluation) → GoesOn d plan s u v → GoesOn d plan s v w → GoesOn d plan s u w
   goes_further u v w h k = record {
-    goes = further (node_at d 0) s (position d u) (position d v) (position d w) u.state.meter.left v.state.meter.left w.state.meter.left h.goes k.goes;
+    goes = further (node_at d 0) s (position d u.at) (position d v.at) (position d w.at) u.state.meter.left v.state.meter.left w.state.meter.left h.goes k.goes;
     stage = k.stage ∙ h.stage;
     sound = k.sound;
   }
 
-  pub refuses_further : (u v : Evaluation) (e : SelectFault) → GoesOn d plan s u v → Refuses (due (node_at d 0) s (position d v)) v.state.meter.left e → Refuses (due (node_at d 0) s (position d u)) u.state.meter.left e
+  pub refuses_further : (u v : Evaluation) (e : SelectFault) → GoesOn d plan s u v → Refuses (due (node_at d 0) s (position d v.at)) v.state.meter.left e → Refuses (due (node_at d 0) s (position d u.at)) u.state.meter.left e
   refuses_further u v e h k =
       let m = h.goes.paid in
-      refuses_from (due (node_at d 0) s (position d v)) v.state.meter.left (due (node_at d 0) s (position d u)) u.state.meter.left e (λ l. omega (arith, m, l)) k
+      refuses_from (due (node_at d 0) s (position d v.at)) v.state.meter.left (due (node_at d 0) s (position d u.at)) u.state.meter.left e (λ l. omega (arith, m, l)) k
 
   -- what was selected is turned over
-  pub turned : (u v w : Evaluation) → GoesOn d plan s u v → IsThrough v → w.list.items ≡ v.out.items → position d w ≡ beginning (nodes_of d v.out.items) → w.place ≡ 0 → w.state ≡ v.state → w.stage ≡ v.stage + 1
+  pub turned : (u v w : Evaluation) → GoesOn d plan s u v → IsThrough v → w.at.list.items ≡ v.at.out.items → position d w.at ≡ beginning (nodes_of d v.at.out.items) → w.at.place ≡ 0 → w.state ≡ v.state → w.at.stage ≡ v.at.stage
       → IsSound d plan w → Gives d plan s u w
   turned u v w h t l b z e n i =
-      let x = through (node_at d 0) s (position d v) (none_left d v.child v.children.items t.between.asked) (between_none d v.visit v.end t.between.visited) (none_left d v.place v.list.items t.passed) in
+      let x = through (node_at d 0) s (position d v.at) (none_left d v.at.child v.at.children.items t.between.asked) (between_none d v.at.visit v.at.end t.between.visited) (none_left d v.at.place v.at.list.items t.passed) in
       let m = h.goes.paid in
       let k = x.1 in
       record {
-        begins = subst (λ xs. position d w ≡ beginning (nodes_of d xs)) (sym l) b;
+        begins = subst (λ xs. position d w.at ≡ beginning (nodes_of d xs)) (sym l) b;
         given = rw l (sym x.0 ∙ h.goes.same);
         paid = rw e (omega (arith, m, k));
         place = z;
-        stage = n ∙ ap (λ j. j + 1) h.stage;
+        stage = n ∙ h.stage;
         sound = i;
       }
 
 -- ---- All segments
 
 module _ (root : Node) where
-  pub begins : (ss : List Stage) (ns : List Node) → all_ahead root ss (beginning ns) ≡ evaluated root (query_of ss) ns
+  pub begins : (ss : List OneSegment) (ns : List Node) → all_ahead root ss (beginning ns) ≡ evaluated root (segments_of ss) ns
   begins [] ns = refl
   begins (s ∷ ss) ns = refl
 
-  pub begins_due : (ss : List Stage) (ns : List Node) → all_due root ss (beginning ns) ≡ charge_from root (query_of ss) ns
+  pub begins_due : (ss : List OneSegment) (ns : List Node) → all_due root ss (beginning ns) ≡ charge_from root (segments_of ss) ns
   begins_due [] ns = refl
   begins_due (s ∷ ss) ns = omega arith
 
-stages_more : (ss : List Stage) (i : ℕ) (item : Stage) → i < length ss → item ≡ get_or ss i item → drop i ss ≡ item ∷ drop (i + 1) ss
-stages_more ss i item lt e = drop_more ss i item lt ∙ ap (λ (x : Stage). x ∷ drop (i + 1) ss) (sym e)
+  at_end : (ss : List OneSegment) (p : Position) → ss ≡ [] → (all_ahead root ss p ≡ p.left) × (all_due root ss p ≡ 0)
+  at_end ss p e = rw e (refl, refl)
 
-pub fitting : (rest : List Stage) (w : Evaluation) → w.place ≡ 0 → Fits rest w
-fitting [] w p = p
-fitting (x ∷ rest) w p = tt
+  in_it : (ss : List OneSegment) (x : OneSegment) (rest : List OneSegment) (p : Position) → ss ≡ x ∷ rest
+      → (all_ahead root ss p ≡ evaluated root (segments_of rest) (ahead root x p)) × (all_due root ss p ≡ due root x p + charge_from root (segments_of rest) (ahead root x p))
+  in_it ss x rest p e = rw e (refl, refl)
 
--- behind a segment that was passed, the others are ahead
-pub record Behind (d : Doc) (plan : Parts) (ss rest : List Stage) (before after : Evaluation) : Type 0 where
-  pub same : all_ahead (node_at d 0) rest (position d after) ≡ all_ahead (node_at d 0) ss (position d before)
-  pub paid : after.state.meter.left + all_due (node_at d 0) ss (position d before) ≡ before.state.meter.left + all_due (node_at d 0) rest (position d after)
-  pub fits : Fits rest after
-  pub claimed : AreClaimed (claims_of plan.stages.items) (claims_of rest)
+-- the segment in turn, and those behind it
+pub segments_more : (ss : List Stage) (k : ℕ) (item : Stage) → k < length ss → item ≡ get_or ss k item → drop k (segments_in ss) ≡ (stage_view item).tree ∷ drop (k + 1) (segments_in ss)
+segments_more [] k item lt e = absurd (omega arith)
+segments_more (s ∷ ss) zero item lt e = ap (λ (x : Stage). (stage_view x).tree ∷ segments_in ss) (sym e)
+segments_more (s ∷ ss) (suc k) item lt e = let n : suc k + 1 ≡ suc (k + 1) = omega arith in rw n (segments_more ss k item (omega arith) e)
 
-behind_one : (d : Doc) (plan : Parts) (s : Stage) (rest : List Stage) (before after : Evaluation) → AreClaimed (claims_of plan.stages.items) (claims_of (s ∷ rest))
-    → Gives d plan (stage_view s).tree before after → Behind d plan (s ∷ rest) rest before after
-behind_one d plan s rest before after c g =
+pub claimed_stage : (t : Claims) (ss : List Stage) (k : ℕ) (item : Stage) → k < length ss → item ≡ get_or ss k item → AreClaimed t (claims_of ss) → AreClaimed t (stage_view item).claims
+claimed_stage t [] k item lt e h = absurd (omega arith)
+claimed_stage t (s ∷ ss) zero item lt e h = subst (λ x. AreClaimed t (stage_view x).claims) (sym e) h.0
+claimed_stage t (s ∷ ss) (suc k) item lt e h = claimed_stage t ss k item (omega arith) e h.1
+
+segment_total : (ss : List Stage) → length (segments_in ss) ≡ length ss
+segment_total [] = refl
+segment_total (s ∷ ss) = ap suc (segment_total ss)
+
+-- an item behind so many
+pub behind_item : (ss : List Stage) (k i : ℕ) (item : Stage) → get_or (drop k ss) i item ≡ get_or ss (k + i) item
+behind_item ss zero i item = let n : 0 + i ≡ i = omega arith in rw n refl
+behind_item [] (suc k) i item = refl
+behind_item (s ∷ ss) (suc k) i item = let n : suc k + i ≡ suc (k + i) = omega arith in rw n (behind_item ss k i item)
+
+-- the stage in turn, where so many are passed of those that were ahead
+pub record InTurn (ss : List Stage) (k : ℕ) (item : Stage) : Type 0 where
+  pub within : k < length ss
+  pub is : item ≡ get_or ss k item
+
+pub in_turn : (ss : List Stage) (k i j : ℕ) (item : Stage) → j ≡ k + i → i < length (drop k ss) → item ≡ get_or (drop k ss) i item → InTurn ss j item
+in_turn ss k i j item e lt h = let n = length-drop k ss in record { within = omega (arith, e, n, lt); is = rw e (h ∙ behind_item ss k i item) }
+
+pub fitting : (rest : List OneSegment) (c : Cursor) → c.place ≡ 0 → Fits rest c
+fitting [] c p = p
+fitting (x ∷ rest) c p = tt
+
+fits_more : (ss : List OneSegment) (x : OneSegment) (rest : List OneSegment) (c : Cursor) → ss ≡ x ∷ rest → Fits ss c
+fits_more ss x rest c e = rw e tt
+
+module _ (d : Doc) (plan : Parts) (ss : List Stage) where
+  pub remains_first : (u : Evaluation) → IsUnderWay d (segments_in ss) u.at → Remains d (segments_in ss) u u
+  remains_first u h = record { under_way = h; ahead = refl; due = refl }
+
+  pub remains_further : (u v w : Evaluation) → Remains d (segments_in ss) u v → Remains d (segments_in ss) v w → Remains d (segments_in ss) u w
+  remains_further u v w h k = let m = h.due in let n = k.due in record { under_way = k.under_way; ahead = k.ahead ∙ h.ahead; due = omega (arith, m, n) }
+
+  module _ (item : Stage) (u v : Evaluation) (t : InTurn ss u.at.stage item) where
+    -- within a segment
+    pub remains_in : GoesOn d plan (stage_view item).tree u v → Remains d (segments_in ss) u v
+    remains_in g =
+        let r = node_at d 0 in
+        let s = (stage_view item).tree in
+        let rest = drop (u.at.stage + 1) (segments_in ss) in
+        let more = segments_more ss u.at.stage item t.within t.is in
+        let more_then : drop v.at.stage (segments_in ss) ≡ s ∷ rest = subst (λ k. drop k (segments_in ss) ≡ s ∷ rest) (sym g.stage) more in
+        let a = in_it r (drop u.at.stage (segments_in ss)) s rest (position d u.at) more in
+        let b = in_it r (drop v.at.stage (segments_in ss)) s rest (position d v.at) more_then in
+        let n = ap (λ ns. charge_from r (segments_of rest) ns) g.goes.same in
+        let p = g.goes.paid in
+        let x = a.1 in
+        let y = b.1 in
+        let total = segment_total ss in
+        let within = t.within in
+        let same = g.stage in
+        record {
+          under_way = record { within = omega (arith, total, within, same); fits = fits_more (drop v.at.stage (segments_in ss)) s rest v.at more_then; placed = g.sound.placed };
+          ahead = b.0 ∙ ap (λ ns. evaluated r (segments_of rest) ns) g.goes.same ∙ sym a.0;
+          due = omega (arith, x, y, n, p);
+        }
+
+    -- behind it
+    pub remains_behind : (w : Evaluation) → Gives d plan (stage_view item).tree u v → w.state ≡ v.state → position d w.at ≡ position d v.at → w.at.stage ≡ v.at.stage + 1 → w.at.place ≡ v.at.place → IsPlaced d w.at → Remains d (segments_in ss) u w
+    remains_behind w g e q j z placed =
+        let r = node_at d 0 in
+        let s = (stage_view item).tree in
+        let rest = drop (u.at.stage + 1) (segments_in ss) in
+        let more = segments_more ss u.at.stage item t.within t.is in
+        let next : w.at.stage ≡ u.at.stage + 1 = j ∙ ap (λ k. k + 1) g.stage in
+        let a = in_it r (drop u.at.stage (segments_in ss)) s rest (position d u.at) more in
+        let made = ahead r s (position d u.at) in
+        let at : position d w.at ≡ beginning made = q ∙ g.begins ∙ ap beginning g.given in
+        let ahead_then : whole_ahead d (segments_in ss) w.at ≡ evaluated r (segments_of rest) made = rw (next, at) (begins r rest made) in
+        let due_then : whole_due d (segments_in ss) w.at ≡ charge_from r (segments_of rest) made = rw (next, at) (begins_due r rest made) in
+        let p = g.paid in
+        let x = a.1 in
+        let left = ap (λ s. s.meter.left) e in
+        let total = segment_total ss in
+        let within = t.within in
+        record {
+          under_way = record { within = omega (arith, total, within, next); fits = fitting (drop w.at.stage (segments_in ss)) w.at (z ∙ g.place); placed = placed };
+          ahead = ahead_then ∙ sym a.0;
+          due = omega (arith, x, due_then, p, left);
+        }
+
+    pub refuses_in : (e : SelectFault) → Refuses (due (node_at d 0) (stage_view item).tree (position d u.at)) u.state.meter.left e → Refuses (whole_due d (segments_in ss) u.at) u.state.meter.left e
+    refuses_in e h =
+        let r = node_at d 0 in
+        let s = (stage_view item).tree in
+        let more = segments_more ss u.at.stage item t.within t.is in
+        let x = (in_it r (drop u.at.stage (segments_in ss)) s (drop (u.at.stage + 1) (segments_in ss)) (position d u.at) more).1 in
+        refuses_from (due r s (position d u.at)) u.state.meter.left (whole_due d (segments_in ss) u.at) u.state.meter.left e (λ lt. omega (arith, x, lt)) h
+
+  pub refuses_then : (u v : Evaluation) (e : SelectFault) → Remains d (segments_in ss) u v → Refuses (whole_due d (segments_in ss) v.at) v.state.meter.left e → Refuses (whole_due d (segments_in ss) u.at) u.state.meter.left e
+  refuses_then u v e h k =
+      let m = h.due in
+      refuses_from (whole_due d (segments_in ss) v.at) v.state.meter.left (whole_due d (segments_in ss) u.at) u.state.meter.left e (λ l. omega (arith, m, l)) k
+
+  -- all segments are passed
+  pub ended : (u v : Evaluation) → length ss ≤ v.at.stage → Remains d (segments_in ss) u v → Ran End d (segments_in ss) u v
+  ended u v h r =
+      let total = segment_total ss in
+      let none = drop_all v.at.stage (segments_in ss) (omega (arith, total, h)) in
+      let x = at_end (node_at d 0) (drop v.at.stage (segments_in ss)) (position d v.at) none in
+      let place : v.at.place ≡ 0 = subst (λ xs. Fits xs v.at) none r.under_way.fits in
+      let all : position_left d v.at ≡ nodes_of d v.at.list.items = ap (λ k. nodes_of d (drop k v.at.list.items)) place in
+      let y = x.1 in
+      let m = r.due in
+      (record { same = sym all ∙ sym x.0 ∙ r.ahead; inside = r.under_way.placed.listed }, omega (arith, y, m))
+    where
+      position_left : Doc → Cursor → List Node
+      position_left d c = nodes_of d (drop c.place c.list.items)
+
+-- what is awaited for the next child
+pub next_awaits : (d : Doc) (table : Claims) (ss : List Stage) (c : Cursor) (stage : Stage) (e : Expr) (child : NodeId) (q : Option (Bor Nested)) (paid : ℕ) → c.stage < length ss → stage ≡ get_or ss c.stage stage
+    → condition_at c.asked (stage_view stage).tree.selectors ≡ Some e → c.child < length c.children.items → child ≡ get_or c.children.items c.child child
+    → AwaitsSome d table (node_at d child.0) q paid (charge_expr (node_at d 0) e (node_at d child.0)) → AwaitsSome d table (node_at d child.0) q paid (whole_due d (segments_in ss) c)
+next_awaits d table ss c stage e child q paid lt is cond clt cis h =
     let r = node_at d 0 in
-    let made = ahead r (stage_view s).tree (position d before) in
-    let b = begins_due r rest made in
-    let p = g.paid in
-    record {
-      same = rw (g.begins, g.given) (begins r rest made);
-      paid = rw (g.begins, g.given) (omega (arith, b, p));
-      fits = fitting rest after g.place;
-      claimed = c.1;
-    }
-
-pub behind_stage : (d : Doc) (plan : Parts) (ss : List Stage) (i : ℕ) (item : Stage) (before after : Evaluation) → i < length ss → item ≡ get_or ss i item → AreClaimed (claims_of plan.stages.items) (claims_of (drop i ss))
-    → Gives d plan (stage_view item).tree before after → Behind d plan (drop i ss) (drop (i + 1) ss) before after
-behind_stage d plan ss i item before after lt e c g =
-    let m = stages_more ss i item lt e in
-    rw m (behind_one d plan item (drop (i + 1) ss) before after (rw m at c) g)
+    let s = (stage_view stage).tree in
+    let rest = drop (c.stage + 1) (segments_in ss) in
+    let more = segments_more ss c.stage stage lt is in
+    let x = (in_it r (drop c.stage (segments_in ss)) s rest (position d c) more).1 in
+    let a = asking_due r s (position d c) e (node_at d child.0) (nodes_of d (drop (c.child + 1) c.children.items)) cond (some_left d c.child c.children.items child clt cis) in
+    awaits_behind d table (node_at d child.0) q 0 paid paid (charge_expr r e (node_at d child.0)) (whole_due d (segments_in ss) c) (omega (arith, x, a)) (omega arith) h

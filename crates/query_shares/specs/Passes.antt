@@ -1,8 +1,8 @@
 -- The segments of a query, and where an evaluation may stop in one of them (this project's own). From one node after the other it goes selector by
 -- selector, and a filter child by child.
-use Rattle.std.specs.Prelude.{◌≡◌, ℕ, zero, suc, ◌+◌, ◌*◌, ◌-◌, ◌^◌, ◌≤◌, ◌<◌, List, [], ◌∷◌, ◌++◌, Bool, true, false, drop, length, flat_map, Option, Some, None, Result, MatchResult}
+use Rattle.std.specs.Prelude.{◌≡◌, ℕ, zero, suc, ◌+◌, ◌*◌, ◌-◌, ◌^◌, ◌≤◌, List, [], ◌∷◌, ◌++◌, drop, length, map, flat_map, Option, Some, None, Result, MatchResult}
 use Rattle.std.specs.Prelude.{filter as keep}
-use Rattle.path_grammar.specs.Tree.{OneSegment, Selectors, no_selectors, selector, Selector, name, wild, index, filter, slice, Expr}
+use Rattle.path_grammar.specs.Tree.{OneSegment, segments_of, Selectors, no_selectors, selector, Selector, name, wild, index, filter, slice, Expr}
 use Rattle.json_tape.specs.Nodes.{Node}
 use Rattle.json_tape.specs.Document.{Doc, count, node_at}
 use Rattle.json_text.specs.declared.tape.NodeId.{NodeId}
@@ -12,12 +12,15 @@ use Rattle.tape_select.specs.Charge.{total_of, charge_from, charge_in, charge_ex
 use Rattle.node_lists.specs.Extra.{nodes_after, charge_after}
 use Rattle.tape_select.specs.Memo.{Keeps}
 use Rattle.node_lists.specs.Nodelists.{nodes_of, nodes_between}
-use Rattle.node_lists.specs.Paying.{Inside, Refuses}
-use Rattle.query_plan.specs.Planned.{With, Claims, query_of, claims_of, stage_view}
+use Rattle.node_lists.specs.Paying.{Inside, Holds, Refuses}
+use Rattle.query_plan.specs.Planned.{With, Claims, claims_of, stage_view, trees}
 use Rattle.query_plan.specs.Slots.{AreClaimed}
 use Rattle.query_plan.specs.declared.plan.Stage.{Stage}
 use Rattle.query_plan.specs.declared.plan.Parts.{Parts}
+use Rattle.query_shares.specs.declared.passes.Cursor.{Cursor}
 use Rattle.query_shares.specs.declared.passes.Evaluation.{Evaluation}
+use Rattle.query_shares.specs.declared.passes.Reached.{Reached}
+use Rattle.query_shares.specs.declared.passes.Reached.TheVariants.{End, Share, Child}
 
 -- the condition of a filter
 abbrev pub condition_in : Selector → Option Expr
@@ -89,13 +92,13 @@ module _ (root : Node) where
   due s p = asked p.asking (condition_at p.asks s.selectors) + (visits_due s.selectors p.passed p.visits + charge_after root s p.left)
 
   -- the same of segments, of which the first one is under way
-  abbrev pub all_ahead : List Stage → Position → List Node
+  abbrev pub all_ahead : List OneSegment → Position → List Node
   all_ahead [] p = p.left
-  all_ahead (s ∷ ss) p = evaluated root (query_of ss) (ahead (stage_view s).tree p)
+  all_ahead (s ∷ ss) p = evaluated root (segments_of ss) (ahead s p)
 
-  abbrev pub all_due : List Stage → Position → ℕ
+  abbrev pub all_due : List OneSegment → Position → ℕ
   all_due [] p = 0
-  all_due (s ∷ ss) p = due (stage_view s).tree p + charge_from root (query_of ss) (ahead (stage_view s).tree p)
+  all_due (s ∷ ss) p = due s p + charge_from root (segments_of ss) (ahead s p)
 
 -- So many of these nodes are passed. What was out, and what all of them give, is what is out and what the others give, and so are the units and charges.
 pub record HasMoved (d : Doc) (passed : ℕ) (ids : List NodeId) (gives : List Node → List Node) (pays : List Node → ℕ) (before after : List NodeId) (old new : ℕ) : Type 0 where
@@ -107,25 +110,40 @@ pub record HasMoved (d : Doc) (passed : ℕ) (ids : List NodeId) (gives : List N
 abbrev pub Moves : Doc → Result ℕ SelectFault → (ids : List NodeId) → (gives : List Node → List Node) → (pays : List Node → ℕ) → (before after : List NodeId) → (old new : ℕ) → Type 0
 Moves d r ids gives pays before after old new = MatchResult r (λ passed. HasMoved d passed ids gives pays before after old new) (λ e. Refuses (pays (nodes_of d ids)) old e)
 
-abbrev pub position : Doc → Evaluation → Position
-position d w = record {
-  asks = w.asked;
-  asking = nodes_of d (drop w.child w.children.items);
-  passed = w.selector;
-  visits = nodes_between d w.visit w.end;
-  left = nodes_of d (drop w.place w.list.items);
-  out = nodes_of d w.out.items;
+-- the same, where it may have stopped for another reason
+abbrev pub MovesTo : {A : Type 0} → Doc → Result (ℕ × A) SelectFault → (ids : List NodeId) → (gives : List Node → List Node) → (pays : List Node → ℕ) → (before after : List NodeId) → (old new : ℕ) → Type 0
+MovesTo d r ids gives pays before after old new = MatchResult r (λ to. HasMoved d to.0 ids gives pays before after old new) (λ e. Refuses (pays (nodes_of d ids)) old e)
+
+abbrev pub position : Doc → Cursor → Position
+position d c = record {
+  asks = c.asked;
+  asking = nodes_of d (drop c.child c.children.items);
+  passed = c.selector;
+  visits = nodes_between d c.visit c.end;
+  left = nodes_of d (drop c.place c.list.items);
+  out = nodes_of d c.out.items;
 }
 
--- what is kept is right, and all nodes are the document's
+-- all nodes are the document's
+pub record IsPlaced (d : Doc) (c : Cursor) : Type 0 where
+  pub within : c.place ≤ length c.list.items
+  pub listed : Inside d c.list.items
+  pub end : c.end ≤ count d
+  pub child : c.child ≤ length c.children.items
+  pub children : Inside d c.children.items
+  pub sound : Inside d c.out.items
+
+-- and what is kept is right
 pub record IsSound (d : Doc) (plan : Parts) (w : Evaluation) : Type 0 where
   pub kept : Keeps d (claims_of plan.stages.items) w.state
-  pub within : w.place ≤ length w.list.items
-  pub listed : Inside d w.list.items
-  pub end : w.end ≤ count d
-  pub child : w.child ≤ length w.children.items
-  pub children : Inside d w.children.items
-  pub sound : Inside d w.out.items
+  pub placed : IsPlaced d w.at
+
+-- it selects from this node alone
+pub record Begins (d : Doc) (n : NodeId) (c : Cursor) : Type 0 where
+  pub begins : position d c ≡ beginning (node_at d n.0 ∷ [])
+  pub stage : c.stage ≡ 0
+  pub place : c.place ≡ 0
+  pub placed : IsPlaced d c
 
 -- from one position to another a segment gives the same, and so do the units and what it is charged
 pub record Same (root : Node) (s : OneSegment) (before after : Position) (old new : ℕ) : Type 0 where
@@ -133,69 +151,72 @@ pub record Same (root : Node) (s : OneSegment) (before after : Position) (old ne
   pub paid : new + due root s before ≡ old + due root s after
 
 pub record GoesOn (d : Doc) (plan : Parts) (s : OneSegment) (before after : Evaluation) : Type 0 where
-  pub goes : Same (node_at d 0) s (position d before) (position d after) before.state.meter.left after.state.meter.left
-  pub stage : after.stage ≡ before.stage
+  pub goes : Same (node_at d 0) s (position d before.at) (position d after.at) before.state.meter.left after.state.meter.left
+  pub stage : after.at.stage ≡ before.at.stage
   pub sound : IsSound d plan after
 
 abbrev pub Steps : {A : Type 0} → Doc → Parts → Result A SelectFault → OneSegment → (before after : Evaluation) → Type 0
-Steps d plan r s before after = MatchResult r (λ _. GoesOn d plan s before after) (λ e. Refuses (due (node_at d 0) s (position d before)) before.state.meter.left e)
+Steps d plan r s before after = MatchResult r (λ _. GoesOn d plan s before after) (λ e. Refuses (due (node_at d 0) s (position d before.at)) before.state.meter.left e)
 
 -- no child is to be asked, and from no node to be selected but those of the list
 pub record IsBetween (w : Evaluation) : Type 0 where
-  pub asked : length w.children.items ≤ w.child
-  pub visited : w.end ≤ w.visit
+  pub asked : length w.at.children.items ≤ w.at.child
+  pub visited : w.at.end ≤ w.at.visit
 
 -- all nodes of the list are passed too
 pub record IsThrough (w : Evaluation) : Type 0 where
   pub between : IsBetween w
-  pub passed : length w.list.items ≤ w.place
+  pub passed : length w.at.list.items ≤ w.at.place
 
 -- how many steps are left at most
 abbrev pub weight : Evaluation → ℕ
-weight w = w.state.meter.left + (w.end - w.visit) + (length w.list.items - w.place) * 2 ^ 32
+weight w = w.state.meter.left + (w.at.end - w.at.visit) + (length w.at.list.items - w.at.place) * 2 ^ 32
 
 -- what the segment gives is the list, and its charge is paid
 pub record Gives (d : Doc) (plan : Parts) (s : OneSegment) (before after : Evaluation) : Type 0 where
-  pub begins : position d after ≡ beginning (nodes_of d after.list.items)
-  pub given : nodes_of d after.list.items ≡ ahead (node_at d 0) s (position d before)
-  pub paid : after.state.meter.left + due (node_at d 0) s (position d before) ≡ before.state.meter.left
-  pub place : after.place ≡ 0
-  pub stage : after.stage ≡ before.stage + 1
+  pub begins : position d after.at ≡ beginning (nodes_of d after.at.list.items)
+  pub given : nodes_of d after.at.list.items ≡ ahead (node_at d 0) s (position d before.at)
+  pub paid : after.state.meter.left + due (node_at d 0) s (position d before.at) ≡ before.state.meter.left
+  pub place : after.at.place ≡ 0
+  pub stage : after.at.stage ≡ before.at.stage
   pub sound : IsSound d plan after
 
-abbrev pub Passes : Doc → Parts → OneSegment → (is_end : Bool) → (before after : Evaluation) → Type 0
-Passes d plan s false before after = GoesOn d plan s before after
-Passes d plan s true before after = Gives d plan s before after
+abbrev pub Passes : Doc → Parts → OneSegment → Reached → (before after : Evaluation) → Type 0
+Passes d plan s End before after = Gives d plan s before after
+Passes d plan s Share before after = GoesOn d plan s before after
+Passes d plan s Child before after = GoesOn d plan s before after
 
 -- ---- All segments
 
+-- the segments of these stages
+abbrev pub segments_in : List Stage → List OneSegment
+segments_in ss = trees (map stage_view ss)
+
 -- Behind all segments the list is what was selected.
-abbrev pub Fits : List Stage → Evaluation → Type 0
-Fits [] w = w.place ≡ 0
-Fits (s ∷ ss) w = Unit {0}
+abbrev pub Fits : List OneSegment → Cursor → Type 0
+Fits [] c = c.place ≡ 0
+Fits (s ∷ ss) c = Unit {0}
 
--- the segments that are left
-abbrev pub stages_left : Parts → Evaluation → List Stage
-stages_left plan w = drop w.stage plan.stages.items
+abbrev pub whole_ahead : Doc → List OneSegment → Cursor → List Node
+whole_ahead d ss c = all_ahead (node_at d 0) (drop c.stage ss) (position d c)
 
-abbrev pub whole_ahead : Doc → Parts → Evaluation → List Node
-whole_ahead d plan w = all_ahead (node_at d 0) (stages_left plan w) (position d w)
+abbrev pub whole_due : Doc → List OneSegment → Cursor → ℕ
+whole_due d ss c = all_due (node_at d 0) (drop c.stage ss) (position d c)
 
-abbrev pub whole_due : Doc → Parts → Evaluation → ℕ
-whole_due d plan w = all_due (node_at d 0) (stages_left plan w) (position d w)
+-- a query with these segments is under way
+pub record IsUnderWay (d : Doc) (ss : List OneSegment) (c : Cursor) : Type 0 where
+  pub within : c.stage ≤ length ss
+  pub fits : Fits (drop c.stage ss) c
+  pub placed : IsPlaced d c
 
-pub record IsUnderWay (d : Doc) (plan : Parts) (w : Evaluation) : Type 0 where
-  pub within : w.stage ≤ length plan.stages.items
-  pub fits : Fits (stages_left plan w) w
-  pub claimed : AreClaimed (claims_of plan.stages.items) (claims_of (stages_left plan w))
-  pub sound : IsSound d plan w
+-- what is ahead is the same, and so are the units and what is due
+pub record Remains (d : Doc) (ss : List OneSegment) (before after : Evaluation) : Type 0 where
+  pub under_way : IsUnderWay d ss after.at
+  pub ahead : whole_ahead d ss after.at ≡ whole_ahead d ss before.at
+  pub due : after.state.meter.left + whole_due d ss before.at ≡ before.state.meter.left + whole_due d ss after.at
 
 -- where it is the end, the list is what all segments select
-abbrev pub Ran : Bool → Doc → Parts → (before after : Evaluation) → Type 0
-Ran true d plan before after = (nodes_of d after.list.items ≡ whole_ahead d plan before) × (after.state.meter.left + whole_due d plan before ≡ before.state.meter.left)
-Ran false d plan before after = IsUnderWay d plan after × (whole_ahead d plan after ≡ whole_ahead d plan before)
-    × (after.state.meter.left + whole_due d plan before ≡ before.state.meter.left + whole_due d plan after)
-
-pub record RunsOn (d : Doc) (plan : Parts) (is_end : Bool) (before after : Evaluation) : Type 0 where
-  pub ran : Ran is_end d plan before after
-  pub listed : Inside d after.list.items
+abbrev pub Ran : Reached → Doc → List OneSegment → (before after : Evaluation) → Type 0
+Ran End d ss before after = Holds d after.at.list.items (whole_ahead d ss before.at) × (after.state.meter.left + whole_due d ss before.at ≡ before.state.meter.left)
+Ran Share d ss before after = Remains d ss before after
+Ran Child d ss before after = Remains d ss before after

@@ -5,17 +5,19 @@ ghost use Rattle.std.specs.List.{All};
 ghost use Rattle.json_tape.specs.Document.{count, node_at, tree_of};
 ghost use Rattle.path_grammar.specs.View.{query_view};
 ghost use Rattle.tape_select.specs.Charge.{charge, charge_from};
-ghost use Rattle.query_shares.specs.Evaluators.{query_in, left_on, IsWithin, LeadsOn, Advances, Ends, IsEvaluating, IsAtRest};
+ghost use Rattle.query_shares.specs.Evaluators.{query_in, left_on, IsWithin, Advances, Ends, IsEvaluating, IsAtRest};
+ghost use Rattle.query_shares.specs.Levels.{left_in, IsEnd, IsOnWay};
 ghost use Rattle.tape_select.specs.Evaluation.{nodes_selected};
 ghost use Rattle.tape_select.specs.Nodelists.{nodes_of};
 ghost use Rattle.node_lists.specs.Paying.{Refuses};
 ghost use Rattle.query_plan.specs.Planned.{query_of, claims_of, numbered};
 
-use crate::passes::{Evaluation, run};
+use crate::levels::{Levels, Move, Origin, move_on};
+use crate::passes::{Evaluation, MOST, cursor_from};
 use compared_sides::no_lengths;
 use json_tape::Document;
 use json_tape::laws::one_tree;
-use node_lists::{Meter, lone};
+use node_lists::Meter;
 use path_types::ValidQuery;
 use query_plan::{Parts, parts_of};
 use std::alloc::{AllocError, Global};
@@ -25,35 +27,38 @@ use tape_select::{SelectFault, Selected, State, empty_slots, select_all};
 #[derive(Drop)]
 pub struct Evaluator {
     parts: Parts,
-    evaluation: Option<Evaluation>,
+    evaluation: Option<Levels>,
 }
 
 // The beginning of an evaluation.
-fn begun(alloc: Global, plan: &Parts, doc: &Document, units: u64) -> Result<Evaluation, SelectFault>
+fn begun(alloc: Global, plan: &Parts, doc: &Document, units: u64) -> Result<Levels, SelectFault>
     requires { numbered (claims_of plan.now.stages.items) 0 ≡ Some plan.now.slots }
-    ensures { MatchResult result (λ evaluation. LeadsOn doc.now plan.now units evaluation × (evaluation.state.meter.left ≡ units)) (λ e. e ≡ SelectFault.Memory) }
+    ensures { MatchResult result (λ levels. IsOnWay doc.now plan.now units levels × (left_in levels ≡ units)) (λ e. e ≡ SelectFault.Memory) }
 {
     let slots = empty_slots(alloc, doc, plan)?;
-    let list = lone(alloc, doc, doc.root())?;
-    Ok(Evaluation {
-        state: State {
-            alloc,
-            meter: Meter { left: units },
-            slots,
-            answers: Vec::new(alloc),
-            lengths: no_lengths(alloc, doc),
-            truths: Vec::new(alloc),
+    let from = doc.root();
+    let at = cursor_from(alloc, doc, from)?;
+    let state = State {
+        alloc,
+        meter: Meter { left: units },
+        slots,
+        answers: Vec::new(alloc),
+        lengths: no_lengths(alloc, doc),
+        truths: Vec::new(alloc),
+    };
+    Ok(Levels {
+        origin: Origin {
+            slot: 0,
+            from,
+            units,
         },
-        stage: 0,
-        list,
-        place: 0,
-        visit: 0,
-        end: 0,
-        selector: 0,
-        asked: 0,
-        children: Vec::new(alloc),
-        child: 0,
-        out: Vec::new(alloc),
+        top: Evaluation {
+            state,
+            at,
+            most: MOST,
+        },
+        is_costly: false,
+        below: Vec::new(alloc),
     })
 }
 
@@ -63,11 +68,11 @@ fn resumed(
     plan: &Parts,
     doc: &Document,
     units: u64,
-    evaluation: Option<Evaluation>,
-) -> Result<Evaluation, SelectFault>
+    evaluation: Option<Levels>,
+) -> Result<Levels, SelectFault>
     requires numbered { numbered (claims_of plan.now.stages.items) 0 ≡ Some plan.now.slots }
     requires within { IsWithin doc.now plan.now units evaluation }
-    ensures { MatchResult result (λ on. LeadsOn doc.now plan.now units on × (on.state.meter.left ≡ left_on units evaluation)) (λ e. e ≡ SelectFault.Memory) }
+    ensures { MatchResult result (λ on. IsOnWay doc.now plan.now units on × (left_in on ≡ left_on units evaluation) × (left_in on ≤ units)) (λ e. e ≡ SelectFault.Memory) }
 {
     match evaluation {
         Some(on) => Ok(on),
@@ -75,29 +80,50 @@ fn resumed(
     }
 }
 
-// Goes on with an evaluation, or begins it.
+// Goes on with an evaluation, or begins it. A query whose moves come to no end is evaluated at once, which is not seen.
 fn advanced(
     alloc: Global,
     plan: &Parts,
     doc: &Document,
     units: u64,
     share: u64,
-    evaluation: &mut Option<Evaluation>,
+    levels: &mut Option<Levels>,
 ) -> Result<Option<Selected>, SelectFault>
     requires numbered { numbered (claims_of plan.now.stages.items) 0 ≡ Some plan.now.slots }
-    requires within { IsWithin doc.now plan.now units evaluation.old }
-    ensures { MatchResult result (λ some. Advances doc.now plan.now units share some evaluation.old evaluation.new) (λ e. Refuses (charge_from (node_at doc.now 0) (query_of plan.now.stages.items) (node_at doc.now 0 ∷ [])) units e) }
+    requires within { IsWithin doc.now plan.now units levels.old }
+    ensures { MatchResult result (λ some. Advances doc.now plan.now units share some levels.old levels.new) (λ e. Refuses (charge_from (node_at doc.now 0) (query_of plan.now.stages.items) (node_at doc.now 0 ∷ [])) units e) }
 {
-    let mut on = resumed(alloc, plan, doc, units, evaluation.take())?;
-    let least = on.state.meter.left.saturating_sub(share);
-    if run(doc, plan, least, &mut on)? {
-        return Ok(Some(Selected {
-            charge: units - on.state.meter.left,
-            nodes: on.list,
-        }));
+    let mut on = resumed(alloc, plan, doc, units, levels.take())?;
+    let least = on.top.state.meter.left.saturating_sub(share);
+    'moves: for _ in 0..u32::MAX {
+        match move_on(doc, plan, units, least, &mut on)? {
+            Move::Ends => return Ok(Some(ended(plan, doc, units, on))),
+            Move::Pauses => {
+                *levels = Some(on);
+                return Ok(None);
+            }
+            Move::GoesOn => {}
+            Move::Lost => break 'moves,
+        }
     }
-    *evaluation = Some(on);
-    Ok(None)
+    let at_once = whole(alloc, plan, doc, units)?;
+    Ok(Some(at_once))
+}
+
+// What an evaluation came to at its end.
+fn ended(plan: &Parts, doc: &Document, units: u64, levels: Levels) -> Selected
+    requires { IsEnd doc.now plan.now units levels }
+    ensures { Ends doc.now plan.now units result None }
+{
+    let _ = doc.root();
+    let _ = plan;
+    let charge = units - levels.top.state.meter.left;
+    let top = levels.top;
+    let at = top.at;
+    Selected {
+        charge,
+        nodes: at.list,
+    }
 }
 
 // What a query selects from a document, at once.
@@ -138,18 +164,18 @@ fn advanced_or_whole(
     doc: &Document,
     units: u64,
     share: u64,
-    evaluation: &mut Option<Evaluation>,
+    levels: &mut Option<Levels>,
 ) -> Result<Option<Selected>, SelectFault>
     requires numbered { numbered (claims_of plan.now.stages.items) 0 ≡ Some plan.now.slots }
-    requires within { IsWithin doc.now plan.now units evaluation.old }
-    ensures { MatchResult result (λ some. Advances doc.now plan.now units share some evaluation.old evaluation.new) (λ e. Refuses (charge_from (node_at doc.now 0) (query_of plan.now.stages.items) (node_at doc.now 0 ∷ [])) units e) }
+    requires within { IsWithin doc.now plan.now units levels.old }
+    ensures { MatchResult result (λ some. Advances doc.now plan.now units share some levels.old levels.new) (λ e. Refuses (charge_from (node_at doc.now 0) (query_of plan.now.stages.items) (node_at doc.now 0 ∷ [])) units e) }
 {
-    if evaluation.is_none() && (units <= share || u64::from(doc.node_count()) < share / 4) {
+    if levels.is_none() && (units <= share || u64::from(doc.node_count()) < share / 4) {
         if let Some(selected) = whole_within(alloc, plan, doc, units, share)? {
             return Ok(Some(selected));
         }
     }
-    advanced(alloc, plan, doc, units, share, evaluation)
+    advanced(alloc, plan, doc, units, share, levels)
 }
 
 impl Evaluator {
@@ -170,7 +196,7 @@ impl Evaluator {
         ensures { result ≡ left_on units self.now.evaluation }
     {
         match &self.evaluation {
-            Some(evaluation) => evaluation.state.meter.left,
+            Some(levels) => levels.top.state.meter.left,
             None => units,
         }
     }

@@ -5,6 +5,7 @@
 #![tactic(auto)]
 
 mod evaluator;
+mod levels;
 mod passes;
 
 pub use evaluator::Evaluator;

@@ -1,33 +1,36 @@
 //! What the segments of a query select, from one list of nodes after the other.
 //!
-//! A segment without a filter selects from each node of its list at once. One with a filter goes selector by selector, and a filter child by child.
-//! Where an evaluation stops it keeps a few numbers, and the children that a filter asks.
+//! A segment of a selector or a few selects from each node of its list at once. One with a filter or with many selectors goes selector by selector, and
+//! a filter child by child. Where an evaluation stops it keeps a few numbers, and the children that a filter asks. A child for which a filter costs too
+//! much is left to those above (`levels`).
 
-ghost use Rattle.std.specs.Prelude.{◌≡◌, ◌<◌, ◌≤◌, ◌+◌, ◌∷◌, [], ◌++◌, length, drop, true, false, Some, None, get_or, flat_map, MatchOption, MatchResult, IfOk, IfSome};
+ghost use Rattle.std.specs.Prelude.{◌≡◌, ◌<◌, ◌≤◌, ◌+◌, ◌∷◌, [], ◌++◌, length, true, false, Some, None, get_or, flat_map, MatchOption, MatchResult, IfOk, IfSome};
 ghost use Rattle.std.specs.Prelude.{filter as keep};
 ghost use Rattle.json_tape.specs.Document.{count, node_at};
 ghost use Rattle.json_tape.specs.Nodes.{children};
 ghost use Rattle.tape_select.specs.Evaluation.{holds, selected_by, starts};
 ghost use Rattle.tape_select.specs.Charge.{total_of, charge_by, charge_expr};
 ghost use Rattle.node_lists.specs.Extra.{nodes_from, charge_at, nodes_after, charge_after};
+ghost use Rattle.tape_select.specs.Awaiting.{AwaitsSome};
 ghost use Rattle.tape_select.specs.Memo.{Keeps};
 ghost use Rattle.node_lists.specs.Nodelists.{nodes_of, nodes_between};
-ghost use Rattle.query_shares.specs.Passes.{beginning, condition_at, condition_in, due, position, weight, whole_due, GoesOn, IsAsked, IsBetween, IsSound, IsThrough, IsUnderWay, Moves, Passes, RunsOn, Steps};
+ghost use Rattle.query_shares.specs.Passes.{beginning, condition_at, condition_in, due, position, segments_in, weight, whole_due, Begins, GoesOn, IsAsked, IsBetween, IsSound, IsThrough, IsUnderWay, Moves, MovesTo, Passes, Ran, Steps};
+ghost use Rattle.query_shares.specs.declared.passes.Reached.TheVariants.{End, Share};
 ghost use Rattle.node_lists.specs.Paying.{Inside, Adds, Refuses};
 ghost use Rattle.query_plan.specs.Planned.{claims_of, condition_view, selection_view, stage_view};
 ghost use Rattle.node_lists.specs.Links.{link_view};
 ghost use Rattle.query_plan.specs.Slots.{AreClaimed};
 
 use json_tape::{Document, NodeId};
-use node_lists::{Link, Meter, children_below, push, push_some, sliced, step, wild};
+use node_lists::{Link, Meter, children_below, lone, push, push_some, sliced, step, wild};
 use query_plan::{Condition, Parts, Selection, Stage, lone_link};
+use std::alloc::Global;
 use std::mem;
-use tape_select::{SelectFault, State, does_hold, from_node, visit_total};
+use tape_select::{Awaited, SelectFault, State, does_hold, first_awaited, from_node, visit_total};
 
-/// An evaluation under way.
+/// Where the evaluation of a query stands.
 #[derive(Drop)]
-pub struct Evaluation {
-    pub state: State,
+pub struct Cursor {
     /// How many segments are passed.
     pub stage: usize,
     /// What the next segment selects from.
@@ -46,6 +49,43 @@ pub struct Evaluation {
     pub child: usize,
     /// What it selected.
     pub out: Vec<NodeId>,
+}
+
+/// Where an evaluation begins that selects from a node.
+pub fn cursor_from(alloc: Global, doc: &Document, n: NodeId) -> Result<Cursor, SelectFault>
+    requires { n.0 < count doc.now }
+    ensures { MatchResult result (λ c. Begins doc.now n c) (λ e. e ≡ SelectFault.Memory) }
+{
+    let list = lone(alloc, doc, n)?;
+    Ok(Cursor {
+        stage: 0,
+        list,
+        place: 0,
+        visit: 0,
+        end: 0,
+        selector: 0,
+        asked: 0,
+        children: Vec::new(alloc),
+        child: 0,
+        out: Vec::new(alloc),
+    })
+}
+
+/// An evaluation under way.
+#[derive(Drop)]
+pub struct Evaluation {
+    pub state: State,
+    pub at: Cursor,
+    /// The most that a filter may cost for a child that it is asked at once, in units.
+    pub most: u64,
+}
+
+/// Where an evaluation stops: at the end, where the share is spent, or where a filter costs too much for a child to be asked at once.
+#[derive(Clone, Copy)]
+pub enum Reached {
+    End,
+    Share,
+    Child,
 }
 
 // The condition of a filter.
@@ -148,22 +188,22 @@ fn listed_some(
     Ok(passed)
 }
 
-// Goes on to the end of a segment, node by node. Whether it is the end.
+// Goes on to the end of a segment, node by node.
 fn list_on(
     doc: &Document,
     plan: &Parts,
     stage: &Stage,
     least: u64,
     evaluation: &mut Evaluation,
-) -> Result<bool, SelectFault>
+) -> Result<Reached, SelectFault>
     requires between { IsBetween evaluation.old }
     requires claimed { AreClaimed (claims_of plan.now.stages.items) (stage_view stage.now).claims }
     requires sound { IsSound doc.now plan.now evaluation.old }
     ensures goes { Steps doc.now plan.now result (stage_view stage.now).tree evaluation.old evaluation.new }
-    ensures end { IfOk result (λ is_end. is_end ≡ true → IsThrough evaluation.new) }
-    ensures cut { IfOk result (λ is_end. is_end ≡ false → evaluation.new.state.meter.left < least) }
+    ensures end { IfOk result (λ to. to ≡ End → IsThrough evaluation.new) }
+    ensures cut { IfOk result (λ to. to ≡ Share → evaluation.new.state.meter.left < least) }
 {
-    let left = &evaluation.list[evaluation.place..];
+    let left = &evaluation.at.list[evaluation.at.place..];
     let total = left.len();
     let passed = listed_some(
         doc,
@@ -172,10 +212,10 @@ fn list_on(
         left,
         least,
         &mut evaluation.state,
-        &mut evaluation.out,
+        &mut evaluation.at.out,
     )?;
-    evaluation.place += passed;
-    Ok(passed == total)
+    evaluation.at.place += passed;
+    Ok(stopped(passed == total, false))
 }
 
 // ---- Selector by selector
@@ -192,29 +232,75 @@ fn condition_in_turn<'a>(plan: &Parts, stage: &'a Stage, number: usize) -> Optio
     }
 }
 
-// The children for which a condition holds, until fewer units are left. How many are passed.
+/// The most that a filter may ever cost for a child that it is asked at once, in units.
+pub const MOST: u64 = 10_000;
+
+// The most for the next child, where so many units were spent on children. So the units of tries in vain are about as many as are spent.
+fn most_after(most: u64, is_in_vain: bool, spent: u64) -> u64 {
+    let left = if is_in_vain { 0 } else { most };
+    let more = left.saturating_add(spent);
+    if more < MOST { more } else { MOST }
+}
+
+// Whether a condition holds for a child. None where that costs too much, and nothing is spent.
+#[inline(always)]
+fn holds_within(
+    doc: &Document,
+    plan: &Parts,
+    condition: &Condition,
+    child: NodeId,
+    most: u64,
+    state: &mut State,
+) -> Result<Option<bool>, SelectFault>
+    requires inside { child.0 < count doc.now }
+    requires claimed { AreClaimed (claims_of plan.now.stages.items) (condition_view condition.now).claims }
+    requires kept { Keeps doc.now (claims_of plan.now.stages.items) state.old }
+    ensures found { MatchResult result (λ some. MatchOption some (state.new.meter.left ≡ state.old.meter.left) (λ held. (held ≡ holds (node_at doc.now 0) (condition_view condition.now).tree (node_at doc.now child.0)) × (state.new.meter.left + charge_expr (node_at doc.now 0) (condition_view condition.now).tree (node_at doc.now child.0) ≡ state.old.meter.left))) (λ e. Refuses (charge_expr (node_at doc.now 0) (condition_view condition.now).tree (node_at doc.now child.0)) state.old.meter.left e) }
+    ensures kept { Keeps doc.now (claims_of plan.now.stages.items) state.new }
+{
+    let left = state.meter.left;
+    let beyond = left.saturating_sub(most);
+    state.meter.left = left - beyond;
+    match does_hold(doc, plan, condition, child, state) {
+        Ok(held) => {
+            state.meter.left += beyond;
+            Ok(Some(held))
+        }
+        Err(SelectFault::Costly) if beyond > 0 => {
+            state.meter.left = left;
+            Ok(None)
+        }
+        Err(fault) => Err(fault),
+    }
+}
+
+// The children for which a condition holds, until fewer units are left or one costs too much. How many are passed, and whether one costs too much.
 fn chosen_some(
     doc: &Document,
     plan: &Parts,
     condition: &Condition,
     list: &[NodeId],
     least: u64,
+    most: u64,
     state: &mut State,
     out: &mut Vec<NodeId>,
-) -> Result<usize, SelectFault>
+) -> Result<(usize, bool), SelectFault>
     requires listed { Inside doc.now list.now }
     requires claimed { AreClaimed (claims_of plan.now.stages.items) (condition_view condition.now).claims }
     requires kept { Keeps doc.now (claims_of plan.now.stages.items) state.old }
     requires sound { Inside doc.now out.old.items }
-    ensures moved { Moves doc.now result list.now (keep (holds (node_at doc.now 0) (condition_view condition.now).tree)) (total_of (λ n. 1 + charge_expr (node_at doc.now 0) (condition_view condition.now).tree n)) out.old.items out.new.items state.old.meter.left state.new.meter.left }
-    ensures cut { IfOk result (λ passed. passed < length list.now → state.new.meter.left < least) }
-    ensures less { IfOk result (λ passed. state.new.meter.left ≤ state.old.meter.left) }
+    ensures moved { MovesTo doc.now result list.now (keep (holds (node_at doc.now 0) (condition_view condition.now).tree)) (total_of (λ n. 1 + charge_expr (node_at doc.now 0) (condition_view condition.now).tree n)) out.old.items out.new.items state.old.meter.left state.new.meter.left }
+    ensures cut { IfOk result (λ to. to.1 ≡ false → to.0 < length list.now → state.new.meter.left < least) }
+    ensures less { IfOk result (λ to. state.new.meter.left ≤ state.old.meter.left) }
     ensures kept { Keeps doc.now (claims_of plan.now.stages.items) state.new }
 {
     let mut passed = 0;
     for child in list {
+        let Some(held) = holds_within(doc, plan, condition, *child, most, state)? else {
+            return Ok((passed, true));
+        };
         state.meter.spend(1)?;
-        if does_hold(doc, plan, condition, *child, state)? {
+        if held {
             push(doc, out, *child)?;
         }
         passed += 1;
@@ -222,41 +308,136 @@ fn chosen_some(
             break;
         }
     }
-    Ok(passed)
+    Ok((passed, false))
 }
 
-// Asks the children that are left. Whether all are asked.
+// Where asking children stops that came so far.
+fn stopped(is_end: bool, is_costly: bool) -> Reached
+    ensures end { result ≡ End → is_end ≡ true }
+    ensures share { result ≡ Share → (is_end ≡ false) × (is_costly ≡ false) }
+{
+    if is_end {
+        Reached::End
+    } else if is_costly {
+        Reached::Child
+    } else {
+        Reached::Share
+    }
+}
+
+// Asks the children that are left, to the last.
 fn ask(
     doc: &Document,
     plan: &Parts,
     stage: &Stage,
     least: u64,
     evaluation: &mut Evaluation,
-) -> Result<bool, SelectFault>
+) -> Result<Reached, SelectFault>
     requires claimed { AreClaimed (claims_of plan.now.stages.items) (stage_view stage.now).claims }
     requires sound { IsSound doc.now plan.now evaluation.old }
     ensures goes { Steps doc.now plan.now result (stage_view stage.now).tree evaluation.old evaluation.new }
-    ensures end { IfOk result (λ is_end. is_end ≡ true → length evaluation.new.children.items ≤ evaluation.new.child) }
-    ensures cut { IfOk result (λ is_end. is_end ≡ false → evaluation.new.state.meter.left < least) }
-    ensures less { IfOk result (λ is_end. weight evaluation.new ≤ weight evaluation.old) }
+    ensures end { IfOk result (λ to. to ≡ End → length evaluation.new.at.children.items ≤ evaluation.new.at.child) }
+    ensures cut { IfOk result (λ to. to ≡ Share → evaluation.new.state.meter.left < least) }
+    ensures less { IfOk result (λ to. weight evaluation.new ≤ weight evaluation.old) }
 {
-    let left = &evaluation.children[evaluation.child..];
+    let left = &evaluation.at.children[evaluation.at.child..];
     let total = left.len();
-    let Some(condition) = condition_in_turn(plan, stage, evaluation.asked) else {
-        evaluation.child += total;
-        return Ok(true);
+    let Some(condition) = condition_in_turn(plan, stage, evaluation.at.asked) else {
+        evaluation.at.child += total;
+        return Ok(Reached::End);
     };
-    let passed = chosen_some(
+    let units = evaluation.state.meter.left;
+    let most = evaluation.most;
+    let (passed, is_costly) = chosen_some(
         doc,
         plan,
         condition,
         left,
         least,
+        most,
         &mut evaluation.state,
-        &mut evaluation.out,
+        &mut evaluation.at.out,
     )?;
-    evaluation.child += passed;
-    Ok(passed == total)
+    evaluation.at.child += passed;
+    let spent = units.saturating_sub(evaluation.state.meter.left);
+    evaluation.most = most_after(most, is_costly, spent);
+    Ok(stopped(passed == total, is_costly))
+}
+
+// A child, where a condition holds for it.
+fn choose(
+    doc: &Document,
+    plan: &Parts,
+    condition: &Condition,
+    child: NodeId,
+    state: &mut State,
+    out: &mut Vec<NodeId>,
+) -> Result<(), SelectFault>
+    requires inside { child.0 < count doc.now }
+    requires claimed { AreClaimed (claims_of plan.now.stages.items) (condition_view condition.now).claims }
+    requires kept { Keeps doc.now (claims_of plan.now.stages.items) state.old }
+    requires sound { Inside doc.now out.old.items }
+    ensures added { Adds doc.now result out.new.items (nodes_of doc.now out.old.items ++ keep (holds (node_at doc.now 0) (condition_view condition.now).tree) (node_at doc.now child.0 ∷ [])) (1 + charge_expr (node_at doc.now 0) (condition_view condition.now).tree (node_at doc.now child.0)) state.old.meter.left state.new.meter.left }
+    ensures kept { Keeps doc.now (claims_of plan.now.stages.items) state.new }
+{
+    let held = does_hold(doc, plan, condition, child, state)?;
+    state.meter.spend(1)?;
+    if held {
+        return push(doc, out, child);
+    }
+    Ok(())
+}
+
+/// Asks the next child, whatever that costs.
+pub fn ask_one(
+    doc: &Document,
+    plan: &Parts,
+    stage: &Stage,
+    evaluation: &mut Evaluation,
+) -> Result<(), SelectFault>
+    requires claimed { AreClaimed (claims_of plan.now.stages.items) (stage_view stage.now).claims }
+    requires sound { IsSound doc.now plan.now evaluation.old }
+    ensures { Steps doc.now plan.now result (stage_view stage.now).tree evaluation.old evaluation.new }
+{
+    let Some(condition) = condition_in_turn(plan, stage, evaluation.at.asked) else {
+        return Ok(());
+    };
+    let Some(child) = evaluation.at.children.get(evaluation.at.child) else {
+        return Ok(());
+    };
+    let units = evaluation.state.meter.left;
+    choose(
+        doc,
+        plan,
+        condition,
+        *child,
+        &mut evaluation.state,
+        &mut evaluation.at.out,
+    )?;
+    evaluation.at.child += 1;
+    let spent = units.saturating_sub(evaluation.state.meter.left);
+    evaluation.most = most_after(evaluation.most, false, spent);
+    Ok(())
+}
+
+/// What the filter awaits for the next child, and that child.
+pub fn next_query<'p>(
+    doc: &Document,
+    plan: &Parts,
+    stages: &'p [Stage],
+    evaluation: &Evaluation,
+) -> Option<(Awaited<'p>, NodeId)>
+    requires under_way { IsUnderWay doc.now (segments_in stages.now) evaluation.now.at }
+    requires claimed { AreClaimed (claims_of plan.now.stages.items) (claims_of stages.now) }
+    requires kept { Keeps doc.now (claims_of plan.now.stages.items) evaluation.now.state }
+    ensures inside { IfSome result (λ next. next.1.0 < count doc.now) }
+    ensures awaits { IfSome result (λ next. AwaitsSome doc.now (claims_of plan.now.stages.items) (node_at doc.now next.1.0) next.0.query next.0.paid (whole_due doc.now (segments_in stages.now) evaluation.now.at)) }
+{
+    let stage = stages.get(evaluation.at.stage)?;
+    let condition = condition_in_turn(plan, stage, evaluation.at.asked)?;
+    let child = evaluation.at.children.get(evaluation.at.child)?;
+    let next = first_awaited(doc, plan, &evaluation.state.slots, condition, *child);
+    Some((next, *child))
 }
 
 // The children of a node, or of it and all its descendants.
@@ -312,17 +493,17 @@ fn pass_selector(
     selection: &Selection,
     evaluation: &mut Evaluation,
 ) -> Result<(), SelectFault>
-    requires visits { evaluation.old.visit < evaluation.old.end }
-    requires within { evaluation.old.selector < length stage.now.selections.items }
-    requires next { selection.now ≡ get_or stage.now.selections.items evaluation.old.selector selection.now }
-    requires asked { length evaluation.old.children.items ≤ evaluation.old.child }
+    requires visits { evaluation.old.at.visit < evaluation.old.at.end }
+    requires within { evaluation.old.at.selector < length stage.now.selections.items }
+    requires next { selection.now ≡ get_or stage.now.selections.items evaluation.old.at.selector selection.now }
+    requires asked { length evaluation.old.at.children.items ≤ evaluation.old.at.child }
     requires sound { IsSound doc.now plan.now evaluation.old }
     ensures goes { Steps doc.now plan.now result (stage_view stage.now).tree evaluation.old evaluation.new }
     ensures falls { IfOk result (λ _. weight evaluation.new < weight evaluation.old) }
 {
     let _ = plan;
     let _ = stage;
-    let n = NodeId(evaluation.visit);
+    let n = NodeId(evaluation.at.visit);
     match condition_of(selection) {
         Some(_) => {
             list_children(
@@ -330,11 +511,11 @@ fn pass_selector(
                 false,
                 n,
                 &mut evaluation.state.meter,
-                &mut evaluation.children,
+                &mut evaluation.at.children,
             )?;
-            evaluation.child = 0;
-            evaluation.asked = evaluation.selector;
-            evaluation.selector += 1;
+            evaluation.at.child = 0;
+            evaluation.at.asked = evaluation.at.selector;
+            evaluation.at.selector += 1;
             Ok(())
         }
         None => {
@@ -343,9 +524,9 @@ fn pass_selector(
                 selection,
                 n,
                 &mut evaluation.state.meter,
-                &mut evaluation.out,
+                &mut evaluation.at.out,
             )?;
-            evaluation.selector += 1;
+            evaluation.at.selector += 1;
             Ok(())
         }
     }
@@ -364,17 +545,17 @@ fn visits_end(doc: &Document, descend: bool, n: NodeId) -> u32
 // Passes a node of the list: those from which the segment selects for it are next.
 fn pass_node(doc: &Document, plan: &Parts, stage: &Stage, evaluation: &mut Evaluation)
     requires between { IsBetween evaluation.old }
-    requires left { evaluation.old.place < length evaluation.old.list.items }
+    requires left { evaluation.old.at.place < length evaluation.old.at.list.items }
     requires sound { IsSound doc.now plan.now evaluation.old }
     ensures goes { GoesOn doc.now plan.now (stage_view stage.now).tree evaluation.old evaluation.new }
     ensures falls { weight evaluation.new < weight evaluation.old }
 {
     let _ = plan;
-    let n = evaluation.list[evaluation.place];
-    evaluation.end = visits_end(doc, stage.descend, n);
-    evaluation.visit = n.0;
-    evaluation.selector = 0;
-    evaluation.place += 1;
+    let n = evaluation.at.list[evaluation.at.place];
+    evaluation.at.end = visits_end(doc, stage.descend, n);
+    evaluation.at.visit = n.0;
+    evaluation.at.selector = 0;
+    evaluation.at.place += 1;
 }
 
 // Passes a node of the list from which a segment selects by a filter alone, which asks all children at once.
@@ -388,24 +569,24 @@ fn pass_for_filter(
     requires filter { IsAsked (claims_of plan.now.stages.items) 0 (stage_view stage.now).tree (condition_view condition.now) }
     requires alone { length stage.now.selections.items ≡ 1 }
     requires between { IsBetween evaluation.old }
-    requires left { evaluation.old.place < length evaluation.old.list.items }
+    requires left { evaluation.old.at.place < length evaluation.old.at.list.items }
     requires sound { IsSound doc.now plan.now evaluation.old }
     ensures goes { Steps doc.now plan.now result (stage_view stage.now).tree evaluation.old evaluation.new }
     ensures falls { IfOk result (λ _. weight evaluation.new < weight evaluation.old) }
 {
     let _ = plan;
     let _ = condition;
-    let n = evaluation.list[evaluation.place];
+    let n = evaluation.at.list[evaluation.at.place];
     list_children(
         doc,
         stage.descend,
         n,
         &mut evaluation.state.meter,
-        &mut evaluation.children,
+        &mut evaluation.at.children,
     )?;
-    evaluation.child = 0;
-    evaluation.asked = 0;
-    evaluation.place += 1;
+    evaluation.at.child = 0;
+    evaluation.at.asked = 0;
+    evaluation.at.place += 1;
     Ok(())
 }
 
@@ -423,18 +604,18 @@ fn only_condition<'a>(plan: &Parts, stage: &'a Stage) -> Option<&'a Condition>
 
 // Passes a node at which all selectors are passed.
 fn pass_visit(doc: &Document, plan: &Parts, stage: &Stage, evaluation: &mut Evaluation)
-    requires visits { evaluation.old.visit < evaluation.old.end }
-    requires passed { length stage.now.selections.items ≤ evaluation.old.selector }
-    requires asked { length evaluation.old.children.items ≤ evaluation.old.child }
+    requires visits { evaluation.old.at.visit < evaluation.old.at.end }
+    requires passed { length stage.now.selections.items ≤ evaluation.old.at.selector }
+    requires asked { length evaluation.old.at.children.items ≤ evaluation.old.at.child }
     requires sound { IsSound doc.now plan.now evaluation.old }
     ensures goes { GoesOn doc.now plan.now (stage_view stage.now).tree evaluation.old evaluation.new }
     ensures falls { weight evaluation.new < weight evaluation.old }
 {
-    let _ = doc;
+    let _ = doc.root();
     let _ = plan;
     let _ = stage;
-    evaluation.visit += 1;
-    evaluation.selector = 0;
+    evaluation.at.visit += 1;
+    evaluation.at.selector = 0;
 }
 
 // One step from where all children are asked. Whether there was one to take.
@@ -444,21 +625,21 @@ fn pass_one(
     stage: &Stage,
     evaluation: &mut Evaluation,
 ) -> Result<bool, SelectFault>
-    requires asked { length evaluation.old.children.items ≤ evaluation.old.child }
+    requires asked { length evaluation.old.at.children.items ≤ evaluation.old.at.child }
     requires claimed { AreClaimed (claims_of plan.now.stages.items) (stage_view stage.now).claims }
     requires sound { IsSound doc.now plan.now evaluation.old }
     ensures goes { Steps doc.now plan.now result (stage_view stage.now).tree evaluation.old evaluation.new }
     ensures falls { IfOk result (λ is_taken. is_taken ≡ true → weight evaluation.new < weight evaluation.old) }
     ensures end { IfOk result (λ is_taken. is_taken ≡ false → IsThrough evaluation.new) }
 {
-    if evaluation.visit < evaluation.end {
-        match stage.selections.get(evaluation.selector) {
+    if evaluation.at.visit < evaluation.at.end {
+        match stage.selections.get(evaluation.at.selector) {
             Some(selection) => pass_selector(doc, plan, stage, selection, evaluation)?,
             None => pass_visit(doc, plan, stage, evaluation),
         }
         return Ok(true);
     }
-    if evaluation.place < evaluation.list.len() {
+    if evaluation.at.place < evaluation.at.list.len() {
         match only_condition(plan, stage) {
             Some(condition) => pass_for_filter(doc, plan, stage, condition, evaluation)?,
             None => pass_node(doc, plan, stage, evaluation),
@@ -468,29 +649,31 @@ fn pass_one(
     Ok(false)
 }
 
-// Goes on to the end of a segment, selector by selector. Whether it is the end.
+// Goes on to the end of a segment, selector by selector.
 fn step_on(
     doc: &Document,
     plan: &Parts,
     stage: &Stage,
     least: u64,
     evaluation: &mut Evaluation,
-) -> Result<bool, SelectFault>
+) -> Result<Reached, SelectFault>
     requires claimed { AreClaimed (claims_of plan.now.stages.items) (stage_view stage.now).claims }
     requires sound { IsSound doc.now plan.now evaluation.old }
     ensures goes { Steps doc.now plan.now result (stage_view stage.now).tree evaluation.old evaluation.new }
-    ensures end { IfOk result (λ is_end. is_end ≡ true → IsThrough evaluation.new) }
-    ensures cut { IfOk result (λ is_end. is_end ≡ false → evaluation.new.state.meter.left < least) }
+    ensures end { IfOk result (λ to. to ≡ End → IsThrough evaluation.new) }
+    ensures cut { IfOk result (λ to. to ≡ Share → evaluation.new.state.meter.left < least) }
 {
     loop {
-        if !ask(doc, plan, stage, least, evaluation)? {
-            return Ok(false);
+        match ask(doc, plan, stage, least, evaluation)? {
+            Reached::End => {}
+            Reached::Share => return Ok(Reached::Share),
+            Reached::Child => return Ok(Reached::Child),
         }
         if !pass_one(doc, plan, stage, evaluation)? {
-            return Ok(true);
+            return Ok(Reached::End);
         }
         if evaluation.state.meter.left < least {
-            return Ok(false);
+            return Ok(Reached::Share);
         }
     }
 }
@@ -501,22 +684,22 @@ fn step_on(
 fn is_between(evaluation: &Evaluation) -> bool
     ensures { result ≡ true → IsBetween evaluation.now }
 {
-    evaluation.children.len() <= evaluation.child && evaluation.end <= evaluation.visit
+    evaluation.at.children.len() <= evaluation.at.child && evaluation.at.end <= evaluation.at.visit
 }
 
-// Goes on to the end of a segment. Whether it is the end.
+// Goes on to the end of a segment.
 fn go_on(
     doc: &Document,
     plan: &Parts,
     stage: &Stage,
     least: u64,
     evaluation: &mut Evaluation,
-) -> Result<bool, SelectFault>
+) -> Result<Reached, SelectFault>
     requires claimed { AreClaimed (claims_of plan.now.stages.items) (stage_view stage.now).claims }
     requires sound { IsSound doc.now plan.now evaluation.old }
     ensures goes { Steps doc.now plan.now result (stage_view stage.now).tree evaluation.old evaluation.new }
-    ensures end { IfOk result (λ is_end. is_end ≡ true → IsThrough evaluation.new) }
-    ensures cut { IfOk result (λ is_end. is_end ≡ false → evaluation.new.state.meter.left < least) }
+    ensures end { IfOk result (λ to. to ≡ End → IsThrough evaluation.new) }
+    ensures cut { IfOk result (λ to. to ≡ Share → evaluation.new.state.meter.left < least) }
 {
     if !goes_by_selector(stage) && is_between(evaluation) {
         return list_on(doc, plan, stage, least, evaluation);
@@ -527,62 +710,69 @@ fn go_on(
 // Begins the next segment with what is out.
 fn turn_over(doc: &Document, plan: &Parts, evaluation: &mut Evaluation)
     requires { IsSound doc.now plan.now evaluation.old }
-    ensures list { evaluation.new.list.items ≡ evaluation.old.out.items }
-    ensures begins { position doc.now evaluation.new ≡ beginning (nodes_of doc.now evaluation.old.out.items) }
-    ensures place { evaluation.new.place ≡ 0 }
+    ensures list { evaluation.new.at.list.items ≡ evaluation.old.at.out.items }
+    ensures begins { position doc.now evaluation.new.at ≡ beginning (nodes_of doc.now evaluation.old.at.out.items) }
+    ensures place { evaluation.new.at.place ≡ 0 }
     ensures state { evaluation.new.state ≡ evaluation.old.state }
-    ensures stage { evaluation.new.stage ≡ evaluation.old.stage }
+    ensures stage { evaluation.new.at.stage ≡ evaluation.old.at.stage }
     ensures sound { IsSound doc.now plan.now evaluation.new }
 {
     let _ = doc;
     let _ = plan;
-    evaluation.list = mem::replace(&mut evaluation.out, Vec::new(evaluation.state.alloc));
-    evaluation.place = 0;
-    evaluation.visit = 0;
-    evaluation.end = 0;
-    evaluation.selector = 0;
-    evaluation.asked = 0;
-    evaluation.children.clear();
-    evaluation.child = 0;
+    evaluation.at.list = mem::replace(&mut evaluation.at.out, Vec::new(evaluation.state.alloc));
+    evaluation.at.place = 0;
+    evaluation.at.visit = 0;
+    evaluation.at.end = 0;
+    evaluation.at.selector = 0;
+    evaluation.at.asked = 0;
+    evaluation.at.children.clear();
+    evaluation.at.child = 0;
 }
 
-// Goes on in a segment. Whether it came to its end, and what it selected is the list.
+// Goes on in a segment. At its end the list is what it selected.
 fn pass_segment(
     doc: &Document,
     plan: &Parts,
     stage: &Stage,
     least: u64,
     evaluation: &mut Evaluation,
-) -> Result<bool, SelectFault>
-    requires within { evaluation.old.stage < length plan.now.stages.items }
+) -> Result<Reached, SelectFault>
     requires claimed { AreClaimed (claims_of plan.now.stages.items) (stage_view stage.now).claims }
     requires sound { IsSound doc.now plan.now evaluation.old }
-    ensures passed { MatchResult result (λ is_end. Passes doc.now plan.now (stage_view stage.now).tree is_end evaluation.old evaluation.new) (λ e. Refuses (due (node_at doc.now 0) (stage_view stage.now).tree (position doc.now evaluation.old)) evaluation.old.state.meter.left e) }
-    ensures cut { IfOk result (λ is_end. is_end ≡ false → evaluation.new.state.meter.left < least) }
+    ensures passed { MatchResult result (λ to. Passes doc.now plan.now (stage_view stage.now).tree to evaluation.old evaluation.new) (λ e. Refuses (due (node_at doc.now 0) (stage_view stage.now).tree (position doc.now evaluation.old.at)) evaluation.old.state.meter.left e) }
+    ensures cut { IfOk result (λ to. to ≡ Share → evaluation.new.state.meter.left < least) }
 {
-    if !go_on(doc, plan, stage, least, evaluation)? {
-        return Ok(false);
+    match go_on(doc, plan, stage, least, evaluation)? {
+        Reached::End => {
+            turn_over(doc, plan, evaluation);
+            Ok(Reached::End)
+        }
+        Reached::Share => Ok(Reached::Share),
+        Reached::Child => Ok(Reached::Child),
     }
-    turn_over(doc, plan, evaluation);
-    evaluation.stage += 1;
-    Ok(true)
 }
 
-/// Goes on until fewer units are left, or to the end. Whether it is the end.
+/// Goes on with the segments of a query, until fewer units are left, a child costs too much, or to the end.
 pub fn run(
     doc: &Document,
     plan: &Parts,
+    stages: &[Stage],
     least: u64,
     evaluation: &mut Evaluation,
-) -> Result<bool, SelectFault>
-    requires { IsUnderWay doc.now plan.now evaluation.old }
-    ensures gone { MatchResult result (λ is_end. RunsOn doc.now plan.now is_end evaluation.old evaluation.new) (λ e. Refuses (whole_due doc.now plan.now evaluation.old) evaluation.old.state.meter.left e) }
-    ensures cut { IfOk result (λ is_end. is_end ≡ false → evaluation.new.state.meter.left < least) }
+) -> Result<Reached, SelectFault>
+    requires under_way { IsUnderWay doc.now (segments_in stages.now) evaluation.old.at }
+    requires claimed { AreClaimed (claims_of plan.now.stages.items) (claims_of stages.now) }
+    requires kept { Keeps doc.now (claims_of plan.now.stages.items) evaluation.old.state }
+    ensures gone { MatchResult result (λ to. Ran to doc.now (segments_in stages.now) evaluation.old evaluation.new) (λ e. Refuses (whole_due doc.now (segments_in stages.now) evaluation.old.at) evaluation.old.state.meter.left e) }
+    ensures cut { IfOk result (λ to. to ≡ Share → evaluation.new.state.meter.left < least) }
+    ensures kept { IfOk result (λ to. Keeps doc.now (claims_of plan.now.stages.items) evaluation.new.state) }
 {
-    for stage in &plan.stages[evaluation.stage..] {
-        if !pass_segment(doc, plan, stage, least, evaluation)? {
-            return Ok(false);
+    for stage in &stages[evaluation.at.stage..] {
+        match pass_segment(doc, plan, stage, least, evaluation)? {
+            Reached::End => evaluation.at.stage += 1,
+            Reached::Share => return Ok(Reached::Share),
+            Reached::Child => return Ok(Reached::Child),
         }
     }
-    Ok(true)
+    Ok(Reached::End)
 }

@@ -18,7 +18,7 @@ use Rattle.node_lists.specs.Evaluation.{evaluated, selected, selected_by, holds,
 use Rattle.node_lists.specs.Nodelists.{nodes_of}
 use Rattle.node_lists.specs.Charge.{total_of, charge_from, charge_in, charge_by}
 use Rattle.node_lists.specs.Extra.{count_of, extra_by, extra_in, nodes_from, charge_at, nodes_after, charge_after}
-use Rattle.query_plan.specs.Planned.{Claims, both, trees, all_claims, query_of, claims_of, condition_view, selection_view, stage_view}
+use Rattle.query_plan.specs.Planned.{Claims, trees, query_of, claims_of, condition_view, selection_view, stage_view}
 use Rattle.node_lists.specs.Links.{link_selector, link_view}
 use Rattle.query_plan.specs.Slots.{AreClaimed}
 use Rattle.query_plan.specs.declared.plan.Condition.{Condition}
@@ -33,6 +33,7 @@ use Rattle.std.specs.declared.alloc.Global.{Global}
 use Rattle.node_lists.specs.declared.fault.SelectFault.{SelectFault}
 use Rattle.node_lists.proofs.Following.{refuses_from, one_unit}
 use Rattle.node_lists.proofs.Visits.{visit_length, visit_more, visit_charged}
+use Rattle.query_plan.proofs.Claims.{operand_claims, selection_claims, stages_claims}
 use Rattle.query_plan.proofs.Joining.{finds_some, finds_all}
 use Rattle.query_plan.proofs.LoneLinks.{stage_is}
 use Rattle.query_plan.proofs.Operands.{argued_charge, length_called, operand_charges}
@@ -61,10 +62,6 @@ pub ruleset holding = (any_are)
 pub ruleset siding = (argued_charge, length_called)
 
 pub ruleset joining = (finds_some, finds_all)
-
-pub operand_claims : (es : List Condition) (i : ℕ) (d : Condition) → i < length es
-    → all_claims (map condition_view (drop i es)) ≡ both (condition_view (get_or es i d)).claims (all_claims (map condition_view (drop (i + 1) es)))
-operand_claims es i d lt = ap (λ (xs : List Condition). all_claims (map condition_view xs)) (drop_more es i d lt)
 
 pub or_assoc : (a b c : Bool) → ((a || b) || c) ≡ (a || (b || c))
 or_assoc true b c = refl
@@ -95,10 +92,6 @@ pub ruleset somes = (some_more, operand_claims, operand_charges, or_assoc, or_fa
 pub ruleset alls = (all_more, operand_claims, operand_charges, and_assoc, and_true)
 
 -- ---- Selectors
-
-pub selection_claims : (ss : List Selection) (i : ℕ) (d : Selection) → i < length ss
-    → all_claims (map selection_view (drop i ss)) ≡ both (selection_view (get_or ss i d)).claims (all_claims (map selection_view (drop (i + 1) ss)))
-selection_claims ss i d lt = ap (λ (xs : List Selection). all_claims (map selection_view xs)) (drop_more ss i d lt)
 
 pub selections_more : (root n : Node) (ss : List Selection) (i : ℕ) (d : Selection) → i < length ss
     → selected root (selectors_of (trees (map selection_view (drop i ss)))) n ≡ selected_by root (selection_view (get_or ss i d)).tree n ++ selected root (selectors_of (trees (map selection_view (drop (i + 1) ss)))) n
@@ -203,10 +196,6 @@ pub ruleset totals = (visit_length)
 pub ruleset each_input = (append_nil, flat_more, sum_more, append_assoc, has_none)
 
 -- ---- Segments
-
-stages_claims : (ss : List Stage) (i : ℕ) (d : Stage) → i < length ss
-    → claims_of (drop i ss) ≡ both (stage_view (get_or ss i d)).claims (claims_of (drop (i + 1) ss))
-stages_claims ss i d lt = ap (λ (xs : List Stage). claims_of xs) (drop_more ss i d lt)
 
 pub stage_claimed : (t : Claims) (ss : List Stage) (i : ℕ) (item : Stage) → i < length ss → item ≡ get_or ss i item → AreClaimed t (claims_of (drop i ss))
     → AreClaimed t (stage_view item).claims × AreClaimed t (claims_of (drop (i + 1) ss))

@@ -3,3 +3,4 @@ pub mod Slots
 pub mod Filtering
 pub mod Rows
 pub mod Telling
+pub mod Awaits

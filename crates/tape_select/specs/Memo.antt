@@ -1,8 +1,8 @@
--- What was found for the queries from the root is right, and so are the truths that are kept.
-use Rattle.std.specs.Prelude.{◌≡◌, ℕ, suc, ◌+◌, Bool, List, [], ◌∷◌, length, Option, Some, None, Result, MatchResult}
+-- What was found for queries in filters is right, and so are the truths that are kept.
+use Rattle.std.specs.Prelude.{◌≡◌, ℕ, suc, ◌+◌, Bool, List, [], ◌∷◌, ◌++◌, length, Option, Some, None, Result, MatchResult}
 use Rattle.std.specs.declared.alloc.Global.{Global}
 use Rattle.std.specs.declared.vec.Vec.{Vec}
-use Rattle.path_grammar.specs.Tree.{Segments, Nested, nested}
+use Rattle.path_grammar.specs.Tree.{Segments, Nested, nested, segments_of}
 use Rattle.json_tape.specs.Nodes.{Node}
 use Rattle.json_tape.specs.Document.{Doc, node_at, IsIn}
 use Rattle.tape_values.specs.Comparison.{Value}
@@ -13,6 +13,7 @@ use Rattle.node_lists.specs.Evaluation.{evaluated, holds, start}
 use Rattle.node_lists.specs.Charge.{charge_from}
 use Rattle.query_plan.specs.Planned.{Claimed, a_query, a_condition, Claims, look}
 use Rattle.tape_select.specs.declared.state.Found.{Found}
+use Rattle.tape_select.specs.declared.state.Kept.{Kept}
 use Rattle.tape_select.specs.declared.state.State.{State}
 use Rattle.compared_sides.specs.Answered.{AreRight}
 use Rattle.compared_sides.specs.Counted.{AreCounted}
@@ -28,22 +29,23 @@ pub record IsFound (d : Doc) (from : Node) (q : Segments) (f : Found) : Type 0 w
   pub total : f.total ≡ length (evaluated (node_at d 0) q (from ∷ []))
   pub charge : f.charge ≡ charge_from (node_at d 0) q (from ∷ [])
 
--- where some query has the slot, this was found for it from the root
-abbrev pub IsFoundAt : Doc → Option Claimed → Found → Type 0
-IsFoundAt d None f = Unit {0}
-IsFoundAt d (Some (a_query q)) f = IsFound d (node_at d 0) q f
-IsFoundAt d (Some (a_condition s e)) f = Unit {0}
+-- where some query has the slot, this is found for it from the node
+abbrev pub IsFoundAt : Doc → Option Claimed → Node → Found → Type 0
+IsFoundAt d None n f = Unit {0}
+IsFoundAt d (Some (a_query from_root before behind)) n f = IsFound d n (segments_of (before ++ behind)) f
+IsFoundAt d (Some (a_condition s e)) n f = Unit {0}
 
-abbrev pub IsKept : Doc → Option Claimed → Option Found → Type 0
+-- what is kept was found from the node that is kept with it
+abbrev pub IsKept : Doc → Option Claimed → Option Kept → Type 0
 IsKept d c None = Unit {0}
-IsKept d c (Some f) = IsFoundAt d c f
+IsKept d c (Some k) = IsFoundAt d c (node_at d k.from.0) k.found
 
 -- each slot that is filled is right
-abbrev pub RightFrom : Doc → Claims → ℕ → List (Option Found) → Type 0
+abbrev pub RightFrom : Doc → Claims → ℕ → List (Option Kept) → Type 0
 RightFrom d table k [] = Unit {0}
 RightFrom d table k (s ∷ ss) = IsKept d (look table k) s × RightFrom d table (suc k) ss
 
-abbrev pub Right : Doc → Claims → List (Option Found) → Type 0
+abbrev pub Right : Doc → Claims → List (Option Kept) → Type 0
 Right d table slots = RightFrom d table 0 slots
 
 -- this is found, and its charge is paid
@@ -63,7 +65,7 @@ FindsSide d r value charge old new = MatchResult r (λ side. (side_value d side 
 -- where some condition has the slot, it has this truth at each node of the cell with this number
 abbrev pub IsTruth : Doc → Option Claimed → ℕ → Bool → Type 0
 IsTruth d None i held = Unit {0}
-IsTruth d (Some (a_query q)) i held = Unit {0}
+IsTruth d (Some (a_query from_root before behind)) i held = Unit {0}
 IsTruth d (Some (a_condition s e)) i held = (n : Node) → IsCell (node_at d 0) n s i → holds (node_at d 0) e n ≡ held
 
 abbrev pub IsTruthKept : Doc → Option Claimed → ℕ → Option Bool → Type 0

@@ -8,6 +8,7 @@ ghost use Rattle.decisions.specs.Tree.{expr_of, listed};
 ghost use Rattle.decisions.specs.Views.{test_view};
 ghost use Rattle.decisions.specs.Told.{is_told_on};
 ghost use Rattle.node_lists.specs.Evaluation.{evaluated, selected, selected_by, holds, some_hold, all_hold, result as side_result};
+ghost use Rattle.node_lists.specs.Links.{link_view};
 ghost use Rattle.node_lists.specs.Nodelists.{nodes_of};
 ghost use Rattle.node_lists.specs.Charge.{total_of, charge_from, charge_expr, charge_exprs, charge_side};
 ghost use Rattle.node_lists.specs.Extra.{extra_in, extra_by, nodes_from, charge_at, nodes_after, charge_after};
@@ -16,7 +17,7 @@ ghost use Rattle.query_plan.specs.Planned.{a_query, a_condition, trees, joined, 
 ghost use Rattle.query_plan.specs.Slots.{AreClaimed};
 ghost use Rattle.tape_select.specs.Memo.{FindsNodes, FindsFor, FindsSide, Keeps};
 
-use crate::state::{Found, State, found_by_links, found_in, keep, recall};
+use crate::state::{Found, State, beginning, found_by_links, found_in, keep, recall};
 use crate::truths::{keep as keep_truth, known};
 use compared_sides::{cell_of, compare, compare_length, length_of, related, side_found};
 use decisions::{Decision, Scale, tells_as_compared, tells_by_marks};
@@ -361,7 +362,7 @@ fn side_by_kind<'a>(
     }
 }
 
-// What is asked of a query in a filter. From the root it is found once.
+// What is asked of a query in a filter. With a slot it is found once for each node that it begins at, while that is the last.
 #[cycle(evaluation)]
 #[inline(always)]
 fn found(
@@ -379,7 +380,19 @@ fn found(
 {
     match query.slot {
         None => found_from(doc, plan, &query.links, &query.stages, child, state),
-        Some(slot) => found_once(doc, plan, &query.links, &query.stages, slot, state),
+        Some(slot) => {
+            let n = beginning(doc, query.from_root, child);
+            found_once(
+                doc,
+                plan,
+                query.from_root,
+                &query.links,
+                &query.stages,
+                slot,
+                n,
+                state,
+            )
+        }
     }
 }
 
@@ -388,25 +401,29 @@ fn found(
 fn found_once(
     doc: &Document,
     plan: &Parts,
+    from_root: bool,
     links: &[Link],
     stages: &[Stage],
     slot: u32,
+    n: NodeId,
     state: &mut State,
 ) -> Result<Found, SelectFault>
-    requires mine { look (claims_of plan.now.stages.items) slot ≡ Some (a_query (path_of links.now stages.now)) }
+    requires inside { n.0 < count doc.now }
+    requires mine { look (claims_of plan.now.stages.items) slot ≡ Some (a_query from_root (map link_view links.now) (trees (map stage_view stages.now))) }
     requires claimed { AreClaimed (claims_of plan.now.stages.items) (claims_of stages.now) }
     requires kept { Keeps doc.now (claims_of plan.now.stages.items) state.old }
-    ensures found { FindsNodes doc.now result (path_of links.now stages.now) (node_at doc.now 0) state.old.meter.left state.new.meter.left }
+    ensures found { FindsNodes doc.now result (path_of links.now stages.now) (node_at doc.now n.0) state.old.meter.left state.new.meter.left }
     ensures kept { Keeps doc.now (claims_of plan.now.stages.items) state.new }
 {
-    match recall(doc, plan, &state.slots, slot) {
+    let _ = from_root;
+    match recall(doc, plan, &state.slots, slot, n) {
         Some(found) => {
             state.meter.spend(found.charge)?;
             Ok(found)
         }
         None => {
-            let found = found_from(doc, plan, links, stages, doc.root(), state)?;
-            keep(doc, plan, &mut state.slots, slot, found);
+            let found = found_from(doc, plan, links, stages, n, state)?;
+            keep(doc, plan, &mut state.slots, slot, n, found);
             Ok(found)
         }
     }

@@ -4,14 +4,16 @@
 //! the units. [`select`] makes the plan too. What selects without a condition is in `node_lists`, and what filters compare in `compared_sides`.
 #![tactic(auto)]
 
+mod awaiting;
 mod evaluation;
 mod planning;
 mod selecting;
 mod state;
 mod truths;
 
+pub use awaiting::{Awaited, first_awaited};
 pub use evaluation::{does_hold, from_node, visit_total};
 pub use node_lists::SelectFault;
 pub use planning::{BUDGET, Plan, select};
 pub use selecting::{Selected, empty_slots, select_all};
-pub use state::State;
+pub use state::{State, beginning, found_in, keep};

@@ -9,7 +9,7 @@ ghost use Rattle.node_lists.specs.Paying.{Holds, Refuses};
 ghost use Rattle.query_plan.specs.Planned.{query_of, claims_of, numbered};
 
 use crate::evaluation::all_selected;
-use crate::state::{Found, State};
+use crate::state::{Kept, State};
 use compared_sides::no_lengths;
 use json_tape::{Document, NodeId};
 use node_lists::{Meter, SelectFault};
@@ -28,11 +28,11 @@ pub fn empty_slots(
     alloc: Global,
     doc: &Document,
     plan: &Parts,
-) -> Result<Vec<Option<Found>>, SelectFault>
+) -> Result<Vec<Option<Kept>>, SelectFault>
     ensures { MatchResult result (λ slots. Right doc.now (claims_of plan.now.stages.items) slots.items) (λ e. e ≡ SelectFault.Memory) }
 {
     let _ = doc;
-    let mut slots: Vec<Option<Found>> = Vec::new(alloc);
+    let mut slots: Vec<Option<Kept>> = Vec::new(alloc);
     for _ in 0..plan.slots {
         if slots.push(None).is_err() {
             return Err(SelectFault::Memory);

@@ -1,11 +1,12 @@
-//! What an evaluation keeps: what was found for the queries from the root.
+//! What an evaluation keeps: what was found for queries in filters.
 
 ghost use Rattle.std.specs.Prelude.{◌≡◌, ◌<◌, length, IfSome};
 ghost use Rattle.json_tape.specs.Document.{count, node_at, IsIn};
 ghost use Rattle.tape_values.specs.Functions.{only_value};
+ghost use Rattle.node_lists.specs.Evaluation.{start};
 ghost use Rattle.node_lists.specs.Nodelists.{nodes_of};
 ghost use Rattle.node_lists.specs.Paying.{Inside};
-ghost use Rattle.tape_select.specs.Memo.{Right, IsFoundAt, FindsNodes};
+ghost use Rattle.tape_select.specs.Memo.{Right, IsKept, IsFoundAt, FindsNodes};
 ghost use Rattle.compared_sides.specs.Values.{value_found};
 ghost use Rattle.query_plan.specs.Planned.{claims_of, look};
 ghost use Rattle.node_lists.specs.Links.{links_view};
@@ -26,23 +27,32 @@ pub struct Found {
     pub charge: u64,
 }
 
-/// The units that are left, a slot for each query from the root, and comparisons, lengths and truths that were found.
+/// What was found for a query, and the node that it was found from: the root, or a child.
+#[derive(Clone, Copy)]
+pub struct Kept {
+    pub from: NodeId,
+    pub found: Found,
+}
+
+/// The units that are left, a slot for each query that is kept, and comparisons, lengths and truths that were found.
 #[derive(Drop)]
 pub struct State {
     pub alloc: Global,
     pub meter: Meter,
-    pub slots: Vec<Option<Found>>,
+    /// What was found last for each of the queries.
+    pub slots: Vec<Option<Kept>>,
     pub answers: Vec<Option<Answer>>,
     pub lengths: Lengths,
     /// For each slot of a condition its truths, by cells.
     pub truths: Vec<Vec<Option<bool>>>,
 }
 
-/// What the slot holds, where it is filled.
+// What the slot holds.
+#[inline(always)]
 #[tactic(auto, using(crate::proofs::Slots::slots))]
-pub fn recall(doc: &Document, plan: &Parts, slots: &[Option<Found>], slot: u32) -> Option<Found>
-    requires right { Right doc.now (claims_of plan.now.stages.items) slots.now }
-    ensures { IfSome result (λ found. IsFoundAt doc.now (look (claims_of plan.now.stages.items) slot) found) }
+fn held(doc: &Document, plan: &Parts, slots: &[Option<Kept>], slot: u32) -> Option<Kept>
+    requires { Right doc.now (claims_of plan.now.stages.items) slots.now }
+    ensures { IsKept doc.now (look (claims_of plan.now.stages.items) slot) result }
 {
     let _ = doc;
     let _ = plan;
@@ -53,18 +63,56 @@ pub fn recall(doc: &Document, plan: &Parts, slots: &[Option<Found>], slot: u32) 
     }
 }
 
-/// Keeps what was found.
+/// What the slot holds, where it was found from this node.
+#[inline(always)]
+#[tactic(auto, using(crate::proofs::Slots::from_node))]
+pub fn recall(
+    doc: &Document,
+    plan: &Parts,
+    slots: &[Option<Kept>],
+    slot: u32,
+    n: NodeId,
+) -> Option<Found>
+    requires right { Right doc.now (claims_of plan.now.stages.items) slots.now }
+    ensures { IfSome result (λ found. IsFoundAt doc.now (look (claims_of plan.now.stages.items) slot) (node_at doc.now n.0) found) }
+{
+    let kept = held(doc, plan, slots, slot)?;
+    if kept.from.0 == n.0 {
+        Some(kept.found)
+    } else {
+        None
+    }
+}
+
+/// Keeps what was found from a node.
 #[tactic(auto, using(crate::proofs::Slots::slots))]
-pub fn keep(doc: &Document, plan: &Parts, slots: &mut [Option<Found>], slot: u32, found: Found)
+pub fn keep(
+    doc: &Document,
+    plan: &Parts,
+    slots: &mut [Option<Kept>],
+    slot: u32,
+    n: NodeId,
+    found: Found,
+)
     requires right { Right doc.now (claims_of plan.now.stages.items) slots.old }
-    requires found { IsFoundAt doc.now (look (claims_of plan.now.stages.items) slot) found }
+    requires found { IsFoundAt doc.now (look (claims_of plan.now.stages.items) slot) (node_at doc.now n.0) found }
     ensures { Right doc.now (claims_of plan.now.stages.items) slots.new }
 {
     let _ = doc;
     let _ = plan;
     if (slot as usize) < slots.len() {
-        slots[slot as usize] = Some(found);
+        slots[slot as usize] = Some(Kept { from: n, found });
     }
+}
+
+/// Where a query in a filter begins: at the root, or at the child.
+#[inline(always)]
+pub fn beginning(doc: &Document, from_root: bool, child: NodeId) -> NodeId
+    requires { child.0 < count doc.now }
+    ensures inside { result.0 < count doc.now }
+    ensures begins { node_at doc.now result.0 ≡ start (node_at doc.now 0) from_root (node_at doc.now child.0) }
+{
+    if from_root { doc.root() } else { child }
 }
 
 /// What is asked of a nodelist that was charged so much.

@@ -18,9 +18,9 @@ returns-in_err-list_children-clause-goes c =
     let descend : (stage_view st).tree.descend ≡ st.descend = ap (λ v. v.tree.descend) (stage_is st) in
     let p = err_from_is_err_and c.from_residual.result c.from_residual.ensures.1 in
     rw (p.1, p.2)
-    (refused_all (node_at d 0) (stage_view st).tree (position d w) (position d w) w.state.meter.left w.state.meter.left (node_at d k.0) (nodes_of d (drop (w.place + 1) w.list.items)) (condition_view c.args.condition.now).tree c.in_err-list_children.field-0.0
-    c.requires.filter.condition (behind_all st 1 one) (none_left d w.child w.children.items c.requires.between.asked) (between_none d w.visit w.end c.requires.between.visited)
-    (some_left d w.place w.list.items k c.requires.left (search rules)) (rw descend c.in_err-list_children.ensures))
+    (refused_all (node_at d 0) (stage_view st).tree (position d w.at) (position d w.at) w.state.meter.left w.state.meter.left (node_at d k.0) (nodes_of d (drop (w.at.place + 1) w.at.list.items)) (condition_view c.args.condition.now).tree c.in_err-list_children.field-0.0
+    c.requires.filter.condition (behind_all st 1 one) (none_left d w.at.child w.at.children.items c.requires.between.asked) (between_none d w.at.visit w.at.end c.requires.between.visited)
+    (some_left d w.at.place w.at.list.items k c.requires.left (search rules)) (rw descend c.in_err-list_children.ensures))
 
 pub returns-clause-goes : goal.returns-clause-goes
 returns-clause-goes c =
@@ -31,13 +31,13 @@ returns-clause-goes c =
     let k = c.index-n.result.now in
     let one : length st.selections.items ≤ 1 = (let n = c.requires.alone in omega (arith, n)) in
     let descend : (stage_view st).tree.descend ≡ st.descend = ap (λ v. v.tree.descend) (stage_is st) in
-    let none = between_none d w.visit w.end c.requires.between.visited in
+    let none = between_none d w.at.visit w.at.end c.requires.between.visited in
     let h = c.in_ok-list_children.ensures in
     let before = c.requires.left in
     record {
-      goes = takes_all (node_at d 0) (stage_view st).tree (position d w) _ w.state.meter.left c.list_children.new.meter.left (node_at d k.0) (nodes_of d (drop (w.place + 1) w.list.items)) (condition_view c.args.condition.now).tree
-          c.requires.filter.condition (behind_all st 1 one) (none_left d w.child w.children.items c.requires.between.asked) none
-          (some_left d w.place w.list.items k before (search rules)) refl (rw descend h.0.same) none refl refl (rw descend h.1);
+      goes = takes_all (node_at d 0) (stage_view st).tree (position d w.at) _ w.state.meter.left c.list_children.new.meter.left (node_at d k.0) (nodes_of d (drop (w.at.place + 1) w.at.list.items)) (condition_view c.args.condition.now).tree
+          c.requires.filter.condition (behind_all st 1 one) (none_left d w.at.child w.at.children.items c.requires.between.asked) none
+          (some_left d w.at.place w.at.list.items k before (search rules)) refl (rw descend h.0.same) none refl refl (rw descend h.1);
       stage = refl;
-      sound = record { kept = i.kept; within = omega (arith, before); listed = i.listed; end = i.end; child = omega arith; children = h.0.inside; sound = i.sound };
+      sound = record { kept = i.kept; placed = record { within = omega (arith, before); listed = i.placed.listed; end = i.placed.end; child = omega arith; children = h.0.inside; sound = i.placed.sound } };
     }

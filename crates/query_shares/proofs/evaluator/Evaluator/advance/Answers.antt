@@ -11,7 +11,7 @@ advanced_or_whole-requires-clause-within c =
 pub returns-in-Ok-clause-nodes : goal.returns-in-Ok-clause-nodes
 returns-in-Ok-clause-nodes c =
     let d = c.args.doc.now in
-    nodes_found d c.args.self.now.parts c.args.units c.args.share (root_node (tree_of d)) c.in-Ok.some c.args.self.now.evaluation c.advanced_or_whole.new.evaluation c.root.ensures.root c.in-Ok.ensures
+    nodes_found d c.args.self.now.parts c.args.units c.args.share (root_node (tree_of d)) c.in-Ok.some c.args.self.now.evaluation c.advanced_or_whole.new.levels c.root.ensures.root c.in-Ok.ensures
 
 pub returns-in-Ok-clause-ready : goal.returns-in-Ok-clause-ready
 returns-in-Ok-clause-ready c =
@@ -19,8 +19,8 @@ returns-in-Ok-clause-ready c =
     let r = c.root.ensures in
     record {
       numbered = c.requires.numbered;
-      within = within_text d c.args.self.now.parts c.args.units c.advanced_or_whole.new.evaluation (document_is d r.accepted r.tape r.small)
-          (within_after d c.args.self.now.parts c.args.units c.args.share c.in-Ok.some c.args.self.now.evaluation c.advanced_or_whole.new.evaluation c.in-Ok.ensures);
+      within = within_text d c.args.self.now.parts c.args.units c.advanced_or_whole.new.levels (document_is d r.accepted r.tape r.small)
+          (within_after d c.args.self.now.parts c.args.units c.args.share c.in-Ok.some c.args.self.now.evaluation c.advanced_or_whole.new.levels c.in-Ok.ensures);
     }
 
 pub returns-in-Ok-clause-due : goal.returns-in-Ok-clause-due
@@ -33,5 +33,5 @@ returns-in-Ok-clause-due c =
 pub returns-in-Ok-clause-due_on : goal.returns-in-Ok-clause-due_on
 returns-in-Ok-clause-due_on c =
     let d = c.args.doc.now in
-    charged d c.args.self.now.parts c.args.units (root_node (tree_of d)) c.advanced_or_whole.new.evaluation c.root.ensures.root
-    (within_after d c.args.self.now.parts c.args.units c.args.share c.in-Ok.some c.args.self.now.evaluation c.advanced_or_whole.new.evaluation c.in-Ok.ensures)
+    charged d c.args.self.now.parts c.args.units (root_node (tree_of d)) c.advanced_or_whole.new.levels c.root.ensures.root
+    (within_after d c.args.self.now.parts c.args.units c.args.share c.in-Ok.some c.args.self.now.evaluation c.advanced_or_whole.new.levels c.in-Ok.ensures)
