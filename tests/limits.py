@@ -316,7 +316,7 @@ def gone_queries(report):
         for number in (2, 4):
             left, other = (open_connection(server.address) for _ in range(2))
             left.sendall(dear)
-            time.sleep(seconds / 4)
+            time.sleep(seconds / 10)
             other.sendall(GET)
             began = time.monotonic()
             reset(left)
