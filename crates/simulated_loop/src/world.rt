@@ -475,13 +475,13 @@ fn calls_of(pipes: &[RefCell<Pipe>]) -> u64 {
     sum
 }
 
-// The rounds in which a reply has come. Where memory is not ample, those that hold it and do not go on do so for --frame-time at most, and
-// one in sixteen peers at most wants all of it for that.
+// The rounds in which a reply has come. Where memory is not ample, those that hold it and do not go on do so for --frame-time at most. They are those
+// that take nothing, in two of the 24 manners (`any_manner`), so about one in twelve peers.
 fn patience(limits: &Limits, peers: usize) -> u64 {
     if limits.memory >= AMPLE {
         return SWIFT;
     }
-    let holders = (peers / 16) as u64;
+    let holders = (peers / 12) as u64;
     let seconds = limits.frame_time.saturating_add(2);
     holders
         .saturating_add(2)
