@@ -4,7 +4,8 @@
 Memory: many clients that put large texts at once, with ample memory and with the least; peers that read nothing of what they asked for, with
 a key and without one; half frames, with a key and without one; peers that stall, and peers that send a byte at a time, while others wait for what
 they hold; queries that take longer than `--frame-time` side by side; peers that are gone while their query goes on or while they wait for memory.
-Connections: idle ones and half frames at the limit on connections and at that of descriptors. Standard error and standard input of each kind. Time: a long reply that is read slowly beside an idle limit, and requests that came while the server was busy for longer than it.
+Connections: idle ones and half frames at the limit on connections and at that of descriptors. Standard error and standard input of each kind. Time: a
+long reply that is read slowly beside an idle limit, and requests that came while the server was busy for longer than it.
 In each case those that can go on do, within a bound. NAMEs are those of the cases to run, all where there is none. long/long_limits.py has
 the same with larger numbers.
 """
