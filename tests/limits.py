@@ -3,8 +3,9 @@
 
 Memory: many clients that put large texts at once, with ample memory and with the least; peers that read nothing of what they asked for, with
 a key and without one; half frames, with a key and without one; peers that stall, and peers that send a byte at a time, while others wait for what
-they hold; queries that take longer than `--frame-time` side by side. Connections: idle ones and half frames at the limit on connections and at that of descriptors. Standard error and standard input of
-each kind. Time: a long reply that is read slowly beside an idle limit, and requests that came while the server was busy for longer than it.
+they hold; queries that take longer than `--frame-time` side by side; peers that are gone while their query goes on or while they wait for memory.
+Connections: idle ones and half frames at the limit on connections and at that of descriptors. Standard error and standard input of each kind. Time: a
+long reply that is read slowly beside an idle limit, and requests that came while the server was busy for longer than it.
 In each case those that can go on do, within a bound. NAMEs are those of the cases to run, all where there is none. long/long_limits.py has
 the same with larger numbers.
 """
@@ -20,7 +21,7 @@ import time
 from contextlib import contextmanager, suppress
 
 from many_connections import FAULT, FAULT_REPLY, GET, GET_REPLY, KEY, MEBIBYTE, PUT, PUT_REPLY, exchange, frame
-from lib.running_server import GIVE_BACK, PATIENCE, PROGRAM, Listening, Report, open_connection, reset
+from lib.running_server import GIVE_BACK, PATIENCE, PROGRAM, Listening, Report, open_connection, reset, talk
 from path_client import parse_address
 
 LEAST = 14_680_072
@@ -303,6 +304,48 @@ def held_without_others(report):
         server.finish(report)
 
 
+def gone_queries(report):
+    """A peer that resets its connection ends its query at the next turn. One that ends its own side alone gets its reply."""
+    text = b"[" + b",".join([b"[" + b",".join([b"0"] * 3_000) + b"]"] * 150) + b"]"
+    dear = query(b"$[?" + b"||".join(b"count(@.*)>%d" % (99_999 - place) for place in range(20)) + b"]")
+    with Listening([KEY]) as server:
+        with open_connection(server.address) as connection:
+            report.case("a text for a long query", "", PUT_REPLY * 2, exchange(connection, put(b"l", text) + PUT, 18))
+        began = time.monotonic()
+        report.case("a reply to a peer that ended its side", dear, (NO_HITS, "end"), talk(open_connection(server.address), [dear]))
+        seconds = time.monotonic() - began
+        for number in (2, 4):
+            left, other = (open_connection(server.address) for _ in range(2))
+            left.sendall(dear)
+            time.sleep(seconds / 10)
+            other.sendall(GET)
+            began = time.monotonic()
+            reset(left)
+            report.case("a reply behind a query whose peer is gone", GET, GET_REPLY, exchange(other, b"", len(GET_REPLY)))
+            waited = time.monotonic() - began
+            at_most(report, "the seconds until a query ends whose peer is gone", seconds / 2, waited)
+            report.case("the end of a peer that is gone", "", "ReadFault", server.ends().get(number))
+            other.close()
+        print(f"a query of {seconds:.2f} s ended {waited * 1000:.1f} ms after its peer was gone", flush=True)
+        server.finish(report, (6, 5))
+
+
+def gone_waiters(report):
+    """A peer that resets its connection while it waits for memory waits no more: so one that holds memory is let be."""
+    with Listening([KEY], "--memory", str(LEAST), "--stall", "1") as server:
+        whole = put(b"d", TEXT)
+        holder, waiter = (open_connection(server.address) for _ in range(2))
+        for connection in (holder, waiter):
+            connection.sendall(whole[:100_000])
+            time.sleep(0.1)
+        reset(waiter)
+        time.sleep(3.5)
+        report.case("a text that paused where who waited is gone", "", PUT_REPLY, exchange(holder, whole[100_000:], 9))
+        holder.close()
+        report.case("the end of a peer that is gone while it waits", "", ["ReadFault"], names_of(server))
+        server.finish(report)
+
+
 def invalid(report):
     """A limit on memory that is too small is an invalid command line that says the least."""
     words = [PROGRAM, "listen", "127.0.0.1:0", KEY.hex(), "--memory", str(LEAST - 1)]
@@ -538,6 +581,8 @@ def cases(is_short):
     yield (stalled,)
     yield side_by_side, 14
     yield (held_without_others,)
+    yield (gone_queries,)
+    yield (gone_waiters,)
     yield spare, 200 if is_short else 10_000
     yield parts_at_the_limit, 50 if is_short else 1_000
     yield strangers_at_the_limit, 40 if is_short else 1_000

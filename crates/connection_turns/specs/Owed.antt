@@ -1,5 +1,5 @@
 -- What a connection of the loop is owed: this project's own.
-use Rattle.std.specs.Prelude.{Option, Some, None}
+use Rattle.std.specs.Prelude.{Bool, false, Option, Some, None}
 use Rattle.outbox.specs.Lines.{Line}
 use Rattle.connection_turns.specs.declared.connection.Phase.{Phase}
 use Rattle.connection_turns.specs.declared.connection.Phase.TheVariants.{Served, Lingering}
@@ -12,3 +12,11 @@ line_in Lingering line = None
 
 abbrev pub line_of : {S : Type 0} → Connection S → Option Line
 line_of c = line_in c.phase c.outbox
+
+-- one is lost that is served although its peer is gone
+abbrev pub lost_in : Phase → Bool → Bool
+lost_in Served is_gone = is_gone
+lost_in Lingering is_gone = false
+
+abbrev pub is_lost : {S : Type 0} → Connection S → Bool
+is_lost c = lost_in c.phase c.is_gone

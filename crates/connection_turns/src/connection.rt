@@ -1,8 +1,8 @@
 //! One connection and what is known of it.
-ghost use Rattle.std.specs.Prelude.{◌≡◌, ◌<◌, ◌≤◌, length, Some, None};
+ghost use Rattle.std.specs.Prelude.{◌≡◌, ◌<◌, ◌≤◌, ◌||◌, length, Some, None, IsTrue};
 ghost use Rattle.outbox.specs.Lines.{fresh};
 ghost use Rattle.connection_turns.specs.Held.{renewed};
-ghost use Rattle.connection_turns.specs.Owed.{line_of};
+ghost use Rattle.connection_turns.specs.Owed.{line_of, is_lost};
 ghost use Rattle.connection_turns.specs.Turning.{TakesTurn};
 
 use crate::claim::{Claim, Pool, Purpose};
@@ -80,6 +80,8 @@ pub struct Connection<S: Peer> {
     has_faulted: bool,
     // A tenant was answered on it.
     is_known: bool,
+    // Its peer is gone.
+    is_gone: bool,
     /// It is among those that get a turn.
     pub is_due: bool,
     /// A frame came in part, or is not answered.
@@ -113,6 +115,7 @@ impl<S: Peer> Connection<S> {
             phase: Phase::Served,
             has_faulted: false,
             is_known: false,
+            is_gone: false,
             is_due: false,
             has_part: false,
             tenant: None,
@@ -123,8 +126,10 @@ impl<S: Peer> Connection<S> {
 
     /// Notes what was reported. It stays known until a call says that it would wait.
     pub fn note(&mut self, report: Report)
-        ensures { line_of self.new ≡ line_of self.old }
+        ensures line { line_of self.new ≡ line_of self.old }
+        ensures gone { self.new.is_gone ≡ (self.old.is_gone || report.is_gone) }
     {
+        self.is_gone = self.is_gone || report.is_gone;
         self.socket.report(report.is_ending);
         self.ready.readable = self.ready.readable || report.is_readable;
         self.ready.writable = self.ready.writable || report.is_writable;
@@ -285,13 +290,28 @@ impl<S: Peer> Connection<S> {
         self.ready.waiting = waiting;
     }
 
+    /// Whether it is served although its peer is gone. Its next turn ends it.
+    pub fn is_lost(&self) -> bool
+        ensures { result ≡ is_lost self.now }
+    {
+        match self.phase {
+            Phase::Served => self.is_gone,
+            Phase::Lingering => false,
+        }
+    }
+
     // Whether there is something to write, and room for it.
     fn can_write(&self) -> bool {
         self.ready.writable && self.outbox.owes()
     }
 
     /// Whether a turn does something.
-    pub fn can_go_on(&self, has_room: bool) -> bool {
+    pub fn can_go_on(&self, has_room: bool) -> bool
+        ensures { IsTrue (is_lost self.now) → IsTrue result }
+    {
+        if self.is_lost() {
+            return true;
+        }
         if let Phase::Lingering = self.phase {
             return self.ready.readable;
         }

@@ -1,12 +1,12 @@
 -- The connections that a loop has open, as its steps see them: this project's own.
-use Rattle.std.specs.Prelude.{◌≡◌, ℕ, List, [], ◌∷◌, ◌++◌, map, Option, IfSome, IsTrue, IsFalse, Bool, nat_lt, slice_index}
-use Rattle.std.specs.Option.{option_and_then}
+use Rattle.std.specs.Prelude.{◌≡◌, ℕ, List, [], ◌∷◌, ◌++◌, map, Option, IfSome, IsTrue, IsFalse, Bool, false, nat_lt, slice_index}
+use Rattle.std.specs.Option.{option_and_then, option_map_or}
 use Rattle.slab.specs.Slab.{Slab, get, slab_len}
 use Rattle.outbox.specs.Lines.{Line}
 use Rattle.connection_turns.specs.declared.connection.Connection.{Connection}
 use Rattle.open_connections.specs.declared.open.Open.{Open}
 use Rattle.open_connections.specs.declared.due.Due.{Due}
-use Rattle.connection_turns.specs.Owed.{line_of}
+use Rattle.connection_turns.specs.Owed.{line_of, is_lost}
 use Rattle.open_connections.specs.Looping.{Lanes}
 use Rattle.open_connections.specs.Rounds.{IsLast, due_at}
 use Rattle.open_connections.specs.Shares.{limits_in}
@@ -28,6 +28,10 @@ has_time due o = nat_lt (slice_index o.due.micros due.party) 1000
 -- its turn comes in the next round
 abbrev pub IsPutOff : {S T : Type 0} → Due → Open S T → Open S T → Type 0
 IsPutOff due old new = new.due.first.items ≡ old.due.first.items ++ (due ∷ [])
+
+-- the connection with this key is served although its peer is gone
+abbrev pub lost_at : {S T : Type 0} → (key : ℕ) → Open S T → Bool
+lost_at key o = option_map_or (λ c. is_lost c) (get o.connections key) false
 
 -- how many are open
 abbrev pub connected_in : {S T : Type 0} → Open S T → ℕ

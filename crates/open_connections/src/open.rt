@@ -1,5 +1,5 @@
 //! The connections that are open, the hub that answers them, and the memory that they share.
-ghost use Rattle.std.specs.Prelude.{◌≡◌, ◌<◌, ◌≤◌, ◌^◌, ◌++◌, ℕ, None, IfOk, OnOk, IfSome, IsFalse, MatchOption};
+ghost use Rattle.std.specs.Prelude.{◌≡◌, ◌<◌, ◌≤◌, ◌^◌, ◌++◌, ℕ, None, IfOk, OnOk, IfSome, IsTrue, IsFalse, MatchOption};
 ghost use Rattle.slab.specs.Slab.{get, slab_len};
 ghost use Rattle.open_connections.specs.Looping.{Stays, Does, DoesAtMost, TakenIn, HasTurn, LetGo};
 ghost use Rattle.std.specs.Bool.{MatchBool};
@@ -8,7 +8,7 @@ ghost use Rattle.hub_metrics.specs.Measuring.{measured};
 ghost use Rattle.request_replies.specs.Tenants.{map_of};
 ghost use Rattle.tenant_map.specs.Quotas.{usage_of};
 ghost use Rattle.connection_turns.specs.Owed.{line_of};
-ghost use Rattle.open_connections.specs.Opened.{lanes_of, bytes_of, has_time, IsMarked, IsPutOff, IsStanding, IsListed, IsAsDue};
+ghost use Rattle.open_connections.specs.Opened.{lanes_of, bytes_of, has_time, IsMarked, IsPutOff, IsStanding, IsListed, IsAsDue, lost_at};
 ghost use Rattle.open_connections.specs.Shares.{fresh_budgets, IsWithin, StayFree, IsGivenBack, claim_at};
 
 use crate::budgets::Budgets;
@@ -285,11 +285,26 @@ impl<S: Peer, T: Time + Drop> Open<S, T> {
         self.claim(key, Pool::Tenants, Purpose::Reply, most, now)
     }
 
-    /// One turn for a connection, and whether bytes moved.
+    // Whether a connection is served although its peer is gone.
+    fn is_lost(&self, key: usize) -> bool
+        ensures { result ≡ lost_at key self.now }
+    {
+        match self.connections.get(key) {
+            Some(connection) => connection.is_lost(),
+            None => false,
+        }
+    }
+
+    /// One turn for a connection, and whether bytes moved. Where the peer is gone, nothing is done any more.
     pub fn turn(&mut self, key: usize, now: u64) -> (Outcome, bool)
         ensures lanes { DoesAtMost (HasTurn key) (lanes_of self.old) (lanes_of self.new) }
         ensures bytes { IsFalse result.1 → bytes_of self.new ≡ bytes_of self.old }
+        ensures lost { IsTrue (lost_at key self.old) → result.0 ≡ Outcome.Over End.ReadFault }
+        ensures idle { IsTrue (lost_at key self.old) → Stays (lanes_of self.old) (lanes_of self.new) }
     {
+        if self.is_lost(key) {
+            return (Outcome::Over(End::ReadFault), false);
+        }
         match self.prepare(key, now) {
             Ok(plan) => self.work(key, plan),
             Err(outcome) => (outcome, false),

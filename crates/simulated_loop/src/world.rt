@@ -122,16 +122,8 @@ impl<'w> Pipes<'w> {
         let Some(mut pipe) = borrow(self.pipes, place) else {
             return;
         };
-        let Some(key) = pipe.key else {
-            return;
-        };
-        if let Some((is_readable, is_writable, is_ending)) = pipe.report() {
-            let _ = self.reports.push(Report {
-                key,
-                is_readable,
-                is_writable,
-                is_ending,
-            });
+        if let Some(report) = pipe.report() {
+            let _ = self.reports.push(report);
         }
     }
 

@@ -1,6 +1,6 @@
 //! One connection: what its peer sent and takes, and what the system reports of it.
 
-use event_loop::{End as How, Peer};
+use event_loop::{End as How, Peer, Report};
 use std::alloc::Global;
 use std::cell::{Cell, RefCell};
 use std::collections::VecDeque;
@@ -93,16 +93,19 @@ impl Pipe {
         self.taken = now;
     }
 
-    /// What is reported once: whether it may give bytes, take some, and whether its peer ended.
-    pub fn report(&mut self) -> Option<(bool, bool, bool)> {
+    /// What is reported once.
+    pub fn report(&mut self) -> Option<Report> {
+        let key = self.key?;
         if self.is_closed || !self.is_readable && !self.is_writable {
             return None;
         }
-        let report = (
-            self.is_readable,
-            self.is_writable,
-            self.is_reset || self.is_ended,
-        );
+        let report = Report {
+            key,
+            is_readable: self.is_readable,
+            is_writable: self.is_writable,
+            is_ending: self.is_reset || self.is_ended,
+            is_gone: self.is_reset,
+        };
         self.is_readable = false;
         self.is_writable = false;
         Some(report)

@@ -203,6 +203,8 @@ fn report_of(key: usize, event: &Event) -> Report {
         is_readable: event.is_readable() || is_ending,
         is_writable: event.is_writable() || event.is_error(),
         is_ending,
+        // a peer that ended its own side still takes
+        is_gone: event.is_error() || event.is_write_closed(),
     }
 }
 

@@ -21,6 +21,8 @@ pub struct Report {
     pub is_writable: bool,
     /// Its peer ended, or a fault came.
     pub is_ending: bool,
+    /// Its peer is gone: it sends nothing more and takes nothing more.
+    pub is_gone: bool,
 }
 
 /// The result of a wait, beside the reports.
