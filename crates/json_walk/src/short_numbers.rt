@@ -1,4 +1,4 @@
-// Short numbers without an exponent, by the bits of those of their bytes that are no digits.
+//! Short numbers without an exponent, by the bits of those of their bytes that are no digits.
 
 ghost use Rattle.std.specs.Prelude.{ℕ, ◌≡◌, ◌+◌, ◌<◌, ◌≤◌, get_or, length, IsTrue};
 ghost use Rattle.std.specs.Int.{bit_at};
