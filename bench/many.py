@@ -175,7 +175,7 @@ def beside_another(seconds, turns=TURNS):
                         flooding.stdin.write(request)
                         flooding.stdin.close()
                         time.sleep(0.5)
-                    rows[it].append((rates if it == "path_server" else rates_if_answered)(load, port, 1, seconds, ask))
+                    rows[it].append((times if it == "path_server" else rates_if_answered)(load, port, 1, seconds, ask))
                     if others:
                         flooding.wait()
             yield name, {it: middle(them) for it, them in rows.items()}
@@ -228,7 +228,8 @@ def main():
     for name, count, row in beside(seconds):
         print(told.format(f"{count} beside {name}", *row), flush=True)
     for name, rows in beside_another(seconds):
-        print(f"one of another tenant beside {name}:", "; ".join(told.format(it, *row) for it, row in rows.items()), flush=True)
+        told_all = ((told if len(row) < 4 else told + ", longest {:.0f} us").format(it, *row) for it, row in rows.items())
+        print(f"one of another tenant beside {name}:", "; ".join(told_all), flush=True)
     for name, row in of_postgres_beside_another(seconds):
         print(f"one of another tenant beside {name}:", told.format("PostgreSQL", *row), flush=True)
 
