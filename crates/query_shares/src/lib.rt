@@ -4,6 +4,7 @@
 //! later.
 #![tactic(auto)]
 
+mod asking;
 mod evaluator;
 mod levels;
 mod passes;

@@ -4,29 +4,29 @@
 //! a filter child by child. Where an evaluation stops it keeps a few numbers, and the children that a filter asks. A child for which a filter costs too
 //! much is left to those above (`levels`).
 
-ghost use Rattle.std.specs.Prelude.{◌≡◌, ◌<◌, ◌≤◌, ◌+◌, ◌∷◌, [], ◌++◌, length, true, false, Some, None, get_or, flat_map, MatchOption, MatchResult, IfOk, IfSome};
-ghost use Rattle.std.specs.Prelude.{filter as keep};
+ghost use Rattle.std.specs.Prelude.{◌≡◌, ◌<◌, ◌≤◌, ◌+◌, ◌++◌, length, true, false, Some, None, get_or, flat_map, MatchOption, MatchResult, IfOk, IfSome};
 ghost use Rattle.json_tape.specs.Document.{count, node_at};
 ghost use Rattle.json_tape.specs.Nodes.{children};
-ghost use Rattle.tape_select.specs.Evaluation.{holds, selected_by, starts};
-ghost use Rattle.tape_select.specs.Charge.{total_of, charge_by, charge_expr};
+ghost use Rattle.tape_select.specs.Evaluation.{selected_by, starts};
+ghost use Rattle.tape_select.specs.Charge.{charge_by};
 ghost use Rattle.node_lists.specs.Extra.{nodes_from, charge_at, nodes_after, charge_after};
 ghost use Rattle.tape_select.specs.Awaiting.{AwaitsSome};
 ghost use Rattle.tape_select.specs.Memo.{Keeps};
 ghost use Rattle.node_lists.specs.Nodelists.{nodes_of, nodes_between};
-ghost use Rattle.query_shares.specs.Passes.{beginning, condition_at, condition_in, due, position, segments_in, weight, whole_due, Begins, GoesOn, IsAsked, IsBetween, IsSound, IsThrough, IsUnderWay, Moves, MovesTo, Passes, Ran, Steps};
+ghost use Rattle.query_shares.specs.Passes.{beginning, condition_at, condition_in, due, position, segments_in, weight, whole_due, Begins, GoesOn, IsAsked, IsBetween, IsSound, IsThrough, IsUnderWay, Moves, Passes, Ran, Steps};
 ghost use Rattle.query_shares.specs.declared.passes.Reached.TheVariants.{End, Share};
 ghost use Rattle.node_lists.specs.Paying.{Inside, Adds, Refuses};
 ghost use Rattle.query_plan.specs.Planned.{claims_of, condition_view, selection_view, stage_view};
 ghost use Rattle.node_lists.specs.Links.{link_view};
 ghost use Rattle.query_plan.specs.Slots.{AreClaimed};
 
+use crate::asking::{choose, chosen_at_once};
 use json_tape::{Document, NodeId};
-use node_lists::{Link, Meter, children_below, lone, push, push_some, sliced, step, wild};
+use node_lists::{Link, Meter, children_below, lone, push_some, sliced, step, wild};
 use query_plan::{Condition, Parts, Selection, Stage, lone_link};
 use std::alloc::Global;
 use std::mem;
-use tape_select::{Awaited, SelectFault, State, does_hold, first_awaited, from_node, visit_total};
+use tape_select::{Awaited, SelectFault, State, first_awaited, from_node, visit_total};
 
 /// Where the evaluation of a query stands.
 #[derive(Drop)]
@@ -76,7 +76,7 @@ pub fn cursor_from(alloc: Global, doc: &Document, n: NodeId) -> Result<Cursor, S
 pub struct Evaluation {
     pub state: State,
     pub at: Cursor,
-    /// The most that a filter may cost for a child that it is asked at once, in units.
+    /// The most units with which children are asked at once.
     pub most: u64,
 }
 
@@ -232,83 +232,14 @@ fn condition_in_turn<'a>(plan: &Parts, stage: &'a Stage, number: usize) -> Optio
     }
 }
 
-/// The most that a filter may ever cost for a child that it is asked at once, in units.
+/// The most units with which children are ever asked at once.
 pub const MOST: u64 = 10_000;
 
-// The most for the next child, where so many units were spent on children. So the units of tries in vain are about as many as are spent.
+// The most for the next children, where so many units were spent on children. So the units of tries in vain are about as many as are spent.
 fn most_after(most: u64, is_in_vain: bool, spent: u64) -> u64 {
     let left = if is_in_vain { 0 } else { most };
     let more = left.saturating_add(spent);
     if more < MOST { more } else { MOST }
-}
-
-// Whether a condition holds for a child. None where that costs too much, and nothing is spent.
-#[inline(always)]
-fn holds_within(
-    doc: &Document,
-    plan: &Parts,
-    condition: &Condition,
-    child: NodeId,
-    most: u64,
-    state: &mut State,
-) -> Result<Option<bool>, SelectFault>
-    requires inside { child.0 < count doc.now }
-    requires claimed { AreClaimed (claims_of plan.now.stages.items) (condition_view condition.now).claims }
-    requires kept { Keeps doc.now (claims_of plan.now.stages.items) state.old }
-    ensures found { MatchResult result (λ some. MatchOption some (state.new.meter.left ≡ state.old.meter.left) (λ held. (held ≡ holds (node_at doc.now 0) (condition_view condition.now).tree (node_at doc.now child.0)) × (state.new.meter.left + charge_expr (node_at doc.now 0) (condition_view condition.now).tree (node_at doc.now child.0) ≡ state.old.meter.left))) (λ e. Refuses (charge_expr (node_at doc.now 0) (condition_view condition.now).tree (node_at doc.now child.0)) state.old.meter.left e) }
-    ensures kept { Keeps doc.now (claims_of plan.now.stages.items) state.new }
-{
-    let left = state.meter.left;
-    let beyond = left.saturating_sub(most);
-    state.meter.left = left - beyond;
-    match does_hold(doc, plan, condition, child, state) {
-        Ok(held) => {
-            state.meter.left += beyond;
-            Ok(Some(held))
-        }
-        Err(SelectFault::Costly) if beyond > 0 => {
-            state.meter.left = left;
-            Ok(None)
-        }
-        Err(fault) => Err(fault),
-    }
-}
-
-// The children for which a condition holds, until fewer units are left or one costs too much. How many are passed, and whether one costs too much.
-fn chosen_some(
-    doc: &Document,
-    plan: &Parts,
-    condition: &Condition,
-    list: &[NodeId],
-    least: u64,
-    most: u64,
-    state: &mut State,
-    out: &mut Vec<NodeId>,
-) -> Result<(usize, bool), SelectFault>
-    requires listed { Inside doc.now list.now }
-    requires claimed { AreClaimed (claims_of plan.now.stages.items) (condition_view condition.now).claims }
-    requires kept { Keeps doc.now (claims_of plan.now.stages.items) state.old }
-    requires sound { Inside doc.now out.old.items }
-    ensures moved { MovesTo doc.now result list.now (keep (holds (node_at doc.now 0) (condition_view condition.now).tree)) (total_of (λ n. 1 + charge_expr (node_at doc.now 0) (condition_view condition.now).tree n)) out.old.items out.new.items state.old.meter.left state.new.meter.left }
-    ensures cut { IfOk result (λ to. to.1 ≡ false → to.0 < length list.now → state.new.meter.left < least) }
-    ensures less { IfOk result (λ to. state.new.meter.left ≤ state.old.meter.left) }
-    ensures kept { Keeps doc.now (claims_of plan.now.stages.items) state.new }
-{
-    let mut passed = 0;
-    for child in list {
-        let Some(held) = holds_within(doc, plan, condition, *child, most, state)? else {
-            return Ok((passed, true));
-        };
-        state.meter.spend(1)?;
-        if held {
-            push(doc, out, *child)?;
-        }
-        passed += 1;
-        if state.meter.left < least {
-            break;
-        }
-    }
-    Ok((passed, false))
 }
 
 // Where asking children stops that came so far.
@@ -348,7 +279,7 @@ fn ask(
     };
     let units = evaluation.state.meter.left;
     let most = evaluation.most;
-    let (passed, is_costly) = chosen_some(
+    let (passed, is_costly) = chosen_at_once(
         doc,
         plan,
         condition,
@@ -362,30 +293,6 @@ fn ask(
     let spent = units.saturating_sub(evaluation.state.meter.left);
     evaluation.most = most_after(most, is_costly, spent);
     Ok(stopped(passed == total, is_costly))
-}
-
-// A child, where a condition holds for it.
-fn choose(
-    doc: &Document,
-    plan: &Parts,
-    condition: &Condition,
-    child: NodeId,
-    state: &mut State,
-    out: &mut Vec<NodeId>,
-) -> Result<(), SelectFault>
-    requires inside { child.0 < count doc.now }
-    requires claimed { AreClaimed (claims_of plan.now.stages.items) (condition_view condition.now).claims }
-    requires kept { Keeps doc.now (claims_of plan.now.stages.items) state.old }
-    requires sound { Inside doc.now out.old.items }
-    ensures added { Adds doc.now result out.new.items (nodes_of doc.now out.old.items ++ keep (holds (node_at doc.now 0) (condition_view condition.now).tree) (node_at doc.now child.0 ∷ [])) (1 + charge_expr (node_at doc.now 0) (condition_view condition.now).tree (node_at doc.now child.0)) state.old.meter.left state.new.meter.left }
-    ensures kept { Keeps doc.now (claims_of plan.now.stages.items) state.new }
-{
-    let held = does_hold(doc, plan, condition, child, state)?;
-    state.meter.spend(1)?;
-    if held {
-        return push(doc, out, child);
-    }
-    Ok(())
 }
 
 /// Asks the next child, whatever that costs.

@@ -20,7 +20,7 @@ returns-clause-goes c =
     let total = length-drop w.at.child w.at.children.items in
     let before = i.placed.child in
     record {
-      goes = asks (node_at d 0) (stage_view c.args.stage.now).tree (position d w.at) _ w.state.meter.left c.chosen_some.new.state.meter.left e (c.in-Some.ensures).condition refl refl refl refl same paid;
+      goes = asks (node_at d 0) (stage_view c.args.stage.now).tree (position d w.at) _ w.state.meter.left c.chosen_at_once.new.state.meter.left e (c.in-Some.ensures).condition refl refl refl refl same paid;
       stage = refl;
       sound = record { kept = c.in_ok-passed.ensures.kept; placed = record { within = i.placed.within; listed = i.placed.listed; end = i.placed.end; child = omega (arith, within, total, before); children = i.placed.children; sound = m.sound } };
     }

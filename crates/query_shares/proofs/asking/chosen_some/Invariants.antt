@@ -7,7 +7,7 @@ use Rattle.tape_select.specs.Memo.{Keeps}
 use Rattle.tape_select.specs.Nodelists.{nodes_of}
 use Rattle.node_lists.specs.Paying.{Inside}
 use Rattle.query_plan.specs.Planned.{claims_of, condition_view}
-use Rattle.query_shares.proofs.passes.chosen_some.Given as goal
+use Rattle.query_shares.proofs.asking.chosen_some.Given as goal
 
 abbrev pub invariant-loop-child : goal.invariant-loop-child
 invariant-loop-child l = record {
