@@ -9,8 +9,8 @@ use std::alloc::{AllocError, Global};
 use std::collections::BTreeMap;
 use tenant_store::QueryTask;
 
-/// The most queries that are under way at once. Each has a payload.
-const MOST_TASKS: usize = 16;
+/// The most queries that are under way at once. Each has a payload and lists of nodes.
+const MOST_TASKS: usize = 64;
 
 /// What came of a share of work on a connection.
 #[derive(Clone, Copy, Debug, PartialEq, Eq)]
