@@ -102,10 +102,17 @@ fn condition_of(selection: &Selection) -> Option<&Condition>
 // So many selectors without a filter are little work at one node.
 const FEW: usize = 8;
 
+// A share of fewer units is short, as shares are where others wait.
+const SHORT: u64 = 1_000;
+
 // Whether what a segment selects from one node of its list may be much work: one with a filter among its selectors, one of many selectors, or of several
-// that select from each descendant.
-fn goes_by_selector(stage: &Stage) -> bool {
-    let few = if stage.descend { 1 } else { FEW };
+// that select from each descendant. Where others wait, one that selects from each descendant may be much in any case.
+fn goes_by_selector(stage: &Stage, do_others_wait: bool) -> bool {
+    let few = match (stage.descend, do_others_wait) {
+        (false, _) => FEW,
+        (true, false) => 1,
+        (true, true) => 0,
+    };
     stage.selections.len() > few
         || stage
             .selections
@@ -608,7 +615,8 @@ fn go_on(
     ensures end { IfOk result (λ to. to ≡ End → IsThrough evaluation.new) }
     ensures cut { IfOk result (λ to. to ≡ Share → evaluation.new.state.meter.left < least) }
 {
-    if !goes_by_selector(stage) && is_between(evaluation) {
+    let do_others_wait = evaluation.state.meter.left.saturating_sub(least) < SHORT;
+    if !goes_by_selector(stage, do_others_wait) && is_between(evaluation) {
         return list_on(doc, plan, stage, least, evaluation);
     }
     step_on(doc, plan, stage, least, evaluation)
