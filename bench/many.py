@@ -38,10 +38,14 @@ PARTS = 150
 WHOLE = b"[" + b",".join(b'{"id":%d,"price":%d,"stock":%d}' % (at, at % 97, at % 1_009) for at in range(113_000)) + b"]"
 OF_ANOTHER = {"one connection that repeats a query on 150 documents of 64 KiB": (b"p", 1), "10 such connections": (b"p", 10),
               "100 such connections": (b"p", 100), "one connection that repeats a query on a document of 4 MiB": (b"w", 1)}
-# and a query whose one child's filter costs 6,900,000 units, on a chain of arrays of 30 KiB
+# and queries that cost most: one whose one child's filter costs 6,900,000 units, on a chain of arrays of 30 KiB, and a third tenant's, which goes over
+# 2,000,000 children five times without a stop
 NESTED, CHAIN = b"$[?count(@..[?@..*])>9]", b"[" * 231 + b",".join([b"0"] * 15_000) + b"]" * 231
+WILDS, ZEROS, THIRD = b"$[*,*,*,*,*]", b"[" + b",".join([b"0"] * 2_097_000) + b"]", bytes([3]) * 16
 DEAREST = {"one connection that repeats a filter in a filter": (b"c", 1), "10 such connections, each with a filter in a filter": (b"c", 10),
-           "100 such connections, each with a filter in a filter": (b"c", 100)}
+           "100 such connections, each with a filter in a filter": (b"c", 100),
+           "one connection that repeats five wildcards on 4 MiB of zeros": (b"z", 1)}
+ASKED = {b"p": COSTLY, b"w": COSTLY, b"c": NESTED, b"z": WILDS}
 SCRIPT = b"""local n = 0
 for _, text in ipairs(redis.call('LRANGE', ARGV[1], 0, -1)) do
     for _, it in ipairs(cjson.decode(text)) do if it.price < 10 and it.stock > 250 then n = n + 1 end end
@@ -149,14 +153,14 @@ def stored(port, requests, wanted=None):
 
 def beside_another(seconds, turns=TURNS):
     """The times of requests on one connection, alone and beside another tenant's queries, and the same of Redis where it is installed, but for
-    filters in filters."""
+    the queries that cost most."""
     texts = [*((b"d%d" % at, PART, b"p") for at in range(PARTS)), (b"d", WHOLE, b"w"), (b"d", CHAIN, b"c")]
     with contextlib.ExitStack() as stack:
         folder = stack.enter_context(tempfile.TemporaryDirectory())
         load, flood = compiled(folder, "many_load.c"), compiled(folder, "many_flood.c")
-        port, theirs = stack.enter_context(listening(f"{KEY.hex()},{OTHER.hex()}"))[1], stack.enter_context(redis())[1]
-        stored(port, [put(*words, OTHER) for words in texts], reply())
-        servers = {"path_server": (port, OURS, lambda to: (query(NESTED if to == b"c" else COSTLY, to, OTHER), []))}
+        port, theirs = stack.enter_context(listening(f"{KEY.hex()},{OTHER.hex()},{THIRD.hex()}"))[1], stack.enter_context(redis())[1]
+        stored(port, [*(put(*words, OTHER) for words in texts), put(b"d", ZEROS, b"z", THIRD)], reply())
+        servers = {"path_server": (port, OURS, lambda to: (query(ASKED[to], to, THIRD if to == b"z" else OTHER), []))}
         if theirs:
             stored(theirs, [redis_words(b"RPUSH", to, text) for _, text, to in texts if to != b"c"])
             asked = {to: redis_words(b"EVAL", SCRIPT, b"0", to) for to in (b"p", b"w")}
