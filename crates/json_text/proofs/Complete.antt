@@ -1,10 +1,8 @@
 -- The builder follows the grammar.
-use Rattle.std.proofs.Common.{true, ◌≡◌, ℕ, ◌+◌, List, [], ◌∷◌, ◌++◌, length, refl, sym, ap, subst, arith, ⊎_elim}
-use Rattle.json_text.specs.Tokens.{Blank, Atom, class, is_atom, AreAtoms, NoAtomFirst, Goes, stay, blank, token}
+use Rattle.json_text.proofs.Names.{true, ◌≡◌, ℕ, ◌+◌, List, [], ◌∷◌, ◌++◌, length, refl, sym, ap, subst, arith, Blank, Atom, class, is_atom, AreAtoms}
+use Rattle.json_text.proofs.Names.{NoAtomFirst, Goes, stay, blank, token, IsBlank, AreBlanks, nat_tests, State}
+use Rattle.std.proofs.Common.{⊎_elim}
 use Rattle.decimal_order.specs.Number.{IsDigit, AreDigits}
-use Rattle.json_text.specs.Letters.{IsBlank, AreBlanks}
-use Rattle.std.proofs.lemmas.Bool.Decides.{nat_tests}
-use Rattle.json_text.specs.Machine.{State}
 
 pub goes_on : {p q r : ℕ} {bs cs ds : List ℕ} {s s' s'' : State} → Goes p bs s q cs s' → Goes q cs s' r ds s'' → Goes p bs s r ds s''
 goes_on {r = r} {ds = ds} {s'' = s''} (stay {q = q} {bs = bs} {s = s} e f) g = subst (λ n. Goes n bs s r ds s'') (sym e) (subst (λ l. Goes q l s r ds s'') (sym f) g)
@@ -23,8 +21,7 @@ no_atom-blanks (x ∷ s) rest b h = λ e. let c = blank_class x b.0 in cc
 
 pub blanks_go : (b rest : List ℕ) (p : ℕ) (s : State) → AreBlanks b → Goes p (b ++ rest) s (p + length b) rest s
 blanks_go [] rest p s h = let e : p ≡ p + 0 = omega arith in stay e refl
-blanks_go (x ∷ b) rest p s h =
-    let e : p + 1 + length b ≡ p + length (x ∷ b) = omega arith in
+blanks_go (x ∷ b) rest p s h = let e : p + 1 + length b ≡ p + length (x ∷ b) = omega arith in
     blank {p' = p + 1} refl refl h.0 (subst (λ n. Goes (p + 1) (b ++ rest) s n rest s) e (blanks_go b rest (p + 1) s h.1))
 
 pub digit_class : (b : ℕ) → IsDigit b → class b ≡ Atom

@@ -1,10 +1,9 @@
 -- Each part of a text's tree has the bytes that stand in the text at its place; so a tape stands for one tree of a text.
-use Rattle.std.proofs.Common.{◌≡◌, ℕ, List, [], ◌∷◌, ◌++◌, length, take, drop, refl, sym, ap, ◌∙◌, subst, arith, append_assoc, length-append}
-use Rattle.std.proofs.lemmas.List.{take_at, drop_at}
-use Rattle.json_text.specs.Tree.{Source, Name, Tree, Leaf, Arr, Obj, Elements, NoElement, Element, Members, NoMember, Member, then_element, then_member}
-use Rattle.json_text.specs.Letters.{IsString}
-use Rattle.json_text.specs.Grammar.{at, IsScalarText, IsValue, scalar, no_array, array, no_object, object, IsElements, one_element, next_element, IsMembers, one_member, next_member, IsMember, member, IsText}
-use Rattle.json_text.specs.Tape.{Label, IsAt, itself, in_array, in_object, IsInElements, in_element, in_later_element, IsInMembers, in_member, in_later_member}
+use Rattle.json_text.proofs.Names.{◌≡◌, ℕ, List, [], ◌∷◌, ◌++◌, length, take, drop, refl, sym, ◌∙◌, subst, arith, append_assoc, length-append}
+use Rattle.json_text.proofs.Names.{take_at, drop_at, Source, Name, Tree, Leaf, Arr, Obj, Elements, NoElement, Element, Members, NoMember, Member}
+use Rattle.json_text.proofs.Names.{then_element, then_member, IsString, at, IsScalarText, IsValue, scalar, no_array, array, no_object, object}
+use Rattle.json_text.proofs.Names.{IsElements, one_element, next_element, IsMembers, one_member, next_member, IsMember, member, IsText, Label, IsAt}
+use Rattle.json_text.proofs.Names.{itself, in_array, in_object, IsInElements, in_element, in_later_element, IsInMembers, in_member, in_later_member}
 
 -- the source's bytes stand in the text at its place
 abbrev pub Lies : List ℕ → Source → Type 0
@@ -33,8 +32,7 @@ fit-then_member bytes NoMember n t h l s g = (l, s, g, tt)
 fit-then_member bytes (Member m a ms) n t h l s g = (h.0, h.1, h.2, fit-then_member bytes ms n t h.3 l s g)
 
 lies : (bytes a vs b : List ℕ) (p : ℕ) → bytes ≡ a ++ (vs ++ b) → p ≡ length a → Lies bytes (at p vs)
-lies bytes a vs b p e l =
-    sym (ap (λ x. take (length vs) (drop p x)) e ∙ ap (take (length vs)) (drop_at a (vs ++ b) p (sym l)) ∙ take_at vs b (length vs) refl)
+lies bytes a vs b p e l = grind (arith, drop_at, take_at)
 
 -- the parts of a container's text, with what stands before and behind them
 part3 : (bytes a s body s' b : List ℕ) (c c' : ℕ) → bytes ≡ a ++ ((c ∷ (s ++ body ++ s' ++ c' ∷ [])) ++ b) → bytes ≡ (a ++ c ∷ s) ++ (body ++ (s' ++ c' ∷ b))
@@ -50,20 +48,21 @@ mutual
   pub value_fits : {p : ℕ} {vs : List ℕ} {t : Tree} → IsValue p vs t → (bytes a b : List ℕ) → bytes ≡ a ++ (vs ++ b) → p ≡ length a → Fits bytes t
   value_fits (scalar {p = p} {bs = vs} h) bytes a b e l = (lies bytes a vs b p e l, h)
   value_fits (no_array {p = p} s h) bytes a b e l = (lies bytes a (91 ∷ (s ++ 93 ∷ [])) b p e l, tt)
-  value_fits (array {p = p} s body s' h k h') bytes a b e l = (
+  value_fits (array {p = p} s body s' h k h') bytes a b e l = grind (
+    arith,
     lies bytes a (91 ∷ (s ++ body ++ s' ++ 93 ∷ [])) b p e l,
     elements_fit k bytes (a ++ 91 ∷ s) (s' ++ 93 ∷ b) (part3 bytes a s body s' b 91 93 e) (omega (arith, length-append a (91 ∷ s))),
   )
   value_fits (no_object {p = p} s h) bytes a b e l = (lies bytes a (123 ∷ (s ++ 125 ∷ [])) b p e l, tt)
-  value_fits (object {p = p} s body s' h k h') bytes a b e l = (
+  value_fits (object {p = p} s body s' h k h') bytes a b e l = grind (
+    arith,
     lies bytes a (123 ∷ (s ++ body ++ s' ++ 125 ∷ [])) b p e l,
     members_fit k bytes (a ++ 123 ∷ s) (s' ++ 125 ∷ b) (part3 bytes a s body s' b 123 125 e) (omega (arith, length-append a (123 ∷ s))),
   )
 
   pub elements_fit : {p : ℕ} {vs : List ℕ} {es : Elements} → IsElements p vs es → (bytes a b : List ℕ) → bytes ≡ a ++ (vs ++ b) → p ≡ length a → FitElements bytes es
   elements_fit (one_element h) bytes a b e l = (value_fits h bytes a b e l, tt)
-  elements_fit (next_element {p = p} front s s' vs {es = es} {t = t} h k k' g) bytes a b e l =
-      fit-then_element bytes es t
+  elements_fit (next_element {p = p} front s s' vs {es = es} {t = t} h k k' g) bytes a b e l = fit-then_element bytes es t
       (elements_fit h bytes a (s ++ (44 ∷ (s' ++ (vs ++ b)))) (part_first bytes a front s 44 s' vs b e) l)
       (value_fits g bytes (a ++ (front ++ s ++ 44 ∷ s')) b (part_last bytes a front s 44 s' vs b e) (omega (arith, length-append a (front ++ s ++ 44 ∷ s'))))
 

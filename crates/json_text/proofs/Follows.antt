@@ -1,14 +1,12 @@
 -- Over the bytes of a value the builder puts that value's tree on the tape.
-use Rattle.std.proofs.Common.{◌≡◌, ℕ, suc, ◌+◌, ◌-◌, List, [], ◌∷◌, ◌++◌, length, max, Option, Some, None, true, false, refl, sym, ap, ◌∙◌, subst, arith, append_assoc, length-append}
+use Rattle.std.proofs.Common.{◌≡◌, ℕ, suc, ◌+◌, List, [], ◌∷◌, ◌++◌, length, max, Option, Some, None, true, false, refl, sym, ap, ◌∙◌, subst, arith, append_assoc, length-append}
 use Rattle.json_text.specs.Tree.{Name, Scalar, Null, True, False, Num, Str, Tree, Elements, Members, then_element, then_member}
 use Rattle.json_text.specs.Letters.{AreBlanks, IsString}
 use Rattle.json_text.specs.Grammar.{IsScalarText, IsValue, scalar, no_array, array, no_object, object, IsElements, one_element, next_element, IsMembers, one_member, next_member, IsMember, member, IsText}
-use Rattle.json_text.specs.declared.tape.Role.{Role}
 use Rattle.json_text.specs.Tape.{Label, Top, Index, Named, role_of, label_spot, deepest, deepest_element, deepest_member, element_count, member_count, kind_of_scalar, tape_of, tape_of_elements, tape_of_members, extent}
 use Rattle.json_text.specs.Nodes.{size_of_elements, size_of_members}
 use Rattle.json_text.specs.Tokens.{Sign, class, NoAtomFirst, IsToken, sign, text, word, Goes, stay, token, sign_at}
 use Rattle.json_text.specs.Machine.{Token, Opening, Closing, Text, Word, State, label_for, takes_value, takes_name, first_of, closes, after_comma, kind_of_shape, with_child, run_at, closed, change_at, step, root, start}
-use Rattle.json_text.specs.declared.tape.Kind.{Kind}
 use Rattle.json_text.specs.declared.tape.Kind.TheVariants as kinds
 use Rattle.json_text.specs.declared.tape.Extent.{Extent}
 use Rattle.json_text.specs.declared.tape.Entry.{Entry}
@@ -50,13 +48,7 @@ leaf_is p bs rest (Str cs) h n = text cs h
 leaf_step : (x : Extent) (s : Scalar) (es : List Entry) (o : Open) (os : List Open) (w : Want) (name : Option Extent) (d : ℕ) → takes_value w ≡ true
     → step (leaf_token x s) (st es (o ∷ os) w name d)
     ≡ Some (st (es ++ record { kind = kind_of_scalar s; role = role_of (label_for o name); label = label_spot (label_for o name); source = x; up = o.entry; children = 0; after = length es + 1 } ∷ []) (with_child o ∷ os) wants.Next None d)
-leaf_step x (Str cs) es o os w name d h = rw (no_name w h) (rw h refl)
-  where
-    no_name : (w : Want) → takes_value w ≡ true → takes_name w ≡ false
-    no_name wants.Value e = refl
-    no_name wants.FirstValue e = refl
-    no_name _ e = cc
-leaf_step x _ es o os w name d h = rw h refl
+leaf_step x s es o os w name d h = grind arith
 
 -- the entry of an open container, changed at its close
 change_seam : (es : List Entry) (e : Entry) (inner : List Entry) (f : Entry → Entry) → change_at (es ++ e ∷ inner) (length es) f ≡ es ++ f e ∷ inner
@@ -65,14 +57,9 @@ change_seam (x ∷ es) e inner f = ap (λ l. x ∷ l) (change_seam es e inner f)
 
 -- an opening token, and the closing one
 open_goes : (shape : Shape) (p c : ℕ) (rest : List ℕ) (es : List Entry) (o : Open) (os : List Open) (w : Want) (name : Option Extent) (d : ℕ)
-    → sign_at p c ≡ Some (Opening shape p) → takes_value w ≡ true
-    → Goes p (c ∷ rest) (st es (o ∷ os) w name d) (p + 1) rest
+    → sign_at p c ≡ Some (Opening shape p) → takes_value w ≡ true → Goes p (c ∷ rest) (st es (o ∷ os) w name d) (p + 1) rest
     (st (es ++ record { kind = kind_of_shape shape; role = role_of (label_for o name); label = label_spot (label_for o name); source = run_at p 0; up = o.entry; children = 0; after = 0 } ∷ []) (record { level = Inside shape; entry = length es; children = 0 } ∷ with_child o ∷ os) (first_of shape) None (max d (suc (length os))))
 open_goes shape p c rest es o os w name d i h = token {vs = c ∷ []} refl refl (sign i) (rw h refl) (stay refl refl)
-
-entry_same : (k : Kind) (r : Role) (x : Extent) (a b b' : ℕ) (up c c' d d' : ℕ) → b ≡ b' → c ≡ c' → d ≡ d'
-    → ◌≡◌ {A = Entry} (record { kind = k; role = r; label = x; source = run_at a b; up = up; children = c; after = d }) (record { kind = k; role = r; label = x; source = run_at a b'; up = up; children = c'; after = d' })
-entry_same k r x a b b' up c c' d d' e f g = rw (e, f, g) refl
 
 close_goes : (shape : Shape) (p q n n' m len : ℕ) (c : ℕ) (rest : List ℕ) (es inner : List Entry) (o : Open) (os : List Open) (w : Want) (label : Label) (d : ℕ)
     → sign_at q c ≡ Some (Closing shape q) → closes shape (Inside shape) w ≡ true → length inner ≡ m → q + 1 ≡ p + len → n ≡ n'
@@ -86,10 +73,7 @@ close_goes shape p q n n' m len c rest es inner o os w label d i h lm el en =
     e = record { kind = kind_of_shape shape; role = role_of label; label = label_spot label; source = run_at p 0; up = o.entry; children = 0; after = 0 }
 
     made : change_at (es ++ e ∷ inner) (length es) (closed q n (length (es ++ e ∷ inner))) ≡ es ++ record { kind = kind_of_shape shape; role = role_of label; label = label_spot label; source = run_at p len; up = o.entry; children = n'; after = length es + 1 + m } ∷ inner
-    made =
-        let len_is : q + 1 - p ≡ len = omega arith in
-        let after_is : length (es ++ e ∷ inner) ≡ length es + 1 + m = omega (arith, length-append es (e ∷ inner)) in
-        change_seam es e inner (closed q n (length (es ++ e ∷ inner))) ∙ ap (λ x. es ++ x ∷ inner) (entry_same (kind_of_shape shape) (role_of label) (label_spot label) p _ _ o.entry n n' _ _ len_is en after_is)
+    made = grind (arith, e, length-append, change_seam)
 
 -- the same way, where its ends are written otherwise
 from_bytes : {p q : ℕ} {bs bs' cs : List ℕ} {s s' : State} → bs ≡ bs' → Goes p bs' s q cs s' → Goes p bs s q cs s'
@@ -103,8 +87,7 @@ at_place {p} {p'} {q} {q'} {bs} {cs} {s} {s'} e f g = subst (λ n. Goes p' bs s 
 
 to_state : {p q : ℕ} {bs cs : List ℕ} {s : State} {es es' : List Entry} (o : Open) {c c' : ℕ} {os : List Open} {w : Want} {name : Option Extent} {d d' : ℕ} → es ≡ es' → c ≡ c' → d ≡ d'
     → Goes p bs s q cs (st es (record o { children = c } ∷ os) w name d) → Goes p bs s q cs (st es' (record o { children = c' } ∷ os) w name d')
-to_state {p} {q} {bs} {cs} {s} {es} {es'} o {c} {c'} {os} {w} {name} {d} {d'} e f h g =
-    subst (λ m. Goes p bs s q cs (st es' (record o { children = c' } ∷ os) w name m)) h (subst (λ n. Goes p bs s q cs (st es' (record o { children = n } ∷ os) w name d)) f (subst (λ l. Goes p bs s q cs (st l (record o { children = c } ∷ os) w name d)) e g))
+to_state {p} {q} {bs} {cs} {s} {es} {es'} o {c} {c'} {os} {w} {name} {d} {d'} e f h g = grind arith
 
 comma_goes : (p : ℕ) (rest : List ℕ) (es : List Entry) (o : Open) (os : List Open) (w : Want) (d : ℕ) → after_comma o.level wants.Next ≡ Some w
     → Goes p (44 ∷ rest) (st es (o ∷ os) wants.Next None d) (p + 1) rest (st es (o ∷ os) w None d)
@@ -183,20 +166,16 @@ mutual
       → Goes p (vs ++ rest) (st es (o ∷ os) w name d) (p + length vs) rest (st (es ++ tape_of t o.entry (label_for o name) (length es)) (with_child o ∷ os) wants.Next None (deepest t (length os) d))
   value_goes (scalar {p = p} {bs = bs} {s = s} h) rest es o os w name d v n =
       token refl refl (leaf_is p bs rest s h n) (leaf_step (run_at p (length bs)) s es o os w name d v) (stay refl refl)
-  value_goes (no_array {p = p} s b) rest es o os w name d v n =
-      from_bytes (ap (λ l. 91 ∷ l) (regroup2 s 93 rest))
+  value_goes (no_array {p = p} s b) rest es o os w name d v n = from_bytes (ap (λ l. 91 ∷ l) (regroup2 s 93 rest))
       (inside_goes Array 91 93 p 0 0 0 _ s [] [] rest es [] o os w wants.FirstValue name d _ (λ q. refl) (λ q. refl) (length2 s 93) v refl refl refl b tt
       (λ e l. from_entries (sym (append-nil (es ++ e ∷ []))) (stay (omega arith) refl)))
-  value_goes (array {p = p} s body s' {es = els} b h b') rest es o os w name d v n =
-      from_bytes (ap (λ l. 91 ∷ l) (regroup3 s body s' 93 rest))
+  value_goes (array {p = p} s body s' {es = els} b h b') rest es o os w name d v n = from_bytes (ap (λ l. 91 ∷ l) (regroup3 s body s' 93 rest))
       (inside_goes Array 91 93 p (element_count els) (size_of_elements els) (element_count els) _ s body s' rest es (tape_of_elements els (length es) 0 (length es + 1)) o os w wants.Next name d _ (λ q. refl) (λ q. refl) (length3 s body s' 93) v refl (length-tape_elements els (length es) 0 (length es + 1)) (omega arith) b b'
       (λ e l. elements_goes h (s' ++ 93 ∷ rest) (es ++ e ∷ []) (length es + 1) (record { level = Inside Array; entry = length es; children = 0 }) (with_child o ∷ os) wants.FirstValue _ l refl refl (no_atom-blanks s' (93 ∷ rest) b' (blank_first 93 rest refl))))
-  value_goes (no_object {p = p} s b) rest es o os w name d v n =
-      from_bytes (ap (λ l. 123 ∷ l) (regroup2 s 125 rest))
+  value_goes (no_object {p = p} s b) rest es o os w name d v n = from_bytes (ap (λ l. 123 ∷ l) (regroup2 s 125 rest))
       (inside_goes Object 123 125 p 0 0 0 _ s [] [] rest es [] o os w wants.FirstName name d _ (λ q. refl) (λ q. refl) (length2 s 125) v refl refl refl b tt
       (λ e l. from_entries (sym (append-nil (es ++ e ∷ []))) (stay (omega arith) refl)))
-  value_goes (object {p = p} s body s' {ms = ms} b h b') rest es o os w name d v n =
-      from_bytes (ap (λ l. 123 ∷ l) (regroup3 s body s' 125 rest))
+  value_goes (object {p = p} s body s' {ms = ms} b h b') rest es o os w name d v n = from_bytes (ap (λ l. 123 ∷ l) (regroup3 s body s' 125 rest))
       (inside_goes Object 123 125 p (member_count ms) (size_of_members ms) (member_count ms) _ s body s' rest es (tape_of_members ms (length es) (length es + 1)) o os w wants.Next name d _ (λ q. refl) (λ q. refl) (length3 s body s' 125) v refl (length-tape_members ms (length es) (length es + 1)) (omega arith) b b'
       (λ e l. members_goes h (s' ++ 125 ∷ rest) (es ++ e ∷ []) (length es + 1) (record { level = Inside Object; entry = length es; children = 0 }) (with_child o ∷ os) wants.FirstName _ l refl refl (no_atom-blanks s' (125 ∷ rest) b' (blank_first 125 rest refl))))
 
@@ -246,8 +225,7 @@ mutual
 
   pub member_goes : {p : ℕ} {vs : List ℕ} {nm : Name} {t : Tree} → IsMember p vs nm t → (rest : List ℕ) (es : List Entry) (o : Open) (os : List Open) (w : Want) (d : ℕ) → takes_name w ≡ true → o.level ≡ Inside Object → NoAtomFirst rest
       → Goes p (vs ++ rest) (st es (o ∷ os) w None d) (p + length vs) rest (st (es ++ tape_of t o.entry (Named (extent nm.source)) (length es)) (with_child o ∷ os) wants.Next None (deepest t (length os) d))
-  member_goes (member {p = p} name s s' bs {n = nm} {t = t} src hs b b' hv) rest es o os w d v a n =
-      from_bytes (regroup_more name s 58 s' bs rest)
+  member_goes (member {p = p} name s s' bs {n = nm} {t = t} src hs b b' hv) rest es o os w d v a n = from_bytes (regroup_more name s 58 s' bs rest)
       (goes_on (name_goes p name (s ++ (58 ∷ (s' ++ (bs ++ rest)))) nm es o os w d hs v)
       (goes_on (blanks_go s (58 ∷ (s' ++ (bs ++ rest))) (p + length name) _ b)
       (goes_on (colon_goes (p + length name + length s) (s' ++ (bs ++ rest)) es (o ∷ os) (Some (run_at p (length name))) d)
@@ -265,7 +243,6 @@ text_goes bytes t h = (
       (goes_on (at_place refl from_0 (blanks_go h.before (h.bytes ++ h.after) 0 _ h.blanks_before))
       (goes_on (value_goes h.value h.after [] (root 0) [] wants.Value None 0 refl (subst NoAtomFirst (append-nil h.after) (no_atom-blanks h.after [] h.blanks_after tt)))
       (from_bytes (sym (append-nil h.after)) (blanks_go h.after [] (length h.before + length h.bytes) _ h.blanks_after)))),
-)
-  where
-    from_0 : 0 + length h.before ≡ length h.before
-    from_0 = omega arith
+) where
+  from_0 : 0 + length h.before ≡ length h.before
+  from_0 = omega arith

@@ -1,3 +1,4 @@
+pub mod Names
 pub mod Snoc
 pub mod Complete
 pub mod Follows

@@ -1,10 +1,9 @@
 -- Characters without a lone surrogate have a meaning.
-use Rattle.std.proofs.Common.{◌≡◌, ℕ, ◌+◌, ◌-◌, ◌*◌, ◌<◌, ◌⊎◌, Bool, true, false, cond, List, [], ◌∷◌, Option, Some, None, refl, sym, subst, arith, inl, inr}
-use Rattle.std.proofs.lemmas.Bool.Decides.{nat_tests}
-use Rattle.json_text.specs.Tree.{Spelt, Plain, Short, Unit4}
-use Rattle.json_text.specs.Meaning.{IsHigh, IsLow, Means, nothing, plain, short, unit, pair, HasLone, meaning, short_value, is_high, is_low}
+use Rattle.json_text.proofs.Names.{◌≡◌, ℕ, ◌+◌, ◌-◌, ◌*◌, ◌<◌, ◌⊎◌, Bool, true, false, cond, List, [], ◌∷◌, Option, Some, None, refl, sym, subst}
+use Rattle.json_text.proofs.Names.{arith, inl, inr, nat_tests, Spelt, Plain, Short, Unit4, IsHigh, Means, nothing, plain, short, unit, HasLone}
+use Rattle.json_text.proofs.Names.{cases_Bool}
+use Rattle.json_text.specs.Meaning.{IsLow, pair, meaning, short_value, is_high, is_low}
 use Rattle.json_text.proofs.Meanings.{meaning_is}
-use Rattle.std.proofs.lemmas.Bool.{cases_Bool}
 
 -- the search over characters
 abbrev pub after_one : Spelt → Bool → Option Bool
@@ -26,16 +25,8 @@ pub means_none : {cs : List Spelt} {vs : List ℕ} → Means cs vs → lone_char
 means_none nothing = refl
 means_none (plain h) = means_none h
 means_none (short h) = means_none h
-means_none (unit {u = u} {cs = cs} r h) =
-    let low : is_low u ≡ false = grind (arith, nat_tests) in
-    let high : is_high u ≡ false = grind (arith, nat_tests) in
-    rw (low, high) (means_none h)
-means_none (pair {h = u} {l = v} {cs = cs} p q h) =
-    let low : is_low u ≡ false = grind (arith, nat_tests) in
-    let high : is_high u ≡ true = grind (arith, nat_tests) in
-    let low' : is_low v ≡ true = grind (arith, nat_tests) in
-    let high' : is_high v ≡ false = grind (arith, nat_tests) in
-    rw (low, high, low', high') (means_none h)
+means_none (unit {u = u} {cs = cs} r h) = grind (arith, means_none h)
+means_none (pair {h = u} {l = v} {cs = cs} p q h) = search (arith, means_none h)
 
 -- and back
 abbrev pub Meant : Bool → List Spelt → Type 0
@@ -51,29 +42,17 @@ high_is u h = (grind (arith, nat_tests), grind (arith, nat_tests))
 no_unit : (u : ℕ) → is_low u ≡ false → is_high u ≡ false → (u < 0xD800) ⊎ (0xDFFF < u)
 no_unit u l h = grind (arith, nat_tests)
 
-low_not_high : (u : ℕ) → is_low u ≡ true → is_high u ≡ false
-low_not_high u h = grind (arith, nat_tests)
-
 unit_meant : (u : ℕ) (cs : List Spelt) (high : Bool) → lone_chars high (Unit4 u ∷ cs) ≡ false → ((g : Bool) → lone_chars g cs ≡ false → Meant g cs) → Meant high (Unit4 u ∷ cs)
-unit_meant u cs true e ih = by_low (is_low u) refl
-  where
-    by_low : (t : Bool) → is_low u ≡ t → Meant true (Unit4 u ∷ cs)
-    by_low true l =
-        let n = low_not_high u l in
-        let r = ih false (rw (l, n) at e) in (u, cs, r.0, refl, low_is u l, r.1)
-    by_low false l = absurd (let x = rw l at e in cc)
-unit_meant u cs false e ih = by_low (is_low u) refl
-  where
-    by_high : (t : Bool) → is_high u ≡ t → is_low u ≡ false → Meant false (Unit4 u ∷ cs)
-    by_high true g l =
-        let r = ih true (rw (l, g) at e) in
-        (_, subst (λ x. Means (Unit4 u ∷ x) ((0x10000 + (u - 0xD800) * 0x400 + (r.0 - 0xDC00)) ∷ r.2)) (sym r.3) (pair (high_is u g) r.4 r.5))
-    by_high false g l =
-        let r = ih false (rw (l, g) at e) in (u ∷ r.0, unit (no_unit u l g) r.1)
+unit_meant u cs true e ih = grind (arith, low_is)
+unit_meant u cs false e ih = by_low (is_low u) refl where
+  by_high : (t : Bool) → is_high u ≡ t → is_low u ≡ false → Meant false (Unit4 u ∷ cs)
+  by_high true g l = let r = ih true (rw (l, g) at e) in
+      (_, subst (λ x. Means (Unit4 u ∷ x) ((0x10000 + (u - 0xD800) * 0x400 + (r.0 - 0xDC00)) ∷ r.2)) (sym r.3) (pair (high_is u g) r.4 r.5))
+  by_high false g l = let r = ih false (rw (l, g) at e) in (u ∷ r.0, unit (no_unit u l g) r.1)
 
-    by_low : (t : Bool) → is_low u ≡ t → Meant false (Unit4 u ∷ cs)
-    by_low true l = absurd (let x = rw l at e in cc)
-    by_low false l = by_high (is_high u) refl l
+  by_low : (t : Bool) → is_low u ≡ t → Meant false (Unit4 u ∷ cs)
+  by_low true l = absurd (let x = rw l at e in cc)
+  by_low false l = by_high (is_high u) refl l
 
 pub meant : (cs : List Spelt) (high : Bool) → lone_chars high cs ≡ false → Meant high cs
 meant [] false e = ([], nothing)

@@ -1,12 +1,8 @@
 -- The members of an object, from one entry to the next.
-use Rattle.std.proofs.Common.{◌≡◌, ℕ, ◌+◌, ◌<◌, List, [], ◌∷◌, ◌++◌, length, map, get_or, refl, sym, ap, ◌∙◌, subst, arith, append_assoc, length-append}
-use Rattle.std.proofs.lemmas.List.{get_or_at, get_or_default}
-use Rattle.json_text.specs.Tree.{Name, Tree, Obj, Members, NoMember, Member}
-use Rattle.json_text.specs.Letters.{IsString}
+use Rattle.json_text.proofs.Names.{◌≡◌, ℕ, ◌+◌, ◌<◌, List, [], ◌∷◌, ◌++◌, length, map, get_or, refl, sym, ap, ◌∙◌, subst, arith, append_assoc}
+use Rattle.json_text.proofs.Names.{length-append, get_or_at, get_or_default, Name, Tree, Obj, Members, NoMember, Member, IsString, size}
+use Rattle.json_text.proofs.Names.{size_of_members, Named, extent, tape_of, tape_of_members, entry_of, meanings, IsObject}
 use Rattle.json_text.specs.Meaning.{meaning}
-use Rattle.json_text.specs.Nodes.{size, size_of_members}
-use Rattle.json_text.specs.Tape.{Named, extent, tape_of, tape_of_members, entry_of}
-use Rattle.json_text.specs.Repeats.{meanings, IsObject}
 use Rattle.json_text.specs.declared.tape.Entry.{Entry}
 use Rattle.json_text.specs.declared.tape.Kind.TheVariants as kinds
 use Rattle.json_text.specs.declared.tape.Role.TheVariants as roles
@@ -33,17 +29,13 @@ pub record Left (text : List ℕ) (tape : List Entry) (up k end : ℕ) (ms : Mem
 
 -- all members of an object
 pub all_left : (text : List ℕ) (tape : List Entry) (n : ℕ) (ms : Members) → IsObject text tape n ms → Left text tape n (n + 1) (get_or tape n no_entry).after ms
-all_left text tape n ms o =
-    let p = part_at o.is_at in
-    let e = entry_of (Obj o.source ms) o.up o.label n in
-    record {
-      front = p.front ++ e ∷ [];
-      back = p.back;
-      is = o.stands ∙ p.is ∙ sym (append_assoc p.front (e ∷ []) (tape_of_members ms n (n + 1) ++ p.back));
-      long = (let a = length-append p.front (e ∷ []) in let b = p.number in omega arith);
-      fits = (part_fits o.is_at text (text_fits text o.tree o.is_text)).1;
-      ends = ap (λ (x : Entry). x.after) (entry_at tape no_entry o.stands o.is_at);
-    }
+all_left text tape n ms o = let p = part_at o.is_at in let e = entry_of (Obj o.source ms) o.up o.label n in grind (
+  arith,
+  append_assoc p.front (e ∷ []) (tape_of_members ms n (n + 1) ++ p.back),
+  length-append p.front (e ∷ []),
+  part_fits o.is_at text (text_fits text o.tree o.is_text),
+  entry_at tape no_entry o.stands o.is_at,
+)
 
 -- the first of those that are left
 pub record Next (text : List ℕ) (tape : List Entry) (up k end : ℕ) (ms : Members) : Type 0 where
@@ -63,18 +55,13 @@ pub record Next (text : List ℕ) (tape : List Entry) (up k end : ℕ) (ms : Mem
 
 pub next_left : (text : List ℕ) (tape : List Entry) (up k end : ℕ) (ms : Members) → Left text tape up k end ms → k < end → Next text tape up k end ms
 next_left text tape up k end NoMember l h = absurd (let e = l.ends in omega arith)
-next_left text tape up k end (Member m v ms) l h =
-    let lab = Named (extent m.source) in
-    let own = tape_of v up lab k in
-    let rest = tape_of_members ms up (k + size v) in
-    let f = entry_first v up lab k in
+next_left text tape up k end (Member m v ms) l h = let lab = Named (extent m.source) in let own = tape_of v up lab k in
+    let rest = tape_of_members ms up (k + size v) in let f = entry_first v up lab k in
     let whole : tape ≡ l.front ++ (own ++ (rest ++ l.back)) = l.is ∙ ap (λ x. l.front ++ x) (append_assoc own rest l.back) in
     let here : get_or tape k no_entry ≡ entry_of v up lab k =
     ap (λ x. get_or x k no_entry) (whole ∙ ap (λ x. l.front ++ (x ++ (rest ++ l.back))) f.1) ∙ get_or_at l.front (entry_of v up lab k) (f.0 ++ (rest ++ l.back)) no_entry k l.long in
-    let next : (get_or tape k no_entry).after ≡ k + size v = ap (λ (x : Entry). x.after) here ∙ after_is v up lab k in
-    let z = size_positive v in
-    let n = length-tape v up lab k in
-    record {
+    let next : (get_or tape k no_entry).after ≡ k + size v = ap (λ (x : Entry). x.after) here ∙ after_is v up lab k in let z = size_positive v in
+    let n = length-tape v up lab k in record {
       name = m;
       others = ms;
       inside = (let a = ap length whole in let b = length-append l.front (own ++ (rest ++ l.back)) in let c = length-append own (rest ++ l.back) in let g = l.long in omega arith);

@@ -1,11 +1,10 @@
 -- What the entry with a number says of the tree with that number.
-use Rattle.std.proofs.Common.{◌≡◌, ℕ, ◌+◌, ◌<◌, ◌≤◌, List, [], ◌∷◌, ◌++◌, length, get_or, inl, inr, ◌⊎◌, refl, sym, ap, ◌∙◌, subst, arith, append_assoc, length-append}
-use Rattle.std.proofs.lemmas.List.{get_or_at, append-nil}
-use Rattle.std.proofs.lemmas.Bool.{cases_lt}
-use Rattle.json_text.specs.Tree.{Tree, Leaf, Arr, Obj, Elements, NoElement, Element, Members, NoMember, Member}
+use Rattle.json_text.proofs.Names.{◌≡◌, ℕ, ◌+◌, ◌<◌, ◌≤◌, List, [], ◌∷◌, ◌++◌, length, get_or, inl, inr, ◌⊎◌, refl, sym, ap, ◌∙◌, subst, arith}
+use Rattle.json_text.proofs.Names.{append_assoc, length-append, get_or_at, append-nil, cases_lt, Tree, Leaf, Arr, Obj, Elements, NoElement, Element}
+use Rattle.json_text.proofs.Names.{Members, NoMember, Member, entry_of, Label, Top, Index, Named, tape_of, tape_of_elements, tape_of_members, extent}
+use Rattle.json_text.proofs.Names.{Stands, IsAt, itself, in_array, in_object, IsInElements, in_element, in_later_element, IsInMembers, in_member}
+use Rattle.json_text.proofs.Names.{in_later_member, size, size_of_elements, size_of_members}
 use Rattle.json_text.specs.declared.tape.Entry.{Entry}
-use Rattle.json_text.specs.Tape.{entry_of, Label, Top, Index, Named, tape_of, tape_of_elements, tape_of_members, extent, Stands, IsAt, itself, in_array, in_object, IsInElements, in_element, in_later_element, IsInMembers, in_member, in_later_member}
-use Rattle.json_text.specs.Nodes.{size, size_of_elements, size_of_members}
 use Rattle.json_text.proofs.Snoc.{length-tape}
 
 -- the part of a tape from a number on
@@ -47,12 +46,7 @@ entry_first _ up label k = (_, refl)
 
 -- the entry with the number n is that of the tree with that number
 pub entry_at : {t s : Tree} {n up : ℕ} {label : Label} (tape : List Entry) (d : Entry) → Stands tape t → IsAt t 0 Top 0 n up label s → get_or tape n d ≡ entry_of s up label n
-entry_at {s = s} {n = n} {up = up} {label = label} tape d e h =
-    let p = part_at h in
-    let f = entry_first s up label n in
-    let long : length p.front ≡ n = (let g = p.number in omega arith) in
-    let whole : tape ≡ p.front ++ (entry_of s up label n ∷ (f.0 ++ p.back)) = e ∙ p.is ∙ ap (λ l. p.front ++ (l ++ p.back)) f.1 in
-    ap (λ l. get_or l n d) whole ∙ get_or_at p.front (entry_of s up label n) (f.0 ++ p.back) d n long
+entry_at {s = s} {n = n} {up = up} {label = label} tape d e h = grind (arith, part_at, entry_first, get_or_at)
 
 -- a part of a part
 mutual

@@ -1,16 +1,12 @@
 -- A text spells one tree: the tape tells its shape, and the text its bytes.
-use Rattle.std.proofs.Common.{◌≡◌, ℕ, ◌+◌, List, [], ◌∷◌, ◌++◌, length, take, drop, refl, sym, ap, ◌∙◌, subst, arith, append_assoc}
+use Rattle.json_text.proofs.Names.{◌≡◌, ℕ, ◌+◌, List, [], ◌∷◌, ◌++◌, length, refl, sym, ap, ◌∙◌, subst, arith, append_assoc, Spelt, Source, Name}
+use Rattle.json_text.proofs.Names.{Scalar, Null, True, False, Num, Str, Tree, Leaf, Arr, Obj, Elements, NoElement, Element, Members, NoMember, Member}
+use Rattle.json_text.proofs.Names.{IsString, IsScalarText, IsText, State, Goes, stay, blank, token, Label, Top, Index, Named, element_count}
+use Rattle.json_text.proofs.Names.{member_count, kind_of_scalar, tape_of, tape_of_elements, tape_of_members, extent, size}
 use Rattle.std.proofs.lemmas.List.{append_cancel_right}
-use Rattle.json_text.specs.Tree.{Spelt, Source, Name, Scalar, Null, True, False, Num, Str, Tree, Leaf, Arr, Obj, Elements, NoElement, Element, Members, NoMember, Member}
-use Rattle.json_text.specs.Letters.{AreChars, IsString}
-use Rattle.json_text.specs.Grammar.{IsScalarText, IsText}
 use Rattle.json_text.specs.declared.tape.Kind.TheVariants as kinds
 use Rattle.json_text.specs.declared.tape.Extent.{Extent}
 use Rattle.json_text.specs.declared.tape.Entry.{Entry}
-use Rattle.json_text.specs.Machine.{State}
-use Rattle.json_text.specs.Tokens.{Goes, stay, blank, token}
-use Rattle.json_text.specs.Tape.{Label, Top, Index, Named, element_count, member_count, kind_of_scalar, tape_of, tape_of_elements, tape_of_members, extent}
-use Rattle.json_text.specs.Nodes.{size}
 use Rattle.json_text.proofs.Entries.{label_is}
 use Rattle.json_text.proofs.Fits.{Lies, Fits, FitElements, FitMembers, text_fits}
 use Rattle.json_text.proofs.Chars.{chars_one}
@@ -19,10 +15,7 @@ use Rattle.json_text.proofs.Follows.{text_goes}
 use Rattle.json_text.proofs.Numbers.{entry_first}
 
 string_one : (cs ds : List Spelt) (bs : List ℕ) → IsString bs cs → IsString bs ds → cs ≡ ds
-string_one cs ds bs (a, h, e) (b, g, f) =
-    let x : a ++ 34 ∷ [] ≡ b ++ 34 ∷ [] = cc in
-    let y : b ≡ a = sym (append_cancel_right a b (34 ∷ []) x) in
-    chars_one cs ds a h (subst (λ l. AreChars l ds) y g)
+string_one cs ds bs h h' = grind (arith, append_cancel_right, chars_one)
 
 scalar_one : (c d : Scalar) (bs : List ℕ) → kind_of_scalar c ≡ kind_of_scalar d → IsScalarText bs c → IsScalarText bs d → c ≡ d
 scalar_one Null Null bs e h g = refl
@@ -33,19 +26,13 @@ scalar_one (Str cs) (Str ds) bs e h g = ap Str (string_one cs ds bs h g)
 scalar_one _ _ bs e h g = absurd (cc)
 
 pub no_array_kind : (c : Scalar) → kind_of_scalar c ≡ kinds.Array → ⊥
-no_array_kind Null e = cc
-no_array_kind _ e = cc
+no_array_kind c e = grind arith
 
 pub no_object_kind : (c : Scalar) → kind_of_scalar c ≡ kinds.Object → ⊥
-no_object_kind Null e = cc
-no_object_kind _ e = cc
+no_object_kind c e = grind arith
 
 source_one : (bytes : List ℕ) (s s' : Source) → Lies bytes s → Lies bytes s' → extent s ≡ extent s' → s ≡ s'
-source_one bytes s s' h g e =
-    let p : s.place ≡ s'.place = ap (λ x. x.start) e in
-    let n : length s.bytes ≡ length s'.bytes = ap (λ x. x.len) e in
-    let b : s.bytes ≡ s'.bytes = h ∙ ap (λ m. take m (drop s.place bytes)) n ∙ ap (λ m. take (length s'.bytes) (drop m bytes)) p ∙ sym g in
-    ap (λ m. record { place = m; bytes = s.bytes }) p ∙ ap (λ l. record { place = s'.place; bytes = l }) b
+source_one bytes s s' h g e = grind arith
 
 name_one : (n n' : Name) → n.source ≡ n'.source → n.characters ≡ n'.characters → n ≡ n'
 name_one n n' e f = ap (λ s. record { source = s; characters = n.characters }) e ∙ ap (λ c. record { source = n'.source; characters = c }) f
@@ -59,20 +46,12 @@ tail_same a b xs ys e = cc
 -- the tapes of two trees begin with their names
 name_first : (t t' : Tree) (up up' : ℕ) (x x' : Extent) (k : ℕ) (r r' : List Entry) → tape_of t up (Named x) k ++ r ≡ tape_of t' up' (Named x') k ++ r' → x ≡ x'
 name_first t t' up up' x x' k r r' e =
-    let f = entry_first t up (Named x) k in
-    let g = entry_first t' up' (Named x') k in
-    let a = sym (ap (λ l. l ++ r) f.1) ∙ e ∙ ap (λ l. l ++ r') g.1 in
-    let h = head_same _ _ (f.0 ++ r) (g.0 ++ r') a in
-    sym (label_is t up (Named x) k) ∙ ap (λ z. z.label) h ∙ label_is t' up' (Named x') k
+    grind (arith, entry_first t up (Named x) k, entry_first t' up' (Named x') k, label_is t up (Named x) k, label_is t' up' (Named x') k)
 
 module _ (bytes : List ℕ) where
   mutual
     pub same_tree : (t t' : Tree) (up up' : ℕ) (name name' : Label) (k : ℕ) (r r' : List Entry) → Fits bytes t → Fits bytes t' → tape_of t up name k ++ r ≡ tape_of t' up' name' k ++ r' → (t ≡ t') × (r ≡ r')
-    same_tree (Leaf s c) (Leaf s' c') up up' name name' k r r' f f' e =
-        let h = head_same _ _ r r' e in
-        let x = source_one bytes s s' f.0 f'.0 (ap (λ y. y.source) h) in
-        let z = scalar_one c c' s.bytes (ap (λ y. y.kind) h) f.1 (subst (λ y. IsScalarText y.bytes c') (sym x) f'.1) in
-        (ap (λ y. Leaf y c) x ∙ ap (Leaf s') z, tail_same _ _ r r' e)
+    same_tree (Leaf s c) (Leaf s' c') up up' name name' k r r' f f' e = grind (arith, head_same, source_one, scalar_one, tail_same)
     same_tree (Leaf s c) (Arr s' es') up up' name name' k r r' f f' e = absurd (no_array_kind c (ap (λ y. y.kind) (head_same _ _ r _ e)))
     same_tree (Leaf s c) (Obj s' ms') up up' name name' k r r' f f' e = absurd (no_object_kind c (ap (λ y. y.kind) (head_same _ _ r _ e)))
     same_tree (Arr s es) (Leaf s' c') up up' name name' k r r' f f' e = absurd (no_array_kind c' (sym (ap (λ y. y.kind) (head_same _ _ _ r' e))))
@@ -80,19 +59,14 @@ module _ (bytes : List ℕ) where
         let h = head_same _ _ (tape_of_elements es k 0 (k + 1) ++ r) (tape_of_elements es' k 0 (k + 1) ++ r') e in
         let g = tail_same _ _ (tape_of_elements es k 0 (k + 1) ++ r) (tape_of_elements es' k 0 (k + 1) ++ r') e in
         let x = source_one bytes s s' f.0 f'.0 (ap (λ y. y.source) h) in
-        let z = same_elements es es' k k 0 (k + 1) r r' (ap (λ y. y.children) h) f.1 f'.1 g in
-        (ap (λ y. Arr y es) x ∙ ap (Arr s') z.0, z.1)
-    same_tree (Arr s es) (Obj s' ms') up up' name name' k r r' f f' e =
-        let h = head_same _ _ (tape_of_elements es k 0 (k + 1) ++ r) (tape_of_members ms' k (k + 1) ++ r') e in let x = ap (λ y. y.kind) h in absurd (cc)
+        let z = same_elements es es' k k 0 (k + 1) r r' (ap (λ y. y.children) h) f.1 f'.1 g in (ap (λ y. Arr y es) x ∙ ap (Arr s') z.0, z.1)
     same_tree (Obj s ms) (Leaf s' c') up up' name name' k r r' f f' e = absurd (no_object_kind c' (sym (ap (λ y. y.kind) (head_same _ _ _ r' e))))
-    same_tree (Obj s ms) (Arr s' es') up up' name name' k r r' f f' e =
-        let h = head_same _ _ (tape_of_members ms k (k + 1) ++ r) (tape_of_elements es' k 0 (k + 1) ++ r') e in let x = ap (λ y. y.kind) h in absurd (cc)
     same_tree (Obj s ms) (Obj s' ms') up up' name name' k r r' f f' e =
         let h = head_same _ _ (tape_of_members ms k (k + 1) ++ r) (tape_of_members ms' k (k + 1) ++ r') e in
         let g = tail_same _ _ (tape_of_members ms k (k + 1) ++ r) (tape_of_members ms' k (k + 1) ++ r') e in
         let x = source_one bytes s s' f.0 f'.0 (ap (λ y. y.source) h) in
-        let z = same_members ms ms' k k (k + 1) r r' (ap (λ y. y.children) h) f.1 f'.1 g in
-        (ap (λ y. Obj y ms) x ∙ ap (Obj s') z.0, z.1)
+        let z = same_members ms ms' k k (k + 1) r r' (ap (λ y. y.children) h) f.1 f'.1 g in (ap (λ y. Obj y ms) x ∙ ap (Obj s') z.0, z.1)
+    same_tree _ _ up up' name name' k r r' f f' e = grind arith
 
     pub same_elements : (es es' : Elements) (up up' i k : ℕ) (r r' : List Entry) → element_count es ≡ element_count es' → FitElements bytes es → FitElements bytes es' → tape_of_elements es up i k ++ r ≡ tape_of_elements es' up' i k ++ r' → (es ≡ es') × (r ≡ r')
     same_elements NoElement NoElement up up' i k r r' c f f' e = (refl, e)
@@ -122,12 +96,10 @@ goes_same (stay f g) w = goes_end w g
 goes_same {q' = q'} {s2 = s2} (blank {p = p} {p' = p'} {cs = cs} {s = s} g f h v) w =
     goes_same v (subst (λ n. Goes n cs s q' [] s2) (sym f) (goes_blank w g h))
 goes_same {q' = q'} {s2 = s2} (token {p = p} {p' = p'} {vs = vs} {rest = rest} {s' = s'} g f i st v) w =
-    let x = goes_token w g i in
-    let y : x.next ≡ s' = (let z = x.steps in cc) in
+    let x = goes_token w g i in let y : x.next ≡ s' = (let z = x.steps in cc) in
     goes_same v (subst (λ n. Goes n rest s' q' [] s2) (sym f) (subst (λ z. Goes (p + length vs) rest z q' [] s2) y x.way))
 
 -- a text spells one tree
 pub one_tree : (bytes : List ℕ) (t t' : Tree) → IsText bytes t → IsText bytes t' → t ≡ t'
-one_tree bytes t t' h h' =
-    let e = goes_same (text_goes bytes t h).1 (text_goes bytes t' h').1 in
+one_tree bytes t t' h h' = let e = goes_same (text_goes bytes t h).1 (text_goes bytes t' h').1 in
     (same_tree bytes t t' 0 0 Top Top 0 [] [] (text_fits bytes t h) (text_fits bytes t' h') (ap (λ s. s.entries ++ []) e)).0

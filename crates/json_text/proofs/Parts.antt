@@ -1,10 +1,8 @@
 -- The parts of a tree are what its numbers stand for.
-use Rattle.std.proofs.Common.{ℕ, ◌+◌}
-use Rattle.json_text.specs.Tree.{Tree, Elements, Members}
-use Rattle.json_text.specs.Parts.{IsElementOf, first_element, later_element, IsValueOf, first_value, later_value, HasPart, element, value}
+use Rattle.json_text.proofs.Names.{ℕ, ◌+◌, Tree, Elements, Members, IsElementOf, first_element, later_element, IsValueOf, first_value, later_value}
+use Rattle.json_text.proofs.Names.{HasPart, element, value, size, Label, Top, IsAt, itself, in_array, in_object, IsInElements, in_element}
+use Rattle.json_text.proofs.Names.{in_later_element, IsInMembers, in_member, in_later_member}
 use Rattle.json_text.specs.Parts as parts
-use Rattle.json_text.specs.Nodes.{size}
-use Rattle.json_text.specs.Tape.{Label, Top, IsAt, itself, in_array, in_object, IsInElements, in_element, in_later_element, IsInMembers, in_member, in_later_member}
 use Rattle.json_text.proofs.Numbers.{at_trans}
 
 mutual

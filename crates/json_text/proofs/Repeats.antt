@@ -1,32 +1,27 @@
 -- Names that come again: step by step, and in order.
-use Rattle.std.proofs.Common.{◌≡◌, ℕ, zero, suc, ◌+◌, ◌<◌, ◌≤◌, true, false, Bool, ◌||◌, List, [], ◌∷◌, length, map, drop, get_or, refl, sym, ap, ◌∙◌, subst, arith}
-use Rattle.std.specs.List.{list_any, IsDistinct, AllByRecursion}
-use Rattle.std.proofs.lemmas.List.{length-drop}
-use Rattle.std.specs.List.Sorted.{IsPermutation, IsSorted, IsStrictlySortedBy}
-use Rattle.std.specs.Ordering.{is_eq, is_lt, ordering_reverse, eq_by_cmp}
+use Rattle.json_text.proofs.Names.{◌≡◌, ℕ, zero, suc, ◌+◌, ◌<◌, ◌≤◌, true, false, Bool, ◌||◌, List, [], ◌∷◌, length, map, drop, get_or, refl, sym, ap}
+use Rattle.json_text.proofs.Names.{◌∙◌, subst, arith, list_any, AllByRecursion, length-drop, IsPermutation, IsSorted, nat_eq, bytes_decides}
+use Rattle.json_text.proofs.Names.{nat_tests, is_same, repeats_by, repeats_next_by, repeats, or_parts}
+use Rattle.std.specs.List.{IsDistinct}
+use Rattle.std.specs.List.Sorted.{IsStrictlySortedBy}
+use Rattle.std.specs.Ordering.{is_lt, eq_by_cmp}
 use Rattle.std.specs.declared.cmp.Ordering.{Ordering}
-use Rattle.std.specs.declared.cmp.Ordering.TheVariants.{Less, Equal, Greater}
+use Rattle.std.specs.declared.cmp.Ordering.TheVariants.{Less}
 use Rattle.std.proofs.lemmas.List.Sorted.{IsPermutation-sym, length_permutation}
 use Rattle.std.proofs.lemmas.Map.Keys.{IsDistinct-head, IsDistinct-tail, IsDistinct-cons, IsDistinct-from_sorted, IsDistinct-IsPermutation, sorted_from_all_adjacent}
-use Rattle.std.specs.Prelude.{nat_eq}
 use Rattle.std.specs.Cmp.{IsTotalOrder}
-use Rattle.std.specs.Cmp.Lexicographic.{bytes_decides}
-use Rattle.std.proofs.lemmas.Bool.Decides.{nat_tests}
-use Rattle.json_text.specs.Repeats.{is_same, repeats_by, repeats_next_by, repeats, hashes_repeat}
-use Rattle.std.proofs.lemmas.Bool.{or_parts}
+use Rattle.json_text.specs.Repeats.{hashes_repeat}
 
 -- one whose second part holds
 pub or_right : (a b : Bool) → b ≡ true → (a || b) ≡ true
-or_right true b e = refl
-or_right false b e = e
+or_right a b e = grind arith
 
 module _ {K : Type 0} (same : K → K → Bool) where
   pub next_over : (xs : List K) (i : ℕ) → length xs ≤ i + 1 → repeats_next_by same (drop i xs) ≡ false
-  next_over xs i h = go (drop i xs) (let l = length-drop i xs in omega arith)
-    where
-      go : (ys : List K) → length ys ≤ 1 → repeats_next_by same ys ≡ false
-      go (y ∷ z ∷ ys) l = absurd (omega arith)
-      go _ l = refl
+  next_over xs i h = go (drop i xs) (let l = length-drop i xs in omega arith) where
+    go : (ys : List K) → length ys ≤ 1 → repeats_next_by same ys ≡ false
+    go (y ∷ z ∷ ys) l = absurd (omega arith)
+    go _ l = refl
 
 -- what is in order
 module _ {K : Type 0} (same : K → K → Bool) (order : K → K → Ordering) (ties : (x y : K) → same x y ≡ eq_by_cmp order x y) (symm : (x y : K) → same x y ≡ same y x) (total : IsTotalOrder order) where
@@ -57,11 +52,9 @@ module _ {K : Type 0} (same : K → K → Bool) (order : K → K → Ordering) (
   no_repeats (x ∷ xs) h = let e = none_same x xs (IsDistinct-head tied x xs h) in rw e (no_repeats xs (IsDistinct-tail tied x xs h))
 
   next_repeats : (xs : List K) → repeats_next_by same xs ≡ true → repeats_by same xs ≡ true
-  next_repeats (x ∷ y ∷ ys) h = go (same x y) refl h (λ k. next_repeats (y ∷ ys) k)
-    where
-      go : (t : Bool) → same x y ≡ t → (t || repeats_next_by same (y ∷ ys)) ≡ true → (repeats_next_by same (y ∷ ys) ≡ true → repeats_by same (y ∷ ys) ≡ true) → repeats_by same (x ∷ y ∷ ys) ≡ true
-      go true e k ih = let f = symm y x ∙ e in rw f refl
-      go false e k ih = or_right (list_any (λ z. same z x) (y ∷ ys)) (repeats_by same (y ∷ ys)) (ih k)
+  next_repeats (x ∷ y ∷ ys) h = go (same x y) refl h (λ k. next_repeats (y ∷ ys) k) where
+    go : (t : Bool) → same x y ≡ t → (t || repeats_next_by same (y ∷ ys)) ≡ true → (repeats_next_by same (y ∷ ys) ≡ true → repeats_by same (y ∷ ys) ≡ true) → repeats_by same (x ∷ y ∷ ys) ≡ true
+    go t e k ih = grind (arith, or_right)
   next_repeats _ h = absurd (cc)
 
   apart : (xs : List K) (k : ℕ) (d : K) → repeats_next_by same xs ≡ false → suc k < length xs → same (get_or xs k d) (get_or xs (suc k) d) ≡ false
@@ -70,12 +63,7 @@ module _ {K : Type 0} (same : K → K → Bool) (order : K → K → Ordering) (
   apart _ k d h l = absurd (omega arith)
 
   below : (a b : K) → is_lt (order b a) ≡ false → same a b ≡ false → order a b ≡ Less
-  below a b h n = total.antisymm a b ∙ go (order b a) refl h
-    where
-      go : (o : Ordering) → order b a ≡ o → is_lt o ≡ false → ordering_reverse o ≡ Less
-      go Less e k = absurd (cc)
-      go Equal e k = absurd (let x = sym n ∙ sym (same_turned b a) ∙ ap is_eq e in cc)
-      go Greater e k = refl
+  below a b h n = grind arith
 
   pub strict : (d : K) (xs : List K) → IsSorted order xs → repeats_next_by same xs ≡ false → IsStrictlySortedBy order xs
   strict d xs s h = sorted_from_all_adjacent total xs d (λ k l. below (get_or xs k d) (get_or xs (k + 1) d) (s k d (omega arith) l) (let e : suc k ≡ k + 1 = omega arith in subst (λ j. same (get_or xs k d) (get_or xs j d) ≡ false) e (apart xs k d h (omega arith))))
@@ -86,23 +74,21 @@ module _ {K : Type 0} (same : K → K → Bool) (order : K → K → Ordering) (
 
   -- in order, one that comes again comes right behind itself
   sorted_again : (d : K) (xs ys : List K) → IsPermutation xs ys → IsSorted order ys → repeats_next_by same ys ≡ repeats_by same xs
-  sorted_again d xs ys p s = go (repeats_next_by same ys) refl
-    where
-      found : (t : Bool) → repeats_by same xs ≡ t → repeats_by same ys ≡ true → true ≡ t
-      found true e h = refl
-      found false e h = absurd (let n = no_repeats ys (IsDistinct-IsPermutation tied tied_turned xs ys p (distinct xs e)) in cc)
+  sorted_again d xs ys p s = go (repeats_next_by same ys) refl where
+    found : (t : Bool) → repeats_by same xs ≡ t → repeats_by same ys ≡ true → true ≡ t
+    found true e h = refl
+    found false e h = absurd (let n = no_repeats ys (IsDistinct-IsPermutation tied tied_turned xs ys p (distinct xs e)) in cc)
 
-      go : (t : Bool) → repeats_next_by same ys ≡ t → t ≡ repeats_by same xs
-      go true e = found (repeats_by same xs) refl (next_repeats ys e)
-      go false e = sym (rising_alone xs ys p (strict d ys s e))
+    go : (t : Bool) → repeats_next_by same ys ≡ t → t ≡ repeats_by same xs
+    go true e = found (repeats_by same xs) refl (next_repeats ys e)
+    go false e = sym (rising_alone xs ys p (strict d ys s e))
 
   -- the same without a value of their type at hand
   pub sorted_repeats : (xs ys : List K) → IsPermutation xs ys → IsSorted order ys → repeats_next_by same ys ≡ repeats_by same xs
-  sorted_repeats [] ys p s = go ys (length_permutation [] ys p)
-    where
-      go : (ys : List K) → length ys ≡ 0 → repeats_next_by same ys ≡ false
-      go [] e = refl
-      go (y ∷ ys) e = absurd (omega arith)
+  sorted_repeats [] ys p s = go ys (length_permutation [] ys p) where
+    go : (ys : List K) → length ys ≡ 0 → repeats_next_by same ys ≡ false
+    go [] e = refl
+    go (y ∷ ys) e = absurd (omega arith)
   sorted_repeats (x ∷ xs) ys p s = sorted_again x (x ∷ xs) ys p s
 
 -- names that mean the same have one hash
@@ -111,14 +97,11 @@ any_hash f x [] h = refl
 any_hash f x (y ∷ ys) h = let n = or_parts (nat_eq (f y) (f x)) (list_any (λ z. nat_eq z (f x)) (map f ys)) h in go (is_same y x) refl n.0 (any_hash f x ys n.1)
   where
     go : (t : Bool) → is_same y x ≡ t → nat_eq (f y) (f x) ≡ false → list_any (λ z. is_same z x) ys ≡ false → (t || list_any (λ z. is_same z x) ys) ≡ false
-    go true e n m =
-        let s : f y ≡ f x = ap f ((bytes_decides y x).0 e) in
-        let t : nat_eq (f y) (f x) ≡ true = grind (arith, nat_tests) in absurd (cc)
+    go true e n m = let s : f y ≡ f x = ap f ((bytes_decides y x).0 e) in let t : nat_eq (f y) (f x) ≡ true = grind (arith, nat_tests) in absurd (cc)
     go false e n m = m
 
 pub hashes_apart : (f : List ℕ → ℕ) (xs : List (List ℕ)) → hashes_repeat (map f xs) ≡ false → repeats xs ≡ false
 hashes_apart f [] h = refl
 hashes_apart f (x ∷ xs) h =
-    let n = or_parts (list_any (λ y. nat_eq y (f x)) (map f xs)) (hashes_repeat (map f xs)) h in
-    let a = any_hash f x xs n.0 in
+    let n = or_parts (list_any (λ y. nat_eq y (f x)) (map f xs)) (hashes_repeat (map f xs)) h in let a = any_hash f x xs n.0 in
     rw a (hashes_apart f xs n.1)

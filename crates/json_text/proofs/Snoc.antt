@@ -1,9 +1,8 @@
 -- One more element or member at the end, in each function over lists of them.
-use Rattle.std.proofs.Common.{◌≡◌, ℕ, suc, ◌+◌, ◌++◌, length, refl, sym, ap, ◌∙◌, arith, append_assoc, length-append}
-use Rattle.json_text.specs.Tree.{Name, Tree, Leaf, Arr, Obj, Elements, NoElement, Element, Members, NoMember, Member, then_element, then_member}
-use Rattle.json_text.specs.Tape.{Label, Index, Named, deepest, deepest_element, deepest_member, element_count, member_count, tape_of, tape_of_elements, tape_of_members, extent}
-use Rattle.json_text.specs.Nodes.{size, size_of_elements, size_of_members}
-use Rattle.std.proofs.lemmas.List.{append-nil}
+use Rattle.json_text.proofs.Names.{◌≡◌, ℕ, suc, ◌+◌, ◌++◌, length, refl, ap, arith, append_assoc, length-append, Name, Tree, Leaf, Arr, Obj, Elements}
+use Rattle.json_text.proofs.Names.{NoElement, Element, Members, NoMember, Member, then_element, then_member, Label, Index, Named, deepest}
+use Rattle.json_text.proofs.Names.{deepest_element, deepest_member, element_count, member_count, tape_of, tape_of_elements, tape_of_members, extent}
+use Rattle.json_text.proofs.Names.{size, size_of_elements, size_of_members, append-nil}
 
 pub count-then_element : (es : Elements) (t : Tree) → element_count (then_element es t) ≡ element_count es + 1
 count-then_element NoElement t = refl
@@ -14,16 +13,8 @@ count-then_member NoMember n t = refl
 count-then_member (Member m a ms) n t = omega (arith, count-then_member ms n t)
 
 pub tape-then_element : (es : Elements) (t : Tree) (up i k : ℕ) → tape_of_elements (then_element es t) up i k ≡ tape_of_elements es up i k ++ tape_of t up (Index (i + element_count es)) (k + size_of_elements es)
-tape-then_element NoElement t up i k =
-    let e : k ≡ k + 0 = omega arith in
-    let f : i ≡ i + 0 = omega arith in
-    simp append-nil (ap (tape_of t up (Index i)) e ∙ ap (λ n. tape_of t up (Index n) (k + 0)) f)
-tape-then_element (Element a es) t up i k =
-    let e : k + size a + size_of_elements es ≡ k + (size a + size_of_elements es) = omega arith in
-    let f : i + 1 + element_count es ≡ i + suc (element_count es) = omega arith in
-    let ih = tape-then_element es t up (i + 1) (k + size a) in
-    ap (λ l. tape_of a up (Index i) k ++ l) (ih ∙ ap (λ n. tape_of_elements es up (i + 1) (k + size a) ++ tape_of t up (Index (i + 1 + element_count es)) n) e ∙ ap (λ n. tape_of_elements es up (i + 1) (k + size a) ++ tape_of t up (Index n) (k + (size a + size_of_elements es))) f)
-    ∙ sym (append_assoc (tape_of a up (Index i) k) _ _)
+tape-then_element NoElement t up i k = grind (arith, append-nil)
+tape-then_element (Element a es) t up i k = grind (arith, tape-then_element es t up (i + 1) (k + size a), append_assoc)
 
 pub deepest-then_element : (es : Elements) (t : Tree) (l d : ℕ) → deepest_element (then_element es t) l d ≡ deepest t l (deepest_element es l d)
 deepest-then_element NoElement t l d = refl
@@ -34,14 +25,8 @@ deepest-then_member NoMember n t l d = refl
 deepest-then_member (Member m a ms) n t l d = deepest-then_member ms n t l (deepest a l d)
 
 pub tape-then_member : (ms : Members) (n : Name) (t : Tree) (up k : ℕ) → tape_of_members (then_member ms n t) up k ≡ tape_of_members ms up k ++ tape_of t up (Named (extent n.source)) (k + size_of_members ms)
-tape-then_member NoMember n t up k =
-    let e : k ≡ k + 0 = omega arith in
-    simp append-nil (ap (tape_of t up (Named (extent n.source))) e)
-tape-then_member (Member m a ms) n t up k =
-    let e : k + size a + size_of_members ms ≡ k + (size a + size_of_members ms) = omega arith in
-    let ih = tape-then_member ms n t up (k + size a) in
-    ap (λ l. tape_of a up (Named (extent m.source)) k ++ l) (ih ∙ ap (λ j. tape_of_members ms up (k + size a) ++ tape_of t up (Named (extent n.source)) j) e)
-    ∙ sym (append_assoc (tape_of a up (Named (extent m.source)) k) _ _)
+tape-then_member NoMember n t up k = let e : k ≡ k + 0 = omega arith in simp append-nil (ap (tape_of t up (Named (extent n.source))) e)
+tape-then_member (Member m a ms) n t up k = grind (arith, tape-then_member ms n t up (k + size a), append_assoc)
 
 mutual
   pub length-tape : (t : Tree) (up : ℕ) (label : Label) (k : ℕ) → length (tape_of t up label k) ≡ size t
