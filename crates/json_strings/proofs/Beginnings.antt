@@ -1,28 +1,20 @@
 -- A text has as many characters as bytes that begin one (RFC 3629, section 3).
-use Rattle.std.proofs.Common.{◌≡◌, ℕ, suc, ◌+◌, ◌*◌, ◌/◌, ◌%◌, ◌^◌, ◌≤◌, take, drop, take-add, inl, inr, Bool, true, false, cond, ◌||◌, ltb, leb, bit_or, List, [], ◌∷◌, ◌++◌, map, replicate, length, refl, sym, ap, ap₂, ◌∙◌, arith}
-use Rattle.std.specs.Prelude.{IsUtf8}
-use Rattle.std.specs.List.{count_by}
+use Rattle.json_text.proofs.Names.{◌≡◌, ℕ, suc, ◌+◌, ◌*◌, ◌%◌, ◌^◌, ◌≤◌, take, Bool, true, false, cond, ◌||◌, ltb, leb, bit_or, List, [], ◌∷◌, ◌++◌}
+use Rattle.json_text.proofs.Names.{map, replicate, length, refl, sym, ap, ◌∙◌, arith, IsUtf8, count_by, chars, nat_tests, length-map, length-take-le}
+use Rattle.json_text.proofs.Names.{encodes-chars, chunk, zip2, mask_l, top, encodes}
+use Rattle.std.proofs.Common.{take-add, ap₂}
 use Rattle.std.specs.Int.RustNames.{count_ones}
-use Rattle.std.specs.Str.{chars}
-use Rattle.std.proofs.lemmas.Bool.{cases_lt}
-use Rattle.std.proofs.lemmas.Bool.Decides.{nat_tests}
-use Rattle.std.proofs.lemmas.List.{length-map, length-take-le}
 use Rattle.std.proofs.lemmas.List.Recursion.{is_count_by}
 use Rattle.std.proofs.lemmas.List.Sums.{sum_by-append, count_by-le-length}
 use Rattle.std.proofs.lemmas.Simd.{mask_l-mod, ones-mask_l}
-use Rattle.std.proofs.lemmas.Str.{encodes-chars}
-use lib.Lanes.{chunk, zip2, mask_l, top}
-use lib.Utf8.{encode, encodes, next}
+use lib.Utf8.{encode, next}
 use Rattle.structural_index.proofs.Lanes.{at_most, less}
 use Rattle.json_strings.specs.Spelling.{begins}
 
 -- ---- The bits of a load
 
 begin_bit : (p q : Bool) → top 7 (bit_or (cond p 255 0) (cond q 255 0)) ≡ (p || q)
-begin_bit false false = refl
-begin_bit false true = refl
-begin_bit true false = refl
-begin_bit true true = refl
+begin_bit p q = grind arith
 
 begin_bits : (bs : List ℕ)
     → mask_l (map (top 7) (zip2 bit_or (zip2 less bs (replicate (length bs) 128)) (zip2 at_most (replicate (length bs) 192) bs))) ≡ mask_l (map begins bs)
@@ -31,9 +23,7 @@ begin_bits (b ∷ bs) = ap₂ (λ (t : Bool) (rest : ℕ). cond t 1 0 + 2 * rest
 
 pub begin_mask : (n : ℕ) (bs : List ℕ) → length bs ≡ n → n ≤ 64
     → mask_l (map (top 7) (zip2 bit_or (zip2 less bs (replicate n 128)) (zip2 at_most (replicate n 192) bs))) % 2 ^ 64 ≡ mask_l (map begins bs)
-begin_mask n bs e few =
-    ap (λ m. mask_l (map (top 7) (zip2 bit_or (zip2 less bs (replicate m 128)) (zip2 at_most (replicate m 192) bs))) % 2 ^ 64) (sym e)
-    ∙ ap (λ m. m % 2 ^ 64) (begin_bits bs) ∙ mask_l-mod (map begins bs) 64 (let l = length-map bs begins in omega arith)
+begin_mask n bs e few = cc (begin_bits bs, mask_l-mod (map begins bs) 64 (let l = length-map bs begins in omega arith))
 
 -- ---- The bytes before a place
 
@@ -43,9 +33,7 @@ few_before bytes k h = let f = count_by-le-length begins (take k bytes) in let l
 -- and those of a load
 pub load_more : (bytes : List ℕ) (k mask : ℕ) → k + 32 ≤ length bytes → mask ≡ mask_l (map begins (chunk k 32 bytes))
     → count_by begins (take (k + 32) bytes) ≡ count_by begins (take k bytes) + count_ones mask
-load_more bytes k mask room e =
-    ap (count_by begins) (take-add k 32 bytes) ∙ sum_by-append (λ b. cond (begins b) 1 0) (take k bytes) (take 32 (drop k bytes))
-    ∙ ap (λ n. count_by begins (take k bytes) + n) (sym (ones-mask_l begins (chunk k 32 bytes)) ∙ ap count_ones (sym e))
+load_more bytes k mask room e = grind (arith, take-add, sum_by-append, ones-mask_l)
 
 -- ---- A whole text
 
@@ -54,8 +42,7 @@ beginnings [] = 0
 beginnings (b ∷ bs) = cond (begins b) (suc (beginnings bs)) (beginnings bs)
 
 one_or_none : (t : Bool) (n : ℕ) → cond t (suc n) n ≡ cond t (1 + n) n
-one_or_none true n = omega arith
-one_or_none false n = refl
+one_or_none t n = grind arith
 
 counted : (bs : List ℕ) → beginnings bs ≡ count_by begins bs
 counted = is_count_by beginnings begins refl (λ b bs. one_or_none (begins b) (beginnings bs))
@@ -71,20 +58,7 @@ follows c = let t : ltb (next c) 128 ≡ false = grind (arith, nat_tests) in let
 
 one_begins : (c : ℕ) (bs : List ℕ) → beginnings (encode c ++ bs) ≡ suc (beginnings bs)
 unfolding encode
-one_begins c bs = elim (cases_lt c 128) [
-  | inl a ↦ (let t : ltb c 128 ≡ true = grind (arith, nat_tests) in rw (t, low c t) refl)
-  | inr a ↦
-      (let t : ltb c 128 ≡ false = grind (arith, nat_tests) in
-      elim (cases_lt c 2048) [
-        | inl b ↦ (let u : ltb c 2048 ≡ true = grind (arith, nat_tests) in rw (t, u, lead (192 + c / 64) (omega arith), follows c) refl)
-        | inr b ↦
-            (let u : ltb c 2048 ≡ false = grind (arith, nat_tests) in
-            elim (cases_lt c 65536) [
-              | inl d ↦ (let v : ltb c 65536 ≡ true = grind (arith, nat_tests) in rw (t, u, v, lead (224 + c / 4096) (omega arith), follows (c / 64), follows c) refl)
-              | inr d ↦ (let v : ltb c 65536 ≡ false = grind (arith, nat_tests) in rw (t, u, v, lead (240 + c / 262144) (omega arith), follows (c / 4096), follows (c / 64), follows c) refl)
-            ])
-      ])
-]
+one_begins c bs = grind (arith, low, lead, follows)
 
 all_begin : (cs : List ℕ) → beginnings (encodes cs) ≡ length cs
 all_begin [] = refl

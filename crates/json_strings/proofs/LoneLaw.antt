@@ -1,30 +1,18 @@
 -- The search for a lone surrogate, byte by byte, is the meaning's.
-use Rattle.std.proofs.Common.{◌≡◌, ◌≢◌, ℕ, ◌+◌, ◌-◌, ◌*◌, ◌%◌, Bool, true, false, List, [], ◌∷◌, ◌++◌, length, Option, Some, None, refl, sym, ap, ◌∙◌, arith, append_assoc, inl, inr}
-use Rattle.std.specs.Prelude.{eqb}
-use Rattle.std.proofs.lemmas.Bool.Decides.{nat_tests}
-use Rattle.std.proofs.lemmas.Str.{length-encode, len_utf8_bounds}
+use Rattle.json_text.proofs.Names.{◌≡◌, ◌≢◌, ℕ, ◌+◌, ◌*◌, ◌%◌, Bool, true, false, List, [], ◌∷◌, ◌++◌, length, Option, refl, sym, ap, ◌∙◌, arith}
+use Rattle.json_text.proofs.Names.{append_assoc, inl, inr, eqb, nat_tests, length-encode, len_utf8_bounds, Spelt, Plain, Short, Unit4, IsHexDigit}
+use Rattle.json_text.proofs.Names.{IsShort, IsChar, AreChars, IsString, HasLone, turn, cases_Bool}
 use lib.Utf8.{encode}
-use Rattle.json_text.specs.Tree.{Spelt, Plain, Short, Unit4}
-use Rattle.json_text.specs.Letters.{IsHexDigit, IsShort, IsChar, AreChars, IsString}
-use Rattle.json_text.specs.Meaning.{HasLone, is_low}
 use Rattle.json_text.specs.declared.modes.Mode.TheVariants.{Between, Hex}
 use Rattle.json_text.specs.declared.modes.Turn.TheVariants.{Go}
-use Rattle.json_text.specs.Scanning.{turn}
 use Rattle.json_strings.specs.Surrogates.{number_of_hex, standing, past_unit, over, lone_from, lone}
 use Rattle.json_text.proofs.Strings.{ArePlain, plain_bytes}
 use Rattle.json_strings.proofs.Spelled.{keep, digit_bound}
-use Rattle.std.proofs.lemmas.Bool.{cases_Bool}
 use Rattle.json_text.proofs.LoneChars.{after_one, over_chars, lone_chars, means_none, meant}
 
 -- over bytes that stand for themselves
 plain_slash : (b : ℕ) → turn Between b ≡ Go Between → eqb b 92 ≡ false
-plain_slash b h = by_slash (eqb b 92) refl
-  where
-    by_slash : (t : Bool) → eqb b 92 ≡ t → eqb b 92 ≡ false
-    by_slash true e =
-        let q : eqb b 34 ≡ false = grind (arith, nat_tests) in
-        absurd (let x = rw (q, e) at h in cc)
-    by_slash false e = e
+plain_slash b h = grind arith
 
 plain_more : (bs rest : List ℕ) → ArePlain bs → lone_from (standing Between 0 false) (bs ++ rest) ≡ lone_from (standing Between 0 false) rest
 plain_more [] rest h = refl
@@ -59,25 +47,19 @@ hex_run a b c d k l m n u h rest ha hb hc hd e =
     ∙ ap (λ v. over (past_unit v h) (λ s. lone_from s rest)) v4
 
 unit_over : (u : ℕ) (h : Bool) (rest : List ℕ) → over (past_unit u h) (λ s. lone_from s rest) ≡ over_chars (after_one (Unit4 u) h) (λ g. lone_from (standing Between 0 g) rest)
-unit_over u true rest = elim (cases_Bool (is_low u)) [ inl e ↦ rw e refl | inr e ↦ rw e refl ]
-unit_over u false rest = elim (cases_Bool (is_low u)) [ inl e ↦ rw e refl | inr e ↦ rw e refl ]
+unit_over u h rest = grind arith
 
 one_char : (c : Spelt) (one rest : List ℕ) (h : Bool) → IsChar one c → lone_from (standing Between 0 h) (one ++ rest) ≡ over_chars (after_one c h) (λ g. lone_from (standing Between 0 g) rest)
-one_char (Plain c) one rest true (s, l, q, b, e) =
-    ap (λ x. lone_from (standing Between 0 true) (x ++ rest)) e ∙ plain_high (encode c) rest (plain_bytes c l q b) (encode_some c)
-one_char (Plain c) one rest false (s, l, q, b, e) =
-    ap (λ x. lone_from (standing Between 0 false) (x ++ rest)) e ∙ plain_more (encode c) rest (plain_bytes c l q b)
-one_char (Short l) one rest true (s, e) =
-    let k = no_slash_short l s in ap (λ x. lone_from (standing Between 0 true) (x ++ rest)) e ∙ (rw k refl)
-one_char (Short l) one rest false (s, e) =
-    let k = no_slash_short l s in ap (λ x. lone_from (standing Between 0 false) (x ++ rest)) e ∙ (rw k refl)
+one_char (Plain c) one rest true (s, l, q, b, e) = grind (arith, plain_high, plain_bytes, encode_some)
+one_char (Plain c) one rest false (s, l, q, b, e) = grind (arith, plain_more, plain_bytes)
+one_char (Short l) one rest true (s, e) = let k = no_slash_short l s in ap (λ x. lone_from (standing Between 0 true) (x ++ rest)) e ∙ (rw k refl)
+one_char (Short l) one rest false (s, e) = let k = no_slash_short l s in ap (λ x. lone_from (standing Between 0 false) (x ++ rest)) e ∙ (rw k refl)
 one_char (Unit4 u) one rest h (a, b, c, d, k, l, m, n, ha, hb, hc, hd, eu, e) =
     ap (λ x. lone_from (standing Between 0 h) (x ++ rest)) e ∙ hex_run a b c d k l m n u h rest ha hb hc hd eu ∙ unit_over u h rest
 
 -- the closing quote
 at_quote : (h : Bool) → lone_from (standing Between 0 h) (34 ∷ []) ≡ h
-at_quote true = refl
-at_quote false = refl
+at_quote h = grind arith
 
 chars_over : (cs : List Spelt) (inside : List ℕ) (h : Bool) → AreChars inside cs → lone_from (standing Between 0 h) (inside ++ 34 ∷ []) ≡ lone_chars h cs
 chars_over [] inside h a = ap (λ x. lone_from (standing Between 0 h) (x ++ 34 ∷ [])) a ∙ at_quote h
@@ -86,8 +68,7 @@ chars_over (c ∷ cs) inside h (one, others, i, is, e) =
   where
     rest : (o : Option Bool) → ((g : Bool) → lone_from (standing Between 0 g) (others ++ 34 ∷ []) ≡ lone_chars g cs)
         → over_chars o (λ g. lone_from (standing Between 0 g) (others ++ 34 ∷ [])) ≡ over_chars o (λ g. lone_chars g cs)
-    rest None f = refl
-    rest (Some g) f = f g
+    rest o f = grind arith
 
 string_over : (bs : List ℕ) (cs : List Spelt) → IsString bs cs → lone bs ≡ lone_chars false cs
 string_over bs cs (inside, a, e) = ap lone e ∙ chars_over cs inside false a

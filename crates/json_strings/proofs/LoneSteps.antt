@@ -6,6 +6,5 @@ use Rattle.json_strings.proofs.Steps.{lone_plain}
 
 pub lone_plains : (bytes : List ℕ) (k r : ℕ) → k + r ≤ length bytes → AreSlashless bytes k (k + r) → lone (drop (k + r) bytes) ≡ lone (drop k bytes)
 lone_plains bytes k zero l h = let z : k + 0 ≡ k = omega arith in ap (λ n. lone (drop n bytes)) z
-lone_plains bytes k (suc r) l h =
-    let z : k + suc r ≡ k + r + 1 = omega arith in
+lone_plains bytes k (suc r) l h = let z : k + suc r ≡ k + r + 1 = omega arith in
     ap (λ n. lone (drop n bytes)) z ∙ lone_plain bytes (k + r) (omega arith) (h (k + r) (omega arith) (omega arith)) ∙ lone_plains bytes k r (omega arith) (λ j from to. h j from (omega arith))

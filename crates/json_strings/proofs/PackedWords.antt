@@ -1,48 +1,24 @@
 -- Four bytes as one word.
-use Rattle.std.proofs.Common.{Bool, ◌⊎◌, inl, inr, ◌≡◌, ◌≢◌, ℕ, zero, suc, ◌+◌, ◌-◌, ◌*◌, ◌%◌, ◌^◌, ◌<◌, ◌≤◌, eqb, leb, ltb, cond, bit_or, true, false, List, [], ◌∷◌, length, drop, map, replicate, get_or, Fits, w8, refl, sym, ap, ◌∙◌, subst, arith}
-use Rattle.std.proofs.lemmas.Simd.{length-chunk, get_or-chunk}
-use lib.Lanes.{chunk, zip2, mask_l, top}
+use Rattle.json_text.proofs.Names.{◌⊎◌, inl, inr, ◌≡◌, ◌≢◌, ℕ, zero, suc, ◌+◌, ◌-◌, ◌*◌, ◌%◌, ◌^◌, ◌<◌, ◌≤◌, eqb, leb, ltb, cond, bit_or, false, List}
+use Rattle.json_text.proofs.Names.{[], ◌∷◌, length, drop, map, replicate, get_or, refl, sym, ◌∙◌, subst, arith, common_steps, nat_tests, length-chunk}
+use Rattle.json_text.proofs.Names.{get_or-chunk, chunk, zip2, mask_l, top, bytes_eq, chars, cases_lt}
+use Rattle.std.proofs.Common.{Fits, w8}
 use Rattle.structural_index.proofs.Lanes.{loaded, none as nothing_set}
 use Rattle.structural_index.proofs.Letters.{digits}
 use Rattle.json_strings.proofs.StopBits.{stands_alone}
-use Rattle.std.specs.Prelude.{bytes_eq}
-use Rattle.std.specs.Str.{chars}
-use Rattle.std.proofs.lemmas.Bool.{cases_eq, cases_lt}
+use Rattle.std.proofs.lemmas.Bool.{cases_eq}
 use Rattle.json_strings.specs.Spelling.{scalars_in, SpellPlainly, ArePlainAt, IsWord}
 use Rattle.json_strings.proofs.PlainBytes.{plain_run, plain_other}
 
 -- the same word of characters that stand for themselves
 pub same_word : (bytes name : List ℕ) (at word : ℕ) → ((k : ℕ) → Fits w8 (get_or bytes k 0)) → IsWord word name at → ArePlainAt name at → IsWord word bytes at → SpellPlainly bytes name at (at + 4)
-same_word bytes name at word fits w plain v k from to = go (k - at) (omega arith) (omega arith)
-  where
-    small : (k : ℕ) → at ≤ k → k < at + 4 → get_or name k 0 < 256
-    small k from to = let p = (plain k from to).0 in omega arith
-
-    d : (get_or name at 0 ≡ get_or bytes at 0) × (get_or name (at + 1) 0 ≡ get_or bytes (at + 1) 0) × (get_or name (at + 2) 0 ≡ get_or bytes (at + 2) 0) × (get_or name (at + 3) 0 ≡ get_or bytes (at + 3) 0)
-    d = digits word _ _ _ _ _ _ _ _ (small at (omega arith) (omega arith)) (small (at + 1) (omega arith) (omega arith)) (small (at + 2) (omega arith) (omega arith)) (small (at + 3) (omega arith) (omega arith))
-        (fits at).fits (fits (at + 1)).fits (fits (at + 2)).fits (fits (at + 3)).fits w v
-
-    one : (k j : ℕ) → at ≤ j → j < at + 4 → j ≡ k → get_or name j 0 ≡ get_or bytes j 0 → (get_or bytes k 0 < 128) × (get_or bytes k 0 ≢ 92) × (get_or name k 0 ≡ get_or bytes k 0)
-    one k j from to at_k e =
-        let p = plain j from to in
-        subst (λ i. (get_or bytes i 0 < 128) × (get_or bytes i 0 ≢ 92) × (get_or name i 0 ≡ get_or bytes i 0)) at_k
-        (subst (λ x. x < 128) e p.0, subst (λ x. x ≢ 92) e p.1, e)
-
-    go : (i : ℕ) → at + i ≡ k → i < 4 → (get_or bytes k 0 < 128) × (get_or bytes k 0 ≢ 92) × (get_or name k 0 ≡ get_or bytes k 0)
-    go zero e h = one k at (omega arith) (omega arith) (omega arith) d.0
-    go (suc zero) e h = one k (at + 1) (omega arith) (omega arith) (omega arith) d.1
-    go (suc (suc zero)) e h = one k (at + 2) (omega arith) (omega arith) (omega arith) d.2
-    go (suc (suc (suc zero))) e h = one k (at + 3) (omega arith) (omega arith) (omega arith) d.3
-    go (suc (suc (suc (suc i)))) e h = absurd (omega arith)
+same_word bytes name at word fits w plain v k from to = grind (arith, digits)
 
 pub none_before : (bytes name : List ℕ) → SpellPlainly bytes name 0 0
 none_before bytes name k from to = absurd (omega arith)
 
 pub both_spell : (bytes name : List ℕ) (at middle to : ℕ) → at ≤ middle → SpellPlainly bytes name 0 middle → SpellPlainly bytes name at to → SpellPlainly bytes name 0 to
-both_spell bytes name at middle to h f g k from until = elim (cases_lt k middle) [
-  | inl before ↦ f k from before
-  | inr past ↦ g k (omega arith) until
-]
+both_spell bytes name at middle to h f g k from until = elim (cases_lt k middle) [ inl before ↦ f k from before | inr past ↦ g k (omega arith) until ]
 
 -- characters that stand for themselves decide: they are those, or others
 decided : (name inside : List ℕ) (at n : ℕ) → at + n ≤ length name → length name ≤ length inside → SpellPlainly inside name 0 at
@@ -51,12 +27,7 @@ decided : (name inside : List ℕ) (at n : ℕ) → at + n ≤ length name → l
 decided name inside at zero h l f plain = let e : at ≡ at + 0 = omega arith in inl (subst (λ j. SpellPlainly inside name 0 j) e f)
 decided name inside at (suc n) h l f plain = elim (decided name inside at n (omega arith) l f (λ k from to. plain k from (omega arith))) [
   | inl same ↦ elim (cases_eq (get_or name (at + n) 0) (get_or inside (at + n) 0)) [
-    | inl e ↦ inl (λ k from to. elim (cases_lt k (at + n)) [
-      | inl before ↦ same k from before
-      | inr past ↦ (let p = plain (at + n) (omega arith) (omega arith) in
-          let j : at + n ≡ k = omega arith in
-          subst (λ i. (get_or inside i 0 < 128) × (get_or inside i 0 ≢ 92) × (get_or name i 0 ≡ get_or inside i 0)) j (p.0, p.1, e))
-    ])
+    | inl e ↦ inl (λ k from to. elim (cases_lt k (at + n)) [ inl before ↦ same k from before | inr past ↦ grind arith ])
     | inr other ↦ (let p = plain (at + n) (omega arith) (omega arith) in
         inr (sym (plain_run name inside (at + n) (omega arith) l same) ∙ plain_other name inside (at + n) (omega arith) (omega arith) p.0 p.1 other))
   ]
@@ -66,16 +37,7 @@ decided name inside at (suc n) h l f plain = elim (decided name inside at n (ome
 -- another word, of characters that stand for themselves
 pub other_word : (name inside : List ℕ) (at word : ℕ) → at + 4 ≤ length name → length name ≤ length inside → SpellPlainly inside name 0 at → IsWord word name at
     → (IsWord word inside at → ⊥) × ArePlainAt inside at → bytes_eq name (scalars_in (chars inside)) ≡ false
-other_word name inside at word h l f w o = elim (decided name inside at 4 h l f o.1) [
-  | inl same ↦ (let e = λ (k : ℕ) (from : at ≤ k) (to : k < at + 4). (same k (omega arith) to).2 in
-      let a = e at (omega arith) (omega arith) in
-      let b = e (at + 1) (omega arith) (omega arith) in
-      let c = e (at + 2) (omega arith) (omega arith) in
-      let d = e (at + 3) (omega arith) (omega arith) in
-      let v : IsWord word inside at = omega arith in
-      absurd (o.0 v))
-  | inr apart ↦ apart
-]
+other_word name inside at word h l f w o = grind (arith, decided name inside)
 
 -- where the first and the last four are those of the name, it is spelt
 pub both_words : (name inside : List ℕ) (first last : ℕ) → ((k : ℕ) → Fits w8 (get_or inside k 0)) → 4 ≤ length name → length name ≤ 8 → length name ≤ length inside
@@ -83,8 +45,7 @@ pub both_words : (name inside : List ℕ) (first last : ℕ) → ((k : ℕ) → 
     → IsWord last name (length name - 4) → ArePlainAt name (length name - 4) → IsWord last inside (length name - 4)
     → bytes_eq (drop (length name) name) (scalars_in (chars (drop (length name) inside))) ≡ bytes_eq name (scalars_in (chars inside))
 both_words name inside first last fits some few l f p v g q w =
-    let e : length name - 4 + 4 ≡ length name = omega arith in
-    let a = same_word inside name 0 first fits f p v in
+    let e : length name - 4 + 4 ≡ length name = omega arith in let a = same_word inside name 0 first fits f p v in
     let b = subst (λ j. SpellPlainly inside name (length name - 4) j) e (same_word inside name (length name - 4) last fits g q w) in
     plain_run name inside (length name) (omega arith) l (both_spell inside name (length name - 4) 4 (length name) (omega arith) a b)
 
@@ -99,10 +60,7 @@ plain_lanes v n long few none i h = stands_alone n i v (get_or v i 0) few h (rec
 pub plain_chunk : (bytes : List ℕ) (at : ℕ) → at + 4 ≤ length bytes
     → mask_l (map (top 7) (zip2 bit_or (zip2 (λ x y. cond (eqb x y) 255 0) (chunk at 4 bytes) (replicate 4 92)) (zip2 (λ x y. cond (leb x y) 255 0) (replicate 4 128) (chunk at 4 bytes)))) % 2 ^ 64 ≡ 0
     → ArePlainAt bytes at
-plain_chunk bytes at room none k from to =
-    let i = k - at in
-    let inside : i < 4 = omega arith in
-    let back : at + i ≡ k = omega arith in
+plain_chunk bytes at room none k from to = let i = k - at in let inside : i < 4 = omega arith in let back : at + i ≡ k = omega arith in
     subst (λ j. (get_or bytes j 0 < 128) × (get_or bytes j 0 ≢ 92)) back
     (stands_alone 4 i (chunk at 4 bytes) (get_or bytes (at + i) 0) (omega arith) inside (loaded bytes at 4 i room inside) (nothing_set _ i none))
 
@@ -114,14 +72,7 @@ four (a ∷ b ∷ c ∷ d ∷ []) l = refl
 four _ l = absurd (omega arith)
 
 pub chunk_is : (xs : List ℕ) (at : ℕ) → at + 4 ≤ length xs → chunk at 4 xs ≡ get_or xs at 0 ∷ get_or xs (at + 1) 0 ∷ get_or xs (at + 2) 0 ∷ get_or xs (at + 3) 0 ∷ []
-chunk_is xs at room =
-    let v = chunk at 4 xs in
-    let here : at + 0 ≡ at = omega arith in
-    let a = get_or-chunk at 4 xs 0 0 (omega arith) ∙ ap (λ k. get_or xs k 0) here in
-    let b = get_or-chunk at 4 xs 1 0 (omega arith) in
-    let c = get_or-chunk at 4 xs 2 0 (omega arith) in
-    let d = get_or-chunk at 4 xs 3 0 (omega arith) in
-    four v (length-chunk at 4 xs room) ∙ (λ i. a i ∷ b i ∷ c i ∷ d i ∷ [])
+chunk_is xs at room = grind (arith, nat_tests, common_steps, get_or-chunk, four, length-chunk)
 
 -- ---- Letters that are packed as bytes
 
@@ -129,35 +80,7 @@ chunk_is xs at room =
 abbrev pub lane : ℕ → ℕ
 lane x = cond (top 31 (cond (ltb x 255) 4294967295 0)) x 255
 
-lane_is : (x : ℕ) → lane x < 128 → lane x ≡ x
-lane_is x h = go (ltb x 255) h
-  where
-    go : (t : Bool) → cond (top 31 (cond t 4294967295 0)) x 255 < 128 → cond (top 31 (cond t 4294967295 0)) x 255 ≡ x
-    go true h = refl
-    go false h = absurd (omega arith)
-
 pub packed_at : (name : List ℕ) (at word a b c d : ℕ) → ((i : ℕ) → i < 4 → get_or (a ∷ b ∷ c ∷ d ∷ []) i 0 ≡ get_or name (at + i) 0)
     → (lane a < 128) × (lane a ≢ 92) → (lane b < 128) × (lane b ≢ 92) → (lane c < 128) × (lane c ≢ 92) → (lane d < 128) × (lane d ≢ 92)
     → word ≡ lane a + lane b * 256 + lane c * 65536 + lane d * 16777216 → IsWord word name at × ArePlainAt name at
-packed_at name at word a b c d letters p q r s e =
-    let here : at + 0 ≡ at = omega arith in
-    let ea = lane_is a p.0 ∙ letters 0 (omega arith) ∙ ap (λ k. get_or name k 0) here in
-    let eb = lane_is b q.0 ∙ letters 1 (omega arith) in
-    let ec = lane_is c r.0 ∙ letters 2 (omega arith) in
-    let ed = lane_is d s.0 ∙ letters 3 (omega arith) in (
-      e ∙ ap (λ x. x + lane b * 256 + lane c * 65536 + lane d * 16777216) ea ∙ ap (λ x. get_or name at 0 + x * 256 + lane c * 65536 + lane d * 16777216) eb
-          ∙ ap (λ x. get_or name at 0 + get_or name (at + 1) 0 * 256 + x * 65536 + lane d * 16777216) ec
-          ∙ ap (λ x. get_or name at 0 + get_or name (at + 1) 0 * 256 + get_or name (at + 2) 0 * 65536 + x * 16777216) ed,
-      λ k from to. go k (k - at) (omega arith) (omega arith) ea eb ec ed,
-    )
-  where
-    one : (k j x : ℕ) → j ≡ k → (lane x < 128) × (lane x ≢ 92) → lane x ≡ get_or name j 0 → (get_or name k 0 < 128) × (get_or name k 0 ≢ 92)
-    one k j x at_k t g = subst (λ i. (get_or name i 0 < 128) × (get_or name i 0 ≢ 92)) at_k (subst (λ y. y < 128) g t.0, subst (λ y. y ≢ 92) g t.1)
-
-    go : (k i : ℕ) → at + i ≡ k → i < 4 → lane a ≡ get_or name at 0 → lane b ≡ get_or name (at + 1) 0 → lane c ≡ get_or name (at + 2) 0 → lane d ≡ get_or name (at + 3) 0
-        → (get_or name k 0 < 128) × (get_or name k 0 ≢ 92)
-    go k zero f h ea eb ec ed = one k at a (omega arith) p ea
-    go k (suc zero) f h ea eb ec ed = one k (at + 1) b (omega arith) q eb
-    go k (suc (suc zero)) f h ea eb ec ed = one k (at + 2) c (omega arith) r ec
-    go k (suc (suc (suc zero))) f h ea eb ec ed = one k (at + 3) d (omega arith) s ed
-    go k (suc (suc (suc (suc i)))) f h ea eb ec ed = absurd (omega arith)
+packed_at name at word a b c d letters p q r s e = search arith

@@ -1,13 +1,11 @@
 -- The hash of bytes that stand for themselves, by words of eight.
-use Rattle.std.proofs.Common.{◌≡◌, ◌≢◌, ℕ, zero, suc, ◌+◌, ◌-◌, ◌*◌, ◌/◌, ◌%◌, ◌^◌, ◌<◌, ◌≤◌, ltb, eqb, true, false, List, [], ◌∷◌, ◌++◌, length, take, drop, get_or, append-nil, Fits, w8, w64, refl, sym, ap, ◌∙◌, subst, arith}
+use Rattle.json_text.proofs.Names.{◌≡◌, ◌≢◌, ℕ, zero, suc, ◌+◌, ◌-◌, ◌*◌, ◌/◌, ◌^◌, ◌<◌, ◌≤◌, eqb, false, List, [], ◌∷◌, ◌++◌, length, take, drop}
+use Rattle.json_text.proofs.Names.{get_or, append-nil, refl, sym, ap, ◌∙◌, subst, arith, chars, nat_tests, chars-nil, get_or-take, get_or-drop}
+use Rattle.json_text.proofs.Names.{length-take-le, length-drop, length-chunk, get_or-chunk, chunk}
+use Rattle.std.proofs.Common.{Fits, w8, w64}
 use Rattle.std.specs.Int.{from_be_bytes}
-use Rattle.std.specs.Str.{chars}
-use Rattle.std.proofs.lemmas.Bool.Decides.{nat_tests}
-use Rattle.std.proofs.lemmas.Str.{chars-nil}
-use Rattle.std.proofs.lemmas.List.{get_or-take, get_or-drop, length-take-le, length-drop, drop-drop, take-take}
+use Rattle.std.proofs.lemmas.List.{drop-drop, take-take}
 use Rattle.std.proofs.Math.Seq.{take-add}
-use Rattle.std.proofs.lemmas.Simd.{length-chunk, get_or-chunk}
-use lib.Lanes.{chunk}
 use Rattle.json_strings.specs.Spelling.{scalars_in}
 use Rattle.json_strings.specs.Hashes.{joined, lengthened, more, hash_from, after_words, hash_of, digits, IsPlainWord}
 use Rattle.json_strings.specs.declared.hashes.Hashing.{Hashing}
@@ -22,21 +20,15 @@ state h w n = record { hash = h; word = w; count = n }
 
 more_small : (h w n c : ℕ) → n < 8 → w < 0x100000000000000 → c < 256 → more (state h w n) c ≡ state h (w * 256 + c) (n + 1)
 unfolding lengthened
-more_small h w n c few l k =
-    let t : ltb n 8 ≡ true = grind (arith, nat_tests) in
-    let e : ((w * 256) % (2 ^ 64) + c) % (2 ^ 64) ≡ w * 256 + c = omega arith in
-    rw t (ap (λ x. state h x (n + 1)) e)
+more_small h w n c few l k = grind arith
 
 -- bytes that have room in the word
 bytes_added : (bs r : List ℕ) (h w n : ℕ) → ((k : ℕ) → k < length bs → get_or bs k 0 < 256) → digits w bs < 0x10000000000000000 → n + length bs ≤ 8
     → hash_from (state h w n) (bs ++ r) ≡ hash_from (state h (digits w bs) (n + length bs)) r
 bytes_added [] r h w n small fits few = let e : n ≡ n + 0 = omega arith in ap (λ m. hash_from (state h w m) r) e
-bytes_added (b ∷ bs) r h w n small fits few =
-    let b_small : b < 256 = small 0 (omega arith) in
+bytes_added (b ∷ bs) r h w n small fits few = let b_small : b < 256 = small 0 (omega arith) in
     let e = more_small h w n b (omega arith) (omega (arith, digits_grow bs (w * 256 + b), fits)) b_small in
-    let f : n + 1 + length bs ≡ n + suc (length bs) = omega arith in
-    ap (λ s. hash_from s (bs ++ r)) e ∙ bytes_added bs r h (w * 256 + b) (n + 1) (λ k l. small (suc k) (omega arith)) fits (omega arith)
-    ∙ ap (λ m. hash_from (state h (digits (w * 256 + b) bs) m) r) f
+    grind (arith, bytes_added bs r h (w * 256 + b) (n + 1) (λ k l. small (suc k) (omega arith)) fits (omega arith))
 
 -- a whole word
 word_full : (h w : ℕ) (r : List ℕ) → hash_from (state h w 8) r ≡ hash_from (after_words (joined h w)) r
@@ -64,8 +56,7 @@ word_at a b c d e f g h ha hb hc hd he hf hg hh (suc (suc (suc (suc zero)))) som
 word_at a b c d e f g h ha hb hc hd he hf hg hh (suc (suc (suc (suc (suc zero))))) some few = (omega arith, omega arith)
 word_at a b c d e f g h ha hb hc hd he hf hg hh (suc (suc (suc (suc (suc (suc zero)))))) some few = (omega arith, omega arith)
 word_at a b c d e f g h ha hb hc hd he hf hg hh (suc (suc (suc (suc (suc (suc (suc zero))))))) some few = (omega arith, omega arith)
-word_at a b c d e f g h ha hb hc hd he hf hg hh (suc (suc (suc (suc (suc (suc (suc (suc zero)))))))) some few = (omega arith, omega arith)
-word_at a b c d e f g h ha hb hc hd he hf hg hh _ some few = absurd (omega arith)
+word_at a b c d e f g h ha hb hc hd he hf hg hh len some few = grind arith
 
 eight : (bs : List ℕ) → length bs ≡ 8 → bs ≡ get_or bs 0 0 ∷ get_or bs 1 0 ∷ get_or bs 2 0 ∷ get_or bs 3 0 ∷ get_or bs 4 0 ∷ get_or bs 5 0 ∷ get_or bs 6 0 ∷ get_or bs 7 0 ∷ []
 eight (a ∷ b ∷ c ∷ d ∷ e ∷ f ∷ g ∷ h ∷ []) l = refl
@@ -96,9 +87,7 @@ module _ (text : List ℕ) (at len word : ℕ) (room : at + len ≤ length text)
 pub word_passed : (text : List ℕ) (at n h word : ℕ) → 8 ≤ n → at + n ≤ length text → IsPlainWord text at 8 word
     → hash_from (after_words h) (scalars_in (chars (take n (drop at text)))) ≡ hash_from (after_words (joined h word)) (scalars_in (chars (take (n - 8) (drop (at + 8) text))))
 word_passed text at n h word many room w =
-    let bs = take 8 (drop at text) in
-    let r = take (n - 8) (drop (at + 8) text) in
-    let f : n ≡ 8 + (n - 8) = omega arith in
+    let bs = take 8 (drop at text) in let r = take (n - 8) (drop (at + 8) text) in let f : n ≡ 8 + (n - 8) = omega arith in
     let parted : take n (drop at text) ≡ bs ++ r = ap (λ m. take m (drop at text)) f ∙ take-add 8 (n - 8) (drop at text) ∙ ap (λ l. bs ++ take (n - 8) l) (drop-drop 8 at text) in
     let long : 0 + length bs ≡ 8 = omega (arith, size text at 8 word (omega arith) w) in
     ap (λ l. hash_from (after_words h) (scalars_in (chars l))) parted
@@ -112,9 +101,7 @@ word_passed text at n h word many room w =
 pub word_ends : (text : List ℕ) (at len h word : ℕ) → 1 ≤ len → len ≤ 8 → at + len ≤ length text → IsPlainWord text at len word
     → joined h word ≡ hash_from (after_words h) (scalars_in (chars (take len (drop at text))))
 word_ends text at len h word some few room w =
-    let bs = take len (drop at text) in
-    let long = size text at len word room w in
-    let same = plain_front bs [] (stand text at len word room w) in
+    let bs = take len (drop at text) in let long = size text at len word room w in let same = plain_front bs [] (stand text at len word room w) in
     let all : scalars_in (chars bs) ≡ bs = ap (λ l. scalars_in (chars l)) (sym (append-nil bs)) ∙ same ∙ ap (λ l. bs ++ scalars_in l) chars-nil ∙ append-nil bs in
     ap (joined h) w.value ∙ sym (word_last h bs (small text at len word room w) w.fits (omega (arith, long)) (omega (arith, long))) ∙ ap (hash_from (after_words h)) (sym all)
 
@@ -129,9 +116,7 @@ word_hashed text at len word some few room w = joined_first word (subst (λ x. x
 -- a word of bytes, whatever they are
 word_value : (text : List ℕ) (at len word : ℕ) → at + 8 ≤ length text → 1 ≤ len → len ≤ 8 → ((k : ℕ) → Fits w8 (get_or text k 0))
     → word ≡ from_be_bytes w64 (chunk at 8 text) → (word / 2 ^ (64 - 8 * len) ≡ digits 0 (take len (drop at text))) × (digits 0 (take len (drop at text)) < 2 ^ 64)
-word_value text at len word room some few fits w =
-    let v = chunk at 8 text in
-    let long = length-chunk at 8 text room in
+word_value text at len word room some few fits w = let v = chunk at 8 text in let long = length-chunk at 8 text room in
     let byte = λ (i : ℕ) (h : i < 8). subst (λ x. x < 256) (sym (get_or-chunk at 8 text i 0 h)) (fits (at + i)).fits in
     let number = subst (λ l. (from_be_bytes w64 l / 2 ^ (64 - 8 * len) ≡ digits 0 (take len l)) × (digits 0 (take len l) < 0x10000000000000000)) (sym (eight v long))
     (word_at (get_or v 0 0) (get_or v 1 0) (get_or v 2 0) (get_or v 3 0) (get_or v 4 0) (get_or v 5 0) (get_or v 6 0) (get_or v 7 0) (byte 0 (omega arith)) (byte 1 (omega arith)) (byte 2 (omega arith)) (byte 3 (omega arith)) (byte 4 (omega arith)) (byte 5 (omega arith)) (byte 6 (omega arith)) (byte 7 (omega arith)) len some few) in
@@ -141,6 +126,4 @@ word_value text at len word room some few fits w =
 pub word_is : (text : List ℕ) (at len word : ℕ) → at + 8 ≤ length text → 1 ≤ len → len ≤ 8 → ((k : ℕ) → Fits w8 (get_or text k 0))
     → word ≡ from_be_bytes w64 (chunk at 8 text) → ((k : ℕ) → at ≤ k → k < at + len → (get_or text k 0 < 128) × (get_or text k 0 ≢ 92))
     → IsPlainWord text at len (word / 2 ^ (64 - 8 * len))
-word_is text at len word room some few fits w plain =
-    let v = word_value text at len word room some few fits w in
-    record { value = v.0; fits = v.1; plain = plain }
+word_is text at len word room some few fits w plain = let v = word_value text at len word room some few fits w in grind arith

@@ -1,14 +1,11 @@
 -- The small functions, one byte further.
-use Rattle.std.proofs.Common.{◌≡◌, ℕ, zero, suc, ◌+◌, ◌<◌, ◌≤◌, List, [], length, take, drop, get_or, refl, sym, ◌∙◌, arith, None, ap}
-use Rattle.std.proofs.lemmas.List.{drop_more, drop_all, take_all}
+use Rattle.json_text.proofs.Names.{◌≡◌, ℕ, ◌+◌, ◌<◌, ◌≤◌, List, [], length, take, drop, get_or, refl, sym, ◌∙◌, arith, None, ap, drop_more, drop_all}
+use Rattle.json_text.proofs.Names.{take_all, eqb, false, nat_tests, turn, next_of, string_end}
 use Rattle.json_strings.specs.declared.scan.Surrogates.{Surrogates}
 use Rattle.json_strings.specs.Surrogates.{past_byte, over, lone_from, lone}
 use Rattle.json_text.specs.declared.modes.Mode.{Mode}
 use Rattle.json_text.specs.declared.modes.Mode.TheVariants.{Between}
 use Rattle.json_text.specs.declared.modes.Turn.TheVariants.{Go}
-use Rattle.std.specs.Prelude.{eqb, false}
-use Rattle.std.proofs.lemmas.Bool.Decides.{nat_tests}
-use Rattle.json_text.specs.Scanning.{turn, next_of, string_end}
 
 pub quote_step : (text : List ℕ) (m : Mode) (k : ℕ) → k < length text
     → string_end m k (drop k text) ≡ next_of (turn m (get_or text k 0)) (k + 1) (λ n. string_end n (k + 1) (drop (k + 1) text))
@@ -18,11 +15,7 @@ pub quote_over : (text : List ℕ) (m : Mode) (k : ℕ) → length text ≤ k �
 quote_over text m k h = ap (string_end m k) (drop_all k text h)
 
 pub part_past : (text : List ℕ) (n k : ℕ) → length text ≤ k → take n (drop k text) ≡ []
-part_past text n k h = ap (take n) (drop_all k text h) ∙ take_none n
-  where
-    take_none : (n : ℕ) → take {A = ℕ} n [] ≡ []
-    take_none zero = refl
-    take_none (suc n) = refl
+part_past text n k h = grind (arith, drop_all)
 
 pub part_all : (text : List ℕ) (n k : ℕ) → length (drop k text) ≤ n → take n (drop k text) ≡ drop k text
 part_all text n k h = take_all n (drop k text) h
@@ -36,12 +29,8 @@ lone_over bytes s k h = ap (lone_from s) (drop_all k bytes h)
 -- a byte that stands for itself
 pub plain_step : (text : List ℕ) (k start : ℕ) → k < length text → turn Between (get_or text k 0) ≡ Go Between
     → string_end Between k (drop k text) ≡ string_end Between start (drop start text) → string_end Between (k + 1) (drop (k + 1) text) ≡ string_end Between start (drop start text)
-plain_step text k start h t e =
-    let s : string_end Between k (drop k text) ≡ string_end Between (k + 1) (drop (k + 1) text) = ap (string_end Between k) (drop_more text k 0 h) ∙ ap (λ x. next_of x (k + 1) (λ n. string_end n (k + 1) (drop (k + 1) text))) t in
-    sym s ∙ e
+plain_step text k start h t e = grind (arith, drop_more)
 
 -- and one that is no backslash spells no surrogate
 pub lone_plain : (bytes : List ℕ) (k : ℕ) → k < length bytes → (get_or bytes k 0 ≡ 92 → ⊥) → lone (drop (k + 1) bytes) ≡ lone (drop k bytes)
-lone_plain bytes k h n =
-    let t : eqb (get_or bytes k 0) 92 ≡ false = grind (arith, nat_tests) in
-    sym (ap lone (drop_more bytes k 0 h) ∙ rw t refl)
+lone_plain bytes k h n = let t : eqb (get_or bytes k 0) 92 ≡ false = grind (arith, nat_tests) in sym (ap lone (drop_more bytes k 0 h) ∙ rw t refl)

@@ -1,13 +1,11 @@
 -- Bytes of UTF-8 are in the order of the scalar values that they spell.
-use Rattle.std.proofs.Common.{◌≡◌, ℕ, ◌+◌, ◌/◌, ◌%◌, ◌<◌, ◌≤◌, ◌⊎◌, inl, inr, true, false, List, [], ◌∷◌, ◌++◌, refl, sym, ap, ◌∙◌, arith}
-use Rattle.std.specs.Prelude.{ltb}
-use Rattle.std.specs.Ordering.{nat_cmp, ordering_reverse}
+use Rattle.json_text.proofs.Names.{◌≡◌, ℕ, ◌+◌, ◌/◌, ◌%◌, ◌<◌, ◌≤◌, ◌⊎◌, inl, inr, true, false, List, [], ◌∷◌, ◌++◌, refl, sym, ap, ◌∙◌, arith, ltb}
+use Rattle.json_text.proofs.Names.{nat_cmp, slice_cmp, cases_lt, nat_tests, encodes}
+use Rattle.std.specs.Ordering.{ordering_reverse}
 use Rattle.std.specs.Cmp.{IsTotalOrder, nat_cmp_total}
-use Rattle.std.specs.Cmp.Lexicographic.{slice_cmp, lists_total}
+use Rattle.std.specs.Cmp.Lexicographic.{lists_total}
 use Rattle.std.specs.declared.cmp.Ordering.TheVariants.{Less, Equal, Greater}
-use Rattle.std.proofs.lemmas.Bool.{cases_lt}
-use Rattle.std.proofs.lemmas.Bool.Decides.{nat_tests}
-use lib.Utf8.{encode, encodes, next}
+use lib.Utf8.{encode, next}
 
 first_less : (a b : ℕ) (bs cs : List ℕ) → a < b → slice_cmp nat_cmp (a ∷ bs) (b ∷ cs) ≡ Less
 first_less a b bs cs h = let e : nat_cmp a b ≡ Less = grind (arith, nat_tests) in rw e refl
@@ -26,19 +24,10 @@ eighth : (c : ℕ) → c / 262144 ≡ c / 4096 / 64
 eighth c = omega arith
 
 two_less : (a c d : ℕ) (r s : List ℕ) → c < d → slice_cmp nat_cmp ((a + c / 64) ∷ next c ∷ r) ((a + d / 64) ∷ next d ∷ s) ≡ Less
-two_less a c d r s h = elim (digits_less c d h) [
-  | inl l ↦ first_less (a + c / 64) (a + d / 64) (next c ∷ r) (next d ∷ s) (omega arith)
-  | inr l ↦ (let e = l.0 in let m = l.1 in first_same (a + c / 64) (a + d / 64) (next c ∷ r) (next d ∷ s) (omega arith) ∙ first_less (next c) (next d) r s (omega arith))
-]
+two_less a c d r s h = grind arith
 
 three_less : (a c d : ℕ) (r s : List ℕ) → c < d → slice_cmp nat_cmp ((a + c / 4096) ∷ next (c / 64) ∷ next c ∷ r) ((a + d / 4096) ∷ next (d / 64) ∷ next d ∷ s) ≡ Less
-three_less a c d r s h = elim (digits_less c d h) [
-  | inl l ↦ rw (fourth c, fourth d) (two_less a (c / 64) (d / 64) (next c ∷ r) (next d ∷ s) l)
-  | inr l ↦ (let e = l.0 in let m = l.1 in let f = fourth c in let g = fourth d in
-      first_same (a + c / 4096) (a + d / 4096) (next (c / 64) ∷ next c ∷ r) (next (d / 64) ∷ next d ∷ s) (omega arith)
-      ∙ first_same (next (c / 64)) (next (d / 64)) (next c ∷ r) (next d ∷ s) (ap next e)
-      ∙ first_less (next c) (next d) r s (omega arith))
-]
+three_less a c d r s h = search (arith, digits_less, fourth, two_less, first_same, first_less)
 
 four_less : (a c d : ℕ) (r s : List ℕ) → c < d → slice_cmp nat_cmp ((a + c / 262144) ∷ next (c / 4096) ∷ next (c / 64) ∷ next c ∷ r) ((a + d / 262144) ∷ next (d / 4096) ∷ next (d / 64) ∷ next d ∷ s) ≡ Less
 four_less a c d r s h = elim (digits_less c d h) [
@@ -48,10 +37,9 @@ four_less a c d r s h = elim (digits_less c d h) [
       ∙ first_same (next (c / 4096)) (next (d / 4096)) (next (c / 64) ∷ next c ∷ r) (next (d / 64) ∷ next d ∷ s) (ap next (omega arith))
       ∙ first_same (next (c / 64)) (next (d / 64)) (next c ∷ r) (next d ∷ s) (ap next e)
       ∙ first_less (next c) (next d) r s (omega arith))
-]
-  where
-    three_less' : c / 64 < d / 64 → slice_cmp nat_cmp ((a + c / 64 / 64 / 64) ∷ next (c / 64 / 64) ∷ next (c / 64) ∷ next c ∷ r) ((a + d / 64 / 64 / 64) ∷ next (d / 64 / 64) ∷ next (d / 64) ∷ next d ∷ s) ≡ Less
-    three_less' l = let t = three_less a (c / 64) (d / 64) (next c ∷ r) (next d ∷ s) l in rw (fourth (c / 64), fourth (d / 64)) at t
+] where
+  three_less' : c / 64 < d / 64 → slice_cmp nat_cmp ((a + c / 64 / 64 / 64) ∷ next (c / 64 / 64) ∷ next (c / 64) ∷ next c ∷ r) ((a + d / 64 / 64 / 64) ∷ next (d / 64 / 64) ∷ next (d / 64) ∷ next d ∷ s) ≡ Less
+  three_less' l = let t = three_less a (c / 64) (d / 64) (next c ∷ r) (next d ∷ s) l in rw (fourth (c / 64), fourth (d / 64)) at t
 
 one : (c : ℕ) → c < 128 → encode c ≡ c ∷ []
 unfolding encode
@@ -63,13 +51,11 @@ two c h g = let t : ltb c 128 ≡ false = grind (arith, nat_tests) in let u : lt
 
 three : (c : ℕ) → 2048 ≤ c → c < 65536 → encode c ≡ (224 + c / 4096) ∷ next (c / 64) ∷ next c ∷ []
 unfolding encode
-three c h g =
-    let t : ltb c 128 ≡ false = grind (arith, nat_tests) in let u : ltb c 2048 ≡ false = grind (arith, nat_tests) in let v : ltb c 65536 ≡ true = grind (arith, nat_tests) in rw (t, u, v) refl
+three c h g = grind arith
 
 four : (c : ℕ) → 65536 ≤ c → encode c ≡ (240 + c / 262144) ∷ next (c / 4096) ∷ next (c / 64) ∷ next c ∷ []
 unfolding encode
-four c h =
-    let t : ltb c 128 ≡ false = grind (arith, nat_tests) in let u : ltb c 2048 ≡ false = grind (arith, nat_tests) in let v : ltb c 65536 ≡ false = grind (arith, nat_tests) in rw (t, u, v) refl
+four c h = grind arith
 
 -- how many bytes a scalar value has, and the first of them
 data Long (c : ℕ) : Type 0 where
@@ -79,13 +65,7 @@ data Long (c : ℕ) : Type 0 where
   is_four : 65536 ≤ c → Long c
 
 long : (c : ℕ) → Long c
-long c = elim (cases_lt c 128) [
-  | inl a ↦ is_one a
-  | inr a ↦ elim (cases_lt c 2048) [
-    | inl b ↦ is_two a b
-    | inr b ↦ elim (cases_lt c 65536) [ inl d ↦ is_three b d | inr d ↦ is_four d ]
-  ]
-]
+long c = grind arith
 
 encode_less : (c d : ℕ) (r s : List ℕ) → Long c → Long d → c < d → slice_cmp nat_cmp (encode c ++ r) (encode d ++ s) ≡ Less
 encode_less c d r s (is_one a) (is_one b) h = rw (one c a, one d b) (first_less c d r s h)
@@ -130,8 +110,7 @@ encodes_order (c ∷ cs) (d ∷ ds) = elim (cases_lt c d) [
   | inl l ↦ encode_less c d (encodes cs) (encodes ds) (long c) (long d) l ∙ sym (first_less c d cs ds l)
   | inr l ↦ elim (cases_lt d c) [
     | inl m ↦ greater (encode c ++ encodes cs) (encode d ++ encodes ds) (encode_less d c (encodes ds) (encodes cs) (long d) (long c) m) ∙ sym (greater (c ∷ cs) (d ∷ ds) (first_less d c ds cs m))
-    | inr m ↦ (let e : c ≡ d = omega arith in
-        ap (λ x. slice_cmp nat_cmp (encode x ++ encodes cs) (encode d ++ encodes ds)) e
+    | inr m ↦ (let e : c ≡ d = omega arith in ap (λ x. slice_cmp nat_cmp (encode x ++ encodes cs) (encode d ++ encodes ds)) e
         ∙ same_front (encode d) (encodes cs) (encodes ds) ∙ encodes_order cs ds ∙ sym (first_same c d cs ds e))
   ]
 ]

@@ -1,7 +1,5 @@
-use Rattle.std.proofs.Common.{◌≡◌, ◌+◌, ◌≤◌, ◌∙◌, length, take, sym, ap, arith}
-use Rattle.std.specs.List.{count_by}
+use Rattle.json_text.proofs.Names.{◌≡◌, ◌+◌, ◌≤◌, ◌∙◌, length, take, sym, ap, arith, count_by, take_all}
 use Rattle.std.specs.Int.RustNames.{count_ones}
-use Rattle.std.proofs.lemmas.List.{take_all}
 use Rattle.json_strings.specs.Spelling.{begins}
 use Rattle.json_strings.proofs.Beginnings.{as_many, few_before, load_more}
 use Rattle.json_strings.proofs.characters.character_count.Goals as goal
@@ -21,6 +19,4 @@ pub loop-k-preserved : goal.loop-k-preserved
 loop-k-preserved c = (room c, many c)
 
 pub returns : goal.returns
-returns c =
-    c.loop-k-2.invariant.1 ∙ ap (count_by begins) (take_all c.loop-k-2.k c.as_bytes-bytes.result.now c.loop-k-2-test.false ∙ c.as_bytes-bytes.ensures.value)
-    ∙ as_many c.args.text.now c.utf8.text
+returns c = grind (arith, count_by, take_all, as_many)

@@ -1,5 +1,4 @@
-use Rattle.std.proofs.Common.{◌≡◌, ◌≤◌, ◌-◌, length, take}
-use Rattle.std.specs.List.{count_by}
+use Rattle.json_text.proofs.Names.{◌≡◌, ◌≤◌, ◌-◌, length, take, count_by}
 use Rattle.json_strings.specs.Spelling.{begins}
 use Rattle.json_strings.proofs.characters.character_count.Given as goal
 

@@ -1,5 +1,4 @@
-use Rattle.std.proofs.Common.{◌≡◌, ◌-◌, ◌<◌, ◌≤◌, drop, get_or, length}
-use Rattle.json_text.specs.Scanning.{hold_escapes}
+use Rattle.json_text.proofs.Names.{◌≡◌, ◌-◌, ◌<◌, ◌≤◌, drop, get_or, length, hold_escapes}
 use Rattle.json_text.specs.declared.modes.Mode.TheVariants.{Between}
 use Rattle.json_strings.proofs.escapes.escapes_hold.Given as goal
 

@@ -1,5 +1,4 @@
-use Rattle.std.proofs.Common.{◌≡◌, drop}
-use Rattle.std.specs.Str.{chars}
+use Rattle.json_text.proofs.Names.{◌≡◌, drop, chars}
 use Rattle.json_strings.specs.Spelling.{scalars_in}
 use Rattle.json_strings.specs.Hashes.{hash_from, hash_of}
 use Rattle.json_strings.proofs.hashes.long_hash.Given as goal

@@ -1,5 +1,4 @@
-use Rattle.std.proofs.Common.{◌≡◌, ◌-◌, ◌<◌, ◌≤◌, take, drop}
-use Rattle.std.specs.Str.{chars}
+use Rattle.json_text.proofs.Names.{◌≡◌, ◌-◌, ◌<◌, ◌≤◌, take, drop, chars}
 use Rattle.json_strings.specs.Spelling.{scalars_in}
 use Rattle.json_strings.specs.Hashes.{hash_from, after_words, hash_of}
 use Rattle.json_strings.proofs.hashes.words_hash.Given as goal

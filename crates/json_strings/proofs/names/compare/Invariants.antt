@@ -1,6 +1,4 @@
-use Rattle.std.proofs.Common.{◌≡◌}
-use Rattle.std.specs.Ordering.{nat_cmp}
-use Rattle.std.specs.Cmp.Lexicographic.{slice_cmp}
+use Rattle.json_text.proofs.Names.{◌≡◌, nat_cmp, slice_cmp}
 use Rattle.json_strings.proofs.names.compare.Given as goal
 
 abbrev pub invariant-loop-a : goal.invariant-loop-a

@@ -1,5 +1,4 @@
-use Rattle.std.proofs.Common.{[], ◌∷◌, refl, arith}
-use Rattle.std.proofs.lemmas.Bool.Decides.{nat_tests}
+use Rattle.json_text.proofs.Names.{[], ◌∷◌, refl, arith, nat_tests}
 use Rattle.json_strings.proofs.PlainLanes.{four_letters, four_spell}
 use Rattle.json_strings.proofs.plain.are_same.Goals as goal
 

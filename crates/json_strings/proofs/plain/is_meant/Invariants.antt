@@ -1,5 +1,4 @@
-use Rattle.std.proofs.Common.{◌≡◌, drop}
-use Rattle.std.specs.Prelude.{bytes_eq}
+use Rattle.json_text.proofs.Names.{◌≡◌, drop, bytes_eq}
 use Rattle.json_strings.proofs.plain.is_meant.Given as goal
 
 abbrev pub invariant-loop-c : goal.invariant-loop-c

@@ -1,6 +1,4 @@
-use Rattle.std.proofs.Common.{◌≡◌, drop}
-use Rattle.std.specs.Prelude.{bytes_eq}
-use Rattle.std.specs.Str.{chars}
+use Rattle.json_text.proofs.Names.{◌≡◌, drop, bytes_eq, chars}
 use Rattle.json_strings.specs.Spelling.{scalars_in}
 use Rattle.json_strings.proofs.plain.spells_plainly.Given as goal
 

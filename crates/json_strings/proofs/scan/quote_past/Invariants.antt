@@ -1,5 +1,4 @@
-use Rattle.std.proofs.Common.{◌≡◌, ◌+◌, ◌-◌, ◌<◌, ◌≤◌, length, drop, get_or}
-use Rattle.json_text.specs.Scanning.{string_end}
+use Rattle.json_text.proofs.Names.{◌≡◌, ◌+◌, ◌-◌, ◌<◌, ◌≤◌, length, drop, get_or, string_end}
 use Rattle.json_text.specs.declared.modes.Mode.TheVariants.{Between}
 use Rattle.json_strings.proofs.scan.quote_past.Given as goal
 

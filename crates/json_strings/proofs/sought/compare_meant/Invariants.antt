@@ -1,6 +1,4 @@
-use Rattle.std.proofs.Common.{◌≡◌, drop}
-use Rattle.std.specs.Ordering.{nat_cmp}
-use Rattle.std.specs.Cmp.Lexicographic.{slice_cmp}
+use Rattle.json_text.proofs.Names.{◌≡◌, drop, nat_cmp, slice_cmp}
 use Rattle.json_strings.proofs.sought.compare_meant.Given as goal
 
 abbrev pub invariant-loop-c : goal.invariant-loop-c

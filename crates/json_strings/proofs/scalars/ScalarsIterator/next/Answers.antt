@@ -1,9 +1,7 @@
-use Rattle.std.proofs.Common.{length, sym, ap, ◌∙◌, arith}
-use Rattle.std.specs.Str.{chars}
+use Rattle.json_text.proofs.Names.{sym, ap, ◌∙◌, arith, chars}
 use Rattle.std.specs.Str.Iter.{chars_rest}
 use Rattle.std.proofs.lemmas.Str.{IsUtf8-past_char, chars_past_char}
 use Rattle.json_strings.specs.Reading.{left}
-use Rattle.json_strings.specs.Spelling.{scalars_in}
 use Rattle.json_strings.proofs.Spelled.{nothing_left}
 use Rattle.json_strings.proofs.scalars.ScalarsIterator.next.Goals as goal
 
@@ -11,15 +9,10 @@ pub invariant_of-self : goal.invariant_of-self
 invariant_of-self c = IsUtf8-past_char (chars_rest c.loop-c.self-inside.rest) (chars_rest c.next.new.self) c.in-Some.c c.loop-c.invariant.utf8 c.in-Some.ensures.steps.0
 
 pub returns-in-Scalar-clause-steps : goal.returns-in-Scalar-clause-steps
-returns-in-Scalar-clause-steps c =
-    let e = chars_past_char (chars_rest c.loop-c.self-inside.rest) (chars_rest c.next.new.self) c.in-Some.c c.loop-c.invariant.utf8 c.in-Some.ensures.steps.0 in
-    sym c.loop-c.invariant.left ∙ ap (left c.loop-c.state) e ∙ c.in-Scalar.ensures (chars (chars_rest c.next.new.self))
+returns-in-Scalar-clause-steps c = grind (arith, chars_past_char, chars)
 
 pub returns-in-Scalar-clause-goes : goal.returns-in-Scalar-clause-goes
-returns-in-Scalar-clause-goes c =
-    let e = chars_past_char (chars_rest c.loop-c.self-inside.rest) (chars_rest c.next.new.self) c.in-Some.c c.loop-c.invariant.utf8 c.in-Some.ensures.steps.0 in
-    let s = sym c.loop-c.invariant.left ∙ ap (left c.loop-c.state) e ∙ c.in-Scalar.ensures (chars (chars_rest c.next.new.self)) in
-    record { on = λ _. (tt, tt, omega (arith, ap length s)); keeps = tt; rests = λ _. tt }
+returns-in-Scalar-clause-goes c = grind (arith, chars_past_char, chars)
 
 pub loop-c-preserved : goal.loop-c-preserved
 loop-c-preserved c =
@@ -31,7 +24,4 @@ loop-c-preserved c =
     }
 
 pub returns-clause-steps : goal.returns-clause-steps
-returns-clause-steps c =
-    let s = c.in_default.ensures.steps.0 in
-    let e = nothing_left (chars_rest c.loop-c.self-inside.rest) s.0 in
-    (sym c.loop-c.invariant.left ∙ ap (left c.loop-c.state) e, ap (λ x. scalars_in (chars (chars_rest x))) s.1 ∙ ap scalars_in e)
+returns-clause-steps c = grind (arith, nothing_left, chars)

@@ -1,8 +1,6 @@
-use Rattle.std.proofs.Common.{◌≡◌, length}
-use Rattle.std.specs.Prelude.{IfSome, IsUtf8}
-use Rattle.std.specs.Str.{chars}
+use Rattle.json_text.proofs.Names.{◌≡◌, length, IsUtf8, chars, IsHigh}
+use Rattle.std.specs.Prelude.{IfSome}
 use Rattle.std.specs.Str.Iter.{chars_rest}
-use Rattle.json_text.specs.Meaning.{IsHigh}
 use Rattle.json_strings.specs.Reading.{left}
 use Rattle.json_strings.proofs.scalars.ScalarsIterator.next.Given as goal
 
