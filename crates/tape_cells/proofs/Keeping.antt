@@ -1,20 +1,16 @@
 -- What a builder keeps of its open containers, as its tape grows and is changed.
-use Rattle.std.proofs.Common.{◌≡◌, ℕ, zero, suc, true, false, List, [], ◌∷◌, ◌++◌, length, refl, sym, ap, ◌∙◌}
-use Rattle.std.specs.Prelude.{Result, Ok, Err, OnOk, is_ok, is_err, if◌then◌else◌, reverse}
+use Rattle.json_text.proofs.Names.{◌≡◌, ℕ, zero, suc, true, false, List, [], ◌∷◌, ◌++◌, length, refl, ap, arith, Result, OnOk, reverse, false≢true}
+use Rattle.json_text.proofs.Names.{change_at, closed}
+use Rattle.std.specs.Prelude.{is_ok, is_err, if◌then◌else◌}
 use Rattle.std.proofs.lemmas.List.{reverse-append}
-use Rattle.std.proofs.lemmas.Bool.{false≢true}
 use Rattle.json_text.specs.declared.tape.Entry.{Entry}
-use Rattle.json_text.specs.declared.tape.Level.{Level}
-use Rattle.json_text.specs.declared.tape.Level.TheVariants.{Root, Inside}
 use Rattle.json_text.specs.declared.tape.Open.{Open}
 use Rattle.tape_cells.specs.Cells.{is_container, container_at}
-use Rattle.json_text.specs.Machine.{change_at, closed}
-use Rattle.tape_cells.specs.Opened.{IsOpened, AreOpened}
+use Rattle.tape_cells.specs.Opened.{AreOpened}
 
 -- what a call that did not fail shows
 pub unless_err : {A E P : Type 0} (r : Result A E) → false ≡ is_err r → OnOk r P → P
-unless_err (Ok x) e h = h
-unless_err (Err f) e h = absurd (false≢true e)
+unless_err r e h = grind (arith, false≢true)
 
 container_more : (es xs : List Entry) (n : ℕ) → container_at es n ≡ true → container_at (es ++ xs) n ≡ true
 container_more [] xs n h = absurd (false≢true h)
@@ -32,25 +28,15 @@ container_changed _ _ f _ h = refl
 
 pub opened_more : (es xs : List Entry) (os : List Open) → AreOpened es os → AreOpened (es ++ xs) os
 opened_more es xs [] h = tt
-opened_more es xs (o ∷ os) h = (one o.level h.0, h.1, opened_more es xs os h.2)
-  where
-    one : (l : Level) → IsOpened es l o.entry → IsOpened (es ++ xs) l o.entry
-    one Root i = tt
-    one (Inside shape) i = container_more es xs o.entry i
+opened_more es xs (o ∷ os) h = grind (arith, opened_more es xs os h.2, container_more)
 
 pub opened_closed : (es : List Entry) (os : List Open) (i place children after : ℕ) → AreOpened es os → AreOpened (change_at es i (closed place children after)) os
 opened_closed es [] i place children after h = tt
-opened_closed es (o ∷ os) i place children after h = (one o.level h.0, h.1, opened_closed es os i place children after h.2)
-  where
-    one : (l : Level) → IsOpened es l o.entry → IsOpened (change_at es i (closed place children after)) l o.entry
-    one Root k = tt
-    one (Inside shape) k = container_changed es i (closed place children after) o.entry (λ e. refl) ∙ k
+opened_closed es (o ∷ os) i place children after h = grind (arith, opened_closed es os i place children after h.2, container_changed)
 
 -- a list after a push that did not fail, and one that did, read from its end
 pub pushed : {A E : Type 0} (r : Result A E) (new old : List Open) (o : Open) → false ≡ is_err r → new ≡ (if is_ok r then old ++ o ∷ [] else old) → reverse new ≡ o ∷ reverse old
-pushed (Ok x) new old o e h = ap reverse h ∙ reverse-append old (o ∷ [])
-pushed (Err f) new old o e h = absurd (false≢true e)
+pushed r new old o e h = grind (arith, reverse-append, false≢true)
 
 pub not_pushed : {A E : Type 0} (r : Result A E) (new old : List Open) (o : Open) → true ≡ is_err r → new ≡ (if is_ok r then old ++ o ∷ [] else old) → new ≡ old
-not_pushed (Ok x) new old o e h = absurd (false≢true (sym e))
-not_pushed (Err f) new old o e h = h
+not_pushed r new old o e h = grind arith

@@ -1,9 +1,7 @@
 -- Objects of many members.
-use Rattle.std.proofs.Common.{◌≡◌, ℕ, ◌≤◌, List, cond, ap, arith}
+use Rattle.json_text.proofs.Names.{◌≡◌, ℕ, ◌≤◌, List, cond, ap, arith, entry_in, IsWide}
 use Rattle.json_text.specs.declared.tape.Entry.{Entry}
 use Rattle.json_text.specs.declared.tape.Kind.TheVariants as kinds
-use Rattle.json_text.specs.Tape.{entry_in}
-use Rattle.json_text.specs.Suspects.{IsWide}
 use Rattle.tape_cells.specs.Cells.{is_object, members_in}
 
 pub object_members : (e : Entry) → e.kind ≡ kinds.Object → members_in e ≡ e.children

@@ -1,4 +1,4 @@
-use Rattle.std.proofs.Common.{◌∙◌, arith}
+use Rattle.std.proofs.Common.{arith}
 use Rattle.tape_cells.proofs.Sides.{entries_many, label_shown}
 use Rattle.tape_cells.proofs.compact.Tape.label.Goals as goal
 
@@ -6,6 +6,4 @@ pub index-requires : goal.index-requires
 index-requires c = let m = entries_many _ _ _ c.self.view_is in omega (arith, m, c.requires, c.self.inside.cells.ok.0)
 
 pub returns : goal.returns
-returns c e q =
-    let m = entries_many _ _ _ c.self.view_is in
-    c.label.ensures ∙ label_shown c.self.inside.cells.items c.self.inside.sides.items c.args.self.now c.args.n c.index.result.now e c.self.view_is (omega (arith, m, c.requires)) c.index.ensures q
+returns c e q = grind (arith, entries_many, label_shown)
