@@ -1,26 +1,24 @@
 -- The duplicate check holds as a tape grows and is changed.
-use Rattle.std.proofs.Common.{◌≡◌, ◌≢◌, ℕ, zero, suc, ◌+◌, ◌*◌, ◌%◌, ◌<◌, ◌≤◌, ◌⊎◌, inl, inr, cond, List, [], ◌∷◌, ◌++◌, length, get_or, set, Option, Some, None, refl, sym, ap, ◌∙◌, subst, arith, length-append}
-use Rattle.std.specs.Prelude.{Result, Ok, Err, OnOk}
-use Rattle.std.specs.List.{Contains}
-use Rattle.std.proofs.lemmas.List.{get_or_append_left, get_or_at, get_or_past, length-set, get_or-set_same, get_or-set_other}
+use Rattle.json_text.proofs.Names.{◌≡◌, ◌≢◌, ℕ, zero, suc, ◌+◌, ◌*◌, ◌%◌, ◌<◌, ◌≤◌, ◌⊎◌, inl, inr, List, [], ◌∷◌, ◌++◌, length, get_or, Option, Some}
+use Rattle.json_text.proofs.Names.{None, refl, sym, ap, ◌∙◌, subst, arith, length-append, Result, Ok, Err, OnOk, Contains, get_or_at, get_or_past}
+use Rattle.json_text.proofs.Names.{cases_lt, bytes_at, change_at, closed, kind_of_shape, level_of, entry_in, nothing_there}
+use Rattle.std.proofs.Common.{set}
+use Rattle.std.proofs.lemmas.List.{get_or_append_left, length-set, get_or-set_same, get_or-set_other}
 use Rattle.std.proofs.lemmas.List.Elements.{Contains-append_left, Contains-push}
-use Rattle.std.proofs.lemmas.Bool.{cases_lt, cases_eq}
+use Rattle.std.proofs.lemmas.Bool.{cases_eq}
 use Rattle.json_text.specs.declared.tape.Entry.{Entry}
 use Rattle.json_text.specs.declared.tape.Extent.{Extent}
 use Rattle.json_text.specs.declared.tape.Role.TheVariants as roles
 use Rattle.json_text.specs.declared.tape.Shape.{Shape}
-use Rattle.json_text.specs.declared.tape.Shape.TheVariants.{Array, Object}
+use Rattle.json_text.specs.declared.tape.Shape.TheVariants.{Object}
 use Rattle.json_text.specs.declared.tape.Level.{Level}
 use Rattle.json_text.specs.declared.tape.Level.TheVariants.{Root, Inside}
 use Rattle.json_text.specs.declared.tape.Open.{Open}
 use Rattle.name_stamps.specs.declared.seen.SeenNames.{SeenNames}
 use Rattle.name_stamps.specs.declared.seen.Slot.{Slot}
-use Rattle.json_text.specs.Limits.{bytes_at}
-use Rattle.tape_cells.specs.Cells.{is_object, members_in}
-use Rattle.json_text.specs.Machine.{change_at, closed, kind_of_shape, level_of}
+use Rattle.tape_cells.specs.Cells.{members_in}
 use Rattle.json_strings.specs.Keys.{mixed}
 use Rattle.name_stamps.specs.Stamps.{stamp, bytes_stamp, IsPlain, stamp_at, IsStamped, IsMemberOf, AreDistinct, AreMarked, IsUnsuspected, IsHeld, limit_under, AreHeld, DuplicateCheck, HasSlot, AddsSuspect, IsMarked, IsInserted, IsNew, IsFresh}
-use Rattle.json_text.specs.Tape.{entry_in, nothing_there}
 use Rattle.json_text.specs.Suspects.{narrow}
 use Rattle.tape_cells.specs.Built.{Built, top_of, depth_of}
 
@@ -91,10 +89,7 @@ module _ (text : List ℕ) (b : Built) (slot : Slot) (old new : SeenNames) (s : 
 
   -- if the object is a suspect, the mark stands in a table that no object has
   marked_deep : slot.table ≡ 0 → Contains old.suspects.items (top_of b.opens) → DuplicateCheck text b new × IsFresh text b new (Some x)
-  marked_deep t a = (
-    check_by (held_away text b.entries old new (slot.table + s) (slot.number % 256) (length b.opens) marked.marks marked.suspects (λ depth at p l k e. let k' = stamped.1 in absurd (omega arith)) (length b.entries) b.opens (omega arith) checked.held),
-    λ u. absurd (u (subst (λ l. Contains l (top_of b.opens)) (sym marked.suspects) a)),
-  )
+  marked_deep t a = grind (arith, check_by, held_away)
 
   module _ (shape : Shape) (o : Open) (os : List Open) (is : b.opens ≡ o ∷ os) (level : o.level ≡ Inside shape) (table : slot.table ≡ length os * 1024) (few : length os < 8) where
     abbrev n : ℕ
@@ -119,60 +114,34 @@ module _ (text : List ℕ) (b : Built) (slot : Slot) (old new : SeenNames) (s : 
     head_old = subst (λ l. IsHeld text b.entries old (length b.entries) l n (length os)) level held_old.0
 
     stands : (at : ℕ) → at ≡ s → get_or new.marks (length os * 1024 + at) 0 ≡ n % 256
-    stands at e =
-        let w : length os * 1024 + at ≡ place = omega (arith, table, e) in
-        ap (λ k. get_or new.marks k 0) w ∙ ap (λ l. get_or l place 0) marked.marks ∙ get_or-set_same old.marks place (slot.number % 256) 0 inside ∙ ap (λ k. k % 256) number
+    stands at e = grind (arith, get_or-set_same, inside, number)
 
     all_marked : IsUnsuspected new n → AreMarked text b.entries new.marks n (length os)
-    all_marked u k i =
-        let at = stamp_at text (entry_in b.entries k).label in
-        elim (cases_eq at s) [
-          | inl e ↦ stands at e
-          | inr d ↦ ap (λ (l : List ℕ). get_or l (length os * 1024 + at) 0) marked.marks ∙ get_or-set_other old.marks place (length os * 1024 + at) (slot.number % 256) 0 (λ e. d (omega (arith, e, table))) ∙ head_old.3 (before u) k i
-        ]
+    all_marked u k i = search (arith, stands, get_or-set_other, before)
 
     held_new : AreHeld text b.entries new (length b.entries) (o ∷ os)
-    held_new = (
-      subst (λ l. IsHeld text b.entries new (length b.entries) l n (length os)) (sym level) (head_old.0, head_old.1, head_old.2, all_marked),
-      held_away text b.entries old new place (slot.number % 256) (length os) marked.marks marked.suspects (λ depth at p l k e. let k' = stamped.1 in absurd (omega (arith, e, table, l, k, k'))) (limit_under o.level n) os (omega arith) held_old.1,
-    )
-
-    new_name : IsUnsuspected new n → IsNew text b.entries new n (length os) x
-    new_name u = record {
-      plain = stamped.2;
-      other = λ k i e.
-          let w : slot.table + s ≡ length os * 1024 + stamp_at text (entry_in b.entries k).label = omega (arith, table, stamped.0, e) in
-          marked.other (ap (λ j. get_or old.marks j 0) w ∙ head_old.3 (before u) k i ∙ ap (λ k. k % 256) (sym number));
-      marked = stands (stamp_at text x) (sym stamped.0);
-    }
+    held_new = search (arith, all_marked, held_away)
 
     pub marked_here : DuplicateCheck text b new × IsFresh text b new (Some x)
-    marked_here = (
-      check_by (subst (AreHeld text b.entries new (length b.entries)) (sym is) held_new),
-      subst (λ l. IsUnsuspected new (top_of l) → IsNew text b.entries new (top_of l) (depth_of l) x) (sym is) new_name,
-    )
+    marked_here = grind (arith, check_by, held_new, before, number, stands)
 
 suspect_checked : (text : List ℕ) (b : Built) (slot : Slot) (old new : SeenNames) (x : Extent) → DuplicateCheck text b old → HasSlot b slot old → AddsSuspect slot.number old new → DuplicateCheck text b new × IsFresh text b new (Some x) × HasSlot b slot new
-suspect_checked text b slot old new x checked has_slot added = (
-  check_suspect text old new slot.number added b checked,
-  (λ u. absurd (u (subst (Contains new.suspects.items) has_slot.number (suspect_now text old new slot.number added)))),
-  record { number = has_slot.number; table = elim has_slot.table [ inl q ↦ inl q | inr q ↦ inr (q.0, subst (λ l. Contains l (top_of b.opens)) (sym added.1) (Contains-append_left old.suspects.items (slot.number ∷ []) (top_of b.opens) q.1)) ] },
-)
+suspect_checked text b slot old new x checked has_slot added =
+    grind (arith, check_suspect text old new slot.number added b checked, suspect_now text old new slot.number added, number)
 
 -- a name of the innermost container, an object, is inserted
 pub insert_checked : (text : List ℕ) (b : Built) (slot : Slot) (old new : SeenNames) (stamp : Option ℕ) (x : Extent) (shape : Shape) → level_of b.opens ≡ Inside shape
     → DuplicateCheck text b old → HasSlot b slot old → IsStamped text x stamp → IsInserted slot stamp old new → DuplicateCheck text b new × IsFresh text b new (Some x) × HasSlot b slot new
-insert_checked text b slot old new (Some s) x shape level checked has_slot stamped (inl marked) = go b.opens refl has_slot.table
-  where
-    still : HasSlot b slot new
-    still = slot_still text b slot old new s x checked has_slot marked stamped
+insert_checked text b slot old new (Some s) x shape level checked has_slot stamped (inl marked) = go b.opens refl has_slot.table where
+  still : HasSlot b slot new
+  still = slot_still text b slot old new s x checked has_slot marked stamped
 
-    go : (os : List Open) → b.opens ≡ os → ((slot.table ≡ depth_of b.opens * 1024) × (depth_of b.opens < 8)) ⊎ ((slot.table ≡ 0) × Contains old.suspects.items (top_of b.opens)) → DuplicateCheck text b new × IsFresh text b new (Some x) × HasSlot b slot new
-    go os e (inr (t, a)) = let r = marked_deep text b slot old new s x checked has_slot marked stamped t a in (r.0, r.1, still)
-    go [] e (inl (t, d)) = absurd (let z = sym (ap level_of e) ∙ level in cc)
-    go (o ∷ os) e (inl (t, d)) =
-        let r = marked_here text b slot old new s x checked has_slot marked stamped shape o os e (sym (ap level_of e) ∙ level) (t ∙ ap (λ l. depth_of l * 1024) e) (subst (λ k. k < 8) (ap depth_of e) d) in
-        (r.0, r.1, still)
+  go : (os : List Open) → b.opens ≡ os → ((slot.table ≡ depth_of b.opens * 1024) × (depth_of b.opens < 8)) ⊎ ((slot.table ≡ 0) × Contains old.suspects.items (top_of b.opens)) → DuplicateCheck text b new × IsFresh text b new (Some x) × HasSlot b slot new
+  go os e (inr (t, a)) = let r = marked_deep text b slot old new s x checked has_slot marked stamped t a in (r.0, r.1, still)
+  go [] e (inl (t, d)) = absurd (cc)
+  go (o ∷ os) e (inl (t, d)) =
+      let r = marked_here text b slot old new s x checked has_slot marked stamped shape o os e (sym (ap level_of e) ∙ level) (t ∙ ap (λ l. depth_of l * 1024) e) (subst (λ k. k < 8) (ap depth_of e) d) in
+      (r.0, r.1, still)
 insert_checked text b slot old new (Some s) x shape level checked has_slot stamped (inr suspects) = suspect_checked text b slot old new x checked has_slot suspects
 insert_checked text b slot old new None x shape level checked has_slot stamped suspects = suspect_checked text b slot old new x checked has_slot suspects
 
@@ -184,8 +153,7 @@ IsInside (Inside shape) = Unit {0}
 
 module _ (text : List ℕ) (es : List Entry) (e : Entry) (seen : SeenNames) where
   under_below : (xs : List Entry) (limit : ℕ) (level : Level) (n depth bound : ℕ) → limit ≤ bound → IsHeld text xs seen limit level n depth → limit_under level n ≤ bound
-  under_below xs limit Root n depth bound l h = omega arith
-  under_below xs limit (Inside shape) n depth bound l h = let q = h.0 in omega (arith, q)
+  under_below xs limit level n depth bound l h = grind arith
 
   abbrev grown : List Entry
   grown = es ++ e ∷ []
@@ -214,36 +182,25 @@ module _ (text : List ℕ) (es : List Entry) (e : Entry) (seen : SeenNames) wher
   held_grown limit (o ∷ os) l a h = (
     one o.level h.0,
     held_grown (limit_under o.level o.entry) os (under_below es limit o.level o.entry (length os) (length es) l h.0) (λ r. under_below es limit o.level o.entry (length os) e.up (a r) h.0) h.1,
-  )
-    where
-      one : (level : Level) → IsHeld text es seen limit level o.entry (length os) → IsHeld text grown seen limit level o.entry (length os)
-      one Root k = tt
-      one (Inside shape) k = (
-        k.0,
-        k.1,
-        ap (λ (x : Entry). x.kind) (entry_old o.entry (let q = k.0 in omega arith)) ∙ k.2,
-        λ u m i. elim (cases_lt m (length es)) [
-          | inl g ↦ ap (λ (x : Entry). get_or seen.marks (length os * 1024 + stamp_at text x.label) 0) (entry_old m g) ∙ k.3 u m (member_old o.entry m g i)
-          | inr g ↦ (let (r, w) = member_new o.entry m (last_one o.entry m g i) i in let b = a r in let q = k.0 in absurd (omega (arith, b, q, w)))
-        ],
-      )
-
-  under_grown : (limit : ℕ) (o : Open) (os : List Open) → limit ≤ length es + 1 → AreHeld text grown seen limit (o ∷ os) → AreHeld text grown seen (length grown) (o ∷ os)
-  under_grown limit o os l h = (one o.level h.0, h.1)
-    where
-      one : (level : Level) → IsHeld text grown seen limit level o.entry (length os) → IsHeld text grown seen (length grown) level o.entry (length os)
-      one Root k = tt
-      one (Inside shape) k = (let q = k.0 in omega (arith, q, longer), k.1, k.2, k.3)
+  ) where
+    one : (level : Level) → IsHeld text es seen limit level o.entry (length os) → IsHeld text grown seen limit level o.entry (length os)
+    one Root k = tt
+    one (Inside shape) k = (
+      k.0,
+      k.1,
+      ap (λ (x : Entry). x.kind) (entry_old o.entry (let q = k.0 in omega arith)) ∙ k.2,
+      λ u m i. elim (cases_lt m (length es)) [
+        | inl g ↦ ap (λ (x : Entry). get_or seen.marks (length os * 1024 + stamp_at text x.label) 0) (entry_old m g) ∙ k.3 u m (member_old o.entry m g i)
+        | inr g ↦ (let (r, w) = member_new o.entry m (last_one o.entry m g i) i in let b = a r in let q = k.0 in absurd (omega (arith, b, q, w)))
+      ],
+    )
 
   -- an entry that is no member, or a member of the innermost container whose name has another stamp than those before
   module _ (o o' : Open) (os : List Open) (deep deep' : ℕ) (entry : o'.entry ≡ o.entry) (level : o'.level ≡ o.level) (few : members_in e ≤ narrow)
       (new : e.role ≡ roles.Member → (e.up ≡ o.entry) × IsInside o.level × (IsUnsuspected seen o.entry → IsNew text es seen o.entry (length os) e.label))
       (checked : DuplicateCheck text (record { entries = es; opens = o ∷ os; deep = deep }) seen) where
     name_of : (n : ℕ) → IsUnsuspected seen n → (e.role ≡ roles.Member) × (e.up ≡ n) → IsNew text es seen n (length os) e.label
-    name_of n u (r, w) =
-        let (at, in_one, f) = new r in
-        let same : o.entry ≡ n = sym at ∙ w in
-        subst (λ m. IsNew text es seen m (length os) e.label) same (f (subst (λ m. IsUnsuspected seen m) (sym same) u))
+    name_of n u h = search arith
 
     apart_grown : (n : ℕ) → IsUnsuspected seen n → AreDistinct text grown n
     apart_grown n u = record {
@@ -258,13 +215,7 @@ module _ (text : List ℕ) (es : List Entry) (e : Entry) (seen : SeenNames) wher
     }
 
     few_grown : (n : ℕ) → IsUnsuspected seen n → members_in (entry_in grown n) ≤ narrow
-    few_grown n u = elim (cases_lt n (length es)) [
-      | inl g ↦ subst (λ x. members_in x ≤ narrow) (sym (entry_old n g)) (checked.few n u)
-      | inr g ↦ elim (cases_eq n (length es)) [
-        | inl q ↦ subst (λ x. members_in x ≤ narrow) (sym (entry_new n q)) few
-        | inr q ↦ subst (λ x. members_in x ≤ narrow) (sym (get_or_past grown n nothing_there (omega (arith, longer, g, q)))) (omega arith)
-      ]
-    ]
+    few_grown n u = grind (arith, entry_old, entry_new, get_or_past, longer)
 
     head_grown : (l : Level) → l ≡ o.level → IsHeld text es seen (length es) l o.entry (length os) → IsHeld text grown seen (length es) l o.entry (length os)
     head_grown Root w k = tt
@@ -280,52 +231,28 @@ module _ (text : List ℕ) (es : List Entry) (e : Entry) (seen : SeenNames) wher
 
     -- in terms of the number of entries before
     held_here : AreHeld text grown seen (length es) (o' ∷ os)
-    held_here =
-        let h = checked.held in (
-          subst (λ l. IsHeld text grown seen (length es) l o'.entry (length os)) (sym level) (subst (λ n. IsHeld text grown seen (length es) o.level n (length os)) (sym entry) (head_grown o.level refl h.0)),
-          subst (λ l. AreHeld text grown seen (limit_under l o'.entry) os) (sym level) (subst (λ n. AreHeld text grown seen (limit_under o.level n) os) (sym entry)
-              (held_grown (limit_under o.level o.entry) os (under_below es (length es) o.level o.entry (length os) (length es) (omega arith) h.0) (λ r. under_top o.level (new r)) h.1)),
-        )
-      where
-        under_top : (l : Level) → (e.up ≡ o.entry) × IsInside o.level × (IsUnsuspected seen o.entry → IsNew text es seen o.entry (length os) e.label) → limit_under l o.entry ≤ e.up
-        under_top Root f = omega arith
-        under_top (Inside shape) f = let q = f.0 in omega (arith, q)
+    held_here = grind (arith, head_grown, held_grown, under_below)
 
     above_grown : (n k : ℕ) → IsMemberOf grown n k → n < length es
     above_grown n k m = elim (cases_lt k (length es)) [
       | inl g ↦ checked.above n k (member_old n k g m)
       | inr g ↦ (let z = member_new n k (last_one n k g m) m in let f = new z.0 in inside o.level f.1 checked.held.0 (sym f.0 ∙ z.1))
-    ]
-      where
-        inside : (l : Level) → IsInside l → IsHeld text es seen (length es) l o.entry (length os) → o.entry ≡ n → n < length es
-        inside Root i h q = absurd i
-        inside (Inside shape) i h q = let k = h.0 in omega (arith, k, q)
+    ] where
+      inside : (l : Level) → IsInside l → IsHeld text es seen (length es) l o.entry (length os) → o.entry ≡ n → n < length es
+      inside l i h q = grind arith
 
     pub check_grown : DuplicateCheck text (record { entries = grown; opens = o' ∷ os; deep = deep' }) seen
-    check_grown = record {
-      long = checked.long;
-      apart = apart_grown;
-      few = few_grown;
-      held = under_grown (length es) o' os (omega arith) held_here;
-      above = λ n k m. (let q = above_grown n k m in omega (arith, q, longer));
-    }
+    check_grown = grind (arith, apart_grown, few_grown, held_here, above_grown, longer)
 
     -- and it is open
     pub check_opened : (shape : Shape) → e.kind ≡ kind_of_shape shape → DuplicateCheck text (record { entries = grown; opens = record { level = Inside shape; entry = length es; children = 0 } ∷ o' ∷ os; deep = deep' }) seen
-    check_opened shape kind = record {
-      long = checked.long;
-      apart = apart_grown;
-      few = few_grown;
-      held = ((omega (arith, longer), omega arith, ap (λ (x : Entry). x.kind) (entry_new (length es) refl) ∙ kind, λ u k m. (let q = above_grown (length es) k m in absurd (omega (arith, q)))), held_here);
-      above = λ n k m. (let q = above_grown n k m in omega (arith, q, longer));
-    }
+    check_opened shape kind = search (arith, apart_grown, few_grown, longer, entry_new, above_grown, held_here)
 
 -- ---- A container that is closed
 
-same_length : (es : List Entry) (i : ℕ) (f : Entry → Entry) → length (change_at es i f) ≡ length es
-same_length [] i f = refl
-same_length (e ∷ es) zero f = refl
-same_length (e ∷ es) (suc i) f = ap suc (same_length es i f)
+pub length-change_at : (es : List Entry) (i : ℕ) (f : Entry → Entry) → length (change_at es i f) ≡ length es
+length-change_at (e ∷ es) (suc i) f = ap suc (length-change_at es i f)
+length-change_at _ _ f = refl
 
 -- what no change is made of
 same_part : {A : Type 0} (part : Entry → A) (es : List Entry) (i : ℕ) (f : Entry → Entry) → ((e : Entry) → part (f e) ≡ part e) → (k : ℕ) → part (entry_in (change_at es i f) k) ≡ part (entry_in es k)
@@ -343,10 +270,6 @@ changed [] i f h = absurd (omega arith)
 changed (e ∷ es) zero f h = refl
 changed (e ∷ es) (suc i) f h = changed es i f (omega arith)
 
-few_children : (e : Entry) (shape : Shape) → e.kind ≡ kind_of_shape shape → (shape ≡ Object → e.children ≤ narrow) → members_in e ≤ narrow
-few_children e Array k h = subst (λ b. cond b e.children 0 ≤ narrow) (sym (ap is_object k)) (omega arith)
-few_children e Object k h = subst (λ b. cond b e.children 0 ≤ narrow) (sym (ap is_object k)) (h refl)
-
 module _ (text : List ℕ) (es : List Entry) (i place children after : ℕ) (seen : SeenNames) where
   abbrev f : Entry → Entry
   f = closed place children after
@@ -355,11 +278,13 @@ module _ (text : List ℕ) (es : List Entry) (i place children after : ℕ) (see
   shut = change_at es i f
 
   member_was : (n k : ℕ) → IsMemberOf shut n k → IsMemberOf es n k
-  member_was n k m = record {
-    inside = (let g = m.inside in let l = same_length es i f in omega (arith, g, l));
-    role = sym (same_part (λ (e : Entry). e.role) es i f (λ e. refl) k) ∙ m.role;
-    up = sym (same_part (λ (e : Entry). e.up) es i f (λ e. refl) k) ∙ m.up;
-  }
+  member_was n k m = grind (
+    arith,
+    inside,
+    length-change_at es i f,
+    same_part (λ (e : Entry). e.role) es i f (λ e. refl) k,
+    same_part (λ (e : Entry). e.up) es i f (λ e. refl) k,
+  )
 
   label_was : (k : ℕ) → (entry_in shut k).label ≡ (entry_in es k).label
   label_was k = same_part (λ (e : Entry). e.label) es i f (λ e. refl) k
@@ -369,19 +294,14 @@ module _ (text : List ℕ) (es : List Entry) (i place children after : ℕ) (see
 
   held_shut : (limit : ℕ) (os : List Open) → AreHeld text es seen limit os → AreHeld text shut seen limit os
   held_shut limit [] h = tt
-  held_shut limit (o ∷ os) h = (one o.level h.0, held_shut (limit_under o.level o.entry) os h.1)
-    where
-      one : (level : Level) → IsHeld text es seen limit level o.entry (length os) → IsHeld text shut seen limit level o.entry (length os)
-      one Root k = tt
-      one (Inside shape) k = (k.0, k.1, kind_was o.entry ∙ k.2, λ u m j. ap (λ x. get_or seen.marks (length os * 1024 + stamp_at text x) 0) (label_was m) ∙ k.3 u m (member_was o.entry m j))
+  held_shut limit (o ∷ os) h = (one o.level h.0, held_shut (limit_under o.level o.entry) os h.1) where
+    one : (level : Level) → IsHeld text es seen limit level o.entry (length os) → IsHeld text shut seen limit level o.entry (length os)
+    one Root k = tt
+    one (Inside shape) k = (k.0, k.1, kind_was o.entry ∙ k.2, λ u m j. ap (λ x. get_or seen.marks (length os * 1024 + stamp_at text x) 0) (label_was m) ∙ k.3 u m (member_was o.entry m j))
 
   more_room : (limit : ℕ) (os : List Open) → limit ≤ length es → AreHeld text shut seen limit os → AreHeld text shut seen (length shut) os
   more_room limit [] l h = tt
-  more_room limit (o ∷ os) l h = (one o.level h.0, h.1)
-    where
-      one : (level : Level) → IsHeld text shut seen limit level o.entry (length os) → IsHeld text shut seen (length shut) level o.entry (length os)
-      one Root k = tt
-      one (Inside shape) k = ((let q = k.0 in let z = same_length es i f in omega (arith, q, z)), k.1, k.2, k.3)
+  more_room limit (o ∷ os) l h = grind (arith, length-change_at)
 
   pub check_shut : (o : Open) (os : List Open) (deep : ℕ) (shape : Shape) → o.level ≡ Inside shape → i ≡ o.entry → (shape ≡ Object → IsUnsuspected seen o.entry → children ≤ narrow)
       → DuplicateCheck text (record { entries = es; opens = o ∷ os; deep = deep }) seen → DuplicateCheck text (record { entries = shut; opens = os; deep = deep }) seen
@@ -391,16 +311,12 @@ module _ (text : List ℕ) (es : List Entry) (i place children after : ℕ) (see
       plain = λ k m. subst (IsPlain text) (sym (label_was k)) ((checked.apart n u).plain k (member_was n k m));
       apart = λ j k l mj mk q. (checked.apart n u).apart j k l (member_was n j mj) (member_was n k mk) (ap (stamp_at text) (sym (label_was j)) ∙ q ∙ ap (stamp_at text) (label_was k));
     };
-    few = λ n u. elim (cases_eq n i) [
-      | inl q ↦ few_children (entry_in shut n) shape (kind_was n ∙ ap (λ k. (entry_in es k).kind) (q ∙ at) ∙ head.2) (λ w. subst (λ c. c ≤ narrow) (sym (counted n q)) (few w (subst (IsUnsuspected seen) (q ∙ at) u)))
-      | inr q ↦ subst (λ e. members_in e ≤ narrow) (sym (same_other es i f n q)) (checked.few n u)
-    ];
+    few = λ n u. elim (cases_eq n i) [ inl q ↦ grind (arith, kind_was, counted) | inr q ↦ grind (arith, same_other) ];
     held = more_room o.entry os (let q = head.0 in omega arith) (held_shut o.entry os (subst (λ l. AreHeld text es seen (limit_under l o.entry) os) level checked.held.1));
-    above = λ n k m. (let q = checked.above n k (member_was n k m) in let z = same_length es i f in omega (arith, q, z));
-  }
-    where
-      head : IsHeld text es seen (length es) (Inside shape) o.entry (length os)
-      head = subst (λ l. IsHeld text es seen (length es) l o.entry (length os)) level checked.held.0
+    above = λ n k m. (let q = checked.above n k (member_was n k m) in let z = length-change_at es i f in omega (arith, q, z));
+  } where
+    head : IsHeld text es seen (length es) (Inside shape) o.entry (length os)
+    head = subst (λ l. IsHeld text es seen (length es) l o.entry (length os)) level checked.held.0
 
-      counted : (n : ℕ) → n ≡ i → (entry_in shut n).children ≡ children
-      counted n q = ap (λ (e : Entry). e.children) (ap (entry_in shut) q ∙ changed es i f (let h = head.0 in omega (arith, h, at)))
+    counted : (n : ℕ) → n ≡ i → (entry_in shut n).children ≡ children
+    counted n q = ap (λ (e : Entry). e.children) (ap (entry_in shut) q ∙ changed es i f (let h = head.0 in omega (arith, h, at)))

@@ -1,16 +1,9 @@
 -- Objects whose names have a stamp each by their bytes: none of their names comes again.
-use Rattle.std.proofs.Common.{◌≡◌, ◌≢◌, ℕ, ◌+◌, ◌<◌, inl, inr, false, Bool, true, ◌||◌, List, length, get_or, refl, sym, ap, ◌∙◌, subst, arith}
-use Rattle.std.specs.Prelude.{nat_eq}
-use Rattle.std.specs.List.{list_any}
-use Rattle.std.proofs.lemmas.Bool.{cases_lt}
-use Rattle.std.proofs.lemmas.Bool.Decides.{nat_tests}
-use Rattle.std.proofs.lemmas.List.{get_or_past}
-use Rattle.json_text.specs.Tree.{Name, Members, NoMember, Member}
+use Rattle.json_text.proofs.Names.{◌≡◌, ◌≢◌, ℕ, ◌+◌, ◌<◌, inl, inr, false, Bool, ◌||◌, List, length, get_or, refl, sym, ap, ◌∙◌, subst, arith, nat_eq}
+use Rattle.json_text.proofs.Names.{list_any, cases_lt, nat_tests, get_or_past, Name, Members, NoMember, Member, IsObject, repeats, meanings, entry_in}
+use Rattle.json_text.proofs.Names.{AreSuspects}
 use Rattle.json_text.specs.Meaning.{meaning}
-use Rattle.json_text.specs.Repeats.{IsObject, repeats, meanings, hashes_repeat}
-use Rattle.tape_cells.specs.Cells.{members_in}
-use Rattle.json_text.specs.Tape.{entry_in, nothing_there}
-use Rattle.json_text.specs.Suspects.{AreSuspects}
+use Rattle.json_text.specs.Repeats.{hashes_repeat}
 use Rattle.tape_cells.specs.Built.{Built}
 use Rattle.json_text.specs.declared.tape.Entry.{Entry}
 use Rattle.name_stamps.specs.declared.seen.SeenNames.{SeenNames}
@@ -22,8 +15,7 @@ use Rattle.json_text.proofs.Repeats.{hashes_apart}
 use Rattle.tape_cells.proofs.WideObjects.{not_wide_by}
 
 neither_is : (a b : Bool) → a ≡ false → b ≡ false → (a || b) ≡ false
-neither_is true b e f = absurd (cc)
-neither_is false b e f = f
+neither_is a b e f = grind arith
 
 module _ (text : List ℕ) (tape : List Entry) (n : ℕ) (a : AreDistinct text tape n) where
   member_next : (k end : ℕ) (left : Members) → Next text tape n k end left → IsMemberOf tape n k
@@ -36,13 +28,8 @@ module _ (text : List ℕ) (tape : List Entry) (n : ℕ) (a : AreDistinct text t
   none_behind : (left : Members) (k end : ℕ) → Left text tape n k end left → (j : ℕ) → j < k → IsMemberOf tape n j → list_any (λ y. nat_eq y (stamp_at text (entry_in tape j).label)) (given spelt_stamp left) ≡ false
   none_behind NoMember k end l j h m = refl
   none_behind (Member o v ms) k end l j h m =
-      let z = size_positive v in
-      let e = l.ends in
-      let x = next_left text tape n k end (Member o v ms) l (omega arith) in
-      let w = x.whole in
-      let name : x.name ≡ o = cc in
-      let others : x.others ≡ ms = cc in
-      let d = a.apart j k h m (member_next k end (Member o v ms) x) in
+      let z = size_positive v in let e = l.ends in let x = next_left text tape n k end (Member o v ms) l (omega arith) in let w = x.whole in
+      let name : x.name ≡ o = cc in let others : x.others ≡ ms = cc in let d = a.apart j k h m (member_next k end (Member o v ms) x) in
       let s = stamp_next k end (Member o v ms) x ∙ ap (λ (y : Name). spelt_stamp (meaning y.characters)) name in
       neither_is _ _ (other (spelt_stamp (meaning o.characters)) (stamp_at text (entry_in tape j).label) (λ q. d (sym (s ∙ q))))
       (none_behind ms (get_or tape k no_entry).after end (subst (Left text tape n (get_or tape k no_entry).after end) others x.left) j (let t = x.later in omega (arith, t, h)) m)
@@ -53,12 +40,8 @@ module _ (text : List ℕ) (tape : List Entry) (n : ℕ) (a : AreDistinct text t
   none_twice : (left : Members) (k end : ℕ) → Left text tape n k end left → hashes_repeat (given spelt_stamp left) ≡ false
   none_twice NoMember k end l = refl
   none_twice (Member o v ms) k end l =
-      let z = size_positive v in
-      let e = l.ends in
-      let x = next_left text tape n k end (Member o v ms) l (omega arith) in
-      let w = x.whole in
-      let name : x.name ≡ o = cc in
-      let others : x.others ≡ ms = cc in
+      let z = size_positive v in let e = l.ends in let x = next_left text tape n k end (Member o v ms) l (omega arith) in let w = x.whole in
+      let name : x.name ≡ o = cc in let others : x.others ≡ ms = cc in
       let left = subst (Left text tape n (get_or tape k no_entry).after end) others x.left in
       let s = stamp_next k end (Member o v ms) x ∙ ap (λ (y : Name). spelt_stamp (meaning y.characters)) name in
       neither_is _ _ (subst (λ y. list_any (λ w. nat_eq w y) (given spelt_stamp ms) ≡ false) s (none_behind ms (get_or tape k no_entry).after end left k x.later (member_next k end (Member o v ms) x)))
@@ -69,9 +52,6 @@ module _ (text : List ℕ) (tape : List Entry) (n : ℕ) (a : AreDistinct text t
 
 pub suspects_left : (text : List ℕ) (b : Built) (seen : SeenNames) → DuplicateCheck text b seen → AreSuspects text b.entries seen.suspects.items
 suspects_left text b seen checked = record {
-  narrow = λ n u w. elim (cases_lt n (length b.entries)) [
-    | inl g ↦ not_wide_by b.entries n (members_in (entry_in b.entries n)) refl (checked.few n u) w
-    | inr g ↦ absurd (let k = sym (ap (λ (e : Entry). e.kind) (get_or_past b.entries n nothing_there g)) ∙ w.0 in cc)
-  ];
+  narrow = λ n u w. elim (cases_lt n (length b.entries)) [ inl g ↦ grind (arith, not_wide_by) | inr g ↦ grind (arith, get_or_past) ];
   apart = λ n ms u o. names_apart text b.entries n (checked.apart n u) ms o;
 }

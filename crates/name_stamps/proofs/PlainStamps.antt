@@ -1,13 +1,9 @@
 -- The stamp of a name without a backslash, by its bytes.
-use Rattle.std.proofs.Common.{◌≡◌, ℕ, ◌+◌, None, false, List, [], ◌∷◌, ◌++◌, length, drop, append_assoc, sym, ap, ◌∙◌, subst, arith}
-use Rattle.std.proofs.lemmas.List.{get_or-drop}
-use lib.Utf8.{encode, encodes}
+use Rattle.json_text.proofs.Names.{◌≡◌, ℕ, ◌+◌, None, false, List, [], ◌∷◌, ◌++◌, length, append_assoc, sym, ap, ◌∙◌, arith, get_or-drop, encodes}
+use Rattle.json_text.proofs.Names.{Spelt, Plain, Source, AreChars, IsString, meaning_after, extent, bytes_at}
+use lib.Utf8.{encode}
 use Rattle.structural_index.specs.Seams.{AreSlashless}
-use Rattle.json_text.specs.Tree.{Spelt, Plain, Short, Unit4, Source}
-use Rattle.json_text.specs.Letters.{AreChars, IsString}
-use Rattle.json_text.specs.Meaning.{meaning, meaning_after}
-use Rattle.json_text.specs.Tape.{extent}
-use Rattle.json_text.specs.Limits.{bytes_at}
+use Rattle.json_text.specs.Meaning.{meaning}
 use Rattle.json_strings.specs.Spelling.{has_backslash}
 use Rattle.name_stamps.specs.Stamps.{bytes_stamp}
 use Rattle.json_text.specs.declared.tape.Extent.{Extent}
@@ -23,8 +19,7 @@ encoded bs rest [] e h = sym e
 encoded bs rest (Plain c ∷ cs) (one, others, (s, l, q, b, o), g, e) h =
     let left : has_backslash (others ++ rest) ≡ false = any_back one (others ++ rest) (ap has_backslash (sym (append_assoc one others rest) ∙ ap (λ k. k ++ rest) (sym e)) ∙ h) in
     ap (λ k. encode c ++ k) (encoded others rest cs g left) ∙ ap (λ k. k ++ others) (sym o) ∙ sym e
-encoded bs rest (Short l ∷ cs) (one, others, (s, o), g, e) h = absurd (escaped bs one others rest _ e o h)
-encoded bs rest (Unit4 u ∷ cs) (one, others, (a, b, c, d, k, l, m, n, ha, hb, hc, hd, v, o), g, e) h = absurd (escaped bs one others rest _ e o h)
+encoded bs rest cs h h' = grind (arith, escaped)
 
 abbrev quoted : List ℕ → List ℕ
 quoted bs = 34 ∷ (bs ++ 34 ∷ [])
@@ -34,13 +29,11 @@ abbrev pub spelt_stamp : List ℕ → ℕ
 spelt_stamp scalars = bytes_stamp (quoted (encodes scalars))
 
 slashless : (text : List ℕ) (s : Source) → Lies text s → AreSlashless text s.place (s.place + length s.bytes) → has_backslash s.bytes ≡ false
-slashless text s l none =
-    ap has_backslash l ∙ slashless_front (drop s.place text) (length s.bytes) (λ k h e. none (s.place + k) (omega arith) (omega arith) (sym (get_or-drop s.place text k 0) ∙ e))
+slashless text s l none = grind (arith, slashless_front, get_or-drop)
 
 spelt_so : (text : List ℕ) (s : Source) (cs : List Spelt) → Lies text s → IsString s.bytes cs → AreSlashless text s.place (s.place + length s.bytes) → bytes_at text (extent s) ≡ quoted (encodes (meaning cs))
 unfolding meaning
 spelt_so text s cs l (inside, h, e) none = sym l ∙ e ∙ ap quoted (sym (encoded inside (34 ∷ []) cs h (sym (ap has_backslash e) ∙ slashless text s l none)))
 
 pub stamp_is : (text : List ℕ) (x : Extent) (s : Source) (cs : List Spelt) → x ≡ extent s → Lies text s → IsString s.bytes cs → AreSlashless text x.start (x.start + x.len) → bytes_stamp (bytes_at text x) ≡ spelt_stamp (meaning cs)
-stamp_is text x s cs shown l h none =
-    ap (λ y. bytes_stamp (bytes_at text y)) shown ∙ ap bytes_stamp (spelt_so text s cs l h (subst (λ (y : Extent). AreSlashless text y.start (y.start + y.len)) shown none))
+stamp_is text x s cs shown l h none = grind (arith, spelt_so)
