@@ -1,22 +1,18 @@
 -- The order of the members of an object that has the names of an earlier one.
-use Rattle.std.proofs.Common.{◌≡◌, ℕ, ◌+◌, ◌-◌, ◌^◌, ◌<◌, false, List, [], ◌∷◌, ◌++◌, length, map, get_or, refl, sym, ap, ◌∙◌, subst, arith}
-use Rattle.std.specs.List.{All, AllByRecursion}
-use Rattle.std.specs.List.Sorted.{IsPermutation, IsStrictlySortedBy}
+use Rattle.json_text.proofs.Names.{◌≡◌, ℕ, ◌+◌, ◌-◌, ◌^◌, ◌<◌, false, List, [], ◌∷◌, ◌++◌, length, map, get_or, refl, sym, ap, ◌∙◌, subst, arith, All}
+use Rattle.json_text.proofs.Names.{AllByRecursion, IsPermutation, length-map, get_or-map, All-from_recursion, recursion_from_All, All-permutation}
+use Rattle.json_text.proofs.Names.{Members, NoMember, Member, size, IsObject, is_same, repeats, meanings, entry_in}
+use Rattle.std.specs.List.Sorted.{IsStrictlySortedBy}
 use Rattle.std.specs.Cmp.Lexicographic.{nat_list_eq_equiv}
-use Rattle.std.proofs.lemmas.List.{length-map, get_or-map}
-use Rattle.std.proofs.lemmas.List.Elements.{All-from_recursion, All-from_get_or, All-map, recursion_from_All}
-use Rattle.std.proofs.lemmas.List.Sorted.{IsPermutation-map, All-permutation}
+use Rattle.std.proofs.lemmas.List.Elements.{All-from_get_or, All-map}
+use Rattle.std.proofs.lemmas.List.Sorted.{IsPermutation-map}
 use Rattle.std.proofs.lemmas.Map.Keys.{sorted_from_all_adjacent}
-use Rattle.json_text.specs.Tree.{Members, NoMember, Member}
-use Rattle.json_text.specs.Nodes.{size}
 use Rattle.json_text.specs.Meaning.{meaning}
 use Rattle.json_strings.specs.Spelling.{IsQuoted}
-use Rattle.json_text.specs.Repeats.{IsObject, is_same, repeats, meanings}
 use Rattle.json_strings.specs.KeyOrder.{names_total, names_tie}
-use Rattle.json_strings.specs.Keys.{Keyed, key_number, key_name, name_cmp, name_hash}
+use Rattle.json_strings.specs.Keys.{Keyed, key_number, key_name, name_cmp}
 use Rattle.name_order.specs.Ordered.{keyed, name_at, name_in, members_of, IsNamed, IsOrderOf, AreKept, AreAlike, moved}
 use Rattle.name_order.specs.Orders.{Order, no_order, onward, low_half, high_half}
-use Rattle.json_text.specs.Tape.{entry_in}
 use Rattle.json_text.specs.declared.tape.Entry.{Entry}
 use Rattle.json_text.proofs.Repeats.{rising_alone}
 use Rattle.name_order.proofs.KeysLeft.{IsGood, all_good}
@@ -83,14 +79,7 @@ module _ (text : List ℕ) (tape : List Entry) (short : length tape < 2 ^ 31) wh
       small = recursion_from_All (λ w. low_half w + shift < 4294967296) words (All-from_get_or (λ w. low_half w + shift < 4294967296) words 0 (λ k h. let t = (twice_at k h).inside in omega arith))
 
       named_at : (k : ℕ) → k < length words → IsNamed text tape (onward shift (get_or words k 0))
-      named_at k h =
-          let t = twice_at k h in
-          let n = order.named.each k 0 h in
-          let w = get_or words k 0 in record {
-            inside = subst (λ m. m < length tape) (sym (low_at k h)) t.inside;
-            quoted = subst (λ m. IsQuoted text (entry_in tape m).label) (sym (low_at k h)) t.quoted;
-            hashed = high_is (high_half w) (low_half w + shift) (let i = t.inside in omega arith) ∙ n.hashed ∙ ap name_hash (sym (name_at_is k h));
-          }
+      named_at k h = grind (arith, twice_at, low_at, high_is, name_at_is)
 
       name_is : (k : ℕ) → k < length words → name_in text tape (get_or later k 0) ≡ name_in text tape (get_or words k 0)
       name_is k h = ap (name_in text tape) (get_or-map (onward shift) words k 0 0 h) ∙ name_at_is k h
@@ -100,8 +89,7 @@ module _ (text : List ℕ) (tape : List Entry) (short : length tape < 2 ^ 31) wh
         named = record {
           each = All-map (IsNamed text tape) (onward shift) words (All-from_get_or (λ w. IsNamed text tape (onward shift w)) words 0 named_at);
           rising = λ j k h m.
-              (let l : k < length words = (let e = length-map words (onward shift) in omega arith) in
-              let i : j < length words = omega arith in
+              (let l : k < length words = (let e = length-map words (onward shift) in omega arith) in let i : j < length words = omega arith in
               ap (λ x. name_cmp x (name_in text tape (get_or later k 0))) (name_is j i) ∙ ap (name_cmp (name_in text tape (get_or words j 0))) (name_is k l) ∙ order.named.rising j k h l);
         };
         all = λ ms' o'.
@@ -110,11 +98,8 @@ module _ (text : List ℕ) (tape : List Entry) (short : length tape < 2 ^ 31) wh
       }
 
       pub none_again : false ≡ repeats (meanings ms)
-      none_again =
-          let names = map (name_at text tape) (members_of words) in
-          let long = length-map (members_of words) (name_at text tape) in
-          let long_too = length-map words low_half in
-          let at : (k : ℕ) → k < length words → get_or names k [] ≡ name_in text tape (get_or words k 0) =
+      none_again = let names = map (name_at text tape) (members_of words) in let long = length-map (members_of words) (name_at text tape) in
+          let long_too = length-map words low_half in let at : (k : ℕ) → k < length words → get_or names k [] ≡ name_in text tape (get_or words k 0) =
           λ k h. get_or-map (name_at text tape) (members_of words) k 0 [] (omega arith) ∙ ap (name_at text tape) (get_or-map low_half words k 0 0 h) in
           let rising : IsStrictlySortedBy name_cmp names =
           sorted_from_all_adjacent names_total names [] (λ k h.

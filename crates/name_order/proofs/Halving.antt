@@ -1,17 +1,13 @@
 -- A name is found by halving among names that rise.
-use Rattle.std.proofs.Common.{◌≡◌, ℕ, ◌+◌, ◌<◌, ◌≤◌, List, length, get_or, inl, inr, sym, ap, ◌∙◌, subst, arith}
-use Rattle.std.proofs.lemmas.Bool.{cases_lt}
+use Rattle.json_text.proofs.Names.{◌≡◌, ℕ, ◌+◌, ◌<◌, ◌≤◌, List, length, get_or, inl, inr, sym, ap, ◌∙◌, subst, arith, cases_lt, length-map}
+use Rattle.json_text.proofs.Names.{get_or-map, Contains, is_eq, bytes_decides}
+use Rattle.name_order.proofs.Names.{Less, Equal, Entry, name_at, name_in, name_cmp}
 use Rattle.std.proofs.lemmas.Cmp.{tied_itself}
-use Rattle.std.proofs.lemmas.List.{length-map, get_or-map}
 use Rattle.std.proofs.lemmas.List.Elements.{Contains-get_or}
-use Rattle.std.specs.List.{Contains}
-use Rattle.std.specs.Ordering.{ordering_reverse, is_eq}
-use Rattle.std.specs.Cmp.Lexicographic.{bytes_decides}
-use Rattle.std.specs.declared.cmp.Ordering.TheVariants.{Less, Equal, Greater}
-use Rattle.json_text.specs.declared.tape.Entry.{Entry}
-use Rattle.name_order.specs.Ordered.{AreNamed, members_of, name_at, name_in}
+use Rattle.std.specs.Ordering.{ordering_reverse}
+use Rattle.std.specs.declared.cmp.Ordering.TheVariants.{Greater}
+use Rattle.name_order.specs.Ordered.{AreNamed, members_of}
 use Rattle.name_order.specs.Orders.{low_half}
-use Rattle.json_strings.specs.Keys.{name_cmp}
 use Rattle.json_strings.specs.KeyOrder.{names_total, names_tie}
 
 -- the name stands neither before the first place nor from the second on
@@ -62,27 +58,17 @@ module _ (text : List ℕ) (tape : List Entry) (words : List ℕ) (name : List �
   }
 
   pub nowhere : (low high : ℕ) → Between text tape words name low high → high ≤ low → (k : ℕ) → k < length (members_of words) → name_at text tape (get_or (members_of words) k 0) ≡ name → ⊥
-  nowhere low high b h k l e =
-      let (i, s) = number_at k l in
-      let tie : name_cmp (at k) name ≡ Equal = ap (λ x. name_cmp x name) (ap (name_at text tape) (sym s) ∙ e) ∙ tied_itself names_total name in
-      elim (cases_lt k low) [
-        | inl g ↦ (let x = sym (b.below k g) ∙ tie in cc)
-        | inr g ↦ (let x = sym (b.above k (omega arith) i) ∙ tie in cc)
-      ]
+  nowhere low high b h k l e = grind (arith, number_at k l, tied_itself names_total name)
 
   -- members of one name are one
   pub one_place : (j k : ℕ) → j < length (members_of words) → k < length (members_of words) → name_at text tape (get_or (members_of words) j 0) ≡ name_at text tape (get_or (members_of words) k 0)
       → get_or (members_of words) j 0 ≡ get_or (members_of words) k 0
   one_place j k l m e = elim (cases_lt j k) [
     | inl g ↦ absurd (apart j k g (number_at k m).0 same)
-    | inr g ↦ elim (cases_lt k j) [
-      | inl h ↦ absurd (apart k j h (number_at j l).0 (sym same))
-      | inr h ↦ (let same : j ≡ k = omega arith in ap (λ i. get_or (members_of words) i 0) same)
-    ]
-  ]
-    where
-      same : at j ≡ at k
-      same = ap (name_at text tape) (sym (number_at j l).1) ∙ e ∙ ap (name_at text tape) (number_at k m).1
+    | inr g ↦ elim (cases_lt k j) [ inl h ↦ absurd (apart k j h (number_at j l).0 (sym same)) | inr h ↦ grind (arith, same) ]
+  ] where
+    same : at j ≡ at k
+    same = ap (name_at text tape) (sym (number_at j l).1) ∙ e ∙ ap (name_at text tape) (number_at k m).1
 
-      apart : (j k : ℕ) → j < k → k < length words → at j ≡ at k → ⊥
-      apart j k h m e = let x = sym (named.rising j k h m) ∙ ap (λ y. name_cmp y (at k)) e ∙ tied_itself names_total (at k) in cc
+    apart : (j k : ℕ) → j < k → k < length words → at j ≡ at k → ⊥
+    apart j k h m e = let x = sym (named.rising j k h m) ∙ ap (λ y. name_cmp y (at k)) e ∙ tied_itself names_total (at k) in cc

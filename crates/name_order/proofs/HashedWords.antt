@@ -1,26 +1,17 @@
 -- Members as words in the order of their hashes, no two of which meet.
-use Rattle.std.proofs.Common.{◌≡◌, ℕ, ◌+◌, ◌*◌, ◌^◌, ◌<◌, ◌≤◌, false, Bool, true, ◌||◌, cond, List, [], ◌∷◌, length, map, get_or, refl, sym, ap, ◌∙◌, subst, arith}
-use Rattle.std.specs.Prelude.{nat_eq, nat_lt}
-use Rattle.std.proofs.lemmas.Bool.Decides.{nat_tests}
+use Rattle.json_text.proofs.Names.{◌≡◌, ℕ, ◌+◌, ◌*◌, ◌^◌, ◌<◌, ◌≤◌, false, Bool, ◌||◌, cond, List, [], ◌∷◌, length, map, get_or, refl, sym, ap, ◌∙◌}
+use Rattle.json_text.proofs.Names.{subst, arith, nat_eq, nat_lt, nat_tests, length-map, get_or_default, get_or-map, All-from_recursion}
+use Rattle.json_text.proofs.Names.{recursion_from_All, All-permutation, All, AllByRecursion, IsPermutation, IsSorted, slice_cmp, nat_cmp, on, Members}
+use Rattle.json_text.proofs.Names.{NoMember, Member, size, IsObject, repeats, meanings, repeats_by, repeats_next_by}
 use Rattle.std.proofs.lemmas.Nat.{mod-mul-add, div-mul-add}
-use Rattle.std.proofs.lemmas.List.{length-map, get_or_default, get_or-map}
-use Rattle.std.proofs.lemmas.List.Elements.{All-from_recursion, recursion_from_All}
-use Rattle.std.proofs.lemmas.List.Sorted.{IsPermutation-map, All-permutation}
-use Rattle.std.specs.List.{All, AllByRecursion}
-use Rattle.std.specs.List.Sorted.{IsPermutation, IsSorted}
+use Rattle.std.proofs.lemmas.List.Sorted.{IsPermutation-map}
 use Rattle.std.specs.Cmp.{nat_cmp_total, nat_eq_equiv, unsigned_ties}
-use Rattle.std.specs.Cmp.Lexicographic.{slice_cmp}
-use Rattle.std.specs.Ordering.{nat_cmp, on, is_lt, ordering_then}
+use Rattle.std.specs.Ordering.{is_lt, ordering_then}
 use Rattle.std.specs.declared.cmp.Ordering.TheVariants.{Less, Equal, Greater}
-use Rattle.json_text.specs.Tree.{Members, NoMember, Member}
-use Rattle.json_text.specs.Nodes.{size}
 use Rattle.json_text.specs.Meaning.{meaning}
-use Rattle.json_strings.specs.Spelling.{IsQuoted}
-use Rattle.json_text.specs.Repeats.{IsObject, repeats, meanings, repeats_by, repeats_next_by}
 use Rattle.json_strings.specs.Keys.{Keyed, key_number, key_hash, name_cmp, name_hash}
-use Rattle.name_order.specs.Ordered.{keyed, word_of, name_at, name_in, IsNamed, IsOrderOf}
+use Rattle.name_order.specs.Ordered.{keyed, word_of, name_in, IsNamed, IsOrderOf}
 use Rattle.name_order.specs.Orders.{high_half, low_half}
-use Rattle.json_text.specs.Tape.{entry_in}
 use Rattle.json_text.specs.declared.tape.Entry.{Entry}
 use Rattle.json_text.proofs.Repeats.{strict, sorted_repeats, hashes_apart}
 use Rattle.name_order.proofs.KeysLeft.{IsGood, all_good}
@@ -40,9 +31,7 @@ high_rises a b h = omega arith
 
 -- what is not less
 less_is : (t u : Bool) → is_lt (cond t Less (cond u Equal Greater)) ≡ t
-less_is true u = refl
-less_is false true = refl
-less_is false false = refl
+less_is t u = grind arith
 
 at_least : (a b : ℕ) → is_lt (nat_cmp a b) ≡ false → b ≤ a
 at_least a b h = let e : nat_lt a b ≡ false = sym (less_is (nat_lt a b) (nat_eq a b)) ∙ h in grind (arith, nat_tests)
@@ -51,10 +40,7 @@ not_less : (a b : ℕ) → b ≤ a → is_lt (nat_cmp a b) ≡ false
 not_less a b h = less_is (nat_lt a b) (nat_eq a b) ∙ grind (arith, nat_tests)
 
 highs_sorted : (ys : List ℕ) → IsSorted nat_cmp ys → IsSorted nat_cmp (map high_half ys)
-highs_sorted ys s k d z h =
-    let long = length-map ys high_half in
-    let a = at k (omega arith) in
-    let b = at (k + 1) h in
+highs_sorted ys s k d z h = let long = length-map ys high_half in let a = at k (omega arith) in let b = at (k + 1) h in
     let r = high_rises (get_or ys k 0) (get_or ys (k + 1) 0) (at_least (get_or ys (k + 1) 0) (get_or ys k 0) (s k 0 z (omega arith))) in
     not_less (get_or (map high_half ys) (k + 1) d) (get_or (map high_half ys) k d) (omega arith)
   where
@@ -71,15 +57,7 @@ hashes_named (Member n t ms) k = ap (λ l. name_hash (meaning n.characters) ∷ 
 
 module _ (text : List ℕ) (tape : List Entry) (short : length tape < 2 ^ 31) where
   good_word : (x : Keyed) → IsGood text tape x → IsNamed text tape (word_of x)
-  good_word x g =
-      let i = g.inside in
-      let l = low_is (key_hash x) x.number (omega arith) in
-      let h = high_is (key_hash x) x.number (omega arith) in
-      record {
-        inside = omega arith;
-        quoted = subst (λ k. IsQuoted text (entry_in tape k).label) (sym l) g.quoted;
-        hashed = h ∙ ap name_hash (sym g.named) ∙ ap (λ k. name_hash (name_at text tape k)) (sym l);
-      }
+  good_word x g = grind (arith, low_is, high_is)
 
   good_words : (ks : List Keyed) → AllByRecursion (IsGood text tape) ks → AllByRecursion (IsNamed text tape) (map word_of ks)
   good_words [] h = tt
@@ -123,13 +101,12 @@ module _ (text : List ℕ) (tape : List Entry) (short : length tape < 2 ^ 31) wh
             ∙ in_order nat_cmp (map high_half ys) 0 (strict nat_eq nat_cmp unsigned_ties (λ x y. nat_eq_equiv.symm x y) nat_cmp_total 0 (map high_half ys) (highs_sorted ys sorted) highs_apart) j k h (let a = length-map ys high_half in omega arith)));
       };
       all = λ ms' o'. subst (λ l. IsPermutation l (map low_half ys)) (lows (keyed ms' (n + 1)) (good_keys ms' o')) (IsPermutation-map low_half (words ms') ys (moved ms' o'));
-    }
-      where
-        named : ℕ → List ℕ
-        named k = name_in text tape (get_or ys k 0)
+    } where
+      named : ℕ → List ℕ
+      named k = name_in text tape (get_or ys k 0)
 
-        hash_is : (k : ℕ) → k < length ys → get_or (map high_half ys) k 0 ≡ name_hash (named k)
-        hash_is k h = get_or-map high_half ys k 0 0 h ∙ (good ms o k 0 h).hashed
+      hash_is : (k : ℕ) → k < length ys → get_or (map high_half ys) k 0 ≡ name_hash (named k)
+      hash_is k h = get_or-map high_half ys k 0 0 h ∙ (good ms o k 0 h).hashed
 
   -- the words of keys in the order of their names
   module _ (n : ℕ) (ys : List Keyed) (moved : (ms : Members) → IsObject text tape n ms → IsPermutation (keyed ms (n + 1)) ys) (good : All (IsGood text tape) ys)
@@ -138,18 +115,14 @@ module _ (text : List ℕ) (tape : List Entry) (short : length tape < 2 ^ 31) wh
     every = recursion_from_All (IsGood text tape) ys good
 
     name_is : (k : ℕ) → k < length ys → name_in text tape (get_or (map word_of ys) k 0) ≡ (get_or ys k no_key).name
-    name_is k l =
-        let x = get_or ys k no_key in
-        let g = good k no_key l in
-        ap (name_in text tape) (get_or-map word_of ys k no_key 0 l) ∙ ap (name_at text tape) (low_is (key_hash x) x.number (let i = g.inside in omega arith)) ∙ g.named
+    name_is k l = grind (arith, no_key, good, get_or-map, low_is)
 
     pub ordered_keys : IsOrderOf text tape n (map word_of ys)
     ordered_keys = record {
       named = record {
         each = All-from_recursion (IsNamed text tape) (map word_of ys) (good_words ys every);
         rising = λ j k h m.
-            (let l : k < length ys = (let e = length-map ys word_of in omega arith) in
-            let i : j < length ys = omega arith in
+            (let l : k < length ys = (let e = length-map ys word_of in omega arith) in let i : j < length ys = omega arith in
             ap (λ x. name_cmp x (name_in text tape (get_or (map word_of ys) k 0))) (name_is j i) ∙ ap (name_cmp (get_or ys j no_key).name) (name_is k l) ∙ apart j k h l);
       };
       all = λ ms o. subst (IsPermutation (map key_number (keyed ms (n + 1)))) (sym (lows ys every)) (IsPermutation-map key_number (keyed ms (n + 1)) ys (moved ms o));

@@ -1,3 +1,4 @@
+pub mod Names
 pub mod SuspectsLeft
 pub mod TwinNames
 pub mod Halving

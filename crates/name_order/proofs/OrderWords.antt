@@ -1,14 +1,13 @@
 -- The orders of objects, where the words of all stand in one list.
-use Rattle.std.proofs.Common.{◌≡◌, ℕ, ◌+◌, ◌-◌, ◌<◌, ◌≤◌, inl, inr, Ok, Err, List, [], ◌∷◌, ◌++◌, length, map, take, drop, get_or, refl, sym, ap, ◌∙◌, subst, arith, length-append}
-use Rattle.std.specs.List.{All, AllByRecursion, Contains}
+use Rattle.json_text.proofs.Names.{◌≡◌, ℕ, ◌+◌, ◌-◌, ◌<◌, ◌≤◌, inl, inr, Ok, Err, List, [], ◌∷◌, ◌++◌, length, map, take, drop, get_or, refl, sym, ap}
+use Rattle.json_text.proofs.Names.{◌∙◌, subst, arith, length-append, All, AllByRecursion, Contains, nat_cmp, cases_lt, nat_tests, length-map}
+use Rattle.json_text.proofs.Names.{length-take, length-drop, drop_at, take_all, get_or-map, get_or_default, recursion_from_All}
 use Rattle.std.specs.List.Sorted.{IsNonDecreasingBy, IsBinarySearchResult}
-use Rattle.std.specs.Ordering.{nat_cmp, ordering_index}
-use Rattle.std.specs.declared.cmp.Ordering.TheVariants.{Less, Equal, Greater}
-use Rattle.std.proofs.lemmas.Bool.{cases_lt}
-use Rattle.std.proofs.lemmas.Bool.Decides.{nat_tests}
+use Rattle.std.specs.Ordering.{ordering_index}
+use Rattle.std.specs.declared.cmp.Ordering.TheVariants.{Equal}
 use Rattle.std.proofs.lemmas.Cmp.{ranked}
-use Rattle.std.proofs.lemmas.List.{length-map, length-take, length-drop, take-append-le, drop-append-le, drop_at, take_all, map_push, get_or-map, get_or_default}
-use Rattle.std.proofs.lemmas.List.Elements.{All-push, All-weaker, recursion_from_All}
+use Rattle.std.proofs.lemmas.List.{take-append-le, drop-append-le, map_push}
+use Rattle.std.proofs.lemmas.List.Elements.{All-push}
 use Rattle.std.proofs.lemmas.List.Sorted.{IsNonDecreasingBy-push}
 use Rattle.name_order.specs.Orders.{Order, no_order, part, onward, order_in, orders_of, AreOrders}
 use Rattle.name_order.specs.declared.orders.Header.{Header}
@@ -37,10 +36,7 @@ orders_kept words more (x ∷ headers) h = rw (part_left x.start x.count words m
 
 module _ (headers : List Header) (words more : List ℕ) (are : AreOrders headers words) where
   pub still_orders : AreOrders headers (words ++ more)
-  still_orders = record {
-    rising = are.rising;
-    inside = All-weaker (IsInside words) (IsInside (words ++ more)) (λ h l. let a = length-append words more in omega arith) headers are.inside;
-  }
+  still_orders = grind (arith, length-append)
 
   same_orders : orders_of headers (words ++ more) ≡ orders_of headers words
   same_orders = orders_kept words more headers (recursion_from_All (IsInside words) headers are.inside)
@@ -50,18 +46,14 @@ module _ (headers : List Header) (words new : List ℕ) (orders : List Order) (a
   pub one_more : All (λ (o : Order). o.object < h.object) orders → AreOrders (headers ++ h ∷ []) (words ++ new)
   one_more behind = record {
     rising = IsNonDecreasingBy-push (λ (x : Header). x.object) headers h are.rising (λ d l.
-        (let k : length orders ≡ length headers = sym (ap length shown) ∙ length-map headers (order_in words) in
-        let last = length headers - 1 in
+        (let k : length orders ≡ length headers = sym (ap length shown) ∙ length-map headers (order_in words) in let last = length headers - 1 in
         let e : get_or orders last no_order ≡ order_in words (get_or headers last d) = sym (ap (λ os. get_or os last no_order) shown) ∙ get_or-map (order_in words) headers last d no_order (omega arith) in
-        let b = behind last no_order (omega arith) in
-        let q = ap (λ (o : Order). o.object) e in omega (arith, b, q)));
+        let b = behind last no_order (omega arith) in let q = ap (λ (o : Order). o.object) e in omega (arith, b, q)));
     inside = All-push (IsInside (words ++ new)) headers h (still_orders headers words new are).inside (let a = length-append words new in omega arith);
   }
 
   pub one_shown : orders_of (headers ++ h ∷ []) (words ++ new) ≡ orders ++ record { object = h.object; words = new } ∷ []
-  one_shown =
-      map_push (order_in (words ++ new)) headers h ∙ ap (λ os. os ++ order_in (words ++ new) h ∷ []) (same_orders headers words new are ∙ shown)
-      ∙ ap (λ xs. orders ++ record { object = h.object; words = xs } ∷ []) (part_right h.start h.count words new (sym start) long)
+  one_shown = grind (arith, map_push, same_orders, part_right)
 
 -- the order at a place
 module _ (headers : List Header) (words : List ℕ) (orders : List Order) (shown : orders_of headers words ≡ orders) where
@@ -69,8 +61,7 @@ module _ (headers : List Header) (words : List ℕ) (orders : List Order) (shown
   orders_many = sym (length-map headers (order_in words)) ∙ ap length shown
 
   pub order_at : (at : ℕ) (h : Header) → at < length orders → h ≡ get_or headers at h → get_or orders at no_order ≡ order_in words h
-  order_at at h l read =
-      sym (ap (λ os. get_or os at no_order) shown) ∙ get_or-map (order_in words) headers at h no_order (omega (arith, orders_many, l)) ∙ ap (order_in words) (sym read)
+  order_at at h l read = grind (arith, get_or-map, orders_many)
 
   -- the words of a header that was read
   module _ (are : AreOrders headers words) (at : ℕ) (h : Header) (l : at < length orders) (read : h ≡ get_or headers at h) where
@@ -90,18 +81,12 @@ module _ (headers : List Header) (words : List ℕ) (orders : List Order) (shown
 
     -- an object that is not found is none of these
     pub absent : AreOrders headers words → (at : ℕ) → IsBinarySearchResult (λ (h : Header). nat_cmp h.object object) headers (Err at) → (o : Order) → Contains orders o → o.object ≡ object → ⊥
-    absent are at b o (k, l, e) q =
-        let h = get_or headers k none in
-        let i : k < length headers = omega (arith, orders_many, l) in
+    absent are at b o (k, l, e) q = let h = get_or headers k none in let i : k < length headers = omega (arith, orders_many, l) in
         let here : h.object ≡ object = ap (λ (x : Order). x.object) (sym (order_at k h l (get_or_default headers k none h i)) ∙ get_or_default orders k no_order o l ∙ e) ∙ q in
-        let parted = b rising in
-        elim (cases_lt k at) [
-          | inl g ↦ (let less = ranked h.object object Less (sym (parted.0 k none (omega arith) g)) in omega (arith, less, here))
-          | inr g ↦ (let more = ranked h.object object Greater (sym (parted.1 k none g i)) in omega (arith, more, here))
-        ]
+        let parted = b rising in elim (cases_lt k at) [ inl g ↦ grind (arith, ranked, none) | inr g ↦ grind (arith, ranked, none) ]
       where
         none : Header
         none = record { object = 0; count = 0; start = 0 }
 
         rising : IsNonDecreasingBy (λ (h : Header). ordering_index (nat_cmp h.object object)) headers
-        rising i j d le l = let r = are.rising i j d le l in grind (arith, nat_tests)
+        rising i j d le l = grind (arith, nat_tests)

@@ -1,25 +1,15 @@
 -- The members of wide objects, kept one object after the other.
-use Rattle.std.proofs.Common.{◌≡◌, ℕ, zero, suc, ◌+◌, ◌<◌, ◌≤◌, true, false, Bool, cond, inl, inr, List, [], ◌∷◌, ◌++◌, length, get_or, refl, sym, ap, ◌∙◌, subst, arith}
-use Rattle.std.specs.Prelude.{nat_eq}
-use Rattle.std.proofs.lemmas.Bool.{cases_lt, cases_Bool, false≢true}
-use Rattle.std.specs.List.{All}
-use Rattle.std.proofs.lemmas.List.Elements.{All-from_recursion, All-push, All-weaker, Contains-append_left, Contains-push}
-use Rattle.std.specs.List.Sorted.{IsPermutation, IsSorted, IsStrictlySortedBy}
-use Rattle.std.specs.Ordering.{on}
-use Rattle.std.proofs.lemmas.List.Sorted.{All-permutation}
-use Rattle.std.specs.Cmp.Lexicographic.{pointwise}
+use Rattle.json_text.proofs.Names.{◌≡◌, ℕ, zero, suc, ◌+◌, ◌<◌, ◌≤◌, true, false, Bool, inl, inr, List, [], ◌∷◌, ◌++◌, length, get_or, sym, ◌∙◌}
+use Rattle.json_text.proofs.Names.{subst, arith, nat_eq, cases_lt, All, All-from_recursion, IsPermutation, IsSorted, on, All-permutation, pointwise}
+use Rattle.json_text.proofs.Names.{Members, IsObject, repeats, meanings, repeats_next_by}
+use Rattle.name_order.proofs.Names.{Less, Keyed, key_name, name_cmp, keyed, IsOrderOf, AreKept, Order, Entry, members_in}
+use Rattle.std.proofs.lemmas.List.Elements.{All-push, All-weaker, Contains-append_left, Contains-push}
+use Rattle.std.specs.List.Sorted.{IsStrictlySortedBy}
 use Rattle.std.specs.declared.cmp.Ordering.{Ordering}
-use Rattle.std.specs.declared.cmp.Ordering.TheVariants.{Less}
-use Rattle.json_text.specs.Tree.{Members}
-use Rattle.json_text.specs.Repeats.{IsObject, repeats, meanings, repeats_next_by}
-use Rattle.json_strings.specs.Keys.{Keyed, key_name, name_cmp}
-use Rattle.name_order.specs.Ordered.{keyed, IsOrderOf, AreKept}
-use Rattle.name_order.specs.Orders.{Order}
 use Rattle.json_strings.specs.KeyOrder.{keys_equiv, keys_total, keys_tie}
-use Rattle.json_text.specs.declared.tape.Entry.{Entry}
 use Rattle.json_text.specs.declared.tape.Kind.{Kind}
 use Rattle.json_text.specs.declared.tape.Kind.TheVariants as kinds
-use Rattle.tape_cells.specs.Cells.{is_object, members_in}
+use Rattle.tape_cells.specs.Cells.{is_object}
 use Rattle.json_text.proofs.Repeats.{strict, sorted_repeats}
 use Rattle.name_order.proofs.KeysLeft.{IsGood, all_good, repeats_keyed}
 use Rattle.tape_cells.proofs.WideObjects.{object_members}
@@ -57,32 +47,27 @@ module _ (text : List ℕ) (tape : List Entry) (n : ℕ) (ys : List Keyed) (move
 module _ (text : List ℕ) (tape : List Entry) where
   pub kept_more : (n : ℕ) (orders new : List Order) (words : List ℕ) → AreKept text tape n orders → IsOrderOf text tape n words → new ≡ orders ++ record { object = n; words = words } ∷ [] → AreKept text tape (n + 1) new
   kept_more n orders new words k o e = subst (AreKept text tape (n + 1)) (sym e) (record {
-    each = All-push (Keeps (n + 1)) orders one (All-weaker (Keeps n) (Keeps (n + 1)) (λ x h. (let l = h.0 in omega arith, h.1)) orders k.each) (omega arith, o);
+    each = All-push (Keeps (n + 1)) orders one (All-weaker (Keeps n) (Keeps (n + 1)) (λ x h. (omega arith, h.1)) orders k.each) (omega arith, o);
     all = λ m h w. elim (cases_lt m n) [
       | inl g ↦ (let (x, c, f) = k.all m g w in (x, Contains-append_left orders (one ∷ []) x c, f))
       | inr g ↦ (one, Contains-push orders one, omega arith)
     ];
-  })
-    where
-      Keeps : ℕ → Order → Type 0
-      Keeps below x = (x.object < below) × IsOrderOf text tape x.object x.words
+  }) where
+    Keeps : ℕ → Order → Type 0
+    Keeps below x = (x.object < below) × IsOrderOf text tape x.object x.words
 
-      one : Order
-      one = record { object = n; words = words }
+    one : Order
+    one = record { object = n; words = words }
 
   pub objects_before : (n : ℕ) (orders : List Order) → AreKept text tape n orders → All (λ (o : Order). o.object < n) orders
   objects_before n orders k i d l = (k.each i d l).0
 
 -- what the number of its members tells of an object
 object_kind : (kind : Kind) → is_object kind ≡ true → kind ≡ kinds.Object
-object_kind kinds.Object h = refl
-object_kind _ h = absurd (false≢true h)
+object_kind kind h = grind arith
 
 pub members_are : (e : Entry) → 0 < members_in e → (e.kind ≡ kinds.Object) × (members_in e ≡ e.children)
-members_are e h = elim (cases_Bool (is_object e.kind)) [
-  | inl t ↦ (object_kind e.kind t, ap (λ b. cond b e.children 0) t)
-  | inr f ↦ absurd (let z : members_in e ≡ 0 = ap (λ b. cond b e.children 0) f in omega arith)
-]
+members_are e h = grind arith
 
 pub few_members : (e : Entry) (members : ℕ) → members ≡ members_in e → members ≤ 1 → (e.kind ≡ kinds.Object) × (1 < e.children) → ⊥
 few_members e members m l w = let q = object_members e w.0 in let h = w.1 in omega arith

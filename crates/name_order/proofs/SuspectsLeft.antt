@@ -1,20 +1,9 @@
 -- Suspects by their numbers in order, and the objects between them.
-use Rattle.std.proofs.Common.{◌≡◌, ℕ, ◌+◌, ◌<◌, ◌≤◌, inl, inr, false, List, [], length, get_or, refl, sym, ap, ◌∙◌, subst, arith}
-use Rattle.std.specs.List.{Contains}
-use Rattle.std.specs.List.Sorted.{IsPermutation, IsSorted}
-use Rattle.std.specs.Ordering.{nat_cmp}
-use Rattle.std.proofs.lemmas.Bool.{cases_lt}
-use Rattle.std.proofs.lemmas.List.{get_or_default}
+use Rattle.json_text.proofs.Names.{◌≡◌, ℕ, ◌+◌, ◌<◌, ◌≤◌, inl, inr, false, List, [], length, get_or, refl, sym, ◌∙◌, subst, arith, Contains}
+use Rattle.json_text.proofs.Names.{IsPermutation, IsSorted, nat_cmp, cases_lt, get_or_default, Members, IsJson, StandsForAll, repeats, meanings}
+use Rattle.json_text.proofs.Names.{IsObject, IsWide, AreSuspects, entry_in, nothing_there}
+use Rattle.name_order.proofs.Names.{members_in, AreKept, Order, Entry}
 use Rattle.std.proofs.lemmas.List.Sorted.{Contains-permutation, IsNonDecreasingBy-from_sort}
-use Rattle.json_text.specs.Tree.{Members}
-use Rattle.json_text.specs.Answer.{IsJson, StandsForAll}
-use Rattle.tape_cells.specs.Cells.{members_in}
-use Rattle.json_text.specs.Repeats.{repeats, meanings, IsObject}
-use Rattle.name_order.specs.Ordered.{AreKept}
-use Rattle.name_order.specs.Orders.{Order}
-use Rattle.json_text.specs.Suspects.{IsWide, AreSuspects}
-use Rattle.json_text.specs.Tape.{entry_in, nothing_there}
-use Rattle.json_text.specs.declared.tape.Entry.{Entry}
 use Rattle.name_order.proofs.TwinNames.{NoneBelow, too_few}
 use Rattle.tape_cells.proofs.WideObjects.{not_wide_by}
 use Rattle.name_order.proofs.Runs.{few_members}
@@ -35,17 +24,11 @@ module _ (text : List ℕ) (tape : List Entry) where
 
     -- at first, these are all
     pub left_all : AreLeft numbers 0 0
-    left_all = record {
-      narrow = λ n h none. are.narrow n (not_suspected n none);
-      apart = λ n ms h none. are.apart n ms (not_suspected n none);
-    }
+    left_all = record { narrow = λ n h none. are.narrow n (not_suspected n none); apart = λ n ms h none. are.apart n ms (not_suspected n none) }
 
   module _ (numbers : List ℕ) (i next : ℕ) (left : AreLeft numbers i next) where
     here_or_later : (n : ℕ) → (get_or numbers i 0 ≡ n → ⊥) → ((j : ℕ) → i + 1 ≤ j → j < length numbers → get_or numbers j 0 ≡ n → ⊥) → (j : ℕ) → i ≤ j → j < length numbers → get_or numbers j 0 ≡ n → ⊥
-    here_or_later n not_here none j h l e = elim (cases_lt i j) [
-      | inl g ↦ none j (omega arith) l e
-      | inr g ↦ (let q : j ≡ i = omega arith in not_here (ap (λ k. get_or numbers k 0) (sym q) ∙ e))
-    ]
+    here_or_later n not_here none j h l e = grind arith
 
     -- without one that was looked at
     pub left_behind : next ≤ get_or numbers i 0 → AreLeft numbers (i + 1) (get_or numbers i 0 + 1)
@@ -62,10 +45,9 @@ module _ (text : List ℕ) (tape : List Entry) where
         | inl g ↦ left.apart n ms h (here_or_later n (λ e. let f = few_at n h e in omega arith) none) o
         | inr g ↦ too_few text tape json stands n nothing_there (few_members (entry_in tape n) (members_in (entry_in tape n)) refl g) ms o
       ];
-    }
-      where
-        few_at : (n : ℕ) → next ≤ n → get_or numbers i 0 ≡ n → members_in (entry_in tape n) ≤ 1
-        few_at n h e = subst (λ m. next ≤ m → members_in (entry_in tape m) ≤ 1) e few h
+    } where
+      few_at : (n : ℕ) → next ≤ n → get_or numbers i 0 ≡ n → members_in (entry_in tape n) ≤ 1
+      few_at n h e = subst (λ m. next ≤ m → members_in (entry_in tape m) ≤ 1) e few h
 
     module _ (to : ℕ) (ahead : next ≤ to) (later : (j : ℕ) → i ≤ j → j < length numbers → to ≤ get_or numbers j 0) where
       below : (n : ℕ) → n < to → (j : ℕ) → i ≤ j → j < length numbers → get_or numbers j 0 ≡ n → ⊥
@@ -73,20 +55,11 @@ module _ (text : List ℕ) (tape : List Entry) where
 
       -- none of the objects before the next number of these has a name that comes again
       pub none_on : NoneBelow text tape next → NoneBelow text tape to
-      none_on before n ms l o = elim (cases_lt n next) [
-        | inl g ↦ before n ms g o
-        | inr g ↦ left.apart n ms g (below n l) o
-      ]
+      none_on before n ms l o = elim (cases_lt n next) [ inl g ↦ before n ms g o | inr g ↦ left.apart n ms g (below n l) o ]
 
       -- and none of them keeps the order of its members
       pub kept_on : (orders : List Order) → AreKept text tape next orders → AreKept text tape to orders
-      kept_on orders k = record {
-        each = λ i d h. (let l = (k.each i d h).0 in omega arith, (k.each i d h).1);
-        all = λ n h w. elim (cases_lt n next) [
-          | inl g ↦ k.all n g w
-          | inr g ↦ absurd (left.narrow n g (below n h) w)
-        ];
-      }
+      kept_on orders k = grind (arith, below)
 
 -- what is sorted rises
 pub later_is_more : (numbers : List ℕ) → IsSorted nat_cmp numbers → (i j : ℕ) → i ≤ j → j < length numbers → get_or numbers i 0 ≤ get_or numbers j 0

@@ -1,6 +1,4 @@
-use Rattle.std.proofs.Common.{◌∙◌, ◌-◌, sym, arith}
-use Rattle.std.specs.Prelude.{nat_eq}
-use Rattle.std.specs.Ordering.{on}
+use Rattle.json_text.proofs.Names.{◌∙◌, ◌-◌, sym, arith, nat_eq, on}
 use Rattle.name_order.specs.Orders.{high_half}
 use Rattle.json_text.proofs.Repeats.{next_over}
 use Rattle.name_order.proofs.order.hashes_meet.Goals as goal

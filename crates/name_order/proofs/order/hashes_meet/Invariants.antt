@@ -1,7 +1,4 @@
-use Rattle.std.proofs.Common.{◌≡◌, ◌-◌, drop}
-use Rattle.std.specs.Prelude.{nat_eq}
-use Rattle.std.specs.Ordering.{on}
-use Rattle.json_text.specs.Repeats.{repeats_next_by}
+use Rattle.json_text.proofs.Names.{◌≡◌, ◌-◌, drop, nat_eq, on, repeats_next_by}
 use Rattle.name_order.specs.Orders.{high_half}
 use Rattle.name_order.proofs.order.hashes_meet.Given as goal
 

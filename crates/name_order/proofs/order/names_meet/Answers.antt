@@ -1,7 +1,4 @@
-use Rattle.std.proofs.Common.{◌∙◌, ◌-◌, sym, arith}
-use Rattle.std.specs.Prelude.{nat_eq}
-use Rattle.std.specs.Ordering.{on}
-use Rattle.std.specs.Cmp.Lexicographic.{pointwise}
+use Rattle.json_text.proofs.Names.{◌∙◌, ◌-◌, sym, arith, nat_eq, on, pointwise}
 use Rattle.json_strings.specs.Keys.{key_name}
 use Rattle.json_text.proofs.Repeats.{next_over}
 use Rattle.name_order.proofs.order.names_meet.Goals as goal

@@ -1,8 +1,4 @@
-use Rattle.std.proofs.Common.{◌≡◌, ◌-◌, drop}
-use Rattle.std.specs.Prelude.{nat_eq}
-use Rattle.std.specs.Ordering.{on}
-use Rattle.std.specs.Cmp.Lexicographic.{pointwise}
-use Rattle.json_text.specs.Repeats.{repeats_next_by}
+use Rattle.json_text.proofs.Names.{◌≡◌, ◌-◌, drop, nat_eq, on, pointwise, repeats_next_by}
 use Rattle.json_strings.specs.Keys.{key_name}
 use Rattle.name_order.proofs.order.names_meet.Given as goal
 

@@ -1,53 +1,36 @@
-use Rattle.std.specs.List.Sorted.{IsPermutation, IsSorted}
-use Rattle.std.proofs.lemmas.List.{take_at}
-use Rattle.std.specs.Ordering.{nat_cmp}
-use Rattle.std.proofs.Common.{map, ◌∙◌, ◌+◌, ◌*◌, ◌∷◌, ◌++◌, [], get_or, refl, sym, ap, subst, arith}
-use Rattle.name_order.specs.Ordered.{keyed, word_of}
+use Rattle.json_text.proofs.Names.{IsPermutation, IsSorted, take_at, nat_cmp, map, ◌∙◌, ◌+◌, ◌*◌, ◌∷◌, ◌++◌, [], get_or, refl, sym, ap, subst, arith}
+use Rattle.name_order.proofs.Names.{keyed, word_of, quoted_at, scalars_at, no_entry, same_entry, next_left}
 use Rattle.json_strings.specs.Hashes.{hash_of}
 use Rattle.json_strings.specs.Keys.{mixed as mix}
 use Rattle.name_order.proofs.KeysLeft.{IsGiven, given_none, given_more, given_all}
-use Rattle.json_strings.proofs.Spelled.{quoted_at, scalars_at}
-use Rattle.json_text.proofs.MembersLeft.{no_entry, same_entry, next_left}
 use Rattle.name_order.proofs.order.sort_words.Goals as goal
 
 pub loop-k-init : goal.loop-k-init
-loop-k-init c =
-    let q = c.after-end.ensures (get_or c.args.tape.now c.args.n no_entry) (same_entry c.args.tape.now c.args.n c.requires.inside) in
-    subst (IsGiven word_of c.args.text.now c.args.tape.now c.args.n _ _) (sym c.clear.ensures.items)
-    (subst (λ e. IsGiven word_of c.args.text.now c.args.tape.now c.args.n (c.args.n + 1) e []) (sym q) (given_none word_of c.args.text.now c.args.tape.now c.args.n))
+loop-k-init c = let q = c.after-end.ensures (get_or c.args.tape.now c.args.n no_entry) (same_entry c.args.tape.now c.args.n c.requires.inside) in
+    rw c.clear.ensures.items (rw q (given_none word_of c.args.text.now c.args.tape.now c.args.n))
 
 pub label-requires : goal.label-requires
-label-requires c =
-    let o = c.requires.object in
-    let b = c.loop-k.invariant o.0 o.1 in
+label-requires c = let o = c.requires.object in let b = c.loop-k.invariant o.0 o.1 in
     (next_left c.args.text.now c.args.tape.now c.args.n c.loop-k.k _ b.0 b.1 c.loop-k-test.true).inside
 
 pub hash-requires : goal.hash-requires
-hash-requires c =
-    let o = c.requires.object in
-    let b = c.loop-k.invariant o.0 o.1 in
+hash-requires c = let o = c.requires.object in let b = c.loop-k.invariant o.0 o.1 in
     let x = next_left c.args.text.now c.args.tape.now c.args.n c.loop-k.k _ b.0 b.1 c.loop-k-test.true in
     let l = c.label.ensures (get_or c.args.tape.now c.loop-k.k no_entry) (same_entry c.args.tape.now c.loop-k.k x.inside) in
     quoted_at c.args.text.now c.args.text.now _ x.name.source x.name.characters refl (l ∙ x.label) x.lies x.string
 
 pub after-k-requires : goal.after-k-requires
-after-k-requires c =
-    let o = c.requires.object in
-    let b = c.loop-k.invariant o.0 o.1 in
+after-k-requires c = let o = c.requires.object in let b = c.loop-k.invariant o.0 o.1 in
     (next_left c.args.text.now c.args.tape.now c.args.n c.loop-k.k _ b.0 b.1 c.loop-k-test.true).inside
 
 pub loop-k-smaller : goal.loop-k-smaller
-loop-k-smaller c =
-    let o = c.requires.object in
-    let b = c.loop-k.invariant o.0 o.1 in
+loop-k-smaller c = let o = c.requires.object in let b = c.loop-k.invariant o.0 o.1 in
     let x = next_left c.args.text.now c.args.tape.now c.args.n c.loop-k.k _ b.0 b.1 c.loop-k-test.true in
     let a = c.after-k.ensures (get_or c.args.tape.now c.loop-k.k no_entry) (same_entry c.args.tape.now c.loop-k.k x.inside) in
     let l = x.later in let t = c.loop-k-test.true in omega arith
 
 pub loop-k-preserved : goal.loop-k-preserved
-loop-k-preserved c =
-    let o = c.requires.object in
-    let b = c.loop-k.invariant o.0 o.1 in
+loop-k-preserved c = let o = c.requires.object in let b = c.loop-k.invariant o.0 o.1 in
     let inside = (next_left c.args.text.now c.args.tape.now c.args.n c.loop-k.k _ b.0 b.1 c.loop-k-test.true).inside in
     let l = c.label.ensures (get_or c.args.tape.now c.loop-k.k no_entry) (same_entry c.args.tape.now c.loop-k.k inside) in
     let a = c.after-k.ensures (get_or c.args.tape.now c.loop-k.k no_entry) (same_entry c.args.tape.now c.loop-k.k inside) in

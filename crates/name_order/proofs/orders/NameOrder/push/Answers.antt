@@ -7,5 +7,4 @@ invariant_of-self-2 c =
     rw (c.in_ok-push.ensures.items, c.in_ok-extend_from_slice.ensures.items) (one_more _ _ _ _ c.self.invariant c.self.view_is _ (omega (arith, c.len.ensures, c.self.inside.words.ok.0)) refl c.requires)
 
 pub returns : goal.returns
-returns c =
-    rw (c.in_ok-push.ensures.items, c.in_ok-extend_from_slice.ensures.items) (one_shown _ _ _ _ c.self.invariant c.self.view_is _ (omega (arith, c.len.ensures, c.self.inside.words.ok.0)) refl)
+returns c = grind (arith, one_shown)

@@ -8,8 +8,4 @@ invariant_of-self-2 c =
     rw (c.in_ok-push.ensures.items, c.in_ok-add_onward.ensures) (one_more _ _ _ _ c.self.invariant c.self.view_is _ (omega (arith, c.len.ensures, c.self.inside.words.ok.0)) long c.requires.behind)
 
 pub returns : goal.returns
-returns c =
-    let h = c.index-earlier.result.now in
-    let long = like_long _ _ _ c.self.view_is c.self.invariant c.args.at h c.requires.at c.index-earlier.ensures c.args.shift in
-    rw (c.in_ok-push.ensures.items, c.in_ok-add_onward.ensures, order_at _ _ _ c.self.view_is c.args.at h c.requires.at c.index-earlier.ensures)
-    (one_shown _ _ _ _ c.self.invariant c.self.view_is _ (omega (arith, c.len.ensures, c.self.inside.words.ok.0)) long)
+returns c = grind (arith, like_long, order_at, one_shown)
