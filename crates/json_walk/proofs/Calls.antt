@@ -1,22 +1,16 @@
 -- What the calls for a token show, with the bytes that stand at the place.
-use Rattle.std.proofs.Common.{◌≡◌, ◌≢◌, ℕ, ◌+◌, ◌-◌, ◌<◌, List, [], ◌∷◌, ◌++◌, length, take, drop, get_or, None, true, refl, sym, ap, ◌∙◌, subst, arith, append_assoc}
-use Rattle.std.specs.Prelude.{IsUtf8}
-use Rattle.std.proofs.lemmas.Str.{IsUtf8-drop, IsCharBoundary-after_ascii}
-use Rattle.std.proofs.lemmas.List.{drop_more, take_at}
-use Rattle.json_text.specs.Tokens.{class, is_atom, AreAtoms, NoAtomFirst, IsToken, sign, text, word, sign_at, IsWord, WordIs, quote_end, atom_end, Refused}
-use Rattle.json_text.specs.Machine.{Token, Word, State, run_at}
+use Rattle.json_text.proofs.Names.{◌≡◌, ◌≢◌, ℕ, ◌+◌, ◌-◌, ◌<◌, List, [], ◌∷◌, ◌++◌, length, take, drop, get_or, None, true, refl, sym, arith}
+use Rattle.json_text.proofs.Names.{append_assoc, IsUtf8, IsCharBoundary-after_ascii, drop_more, take_at, is_atom, AreAtoms, NoAtomFirst, IsToken}
+use Rattle.json_text.proofs.Names.{word, IsWord, quote_end, atom_end, Token, Word, run_at}
+use Rattle.std.proofs.lemmas.Str.{IsUtf8-drop}
 use Rattle.json_text.specs.declared.tape.Kind.{Kind}
-use Rattle.json_text.proofs.Lexed.{sign_class, atoms_end}
 use Rattle.json_walk.proofs.Tokens.{class_atom, quote_none, atoms_found}
 
 pub behind : (bytes : List ℕ) (i : ℕ) → IsUtf8 bytes → i < length bytes → get_or bytes i 0 ≡ 34 → IsUtf8 (drop (i + 1) bytes)
 behind bytes i u l e = IsUtf8-drop bytes (i + 1) u (IsCharBoundary-after_ascii bytes i u l (omega arith))
 
 pub no_string : {i : ℕ} {vs rest : List ℕ} {tok : Token} → IsToken i vs tok rest → (cs : List ℕ) → quote_end (i + 1) cs ≡ None → 34 ∷ cs ≡ vs ++ rest → ⊥
-no_string (sign {p = p} {b = b} h) cs n e = let f : b ≡ 34 = cc in let g = ap (sign_at p) f in cc
-no_string {rest = rest} (text {p = p} ds (inside, a, f)) cs n e =
-    quote_none (p + 1) cs n ds inside rest a (let g = ap (λ l. l ++ rest) f ∙ ap (λ l. 34 ∷ l) (append_assoc inside (34 ∷ []) rest) in cc)
-no_string (word {b = b} at over k) cs n e = let f : b ≡ 34 = cc in let g = ap class f in let c = at.0 in cc
+no_string h cs n e = grind (arith, quote_none, append_assoc)
 
 -- words and numbers
 pub word_is : (i : ℕ) (atoms rest : List ℕ) (k : Kind) → AreAtoms atoms → NoAtomFirst rest → IsWord atoms k → atoms ≢ [] → IsToken i atoms (Word (run_at i (length atoms)) k) rest
@@ -34,16 +28,5 @@ pub record Atoms (bytes : List ℕ) (i j : ℕ) : Type 0 where
   pub taken : take (j - i) (drop i bytes) ≡ vs
 
 pub atoms_here : (bytes : List ℕ) (i j : ℕ) → i < length bytes → is_atom (get_or bytes i 0) ≡ true → j ≡ atom_end i (drop i bytes) → Atoms bytes i j
-atoms_here bytes i j h q e =
-    let r = atoms_found i (drop i bytes) in
-    let long : j - i ≡ length r.atoms = (let a = r.end in omega arith) in
-    record {
-      vs = r.atoms;
-      rest = r.rest;
-      are = r.are;
-      over = r.over;
-      stands = r.is;
-      some = (λ n. subst NoAtomFirst (sym (r.is ∙ ap (λ l. l ++ r.rest) n) ∙ drop_more bytes i 0 h) r.over (class_atom (get_or bytes i 0) q));
-      end = e ∙ r.end;
-      taken = ap (take (j - i)) r.is ∙ take_at r.atoms r.rest (j - i) (sym long);
-    }
+atoms_here bytes i j h q e = let r = atoms_found i (drop i bytes) in let long : j - i ≡ length r.atoms = (let a = r.end in omega arith) in
+    grind (arith, drop_more bytes i 0 h, class_atom (get_or bytes i 0) q, take_at r.atoms r.rest (j - i) (sym long))

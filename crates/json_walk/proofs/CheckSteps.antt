@@ -1,51 +1,30 @@
 -- The duplicate check holds over the steps of the machine.
-use Rattle.std.proofs.Common.{◌≡◌, ℕ, ◌+◌, ◌*◌, ◌<◌, ◌≤◌, inl, inr, Bool, cond, true, false, List, [], ◌∷◌, ◌++◌, length, max, Option, Some, None, refl, sym, ap, ◌∙◌, subst, arith}
+use Rattle.json_walk.proofs.Names.{Entry, Extent, Kind, Shape, Object, Level, Inside, Want, Open, BuildFault, Built, standing, token_of, no_more}
+use Rattle.json_walk.proofs.Names.{Lexed, Spot, DuplicateCheck}
+use Rattle.std.proofs.Common.{◌≡◌, ℕ, ◌+◌, ◌≤◌, Bool, cond, List, [], ◌∷◌, ◌++◌, length, max, Option, Some, None, refl, sym, ap, subst, arith}
 use Rattle.std.specs.Prelude.{Result, Ok, Err, IfOk, OnOk, IfSome}
 use Rattle.std.proofs.lemmas.Option.{same_Some}
-use Rattle.json_text.specs.declared.tape.Entry.{Entry}
-use Rattle.json_text.specs.declared.tape.Extent.{Extent}
-use Rattle.json_text.specs.declared.tape.Kind.{Kind}
 use Rattle.json_text.specs.declared.tape.Role.TheVariants as roles
-use Rattle.json_text.specs.declared.tape.Shape.{Shape}
-use Rattle.json_text.specs.declared.tape.Shape.TheVariants.{Object}
-use Rattle.json_text.specs.declared.tape.Level.{Level}
-use Rattle.json_text.specs.declared.tape.Level.TheVariants.{Inside}
-use Rattle.json_text.specs.declared.tape.Want.{Want}
 use Rattle.json_text.specs.declared.tape.Want.TheVariants as wants
-use Rattle.json_text.specs.declared.tape.Open.{Open}
-use Rattle.json_text.specs.declared.tape.BuildFault.{BuildFault}
 use Rattle.name_stamps.specs.declared.seen.SeenNames.{SeenNames}
 use Rattle.name_stamps.specs.declared.seen.Slot.{Slot}
-use Rattle.std.specs.List.{Contains}
-use Rattle.tape_cells.specs.Cells.{is_object, members_in}
+use Rattle.tape_cells.specs.Cells.{members_in}
 use Rattle.json_text.specs.Machine.{State, Opening, Closing, Word, step, Took, label_at, label_for, with_child, change_at, closed, closes, level_of, first_of, kind_of_shape, put_leaf, put_open, put_close}
-use Rattle.json_text.specs.Tape.{entry_in, role_of, label_spot}
+use Rattle.json_text.specs.Tape.{role_of, label_spot}
 use Rattle.json_text.specs.Suspects.{narrow}
-use Rattle.tape_cells.specs.Built.{Built, standing, top_of, depth_of, children_of}
-use Rattle.json_walk.specs.Walked.{token_of, behind, spot_after, with_sign, no_more}
-use Rattle.json_walk.specs.declared.lexing.Lexed.{Lexed}
+use Rattle.tape_cells.specs.Built.{top_of, depth_of, children_of}
+use Rattle.json_walk.specs.Walked.{behind, spot_after, with_sign}
 use Rattle.json_walk.specs.declared.lexing.Lexed.TheVariants as lexed
-use Rattle.json_walk.specs.declared.second_stage.Spot.{Spot}
 use Rattle.json_text.specs.declared.tape.Kind.TheVariants as kinds
-use Rattle.name_stamps.specs.Stamps.{AreDistinct, AreHeld, IsMemberOf, IsUnsuspected, DuplicateCheck, IsNew, IsFresh, HasSlot, IsSameTop}
+use Rattle.name_stamps.specs.Stamps.{IsUnsuspected, IsNew, IsFresh, HasSlot, IsSameTop}
 use Rattle.name_stamps.proofs.CheckKept.{IsInside, check_grown, check_opened, check_shut}
 
 -- the check is of the entries and the open containers alone
 same_check : (text : List ℕ) (seen : SeenNames) (a b : Built) → a.entries ≡ b.entries → a.opens ≡ b.opens → DuplicateCheck text a seen → DuplicateCheck text b seen
-same_check text seen a b e o t = record {
-  long = t.long;
-  apart = λ n u. subst (λ es. AreDistinct text es n) e (t.apart n u);
-  few = λ n u. subst (λ es. members_in (entry_in es n) ≤ narrow) e (t.few n u);
-  held = subst (λ es. AreHeld text es seen (length es) b.opens) e (subst (AreHeld text a.entries seen (length a.entries)) o t.held);
-  above = subst (λ es. (n k : ℕ) → IsMemberOf es n k → n < length es) e t.above;
-}
+same_check text seen a b e o t = grind arith
 
 few_of : (e : Entry) → e.children ≡ 0 → members_in e ≤ narrow
-few_of e h = go (is_object e.kind)
-  where
-    go : (b : Bool) → cond b e.children 0 ≤ narrow
-    go true = omega (arith, h)
-    go false = omega arith
+few_of e h = grind arith
 
 -- the label of a member is its name
 new_of : (text : List ℕ) (es : List Entry) (seen : SeenNames) (n depth children : ℕ) (l : Level) (name : Option Extent) → ((x : Extent) → name ≡ Some x → IsUnsuspected seen n → IsNew text es seen n depth x)
@@ -81,16 +60,10 @@ module _ (text : List ℕ) (seen : SeenNames) (old : Built) (name : Option Exten
       (λ r. let w = new_of text old.entries seen o.entry (length os) o.children o.level name (fresh_as o os is) r in (refl, w.0, w.1)) (check_as o os is) shape refl)
 
 leaf_top_is : (old new : Built) (name : Option Extent) (want : Want) (x : Extent) (kind : Kind) (os : List Open) → put_leaf x kind old.entries os wants.Value name old.deep ≡ Some (standing new want None) → IsSameTop os new.opens
-leaf_top_is old new name want x kind [] h = absurd (cc)
-leaf_top_is old new name want x kind (o ∷ os) h =
-    let e : Entry = record { kind = kind; role = role_of (label_for o name); label = label_spot (label_for o name); source = x; up = o.entry; children = 0; after = length old.entries + 1 } in
-    let made : Built = record { entries = old.entries ++ e ∷ []; opens = with_child o ∷ os; deep = old.deep } in
-    let opens = ap (λ (s : State). s.opens) (same_Some (standing made wants.Next None) (standing new want None) h) in
-    (sym (ap top_of opens), sym (ap depth_of opens))
+leaf_top_is old new name want x kind os h = grind (arith, same_Some)
 
 chosen : (b : Bool) (s t : State) → cond b (Some s) None ≡ Some t → s ≡ t
-chosen true s t h = same_Some s t h
-chosen false s t h = absurd (cc)
+chosen b s t h = grind arith
 
 close_shut : (text : List ℕ) (seen : SeenNames) (old new : Built) (shape : Shape) (p : ℕ) (os : List Open) → old.opens ≡ os → level_of os ≡ Inside shape → (shape ≡ Object → IsUnsuspected seen (top_of os) → children_of os ≤ narrow)
     → put_close shape p old.entries os wants.Next None old.deep ≡ Some (standing new wants.Next None) → DuplicateCheck text old seen → DuplicateCheck text new seen
@@ -121,8 +94,7 @@ close_checked old new shape p seen (Err f) level few h = tt
 
 -- after a call before it
 pub on_both : {A E : Type 0} (r : Result A E) (a b c : Built) (m n : SeenNames) → ((text : List ℕ) → DuplicateCheck text a m → DuplicateCheck text b n) → OnOk r ((text : List ℕ) → DuplicateCheck text b n → DuplicateCheck text c n) → OnOk r ((text : List ℕ) → DuplicateCheck text a m → DuplicateCheck text c n)
-on_both (Ok u) a b c m n f h = λ text checked. h text (f text checked)
-on_both (Err e) a b c m n f h = tt
+on_both r a b c m n f h = search arith
 
 abbrev Leaf : (text : List ℕ) (old new : Built) (name : Option Extent) → Result (Option ℕ) BuildFault → Type 0
 Leaf text old new name r = IfOk r (λ made. (seen : SeenNames) → DuplicateCheck text old seen → IsFresh text old seen name → DuplicateCheck text new seen) × IfOk r (λ made. IfSome made (λ sign. IsSameTop old.opens new.opens))
@@ -133,27 +105,15 @@ leaf_signed text old new name x kind sign (Ok u) r e h = subst (Leaf text old ne
 leaf_signed text old new name x kind sign (Err f) r e h = subst (Leaf text old new name) (sym e) (tt, tt)
 
 pub by_none : (P : Type 0) (r : Result (Unit {0}) BuildFault) (s : Result (Option ℕ) BuildFault) → s ≡ no_more r → IfOk r (λ u. P) → IfOk s (λ made. P)
-by_none P (Ok u) s e h = subst (λ t. IfOk t (λ made. P)) (sym e) h
-by_none P (Err f) s e h = subst (λ t. IfOk t (λ made. P)) (sym e) tt
+by_none P r s e h = search arith
 
 -- over a member whose name was inserted
 pub child_checked : (text looked : List ℕ) (same : looked ≡ text) (old new : Built) (seen : SeenNames) (name : Option Extent) {A E : Type 0} (r : Result A E) → IfOk r (λ made. (m : SeenNames) → DuplicateCheck looked old m → IsFresh looked old m name → DuplicateCheck looked new m)
     → DuplicateCheck text old seen → IsFresh text old seen name → IfOk r (λ made. DuplicateCheck text new seen)
-child_checked text looked same old new seen name (Ok x) h checked fresh = subst (λ t. DuplicateCheck t old seen → IsFresh t old seen name → DuplicateCheck t new seen) same (h seen) checked fresh
-child_checked text looked same old new seen name (Err f) h checked fresh = tt
-
-same_slot : (old new : Built) (slot : Slot) (seen : SeenNames) → IsSameTop old.opens new.opens → HasSlot old slot seen → HasSlot new slot seen
-same_slot old new slot seen top s = record {
-  number = s.number ∙ sym top.0;
-  table = elim s.table [
-    | inl q ↦ inl (q.0 ∙ ap (λ n. n * 1024) (sym top.1), subst (λ n. n < 8) (sym top.1) q.1)
-    | inr q ↦ inr (q.0, subst (λ n. Contains seen.suspects.items n) (sym top.0) q.1)
-  ];
-}
+child_checked text looked same old new seen name r h checked fresh = search arith
 
 pub slot_on : (P : Type 0) (old new : Built) (slot : Slot) (seen : SeenNames) {E : Type 0} (r : Result (Option ℕ) E) → IfOk r (λ made. IfSome made (λ sign. IsSameTop old.opens new.opens)) → (P → HasSlot old slot seen) → IfOk r (λ made. IfSome made (λ sign. P → HasSlot new slot seen))
-slot_on P old new slot seen (Ok (Some sign)) top s = λ p. same_slot old new slot seen top (s p)
-slot_on _ old new slot seen _ top s = tt
+slot_on P old new slot seen r top s = grind arith
 
 pub where_some : {A : Type 0} (P : Type 0) (o : Option A) (x : A) → o ≡ Some x → IfSome o (λ y. P) → P
 where_some P o x e h = subst (λ k. IfSome k (λ y. P)) e h

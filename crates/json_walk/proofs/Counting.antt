@@ -1,25 +1,21 @@
 -- Places and source bytes, over the text and over the tree.
-use Rattle.std.proofs.Common.{◌≡◌, ◌≢◌, ℕ, zero, suc, ◌+◌, ◌-◌, ◌<◌, ◌≤◌, inl, inr, Bool, true, false, not, ◌&&◌, ◌||◌, ◌==◌, cond, List, [], ◌∷◌, ◌++◌, length, drop, filter, refl, sym, ap, subst, ◌∙◌, arith, append_assoc, length-append}
+use Rattle.json_text.proofs.Names.{◌≡◌, ◌≢◌, ℕ, zero, suc, ◌+◌, ◌-◌, ◌<◌, ◌≤◌, inl, inr, Bool, true, false, not, ◌&&◌, ◌||◌, cond, List, [], ◌∷◌}
+use Rattle.json_text.proofs.Names.{◌++◌, length, drop, refl, sym, ap, subst, ◌∙◌, arith, append_assoc, length-append, nat_tests, cases_lt, append-nil}
+use Rattle.json_text.proofs.Names.{Source, Spelt, Plain, Short, Unit4, Name, Scalar, Null, True, False, Num, Str, Tree, Arr, Obj, Elements, NoElement}
+use Rattle.json_text.proofs.Names.{Element, Members, NoMember, Member, then_element, then_member, AreBlanks, IsHexDigit, IsShort, IsChar, AreChars}
+use Rattle.json_text.proofs.Names.{IsString, at, IsScalarText, IsValue, IsElements, IsMembers, IsMember, IsText, scalar, no_array, array, no_object}
+use Rattle.json_text.proofs.Names.{object, one_element, next_element, one_member, next_member, member, Atom, class, AreAtoms, NoAtomFirst, text, word}
+use Rattle.json_text.proofs.Names.{IsWord, turn}
+use Rattle.json_walk.proofs.Names.{op_byte, blank_byte, byte, is_inside, places, IsSeam, is_plain_atom, Kind, Between}
+use Rattle.std.proofs.Common.{filter}
 use Rattle.std.specs.List.{range_with_len}
-use Rattle.std.proofs.lemmas.Bool.Decides.{nat_tests}
-use Rattle.std.proofs.lemmas.Bool.{cases_lt}
-use Rattle.std.proofs.lemmas.List.{append-nil}
-use Rattle.decimal_order.specs.Number.{IsNumber, IsInt}
-use Rattle.byte_masks.specs.Classes.{op_byte, blank_byte, control_byte}
-use Rattle.structural_index.specs.Places.{byte, run_before, quotes_before, is_inside, is_atom, after_atom, is_place, places, places_from}
-use Rattle.structural_index.specs.Seams.{IsSeam, is_plain_atom}
+use Rattle.byte_masks.specs.Classes.{control_byte}
+use Rattle.structural_index.specs.Places.{run_before, quotes_before, is_atom, after_atom, is_place, places_from}
 use Rattle.structural_index.proofs.Skips.{past_blank}
 use Rattle.structural_index.proofs.Seams as seams
-use Rattle.json_text.specs.Tree.{Source, Spelt, Plain, Short, Unit4, Name, Scalar, Null, True, False, Num, Str, Tree, Arr, Obj, Elements, NoElement, Element, Members, NoMember, Member, then_element, then_member}
-use Rattle.json_text.specs.Letters.{AreBlanks, IsHexDigit, IsShort, IsChar, AreChars, IsString}
-use Rattle.json_text.specs.Grammar.{at, IsScalarText, IsValue, IsElements, IsMembers, IsMember, IsText, scalar, no_array, array, no_object, object, one_element, next_element, one_member, next_member, member}
-use Rattle.json_text.specs.Tokens.{Atom, class, AreAtoms, NoAtomFirst, text, word, IsWord}
-use Rattle.json_text.specs.declared.tape.Kind.{Kind}
 use Rattle.json_text.specs.declared.tape.Kind.TheVariants as kinds
 use Rattle.json_walk.specs.Counting.{is_source_byte, source_bytes_before, source_bytes, source_bytes_of_elements, source_bytes_of_members, tokens, tokens_of_elements, tokens_of_members}
-use Rattle.json_text.specs.declared.modes.Mode.TheVariants.{Between}
 use Rattle.json_text.specs.declared.modes.Turn.TheVariants.{Go}
-use Rattle.json_text.specs.Scanning.{turn}
 use Rattle.json_text.proofs.Strings.{ArePlain, plain_bytes}
 use Rattle.json_text.proofs.Chars.{number_atoms}
 use Rattle.json_walk.proofs.Bridge.{Each, each_append, uncons, drop_past, stands, string_ends, token_place, blank_from, length_within, atoms_each}
@@ -41,25 +37,16 @@ pub record Crossed (bytes : List ℕ) (i j : ℕ) (rest : List ℕ) (n w : ℕ) 
   pub left : drop j bytes ≡ rest
   pub clean : (k : ℕ) → i ≤ k → k < j → (is_inside bytes k && control_byte (byte bytes k)) ≡ false
 
-pub crossed_both : (bytes : List ℕ) (i j k : ℕ) (mid rest : List ℕ) (m n v w : ℕ) → Crossed bytes i j mid m v → Crossed bytes j k rest n w → Crossed bytes i k rest (m + n) (v + w)
-crossed_both bytes i j k mid rest m n v w f g =
-    let a = f.count in let b = g.count in let c = f.weight in let d = g.weight in
-    record { within = g.within; seam = g.seam; count = omega arith; weight = omega arith; left = g.left; clean = λ x p q. elim (cases_lt x j) [ inl y ↦ f.clean x p y | inr y ↦ g.clean x y q ] }
-
 clean_outside : (bytes : List ℕ) (k : ℕ) → is_inside bytes k ≡ false → (is_inside bytes k && control_byte (byte bytes k)) ≡ false
 clean_outside bytes k h = ap (λ x. x && control_byte (byte bytes k)) h
 
 clean_byte : (a b : Bool) → b ≡ false → (a && b) ≡ false
-clean_byte true b h = h
-clean_byte false b h = refl
+clean_byte a b h = grind arith
 
 pub cross_blanks : (bytes : List ℕ) (i : ℕ) (s rest : List ℕ) → i ≤ length bytes → IsSeam bytes i → drop i bytes ≡ s ++ rest → AreBlanks s → (j : ℕ) × Crossed bytes i j rest 0 0
 cross_blanks bytes i [] rest l m e h = (i, record { within = l; seam = m; count = omega arith; weight = omega arith; left = e; clean = λ k p q. absurd (omega arith) })
-cross_blanks bytes i (b ∷ s) rest l m e h =
-    let u = uncons bytes i b (s ++ rest) e in
-    let within = u.within in
-    let blank = ap blank_byte u.here ∙ blank_from b h.0 in
-    let p = seams.seam_blank bytes i m blank in
+cross_blanks bytes i (b ∷ s) rest l m e h = let u = uncons bytes i b (s ++ rest) e in let within = u.within in
+    let blank = ap blank_byte u.here ∙ blank_from b h.0 in let p = seams.seam_blank bytes i m blank in
     let x = cross_blanks bytes (suc i) s rest (omega arith) p.1 u.left h.1 in
     let none : is_source_byte bytes i ≡ false = ap (λ t. t || not (blank_byte (byte bytes i) || op_byte (byte bytes i))) m.outside ∙ ap (λ t. not (t || op_byte (byte bytes i))) blank in
     let same : source_bytes_before bytes (suc i) ≡ source_bytes_before bytes i = source_suc bytes i ∙ ap (λ t. cond t (suc (source_bytes_before bytes i)) (source_bytes_before bytes i)) none in
@@ -68,27 +55,19 @@ cross_blanks bytes i (b ∷ s) rest l m e h =
 -- n source bytes from i on
 source_run : (bytes : List ℕ) (i n : ℕ) → ((k : ℕ) → i ≤ k → k < i + n → is_source_byte bytes k ≡ true) → source_bytes_before bytes (i + n) ≡ source_bytes_before bytes i + n
 source_run bytes i zero h = let e : i + 0 ≡ i = omega arith in let f : source_bytes_before bytes i ≡ source_bytes_before bytes i + 0 = omega arith in ap (source_bytes_before bytes) e ∙ f
-source_run bytes i (suc n) h =
-    let e : suc (i + n) ≡ i + suc n = omega arith in
-    let ih = source_run bytes i n (λ k a b. h k a (omega arith)) in
-    let f : suc (source_bytes_before bytes (i + n)) ≡ source_bytes_before bytes i + suc n = omega arith in
-    ap (source_bytes_before bytes) (sym e) ∙ source_suc bytes (i + n) ∙ ap (λ t. cond t (suc (source_bytes_before bytes (i + n))) (source_bytes_before bytes (i + n))) (h (i + n) (omega arith) (omega arith)) ∙ f
+source_run bytes i (suc n) h = grind (arith, source_run bytes i n (λ k a b. h k a (omega arith)), source_suc bytes (i + n))
 
 -- a token without weight
 pub cross_sign : (bytes : List ℕ) (i b : ℕ) (rest : List ℕ) → IsSeam bytes i → drop i bytes ≡ b ∷ rest → op_byte b ≡ true → Crossed bytes i (suc i) rest 1 0
 cross_sign bytes i b rest m e o =
-    let u = uncons bytes i b rest e in
-    let within = u.within in
-    let op = ap op_byte u.here ∙ o in
-    let q = seams.passes_sign bytes i m within op in
+    let u = uncons bytes i b rest e in let within = u.within in let op = ap op_byte u.here ∙ o in let q = seams.passes_sign bytes i m within op in
     let count : length (places_from bytes i) ≡ suc (length (places_from bytes (suc i))) = ap length q.one in
     let none : is_source_byte bytes i ≡ false = ap (λ t. t || not (blank_byte (byte bytes i) || op_byte (byte bytes i))) m.outside ∙ ap (λ t. not (blank_byte (byte bytes i) || t)) op ∙ or_true (blank_byte (byte bytes i)) in
     let same : source_bytes_before bytes (suc i) ≡ source_bytes_before bytes i = source_suc bytes i ∙ ap (λ t. cond t (suc (source_bytes_before bytes i)) (source_bytes_before bytes i)) none in
     record { within = omega arith; seam = q.seam; count = omega arith; weight = omega arith; left = u.left; clean = λ k p r. (let f : k ≡ i = omega arith in clean_outside bytes k (ap (is_inside bytes) f ∙ m.outside)) }
   where
     or_true : (a : Bool) → not (a || true) ≡ false
-    or_true true = refl
-    or_true false = refl
+    or_true a = grind arith
 
 source_inside : (bytes : List ℕ) (k : ℕ) → is_inside bytes k ≡ true → is_source_byte bytes k ≡ true
 source_inside bytes k h = ap (λ t. t || not (blank_byte (byte bytes k) || op_byte (byte bytes k))) h
@@ -115,17 +94,14 @@ char_clean (Unit4 u) one (a, b, c, d, x, y, z, w, ha, hb, hc, hd, eu, is) =
 
 chars_clean : (cs : List Spelt) (inside : List ℕ) → AreChars inside cs → Each (λ b. control_byte b ≡ false) inside
 chars_clean [] inside h = subst (Each (λ b. control_byte b ≡ false)) (sym h) tt
-chars_clean (c ∷ cs) inside (one, others, h, hs, is) =
-    subst (Each (λ b. control_byte b ≡ false)) (sym is) (each_append (λ b. control_byte b ≡ false) one others (char_clean c one h) (chars_clean cs others hs))
+chars_clean (c ∷ cs) inside (one, others, h, hs, is) = grind (arith, chars_clean cs others hs, each_append, char_clean)
 
 string_clean : (vs : List ℕ) (cs : List Spelt) → IsString vs cs → Each (λ b. control_byte b ≡ false) vs
-string_clean vs cs (inside, h, is) =
-    subst (Each (λ b. control_byte b ≡ false)) (sym is) (refl, each_append (λ b. control_byte b ≡ false) inside (34 ∷ []) (chars_clean cs inside h) (refl, tt))
+string_clean vs cs h = grind (arith, each_append, chars_clean)
 
 pub cross_string : (bytes : List ℕ) (i : ℕ) (vs rest : List ℕ) (cs : List Spelt) → IsSeam bytes i → drop i bytes ≡ vs ++ rest → IsString vs cs → Crossed bytes i (i + length vs) rest 1 (length vs)
 cross_string bytes i vs rest cs m e (inside, h, is) =
-    let u = uncons bytes i 34 ((inside ++ 34 ∷ []) ++ rest) (e ∙ ap (λ l. l ++ rest) is) in
-    let o = seams.opens_at_seam bytes i m u.here in
+    let u = uncons bytes i 34 ((inside ++ 34 ∷ []) ++ rest) (e ∙ ap (λ l. l ++ rest) is) in let o = seams.opens_at_seam bytes i m u.here in
     let size : length vs ≡ suc (length inside + 1) = ap length is ∙ ap suc (length-append inside (34 ∷ [])) in
     let end : suc (i + suc (length inside)) ≡ i + length vs = omega arith in
     let span = string_ends bytes i (i + suc (length inside)) vs rest cs e (inside, h, is) o end in
@@ -145,17 +121,11 @@ cross_string bytes i vs rest cs m e (inside, h, is) =
     }
 
 plain_source : (b : ℕ) → is_plain_atom b ≡ true → not (blank_byte b || op_byte b) ≡ true
-plain_source b h = by_cases (blank_byte b) (op_byte b) (b == 0x22) h
-  where
-    by_cases : (x y z : Bool) → not (x || y || z) ≡ true → not (x || y) ≡ true
-    by_cases false false z g = refl
-    by_cases _ _ z g = g
+plain_source b h = grind arith
 
 pub cross_word : (bytes : List ℕ) (i b : ℕ) (vs rest : List ℕ) (kind : Kind) → IsSeam bytes i → drop i bytes ≡ (b ∷ vs) ++ rest → AreAtoms (b ∷ vs) → NoAtomFirst rest → IsWord (b ∷ vs) kind → Crossed bytes i (i + suc (length vs)) rest 1 (suc (length vs))
-cross_word bytes i b vs rest kind m e a n k =
-    let t = token_place bytes i i (b ∷ vs) rest _ m e (word a n k) in
-    let count : length (places_from bytes i) ≡ suc (length (places_from bytes (i + suc (length vs)))) = ap length t.one in
-    record {
+cross_word bytes i b vs rest kind m e a n k = let t = token_place bytes i i (b ∷ vs) rest _ m e (word a n k) in
+    let count : length (places_from bytes i) ≡ suc (length (places_from bytes (i + suc (length vs)))) = ap length t.one in record {
       within = length_within bytes i (b ∷ vs) rest e (omega arith);
       seam = t.seam;
       count = omega arith;
@@ -167,27 +137,10 @@ cross_word bytes i b vs rest kind m e a n k =
 -- ---- the tree
 
 pub scalar_word : (bytes : List ℕ) (kind : Kind) → IsWord bytes kind → AreAtoms bytes
-scalar_word bs kinds.Number h = number_atoms bs h
-scalar_word bs kinds.Null h = subst AreAtoms (sym h) (refl, (refl, (refl, (refl, tt))))
-scalar_word bs (kinds.Bool true) h = subst AreAtoms (sym h) (refl, (refl, (refl, (refl, tt))))
-scalar_word bs (kinds.Bool false) h = subst AreAtoms (sym h) (refl, (refl, (refl, (refl, (refl, tt)))))
-scalar_word bs _ h = absurd h
+scalar_word bs kind h = grind (arith, number_atoms)
 
 word_not_empty : (kind : Kind) → IsWord [] kind → ⊥
-word_not_empty kinds.Number h = number_first_none h
-  where
-    number_first_none : IsNumber [] → ⊥
-    number_first_none x = int_empty x.minus x.int (x.frac ++ x.exp) x.whole x.is_int
-      where
-        int_empty : (m n r : List ℕ) → [] ≡ m ++ (n ++ r) → IsInt n → ⊥
-        int_empty [] [] r e i = i
-        int_empty _ _ r e i = absurd (cc)
-word_not_empty kinds.Null h = absurd (cc)
-word_not_empty (kinds.Bool true) h = absurd (cc)
-word_not_empty (kinds.Bool false) h = absurd (cc)
-word_not_empty kinds.Text h = absurd h
-word_not_empty kinds.Array h = absurd h
-word_not_empty kinds.Object h = absurd h
+word_not_empty kind h = grind arith
 
 cross_kind : (bytes : List ℕ) (i : ℕ) (vs rest : List ℕ) (kind : Kind) → IsSeam bytes i → drop i bytes ≡ vs ++ rest → NoAtomFirst rest → IsWord vs kind → Crossed bytes i (i + length vs) rest 1 (length vs)
 cross_kind bytes i [] rest kind m e n k = absurd (word_not_empty kind k)
@@ -221,12 +174,10 @@ weight_then_member NoMember n t = omega arith
 weight_then_member (Member m a ms) n t = let ih = weight_then_member ms n t in omega arith
 
 some_elements : (es : Elements) (n : ℕ) (s : Source) → suc n ≡ tokens_of_elements es → tokens (Arr s es) ≡ suc (suc n)
-some_elements NoElement n s e = absurd (omega arith)
-some_elements (Element t es) n s e = omega arith
+some_elements es n s e = grind arith
 
 some_members : (ms : Members) (n : ℕ) (s : Source) → suc n ≡ tokens_of_members ms → tokens (Obj s ms) ≡ suc (suc n)
-some_members NoMember n s e = absurd (omega arith)
-some_members (Member m t ms) n s e = omega arith
+some_members ms n s e = grind arith
 
 -- from i on, up to some place
 pub record Reaches (bytes : List ℕ) (i : ℕ) (rest : List ℕ) (n w : ℕ) : Type 0 where
@@ -234,8 +185,7 @@ pub record Reaches (bytes : List ℕ) (i : ℕ) (rest : List ℕ) (n w : ℕ) : 
   pub crossed : Crossed bytes i end rest n w
 
 reaches_both : (bytes : List ℕ) (i : ℕ) (mid rest : List ℕ) (m n v w x y : ℕ) → (f : Reaches bytes i mid m v) → Reaches bytes f.end rest n w → x ≡ m + n → y ≡ v + w → Reaches bytes i rest x y
-reaches_both bytes i mid rest m n v w x y f g e d =
-    record { end = g.end; crossed = subst (λ z. Crossed bytes i g.end rest z y) (sym e) (subst (λ z. Crossed bytes i g.end rest (m + n) z) (sym d) (crossed_both bytes i f.end g.end mid rest m n v w f.crossed g.crossed)) }
+reaches_both bytes i mid rest m n v w x y f g e d = grind arith
 
 reach_blanks : (bytes : List ℕ) (i : ℕ) (s rest : List ℕ) → i ≤ length bytes → IsSeam bytes i → drop i bytes ≡ s ++ rest → AreBlanks s → Reaches bytes i rest 0 0
 reach_blanks bytes i s rest l m e h = let x = cross_blanks bytes i s rest l m e h in record { end = x.0; crossed = x.1 }
@@ -246,8 +196,7 @@ then_blanks bytes i s rest n w f h =
     reaches_both bytes i (s ++ rest) rest n 0 w 0 n w f (reach_blanks bytes f.end s rest f.crossed.within f.crossed.seam f.crossed.left h) (omega arith) (omega arith)
 
 then_sign : (bytes : List ℕ) (i b : ℕ) (rest : List ℕ) (n w : ℕ) → Reaches bytes i (b ∷ rest) n w → op_byte b ≡ true → Reaches bytes i rest (suc n) w
-then_sign bytes i b rest n w f h =
-    reaches_both bytes i (b ∷ rest) rest n 1 w 0 (suc n) w f (record { end = suc f.end; crossed = cross_sign bytes f.end b rest f.crossed.seam f.crossed.left h }) (omega arith) (omega arith)
+then_sign bytes i b rest n w f h = search (arith, reaches_both, cross_sign)
 
 -- a container's first byte
 first_sign : (bytes : List ℕ) (i b : ℕ) (rest : List ℕ) → IsSeam bytes i → drop i bytes ≡ b ∷ rest → op_byte b ≡ true → Reaches bytes i rest 1 0
@@ -279,28 +228,22 @@ mutual
 
   reach_elements : (bytes : List ℕ) (i p : ℕ) (vs rest : List ℕ) (es : Elements) → IsSeam bytes i → drop i bytes ≡ vs ++ rest → NoAtomFirst rest → IsElements p vs es → (k : ℕ) × (suc k ≡ tokens_of_elements es) × Reaches bytes i rest k (source_bytes_of_elements es)
   reach_elements bytes i p vs rest es m e n (one_element {t = t} x) =
-      let a = reach_value bytes i p vs rest t m e n x in
-      (tokens t, omega arith, subst (λ w. Reaches bytes i rest (tokens t) w) (omega arith) a)
+      let a = reach_value bytes i p vs rest t m e n x in (tokens t, omega arith, subst (λ w. Reaches bytes i rest (tokens t) w) (omega arith) a)
   reach_elements bytes i p vs rest es m e n (next_element front s s' bs {es = fs} {t = t} x h h' y) =
       let a = reach_elements bytes i p front (s ++ (44 ∷ (s' ++ (bs ++ rest)))) fs m (e ∙ regroup_more front s 44 s' bs rest) (no_atom-blanks s (44 ∷ (s' ++ (bs ++ rest))) h (sign_first 44 refl)) x in
       let w = source_bytes_of_elements fs in
       let b = then_blanks bytes i s' (bs ++ rest) (suc a.0) w (then_sign bytes i 44 (s' ++ (bs ++ rest)) a.0 w (then_blanks bytes i s (44 ∷ (s' ++ (bs ++ rest))) a.0 w a.2 h) refl) h' in
-      let c = reach_value bytes b.end _ bs rest t b.crossed.seam b.crossed.left n y in
-      let k = count_then_element fs t in
-      let l = a.1 in
+      let c = reach_value bytes b.end _ bs rest t b.crossed.seam b.crossed.left n y in let k = count_then_element fs t in let l = a.1 in
       (suc a.0 + tokens t, omega arith, reaches_both bytes i (bs ++ rest) rest (suc a.0) (tokens t) w (source_bytes t) (suc a.0 + tokens t) (source_bytes_of_elements (then_element fs t)) b c refl (weight_then_element fs t))
 
   reach_members : (bytes : List ℕ) (i p : ℕ) (vs rest : List ℕ) (ms : Members) → IsSeam bytes i → drop i bytes ≡ vs ++ rest → NoAtomFirst rest → IsMembers p vs ms → (k : ℕ) × (suc k ≡ tokens_of_members ms) × Reaches bytes i rest k (source_bytes_of_members ms)
-  reach_members bytes i p vs rest ms m e n (one_member {n = name} {t = t} x) =
-      let a = reach_member bytes i p vs rest name t m e n x in
+  reach_members bytes i p vs rest ms m e n (one_member {n = name} {t = t} x) = let a = reach_member bytes i p vs rest name t m e n x in
       (tokens t + 2, omega arith, subst (λ w. Reaches bytes i rest (tokens t + 2) w) (omega arith) a)
   reach_members bytes i p vs rest ms m e n (next_member front s s' bs {ms = fs} {n = name} {t = t} x h h' y) =
       let a = reach_members bytes i p front (s ++ (44 ∷ (s' ++ (bs ++ rest)))) fs m (e ∙ regroup_more front s 44 s' bs rest) (no_atom-blanks s (44 ∷ (s' ++ (bs ++ rest))) h (sign_first 44 refl)) x in
       let w = source_bytes_of_members fs in
       let b = then_blanks bytes i s' (bs ++ rest) (suc a.0) w (then_sign bytes i 44 (s' ++ (bs ++ rest)) a.0 w (then_blanks bytes i s (44 ∷ (s' ++ (bs ++ rest))) a.0 w a.2 h) refl) h' in
-      let c = reach_member bytes b.end _ bs rest name t b.crossed.seam b.crossed.left n y in
-      let k = count_then_member fs name t in
-      let l = a.1 in
+      let c = reach_member bytes b.end _ bs rest name t b.crossed.seam b.crossed.left n y in let k = count_then_member fs name t in let l = a.1 in
       (suc a.0 + (tokens t + 2), omega arith, reaches_both bytes i (bs ++ rest) rest (suc a.0) (tokens t + 2) w (length name.source.bytes + source_bytes t) (suc a.0 + (tokens t + 2)) (source_bytes_of_members (then_member fs name t)) b c refl (weight_then_member fs name t))
 
   reach_member : (bytes : List ℕ) (i p : ℕ) (vs rest : List ℕ) (name : Name) (t : Tree) → IsSeam bytes i → drop i bytes ≡ vs ++ rest → NoAtomFirst rest → IsMember p vs name t → Reaches bytes i rest (tokens t + 2) (length name.source.bytes + source_bytes t)
@@ -338,13 +281,8 @@ pub record TextCounts (bytes : List ℕ) (t : Tree) : Type 0 where
   pub bytes_are : source_bytes_before bytes (length bytes) ≡ source_bytes t
 
 pub text_counts : (bytes : List ℕ) (t : Tree) → IsText bytes t → TextCounts bytes t
-text_counts bytes t x =
-    let r = reach_text bytes t x in
-    let y = r.crossed in
-    let end : r.end ≡ length bytes = at_end bytes r.end y.within y.left in
+text_counts bytes t x = let r = reach_text bytes t x in let y = r.crossed in let end : r.end ≡ length bytes = at_end bytes r.end y.within y.left in
     let none : places_from bytes (length bytes) ≡ [] = (let z : length bytes - length bytes ≡ 0 = omega arith in ap (λ n. filter (is_place bytes) (range_with_len (length bytes) n)) z) in
-    let zero_left : length (places_from bytes r.end) ≡ 0 = ap (λ n. length (places_from bytes n)) end ∙ ap length none in
-    let count = y.count in
+    let zero_left : length (places_from bytes r.end) ≡ 0 = ap (λ n. length (places_from bytes n)) end ∙ ap length none in let count = y.count in
     let weight : source_bytes_before bytes (length bytes) ≡ source_bytes_before bytes 0 + source_bytes t = ap (source_bytes_before bytes) (sym end) ∙ y.weight in
-    let first = source_zero bytes in
-    record { places_are = omega arith; bytes_are = omega arith }
+    let first = source_zero bytes in record { places_are = omega arith; bytes_are = omega arith }

@@ -1,9 +1,7 @@
 -- The greatest number of open containers is the depth of the tree.
-use Rattle.std.proofs.Common.{◌≡◌, ℕ, suc, ◌+◌, ◌≤◌, ap, ◌∙◌, arith}
-use Rattle.std.specs.Prelude.{max}
+use Rattle.json_text.proofs.Names.{◌≡◌, ℕ, suc, ◌+◌, ◌≤◌, ap, ◌∙◌, arith, max, Tree, Leaf, Arr, Obj, Elements, NoElement, Element, Members, NoMember}
+use Rattle.json_text.proofs.Names.{Member, deepest, deepest_element, deepest_member}
 use Rattle.std.proofs.Math.Nat.{le-max_left, le-max_right}
-use Rattle.json_text.specs.Tree.{Tree, Leaf, Arr, Obj, Elements, NoElement, Element, Members, NoMember, Member}
-use Rattle.json_text.specs.Tape.{deepest, deepest_element, deepest_member}
 use Rattle.json_text.specs.Verdict.{depth, depth_of_elements, depth_of_members}
 
 max_same : (l d : ℕ) → l ≤ d → d ≡ max d (l + 0)

@@ -1,15 +1,10 @@
 -- What the bytes so far are, by the open containers and by what may come next.
-use Rattle.std.proofs.Common.{◌≡◌, ℕ, ◌+◌, List, [], ◌∷◌, ◌++◌, length, Some, true, refl, sym, ap, ◌∙◌, subst, arith, append_assoc, length-append}
-use Rattle.json_text.specs.Tree.{Name, Tree, Elements, NoElement, Members, NoMember}
-use Rattle.json_text.specs.Letters.{IsBlank, AreBlanks, IsString}
-use Rattle.json_text.specs.Grammar.{at, IsValue, no_array, array, no_object, object, IsElements, one_element, next_element, IsMembers, one_member, next_member, IsMember, member, IsText}
-use Rattle.json_text.specs.Machine.{takes_value, takes_name, closes, after_comma}
-use Rattle.json_text.specs.declared.tape.Shape.TheVariants.{Array, Object}
-use Rattle.json_text.specs.declared.tape.Level.{Level}
-use Rattle.json_text.specs.declared.tape.Level.TheVariants.{Root, Inside}
-use Rattle.json_text.specs.declared.tape.Want.{Want}
-use Rattle.json_text.specs.declared.tape.Want.TheVariants.{Value, FirstValue, Name as WantName, FirstName, Colon, Next}
-use Rattle.std.proofs.lemmas.List.{append-nil}
+use Rattle.json_text.proofs.Names.{◌≡◌, ℕ, ◌+◌, List, [], ◌∷◌, ◌++◌, length, Some, true, refl, sym, ap, ◌∙◌, subst, arith, append_assoc}
+use Rattle.json_text.proofs.Names.{length-append, Name, Tree, Elements, NoElement, Members, NoMember, IsBlank, AreBlanks, IsString, at, IsValue}
+use Rattle.json_text.proofs.Names.{no_array, array, no_object, object, IsElements, one_element, next_element, IsMembers, one_member, next_member}
+use Rattle.json_text.proofs.Names.{IsMember, member, IsText, takes_value, takes_name, closes, after_comma, append-nil}
+use Rattle.json_walk.proofs.Names.{Array, Object, Level, Root, Inside, Want, Value, Next}
+use Rattle.json_text.specs.declared.tape.Want.TheVariants.{FirstValue, Name as WantName, FirstName, Colon}
 
 -- elements, after which a further one may come: none, or some and a comma
 pub data ElementsAhead : ℕ → Want → List ℕ → Elements → Type 0 where
@@ -84,18 +79,15 @@ front_blank (in_object a c e h v k) b i = in_object a (c ++ b ∷ []) (ap (λ l.
 array_comma : {p : ℕ} {w w' : Want} {c : List ℕ} → InArray p w c → after_comma (Inside Array) w ≡ Some w' → InArray p w' (c ++ 44 ∷ [])
 array_comma (elements_ahead (none_ahead h)) e = absurd (cc)
 array_comma (elements_ahead (some_ahead s body s' s'' f h k h' h'')) e = absurd (cc)
-array_comma {p = p} {w' = w'} {c = c} (elements_done s body s' f h k h') e =
-    let g : Value ≡ w' = cc in
+array_comma {p = p} {w' = w'} {c = c} (elements_done s body s' f h k h') e = let g : Value ≡ w' = cc in
     subst (λ w. InArray p w (c ++ 44 ∷ [])) g (elements_ahead (some_ahead s body s' [] (ap (λ l. l ++ 44 ∷ []) f ∙ simp append_assoc) h k h' tt))
 
 object_comma : {p : ℕ} {w w' : Want} {c : List ℕ} → InObject p w c → after_comma (Inside Object) w ≡ Some w' → InObject p w' (c ++ 44 ∷ [])
 object_comma (members_ahead (none_ahead' h)) e = absurd (cc)
 object_comma (members_ahead (some_ahead' s body s' s'' f h k h' h'')) e = absurd (cc)
-object_comma {p = p} {w' = w'} {c = c} (members_done s body s' f h k h') e =
-    let g : WantName ≡ w' = cc in
+object_comma {p = p} {w' = w'} {c = c} (members_done s body s' f h k h') e = let g : WantName ≡ w' = cc in
     subst (λ w. InObject p w (c ++ 44 ∷ [])) g (members_ahead (some_ahead' s body s' [] (ap (λ l. l ++ 44 ∷ []) f ∙ simp append_assoc) h k h' tt))
-object_comma (name_read n a name s f m g h i) e = absurd (cc)
-object_comma (colon_read n a name s s' f m g h i i') e = absurd (cc)
+object_comma h e = grind arith
 
 pub front_comma : {ls : List Level} {l : Level} {w w' : Want} {f : List ℕ} → Front (l ∷ ls) w f → after_comma l w ≡ Some w' → Front (l ∷ ls) w' (f ++ 44 ∷ [])
 front_comma (in_array a c f h v k) e = in_array a (c ++ 44 ∷ []) (ap (λ l. l ++ 44 ∷ []) f ∙ simp append_assoc) h v (array_comma k e)
@@ -123,8 +115,7 @@ member_next {p = p} {vs = vs} (some_ahead' {c = c} s body s' s'' e h k h' h'') v
 
 -- a value
 array_value : {p : ℕ} {w : Want} {c vs : List ℕ} {t : Tree} → InArray p w c → takes_value w ≡ true → IsValue (p + length c) vs t → InArray p Next (c ++ vs)
-array_value (elements_ahead h) e v = element_next h v
-array_value (elements_done s body s' f h k h') e v = absurd (cc)
+array_value h e v = grind (arith, element_next)
 
 object_value : {p : ℕ} {w : Want} {c vs : List ℕ} {t : Tree} → InObject p w c → takes_value w ≡ true → IsValue (p + length c) vs t → InObject p Next (c ++ vs)
 object_value (members_ahead (none_ahead' h)) e v = absurd (cc)
@@ -154,23 +145,19 @@ front_value {f = f} {vs = vs} (in_object a c g h k i) e v =
 -- a name, and a colon
 object_name : {p : ℕ} {w : Want} {c vs : List ℕ} (n : Name) → InObject p w c → takes_name w ≡ true → n.source ≡ at (p + length c) vs → IsString vs n.characters → InObject p Colon (c ++ vs)
 object_name {c = c} {vs = vs} n (members_ahead h) e f g = name_read n c vs [] (ap (λ l. c ++ l) (sym (append-nil vs))) h f g tt
-object_name n (members_done s body s' f h k h') e g i = absurd (cc)
-object_name n (name_read m a name s f h g i k) e x y = absurd (cc)
-object_name n (colon_read m a name s s' f h g i k k') e x y = absurd (cc)
+object_name n _ e _ _ = absurd (cc)
 
 array_no_name : {p : ℕ} {w : Want} {c : List ℕ} → InArray p w c → takes_name w ≡ true → ⊥
-array_no_name (elements_ahead (none_ahead h)) e = cc
-array_no_name _ e = cc
+array_no_name h e = grind arith
 
 pub front_name : {ls : List Level} {w : Want} {f vs : List ℕ} (n : Name) → Front ls w f → takes_name w ≡ true → n.source ≡ at (length f) vs → IsString vs n.characters → Front ls Colon (f ++ vs)
-front_name n (begin h) e g i = absurd (cc)
-front_name n (ended s vs s' f h k h') e g i = absurd (cc)
 front_name n (in_array a c g h k i) e x y = absurd (array_no_name i e)
 front_name {f = f} {vs = vs} n (in_object a c g h k i) e x y =
     in_object a (c ++ vs) (ap (λ l. l ++ vs) g ∙ simp append_assoc) h k (object_name n i e (x ∙ ap (λ q. at q vs) long) y)
   where
     long : length f ≡ length a + 1 + length c
     long = let k' = simp length-append at (ap length g) in omega arith
+front_name n _ e g i = absurd (cc)
 
 object_colon : {p : ℕ} {w : Want} {c : List ℕ} → InObject p w c → w ≡ Colon → InObject p Value (c ++ 58 ∷ [])
 object_colon (members_ahead (none_ahead' h)) e = absurd (cc)
@@ -180,8 +167,7 @@ object_colon (name_read n a name s f m g h i) e = colon_read n a name s [] (ap (
 object_colon (colon_read n a name s s' f m g h i i') e = absurd (cc)
 
 array_no_colon : {p : ℕ} {w : Want} {c : List ℕ} → InArray p w c → w ≡ Colon → ⊥
-array_no_colon (elements_ahead (none_ahead h)) e = cc
-array_no_colon _ e = cc
+array_no_colon h e = grind arith
 
 pub front_colon : {ls : List Level} {w : Want} {f : List ℕ} → Front ls w f → w ≡ Colon → Front ls Value (f ++ 58 ∷ [])
 front_colon (in_array a c g h k i) e = absurd (array_no_colon i e)
@@ -204,29 +190,20 @@ array_end {p = p} {c = c} (elements_done s body s' f h k h') g e =
 
 object_end : {p q : ℕ} {w : Want} {c : List ℕ} → InObject q w c → q ≡ p + 1 → closes Object (Inside Object) w ≡ true → (t : Tree) × IsValue p (123 ∷ (c ++ 125 ∷ [])) t
 object_end {p = p} (members_ahead (none_ahead' {c = c} h)) g e = (_, no_object c h)
-object_end (members_ahead (some_ahead' s body s' s'' f h k h' h'')) g e = absurd (cc)
 object_end {p = p} {c = c} (members_done s body s' f h k h') g e =
     (_, value_as refl (ap (λ l. 123 ∷ l) (sym (ap (λ l. l ++ 125 ∷ []) f ∙ simp append_assoc))) (object s body s' h (members_as (ap (λ n. n + length s) g) refl k) h'))
-object_end (name_read n a name s f m g h i) x e = absurd (cc)
-object_end (colon_read n a name s s' f m g h i i') x e = absurd (cc)
+object_end _ _ e = absurd (cc)
 
 pub front_array_end : {ls : List Level} {l : Level} {w : Want} {f : List ℕ} → Front (l ∷ ls) w f → closes Array l w ≡ true → Front ls Next (f ++ 93 ∷ [])
-front_array_end (begin h) e = absurd (cc)
-front_array_end (ended s vs s' f h k h') e = absurd (cc)
 front_array_end {ls = ls} (in_array a c g h k i) e =
-    let t = array_end {p = length a} i refl e in
-    subst (Front ls Next) (sym (ap (λ l. l ++ 93 ∷ []) g ∙ simp append_assoc)) (front_value h k t.1)
-front_array_end (in_object a c g h k i) e = absurd (cc)
+    let t = array_end {p = length a} i refl e in subst (Front ls Next) (sym (ap (λ l. l ++ 93 ∷ []) g ∙ simp append_assoc)) (front_value h k t.1)
+front_array_end _ e = absurd (cc)
 
 pub front_object_end : {ls : List Level} {l : Level} {w : Want} {f : List ℕ} → Front (l ∷ ls) w f → closes Object l w ≡ true → Front ls Next (f ++ 125 ∷ [])
-front_object_end (begin h) e = absurd (cc)
-front_object_end (ended s vs s' f h k h') e = absurd (cc)
-front_object_end (in_array a c g h k i) e = absurd (cc)
 front_object_end {ls = ls} (in_object a c g h k i) e =
-    let t = object_end {p = length a} i refl e in
-    subst (Front ls Next) (sym (ap (λ l. l ++ 125 ∷ []) g ∙ simp append_assoc)) (front_value h k t.1)
+    let t = object_end {p = length a} i refl e in subst (Front ls Next) (sym (ap (λ l. l ++ 125 ∷ []) g ∙ simp append_assoc)) (front_value h k t.1)
+front_object_end _ e = absurd (cc)
 
 -- a whole text
 pub front_text : {w : Want} {f : List ℕ} → Front (Root ∷ []) w f → w ≡ Next → (t : Tree) × IsText f t
-front_text (begin h) e = absurd (cc)
-front_text (ended {t = t} s vs s' f h k h') e = (t, record { before = s; bytes = vs; after = s'; blanks_before = h; value = k; blanks_after = h'; whole = f ∙ simp append_assoc })
+front_text h e = grind (arith, append_assoc)

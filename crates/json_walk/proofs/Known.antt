@@ -1,9 +1,7 @@
 -- Words and numbers that are within the limits of numbers.
-use Rattle.std.proofs.Common.{◌≡◌, ℕ, ◌+◌, ◌≤◌, List, length, take, drop, Bool, true, ap, ◌∙◌, arith}
-use Rattle.std.specs.Prelude.{Ok}
-use Rattle.decimal_order.specs.Limits.{IsWithinLimits}
+use Rattle.json_text.proofs.Names.{◌≡◌, ℕ, ◌+◌, ◌≤◌, List, length, take, drop, Bool, true, ap, arith, Ok}
+use Rattle.json_walk.proofs.Names.{IsWithinLimits, Marked}
 use Rattle.decimal_order.specs.Laws.{LateExponentsKeepLimits}
-use Rattle.json_walk.specs.Lexing.{Marked}
 use Rattle.json_walk.proofs.Marks.{unmarked, word_marked}
 
 -- ten bytes are within the limits of numbers, whatever they are

@@ -1,3 +1,4 @@
+pub mod Names
 pub mod Front
 pub mod MachineWalk
 pub mod Tokens

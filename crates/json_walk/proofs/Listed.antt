@@ -1,18 +1,13 @@
 -- What stands at a place of the list: each is a place of the text, where a token may begin.
-use Rattle.std.proofs.Common.{◌≡◌, ℕ, zero, suc, ◌+◌, ◌-◌, ◌<◌, ◌≤◌, ◌^◌, Bool, true, false, not, ◌&&◌, ◌||◌, cond, List, ◌∷◌, length, drop, get_or, filter, refl, sym, ap, subst, ◌∙◌, arith}
+use Rattle.json_text.proofs.Names.{◌≡◌, ℕ, zero, suc, ◌+◌, ◌-◌, ◌<◌, ◌≤◌, ◌^◌, Bool, true, false, not, ◌&&◌, ◌||◌, cond, List, ◌∷◌, length, drop}
+use Rattle.json_text.proofs.Names.{get_or, refl, sym, ap, ◌∙◌, arith, get_or_default, is_blank, text_limit, State, IsSmall}
+use Rattle.json_walk.proofs.Names.{places, IsSeam, ClosesBefore, HoldSlashes, StandsAt, IsListed, place}
+use Rattle.std.proofs.Common.{filter}
 use Rattle.std.specs.List.{range_with_len}
-use Rattle.std.proofs.lemmas.List.{get_or_default}
-use Rattle.byte_masks.specs.Classes.{op_byte, blank_byte}
-use Rattle.structural_index.specs.Places.{byte, is_real_quote, is_inside, after_atom, is_place, places, places_from}
-use Rattle.structural_index.specs.Seams.{IsSeam}
+use Rattle.structural_index.specs.Places.{is_place}
 use Rattle.structural_index.proofs.Seams as seams
-use Rattle.json_text.specs.Tokens.{is_blank}
-use Rattle.json_walk.specs.Placing.{ClosesBefore, HoldSlashes, IsIndexed}
-use Rattle.json_walk.specs.Walking.{StandsAt}
-use Rattle.json_walk.specs.Walked.{IsListed, place}
+use Rattle.json_walk.specs.Placing.{IsIndexed}
 use Rattle.json_walk.specs.declared.slashes.Slashes.{Slashes}
-use Rattle.json_text.specs.Verdict.{text_limit}
-use Rattle.json_text.specs.Machine.{State, IsSmall}
 use Rattle.json_walk.proofs.Walking.{look_back, place_behind, place_number}
 use Rattle.json_walk.proofs.WalkEnds.{reads_small}
 use Rattle.json_walk.proofs.Bridge.{same_default}
@@ -26,76 +21,46 @@ record PlaceIs (p : ℕ → Bool) (a n k : ℕ) (all : List ℕ) (i : ℕ) : Typ
 
 place_is : (p : ℕ → Bool) (n a k : ℕ) → k < length (filter p (range_with_len a n)) → PlaceIs p a n k (filter p (range_with_len a n)) (get_or (filter p (range_with_len a n)) k 0)
 place_is p zero a k l = absurd (omega arith)
-place_is p (suc n) a k l = go (λ k l. place_is p n (a + 1) k l) (p a) refl k l
-  where
-    rest : List ℕ
-    rest = filter p (range_with_len (a + 1) n)
+place_is p (suc n) a k l = go (λ k l. place_is p n (a + 1) k l) (p a) refl k l where
+  rest : List ℕ
+  rest = filter p (range_with_len (a + 1) n)
 
-    later : (k i : ℕ) (all : List ℕ) → PlaceIs p (a + 1) n k rest i → drop k rest ≡ all → (from : a ≤ i) × (i < a + suc n) × (p i ≡ true) × (filter p (range_with_len i (a + suc n - i)) ≡ all)
-    later k i all h e =
-        let f = h.from in let t = h.to in
-        let z : a + suc n - i ≡ a + 1 + n - i = omega arith in
-        (omega arith, omega arith, h.is, ap (λ m. filter p (range_with_len i m)) z ∙ h.left ∙ e)
+  later : (k i : ℕ) (all : List ℕ) → PlaceIs p (a + 1) n k rest i → drop k rest ≡ all → (from : a ≤ i) × (i < a + suc n) × (p i ≡ true) × (filter p (range_with_len i (a + suc n - i)) ≡ all)
+  later k i all h e = grind arith
 
-    go : ((k : ℕ) → k < length rest → PlaceIs p (a + 1) n k rest (get_or rest k 0)) → (b : Bool) → p a ≡ b → (k : ℕ) → k < length (cond b (a ∷ rest) rest) → PlaceIs p a (suc n) k (cond b (a ∷ rest) rest) (get_or (cond b (a ∷ rest) rest) k 0)
-    go ih true e zero l =
-        let z : a + suc n - a ≡ suc n = omega arith in
-        record { from = omega arith; to = omega arith; is = e; left = ap (λ m. filter p (range_with_len a m)) z ∙ ap (λ b. cond b (a ∷ rest) rest) e }
-    go ih true e (suc k) l = let h = later k (get_or rest k 0) (drop k rest) (ih k (omega arith)) refl in record { from = h.0; to = h.1; is = h.2; left = h.3 }
-    go ih false e k l = let h = later k (get_or rest k 0) (drop k rest) (ih k l) refl in record { from = h.0; to = h.1; is = h.2; left = h.3 }
+  go : ((k : ℕ) → k < length rest → PlaceIs p (a + 1) n k rest (get_or rest k 0)) → (b : Bool) → p a ≡ b → (k : ℕ) → k < length (cond b (a ∷ rest) rest) → PlaceIs p a (suc n) k (cond b (a ∷ rest) rest) (get_or (cond b (a ∷ rest) rest) k 0)
+  go ih true e zero l = let z : a + suc n - a ≡ suc n = omega arith in grind (arith, z)
+  go ih b e k l = grind (arith, later, rest)
 
 places_few : (p : ℕ → Bool) (n a : ℕ) → length (filter p (range_with_len a n)) ≤ n
 places_few p zero a = omega arith
-places_few p (suc n) a = go (places_few p n (a + 1)) (p a)
-  where
-    go : length (filter p (range_with_len (a + 1) n)) ≤ n → (b : Bool) → length (cond b (a ∷ filter p (range_with_len (a + 1) n)) (filter p (range_with_len (a + 1) n))) ≤ suc n
-    go h true = omega (arith, h)
-    go h false = omega (arith, h)
+places_few p (suc n) a = grind (arith, places_few p n (a + 1))
 
 -- no place is behind the end
 places_in : (p : ℕ → Bool) (n a d k : ℕ) → a + n ≤ d → get_or (filter p (range_with_len a n)) k d ≤ d
 places_in p zero a d k l = omega arith
-places_in p (suc n) a d k l = go (λ k. places_in p n (a + 1) d k (omega arith)) (p a) k
-  where
-    go : ((k : ℕ) → get_or (filter p (range_with_len (a + 1) n)) k d ≤ d) → (b : Bool) (k : ℕ) → get_or (cond b (a ∷ filter p (range_with_len (a + 1) n)) (filter p (range_with_len (a + 1) n))) k d ≤ d
-    go ih true zero = omega arith
-    go ih true (suc k) = ih k
-    go ih false k = ih k
+places_in p (suc n) a d k l = go (λ k. places_in p n (a + 1) d k (omega arith)) (p a) k where
+  go : ((k : ℕ) → get_or (filter p (range_with_len (a + 1) n)) k d ≤ d) → (b : Bool) (k : ℕ) → get_or (cond b (a ∷ filter p (range_with_len (a + 1) n)) (filter p (range_with_len (a + 1) n))) k d ≤ d
+  go ih b k = grind arith
 
 pub place_in : (bytes : List ℕ) (k : ℕ) → get_or (places bytes) k (length bytes) ≤ length bytes
 place_in bytes k = places_in (is_place bytes) (length bytes - 0) 0 (length bytes) k (omega arith)
 
 -- a place is outside strings
 outside : (op inside quote blank after : Bool) → ((op && not inside) || (quote && not inside) || ((not inside && not quote && not blank && not op) && not after)) ≡ true → inside ≡ false
-outside op false quote blank after h = refl
-outside true true true blank after h = absurd (cc)
-outside true true false blank after h = absurd (cc)
-outside false true true blank after h = absurd (cc)
-outside false true false blank after h = absurd (cc)
+outside op inside quote blank after h = grind arith
 
 -- and not between two bytes of a word
 apart : (op inside quote blank after : Bool) → ((op && not inside) || (quote && not inside) || ((not inside && not quote && not blank && not op) && not after)) ≡ true → ((not inside && not quote && not blank && not op) && after) ≡ false
-apart op true quote blank after h = refl
-apart true false true blank after h = refl
-apart true false false true after h = refl
-apart true false false false after h = refl
-apart false false true blank after h = refl
-apart false false false true after h = refl
-apart false false false false false h = refl
-apart false false false false true h = absurd (cc)
+apart op inside quote blank after h = grind arith
 
 place_seam : (text : List ℕ) (i : ℕ) → is_place text i ≡ true → IsSeam text i
 unfolding is_place
-place_seam text i h = record {
-  outside = outside (op_byte (byte text i)) (is_inside text i) (is_real_quote text i) (blank_byte (byte text i)) (after_atom text i) h;
-  apart = apart (op_byte (byte text i)) (is_inside text i) (is_real_quote text i) (blank_byte (byte text i)) (after_atom text i) h;
-}
+place_seam text i h = grind (arith, outside, apart)
 
 module _ (text items : List ℕ) (listed : IsListed text items) where
   found : (k : ℕ) → k < length items → PlaceIs (is_place text) 0 (length text - 0) k (places text) (place items k)
-  found k l =
-      let h = place_is (is_place text) (length text - 0) 0 k (let e = ap length listed.list in omega arith) in
-      subst (λ (ps : List ℕ). PlaceIs (is_place text) 0 (length text - 0) k (places text) (get_or ps k 0)) (sym listed.list) h
+  found k l = grind (arith, place_is)
 
   pub in_text : (k : ℕ) → k < length items → place items k < length text
   in_text k l = let t = (found k l).to in omega arith
@@ -104,17 +69,12 @@ module _ (text items : List ℕ) (listed : IsListed text items) where
   number_below k l = let e = ap length listed.list in let f = places_few (is_place text) (length text - 0) 0 in omega arith
 
   pub stands_at : (k : ℕ) → k < length items → StandsAt text k (place items k)
-  stands_at k l =
-      let h = found k l in
-      let inside = in_text k l in
+  stands_at k l = let h = found k l in let inside = in_text k l in
       let z : 0 + (length text - 0) - place items k ≡ length text - place items k = omega arith in
-      let left : places_from text (place items k) ≡ drop k (places text) = ap (λ n. filter (is_place text) (range_with_len (place items k) n)) (sym z) ∙ h.left in
-      let first = seams.place_first text (place items k) inside h.is in
-      record { within = omega arith; seam = place_seam text (place items k) h.is; left = left; settled = ap (λ (ps : List ℕ). get_or ps 0 (length text)) first }
+      let first = seams.place_first text (place items k) inside h.is in grind (arith, place_seam text (place items k) h.is)
 
   pub no_blank : (k : ℕ) → k < length items → is_blank (get_or text (place items k) 0) ≡ false
-  no_blank k l =
-      let inside = in_text k l in
+  no_blank k l = let inside = in_text k l in
       ap is_blank (same_default text (place items k) inside) ∙ (place_number text k (place items k) (stands_at k l)).solid inside
 
   pub next_is : (k d : ℕ) → k < length items → get_or items k d ≡ get_or (places text) k (length text)
@@ -122,10 +82,8 @@ module _ (text items : List ℕ) (listed : IsListed text items) where
 
   -- what begins there ends before the next place
   pub closes_before : (k next : ℕ) → k < length items → next ≡ get_or (places text) (k + 1) (length text) → ClosesBefore text (place items k) next
-  closes_before k next l e =
-      let z : suc k ≡ k + 1 = omega arith in
-      let last : get_or (places text) (suc k) (length text) ≡ next = ap (λ n. get_or (places text) n (length text)) z ∙ sym e in
-      record {
+  closes_before k next l e = let z : suc k ≡ k + 1 = omega arith in
+      let last : get_or (places text) (suc k) (length text) ≡ next = ap (λ n. get_or (places text) n (length text)) z ∙ sym e in record {
         string = λ m is after quote closing. look_back text k (place items k) m listed.closed (stands_at k l) quote (last ∙ is) after closing;
         seam = (stands_at k l).seam;
         next = sym last ∙ sym (place_behind text k (place items k) (in_text k l) (stands_at k l));

@@ -1,30 +1,12 @@
 -- Where each word that was read is within the limits of numbers, each number of the tape is.
-use Rattle.std.proofs.Common.{◌≡◌, ℕ, zero, suc, ◌+◌, ◌-◌, ◌<◌, List, [], ◌∷◌, ◌++◌, length, take, drop, get_or, Option, Some, None, Bool, true, false, cond, refl, sym, ap, ◌∙◌, subst, arith}
-use Rattle.std.proofs.lemmas.List.{drop_more}
+use Rattle.json_text.proofs.Names.{◌≡◌, ℕ, zero, suc, ◌+◌, ◌-◌, ◌<◌, List, [], ◌∷◌, ◌++◌, length, take, drop, get_or, Option, Some, None, Bool, true}
+use Rattle.json_text.proofs.Names.{false, cond, refl, sym, ap, ◌∙◌, subst, arith, drop_more, Tree, IsText, Stands, bytes_at, IsBadNumber}
+use Rattle.json_text.proofs.Names.{AreWithinLimits, class, IsToken, sign, text, word, is_atom, Taken, Token, Word, State, takes_value}
+use Rattle.json_text.proofs.Names.{put_leaf, put_open, change_at, step, start, kind_of_shape, closed, Ok, not, ◌||◌, or_parts}
+use Rattle.json_walk.proofs.Names.{IsWithinLimits, Marked, Kind, Extent, Entry, Shape, Level, Root, Inside, Want, Open}
 use Rattle.std.proofs.lemmas.Option.{cond_some}
-use Rattle.std.proofs.lemmas.Bool.Decides.{nat_tests}
-use Rattle.json_text.specs.Tree.{Tree}
-use Rattle.json_text.specs.Grammar.{IsText}
-use Rattle.json_text.specs.Tape.{Stands}
-use Rattle.json_text.specs.Limits.{bytes_at, IsBadNumber, AreWithinLimits}
-use Rattle.decimal_order.specs.Limits.{IsWithinLimits}
-use Rattle.json_text.specs.Tokens.{class, IsToken, sign, text, word, sign_at, is_atom, Taken}
-use Rattle.json_walk.specs.Lexing.{Marked}
-use Rattle.json_text.specs.Machine.{Token, Opening, Closing, Comma, Between, Text, Word, State, takes_value, takes_name, closes, put_leaf, put_open, change_at, put_close, put_comma, is_colon, put_text, step, start, kind_of_shape, closed}
-use Rattle.json_text.specs.declared.tape.Kind.{Kind}
 use Rattle.json_text.specs.declared.tape.Kind.TheVariants as kinds
-use Rattle.json_text.specs.declared.tape.Extent.{Extent}
-use Rattle.json_text.specs.declared.tape.Entry.{Entry}
-use Rattle.json_text.specs.declared.tape.Shape.{Shape}
-use Rattle.json_text.specs.declared.tape.Shape.TheVariants.{Array, Object}
-use Rattle.json_text.specs.declared.tape.Level.{Level}
-use Rattle.json_text.specs.declared.tape.Level.TheVariants.{Root, Inside}
-use Rattle.json_text.specs.declared.tape.Want.{Want}
-use Rattle.json_text.specs.declared.tape.Want.TheVariants as wants
-use Rattle.json_text.specs.declared.tape.Open.{Open}
-use Rattle.std.specs.Prelude.{Ok, not, ◌||◌}
 use Rattle.json_walk.proofs.ShortNumbers.{number_at}
-use Rattle.std.proofs.lemmas.Bool.{or_parts}
 use Rattle.json_text.proofs.Complete.{atom_by_class}
 
 -- the kind of the entry at a place
@@ -53,11 +35,7 @@ kind_last (x ∷ es) e = kind_last es e
 
 open_more : (es : List Entry) (e : Entry) (os : List Open) → AreOpen es os → AreOpen (es ++ e ∷ []) os
 open_more es e [] h = tt
-open_more es e (o ∷ os) h = (go o.level h.0, open_more es e os h.1)
-  where
-    go : (l : Level) → IsOpen es l o.entry → IsOpen (es ++ e ∷ []) l o.entry
-    go Root i = tt
-    go (Inside shape) i = kind_more es e o.entry (kind_of_shape shape) i
+open_more es e (o ∷ os) h = grind (arith, open_more es e os h.1, kind_more)
 
 module _ (p children after : ℕ) where
   kind_closed : (es : List Entry) (i n : ℕ) → kind_at (change_at es i (closed p children after)) n ≡ kind_at es n
@@ -66,11 +44,7 @@ module _ (p children after : ℕ) where
 
   open_closed : (es : List Entry) (i : ℕ) (os : List Open) → AreOpen es os → AreOpen (change_at es i (closed p children after)) os
   open_closed es i [] h = tt
-  open_closed es i (o ∷ os) h = (go o.level h.0, open_closed es i os h.1)
-    where
-      go : (l : Level) → IsOpen es l o.entry → IsOpen (change_at es i (closed p children after)) l o.entry
-      go Root g = tt
-      go (Inside shape) g = kind_closed es i o.entry ∙ g
+  open_closed es i (o ∷ os) h = grind (arith, open_closed es i os h.1, kind_closed)
 
   good_closed : (bytes : List ℕ) (es : List Entry) (i : ℕ) → (kind_at es i ≡ Some kinds.Number → ⊥) → AreWithinLimits bytes es → AreWithinLimits bytes (change_at es i (closed p children after))
   good_closed bytes [] i n h = tt
@@ -90,47 +64,16 @@ pub kept_start : (bytes : List ℕ) → Kept bytes false start
 kept_start bytes = record { opened = (tt, tt); good = (λ e. tt) }
 
 no_number : (shape : Shape) → kind_of_shape shape ≡ kinds.Number → ⊥
-no_number Array e = cc
-no_number Object e = cc
-
-closed_number : (es : List Entry) (n : ℕ) (shape : Shape) (l : Level) (w : Want) → closes shape l w ≡ true → IsOpen es l n → kind_at es n ≡ Some kinds.Number → ⊥
-closed_number es n Array Root w c i k = cc
-closed_number es n Object Root w c i k = cc
-closed_number es n shape (Inside other) w c i k = no_number other (let e = sym i ∙ k in cc)
+no_number shape e = grind arith
 
 module _ (bytes : List ℕ) (exceeds : Bool) where
   leaf_kept : (x : Extent) (kind : Kind) (es : List Entry) (os : List Open) (w : Want) (name : Option Extent) (d : ℕ) (s' : State) → put_leaf x kind es os w name d ≡ Some s' → AreOpen es os → (exceeds ≡ false → AreWithinLimits bytes es) → (exceeds ≡ false → kind ≡ kinds.Number → IsWithinLimits (bytes_at bytes x)) → Kept bytes exceeds s'
-  leaf_kept x kind es [] w name d s' e o h g = absurd (cc)
-  leaf_kept x kind es (t ∷ os) w name d s' e o h g =
-      let k = cond_some (takes_value w) _ s' e in
-      subst (Kept bytes exceeds) k.1 (record { opened = open_more es _ (t ∷ os) o; good = (λ m. good_more bytes es _ (h m) (g m)) })
+  leaf_kept x kind es os w name d s' e o h g = grind (arith, cond_some, open_more, good_more)
 
   open_kept : (shape : Shape) (p : ℕ) (es : List Entry) (os : List Open) (w : Want) (name : Option Extent) (d : ℕ) (s' : State) → put_open shape p es os w name d ≡ Some s' → AreOpen es os → (exceeds ≡ false → AreWithinLimits bytes es) → Kept bytes exceeds s'
   open_kept shape p es [] w name d s' e o h = absurd (cc)
-  open_kept shape p es (t ∷ os) w name d s' e o h =
-      let k = cond_some (takes_value w) _ s' e in
+  open_kept shape p es (t ∷ os) w name d s' e o h = let k = cond_some (takes_value w) _ s' e in
       subst (Kept bytes exceeds) k.1 (record { opened = (kind_last es _, open_more es _ (t ∷ os) o); good = (λ m. good_more bytes es _ (h m) (λ n. absurd (no_number shape n))) })
-
-  close_kept : (shape : Shape) (p : ℕ) (es : List Entry) (os : List Open) (w : Want) (name : Option Extent) (d : ℕ) (s' : State) → put_close shape p es os w name d ≡ Some s' → AreOpen es os → (exceeds ≡ false → AreWithinLimits bytes es) → Kept bytes exceeds s'
-  close_kept shape p es (t ∷ t' ∷ os) w name d s' e o h =
-      let k = cond_some (closes shape t.level w) _ s' e in
-      subst (Kept bytes exceeds) k.1 (record { opened = open_closed p t.children (length es) es t.entry (t' ∷ os) o.1; good = (λ m. good_closed p t.children (length es) bytes es t.entry (closed_number es t.entry shape t.level w k.0 o.0) (h m)) })
-  close_kept shape p es _ w name d s' e o h = absurd (cc)
-
-  comma_kept : (es : List Entry) (os : List Open) (r : Option Want) (d : ℕ) (s' : State) → put_comma es os r d ≡ Some s' → AreOpen es os → (exceeds ≡ false → AreWithinLimits bytes es) → Kept bytes exceeds s'
-  comma_kept es os None d s' e o h = absurd (cc)
-  comma_kept es os (Some w) d s' e o h =
-      let c : record { entries = es; opens = os; want = w; name = None; deep = d } ≡ s' = cc in
-      subst (Kept bytes exceeds) c (record { opened = o; good = h })
-
-  text_kept : (x : Extent) (es : List Entry) (os : List Open) (w : Want) (name : Option Extent) (d : ℕ) (s' : State) → put_text x es os w name d ≡ Some s' → AreOpen es os → (exceeds ≡ false → AreWithinLimits bytes es) → Kept bytes exceeds s'
-  text_kept x es os w name d s' e o h = by_want (takes_name w) refl
-    where
-      by_want : (b : Bool) → takes_name w ≡ b → Kept bytes exceeds s'
-      by_want true t =
-          let c : record { entries = es; opens = os; want = wants.Colon; name = Some x; deep = d } ≡ s' = (let y = rw t at e in cc) in
-          subst (Kept bytes exceeds) c (record { opened = o; good = h })
-      by_want false t = leaf_kept x kinds.Text es os w name d s' (rw t at e) o h (λ m k. absurd (cc))
 
   colon_kept : (b : Bool) (s s' : State) → cond b (Some s) None ≡ Some s' → Kept bytes exceeds s → Kept bytes exceeds s'
   colon_kept b s s' e k = subst (Kept bytes exceeds) (cond_some b s s' e).1 k
@@ -141,39 +84,24 @@ module _ (bytes : List ℕ) (exceeds : Bool) where
   WordFits _ = Unit {0}
 
   step_kept : (tok : Token) (s s' : State) → step tok s ≡ Some s' → Kept bytes exceeds s → WordFits tok → Kept bytes exceeds s'
-  step_kept (Opening shape p) s s' e k f = open_kept shape p s.entries s.opens s.want s.name s.deep s' e k.opened k.good
-  step_kept (Closing shape p) s s' e k f = close_kept shape p s.entries s.opens s.want s.name s.deep s' e k.opened k.good
-  step_kept Comma s s' e k f = comma_kept s.entries s.opens _ s.deep s' e k.opened k.good
-  step_kept Between s s' e k f = colon_kept (is_colon s.want) _ s' e (record { opened = k.opened; good = k.good })
-  step_kept (Text x) s s' e k f = text_kept x s.entries s.opens s.want s.name s.deep s' e k.opened k.good
-  step_kept (Word x kind) s s' e k f = leaf_kept x kind s.entries s.opens s.want s.name s.deep s' e k.opened k.good (λ m n. f m)
+  step_kept tok s s' e k f = search (arith, open_kept, colon_kept, leaf_kept, cond_some, open_closed, good_closed)
 
 module _ (bytes : List ℕ) (exceeds : Bool) where
   word_fits : {p : ℕ} {vs rest : List ℕ} {tok : Token} → IsToken p vs tok rest → (b : ℕ) (cs : List ℕ) → b ∷ cs ≡ vs ++ rest → (exceeds ≡ false → is_atom b ≡ true → IsWithinLimits (take (length vs) (drop p bytes))) → WordFits bytes exceeds tok
-  word_fits (sign {p = p} {b = b'} {tok = tok} h) b cs e f = by_sign tok h
-    where
-      by_sign : (tok : Token) → sign_at p b' ≡ Some tok → WordFits bytes exceeds tok
-      by_sign (Word x kind) h = absurd (grind (arith, nat_tests))
-      by_sign _ h = tt
+  word_fits (sign {p = p} {b = b'} {tok = tok} h) b cs e f = grind arith
   word_fits (text cs' h) b cs e f = tt
   word_fits (word {b = b'} {vs = vs} at over k) b cs e f = λ m. f m (atom_by_class b (let g : b ≡ b' = cc in ap class g ∙ at.0))
 
 -- a word leaves the mark as it is only where it is within the limits
 pub unmarked : (old : Bool) → old ≡ (old || not true)
-unmarked true = refl
-unmarked false = refl
+unmarked old = grind arith
 
 pub word_marked : (bytes bs : List ℕ) (i : ℕ) (old keeps new : Bool) → bs ≡ take (length bs) (drop i bytes) → (keeps ≡ true → IsWithinLimits bs) → new ≡ (old || not keeps) → Marked bytes i old (Ok (i + length bs)) new
-word_marked bytes bs i old true new e h m = λ n.
-    let size : length bs ≡ i + length bs - i = omega arith in
-    ((or_parts old false (sym m ∙ n)).0, λ a. subst IsWithinLimits (e ∙ ap (λ n. take n (drop i bytes)) size) (h refl))
-word_marked bytes bs i old false new e h m = λ n. let k = (or_parts old true (sym m ∙ n)).1 in absurd (cc)
+word_marked bytes bs i old keeps new e h m = grind (arith, or_parts)
 
 pub kept_token : (bytes : List ℕ) (i j : ℕ) (old new : Bool) (s s' : State) → i < length bytes → Taken bytes i j s s' → (new ≡ false → (old ≡ false) × (is_atom (get_or bytes i 0) ≡ true → IsWithinLimits (take (j - i) (drop i bytes)))) → Kept bytes old s → Kept bytes new s'
-kept_token bytes i j old new s s' h t m k =
-    let weaker : Kept bytes new s = record { opened = k.opened; good = (λ e. k.good (m e).0) } in
-    let long : j - i ≡ length t.vs = (let d = t.end in omega arith) in
-    step_kept bytes new t.tok s s' t.steps weaker
+kept_token bytes i j old new s s' h t m k = let weaker : Kept bytes new s = record { opened = k.opened; good = (λ e. k.good (m e).0) } in
+    let long : j - i ≡ length t.vs = (let d = t.end in omega arith) in step_kept bytes new t.tok s s' t.steps weaker
     (word_fits bytes new t.is_token (get_or bytes i 0) (drop (i + 1) bytes) (sym (drop_more bytes i 0 h) ∙ t.stands) (λ e n. subst (λ n. IsWithinLimits (take n (drop i bytes))) long ((m e).1 n)))
 
 -- ---- No number of such a tape breaks the limit

@@ -1,22 +1,14 @@
 -- The bytes of a number's entry are a number.
-use Rattle.std.proofs.Common.{ℕ, ◌<◌, List, length, get_or, sym, subst}
-use Rattle.decimal_order.specs.Number.{IsNumber}
-use Rattle.json_text.specs.Tree.{Num, Tree, Leaf}
-use Rattle.json_text.specs.Grammar.{IsText}
-use Rattle.json_text.specs.Tape.{Label, Stands, entry_of}
-use Rattle.json_text.specs.Limits.{bytes_at, IsBadNumber}
-use Rattle.json_text.specs.declared.tape.Entry.{Entry}
+use Rattle.json_text.proofs.Names.{ℕ, ◌<◌, List, length, get_or, sym, subst, arith, Tree, IsText, Label, Stands, entry_of, bytes_at, IsBadNumber}
+use Rattle.json_walk.proofs.Names.{IsNumber, Entry}
 use Rattle.json_text.proofs.Fits.{Fits, text_fits, part_fits}
 use Rattle.json_text.proofs.Judging.{part_with}
 use Rattle.json_text.proofs.Numbers.{entry_at}
 
 number_of : (text : List ℕ) (s : Tree) (up n : ℕ) (label : Label) → Fits text s → IsBadNumber text (entry_of s up label n) → IsNumber (bytes_at text (entry_of s up label n).source)
-number_of text (Leaf s Num) up n label f b = subst IsNumber f.0 f.1
-number_of text _ up n label f b = let x = b.0 in absurd (cc)
+number_of text s up n label f b = search arith
 
 -- the bytes of a number's entry are a number
 pub number_at : (text : List ℕ) (tape : List Entry) (t : Tree) → IsText text t → Stands tape t → (i : ℕ) (d : Entry) → i < length tape → IsBadNumber text (get_or tape i d) → IsNumber (bytes_at text (get_or tape i d).source)
-number_at text tape t h e i d l b =
-    let p = part_with tape t i e l in
-    let q = entry_at tape d e p.is_at in
+number_at text tape t h e i d l b = let p = part_with tape t i e l in let q = entry_at tape d e p.is_at in
     subst (λ (x : Entry). IsNumber (bytes_at text x.source)) (sym q) (number_of text p.tree p.up' i p.label' (part_fits p.is_at text (text_fits text t h)) (subst (IsBadNumber text) q b))

@@ -1,33 +1,20 @@
 -- The tokens that stand at a byte: strings by where they end, words by their run, and what no token is.
-use Rattle.std.proofs.Common.{◌≡◌, ◌≢◌, ℕ, ◌+◌, ◌-◌, ◌<◌, Bool, true, false, List, [], ◌∷◌, ◌++◌, length, take, drop, get_or, Some, None, refl, sym, ap, subst, ◌∙◌, arith, inl, inr}
-use Rattle.std.specs.Prelude.{Ok}
-use Rattle.std.proofs.lemmas.Bool.Decides.{nat_tests}
-use Rattle.std.proofs.lemmas.List.{drop_more}
-use Rattle.structural_index.specs.Places.{byte}
-use Rattle.structural_index.specs.Seams.{IsAtomRun}
+use Rattle.json_text.proofs.Names.{◌≡◌, ◌≢◌, ℕ, ◌+◌, ◌-◌, ◌<◌, Bool, true, false, List, [], ◌∷◌, ◌++◌, length, take, drop, get_or, Some, None, refl}
+use Rattle.json_text.proofs.Names.{sym, ap, subst, ◌∙◌, arith, Ok, nat_tests, drop_more, Token, Text, Word, run_at, is_atom, AreAtoms, sign_at}
+use Rattle.json_text.proofs.Names.{IsToken, sign, text, IsWord}
+use Rattle.json_walk.proofs.Names.{IsAtomRun, Kind, Lexed, Marked, StringEnds, ClosesBefore, TokenAt, begins_value, is_text, token_of, end_of}
 use Rattle.structural_index.specs.Runs.{EndsAtBlank}
-use Rattle.json_text.specs.declared.tape.Kind.{Kind}
-use Rattle.json_text.specs.declared.tape.Kind.TheVariants as kinds
-use Rattle.json_text.specs.declared.tape.Shape.TheVariants.{Array, Object}
-use Rattle.json_walk.specs.declared.lexing.Lexed.{Lexed}
-use Rattle.json_walk.specs.declared.lexing.Lexed.TheVariants as lexed
-use Rattle.json_text.specs.Machine.{Token, Opening, Closing, Comma, Between, Text, Word, run_at}
-use Rattle.json_text.specs.Tokens.{class, is_atom, AreAtoms, sign_at, IsToken, sign, text, word, IsWord, WordIs}
-use Rattle.json_walk.specs.Lexing.{Marked}
-use Rattle.json_walk.specs.Placing.{StringEnds, ClosesBefore}
-use Rattle.json_walk.specs.Walked.{TokenAt, begins_value, is_text, NoneAt, token_of, end_of}
+use Rattle.json_text.specs.Tokens.{WordIs}
+use Rattle.json_walk.specs.Walked.{NoneAt}
 use Rattle.json_walk.proofs.Bridge.{same_classes, same_default}
 use Rattle.json_walk.proofs.Calls.{no_string, word_is, atoms_here}
-use Rattle.json_text.proofs.Chars.{number_some}
 use Rattle.json_walk.proofs.Placing.{run_ends}
 use Rattle.json_walk.proofs.Runs.{word_run, token_run}
 
 -- ---- Strings
 
 pub text_at : (bytes : List ℕ) (i end : ℕ) → StringEnds bytes i (Some end) → TokenAt bytes i (Text (run_at i (end - i)))
-text_at bytes i end (j, e, x) =
-    let last = x.end in
-    let size : length x.bytes ≡ end - i = omega arith in
+text_at bytes i end (j, e, x) = let last = x.end in let size : length x.bytes ≡ end - i = omega arith in
     record { bytes = x.bytes; rest = x.rest; stands = x.stands; is_token = subst (λ n. IsToken i x.bytes (Text (run_at i n)) x.rest) size (text x.characters x.is_string) }
 
 -- where no string ends, no token stands at its quote
@@ -35,27 +22,15 @@ pub none_at : (such : Token → Bool) (bytes : List ℕ) (i : ℕ) → i < lengt
 none_at such bytes i h q e = λ tok at. absurd (no_string at.is_token (drop (i + 1) bytes) e (ap (λ b. b ∷ drop (i + 1) bytes) (sym q) ∙ sym (drop_more bytes i 0 h) ∙ at.stands))
 
 sign_no_text : (p b : ℕ) (tok : Token) → sign_at p b ≡ Some tok → is_text tok ≡ false
-sign_no_text p b (Text x) h = absurd (grind (arith, nat_tests))
-sign_no_text p b _ h = refl
+sign_no_text p b tok h = grind (arith, nat_tests)
 
 no_text : {p : ℕ} {vs rest : List ℕ} {tok : Token} → IsToken p vs tok rest → (b : ℕ) (cs : List ℕ) → b ∷ cs ≡ vs ++ rest → b ≢ 34 → is_text tok ≡ false
-no_text (sign {p = p} {b = b'} {tok = tok} h) b cs e n = sign_no_text p b' tok h
-no_text {rest = rest} (text cs' (inside, a, f)) b cs e n = absurd (n (let g = ap (λ l. l ++ rest) f in cc))
-no_text (word a n k) b cs e m = refl
+no_text h b cs e n = grind arith
 
 pub no_name_at : (bytes : List ℕ) (i : ℕ) → i < length bytes → get_or bytes i 0 ≢ 34 → NoneAt is_text bytes i
 no_name_at bytes i h n = λ tok at. no_text at.is_token (get_or bytes i 0) (drop (i + 1) bytes) (sym (drop_more bytes i 0 h) ∙ at.stands) n
 
 -- ---- Words
-
-word_some : (bs : List ℕ) (k : Kind) → IsWord bs k → bs ≢ []
-word_some bs kinds.Number h = number_some bs h
-word_some bs kinds.Null h = λ e. cc
-word_some bs (kinds.Bool true) h = λ e. cc
-word_some bs (kinds.Bool false) h = λ e. cc
-word_some bs kinds.Text h = absurd h
-word_some bs kinds.Array h = absurd h
-word_some bs kinds.Object h = absurd h
 
 pub long_enough : (bs : List ℕ) → bs ≢ [] → 0 < length bs
 long_enough [] n = absurd (n refl)
@@ -63,31 +38,20 @@ long_enough (b ∷ bs) n = omega arith
 
 -- a word begins with a byte of words
 word_begins : (bytes bs : List ℕ) (i : ℕ) (k : Kind) → i < length bytes → IsAtomRun bytes i (i + length bs) → IsWord bs k → is_atom (get_or bytes i 0) ≡ true
-word_begins bytes bs i k h r w =
-    let some = long_enough bs (word_some bs k w) in
-    ap is_atom (same_default bytes i h) ∙ sym (same_classes (byte bytes i)).atom ∙ r.each i (omega arith) (omega arith)
+word_begins bytes bs i k h r w = grind (arith, long_enough, same_default, same_classes)
 
 pub word_at : (bytes bs : List ℕ) (i next : ℕ) (k : Kind) → i < length bytes → ClosesBefore bytes i next → bs ≡ take (length bs) (drop i bytes) → EndsAtBlank bytes i next (i + length bs) → IsWord bs k → TokenAt bytes i (Word (run_at i (length bs)) k)
-word_at bytes bs i next k h c e ends w =
-    let r = word_run bytes i next h c bs e ends k w in
-    let a = atoms_here bytes i (i + length bs) h (word_begins bytes bs i k h r w) (run_ends bytes i (length bs) r) in
-    let last = a.end in
-    let size : length a.vs ≡ length bs = omega arith in
-    let back : i + length bs - i ≡ length bs = omega arith in
+word_at bytes bs i next k h c e ends w = let r = word_run bytes i next h c bs e ends k w in
+    let a = atoms_here bytes i (i + length bs) h (word_begins bytes bs i k h r w) (run_ends bytes i (length bs) r) in let last = a.end in
+    let size : length a.vs ≡ length bs = omega arith in let back : i + length bs - i ≡ length bs = omega arith in
     let same : bs ≡ a.vs = e ∙ ap (λ n. take n (drop i bytes)) (sym back) ∙ a.taken in
     record { bytes = a.vs; rest = a.rest; stands = a.stands; is_token = subst (λ n. IsToken i a.vs (Word (run_at i n) k) a.rest) size (word_is i a.vs a.rest k a.are a.over (subst (λ l. IsWord l k) same w) a.some) }
 
 sign_begins : (p b : ℕ) (tok : Token) → sign_at p b ≡ Some tok → b ≢ 91 → b ≢ 123 → begins_value tok ≡ false
-sign_begins p b (Opening Array q) h m n = absurd (m (grind (arith, nat_tests)))
-sign_begins p b (Opening Object q) h m n = absurd (n (grind (arith, nat_tests)))
-sign_begins p b (Text x) h m n = absurd (grind (arith, nat_tests))
-sign_begins p b (Word x kind) h m n = absurd (grind (arith, nat_tests))
-sign_begins p b _ h m n = refl
+sign_begins p b tok h m n = grind (arith, nat_tests)
 
 no_value : {p : ℕ} {vs rest : List ℕ} {tok : Token} → IsToken p vs tok rest → (b : ℕ) (cs : List ℕ) → b ∷ cs ≡ vs ++ rest → b ≢ 34 → b ≢ 91 → b ≢ 123 → ((kind : Kind) → AreAtoms vs → 0 < length vs → IsWord vs kind → ⊥) → begins_value tok ≡ false
-no_value (sign {p = p} {b = b'} {tok = tok} h) b cs e q m n none = let f : b ≡ b' = cc in sign_begins p b' tok h (λ x. m (f ∙ x)) (λ x. n (f ∙ x))
-no_value {rest = rest} (text cs' (inside, a, f)) b cs e q m n none = absurd (q (let g = ap (λ l. l ++ rest) f in cc))
-no_value (word {kind = kind} a o k) b cs e q m n none = absurd (none kind a (omega arith) k)
+no_value h b cs e q m n none = grind arith
 
 -- where there is no word, no value begins, unless it is a string or a container
 pub no_value_at : (bytes bs : List ℕ) (i next : ℕ) → i < length bytes → ClosesBefore bytes i next → get_or bytes i 0 ≢ 34 → get_or bytes i 0 ≢ 91 → get_or bytes i 0 ≢ 123 → bs ≡ take (length bs) (drop i bytes) → EndsAtBlank bytes i next (i + length bs) → WordIs bs None → NoneAt begins_value bytes i
@@ -107,17 +71,13 @@ size (Word x kind) = x.len
 size _ = 1
 
 sign_size : (p b : ℕ) (tok : Token) → sign_at p b ≡ Some tok → size tok ≡ 1
-sign_size p b (Text x) h = absurd (grind (arith, nat_tests))
-sign_size p b (Word x kind) h = absurd (grind (arith, nat_tests))
-sign_size p b _ h = refl
+sign_size p b tok h = grind (arith, nat_tests)
 
 pub token_size : {p : ℕ} {vs rest : List ℕ} {tok : Token} → IsToken p vs tok rest → size tok ≡ length vs
-token_size (sign {p = p} {b = b} {tok = tok} h) = sign_size p b tok h
-token_size _ = refl
+token_size h = grind arith
 
 pub ends_at : (i : ℕ) (l : Lexed) → end_of i l ≡ i + size (token_of i l)
-ends_at i (lexed.Text x) = refl
-ends_at i _ = refl
+ends_at i l = grind arith
 
 -- ---- The mark
 

@@ -1,91 +1,63 @@
 -- Where a walk enters a container, goes from child to child, and leaves it.
-use Rattle.std.proofs.Common.{◌≡◌, ◌≢◌, ℕ, zero, suc, ◌+◌, ◌<◌, ◌≤◌, ◌⊎◌, inl, inr, Bool, true, false, not, cond, List, ◌∷◌, length, Option, Some, None, refl, sym, ap, subst, ◌∙◌, arith}
-use Rattle.std.specs.Prelude.{Result, Ok, Err, IfOk, eqb}
+use Rattle.json_text.proofs.Names.{◌≡◌, ◌≢◌, ℕ, suc, ◌+◌, ◌<◌, ◌≤◌, ◌⊎◌, inl, inr, Bool, true, false, not, cond, List, length, Option, Some, None}
+use Rattle.json_text.proofs.Names.{refl, sym, ap, subst, ◌∙◌, arith, Result, Ok, Err, eqb, nat_tests, Token, Opening, Closing, Text, Word, State}
+use Rattle.json_text.proofs.Names.{step, put_close, closes, level_of, first_of, Took, IsSmall, sign_at, is_atom, Taken, cases_Bool}
+use Rattle.json_walk.proofs.Names.{Extent, Entry, Shape, Array, Object, Level, Root, Inside, Want, Open, BuildFault, NotJson, Memory, Lexed, Spot}
+use Rattle.json_walk.proofs.Names.{Built, standing, Marked, TokenAt, begins_value, is_text, IsListed, place, Point, point, Walked, stays, moves}
+use Rattle.json_walk.proofs.Names.{Halts, want_at, WalksValue, no_more, token_of, end_of}
+use Rattle.std.specs.Prelude.{IfOk}
 use Rattle.std.proofs.lemmas.Option.{none-some, same_Some}
-use Rattle.std.proofs.lemmas.Bool.Decides.{nat_tests}
-use Rattle.json_text.specs.declared.tape.Extent.{Extent}
-use Rattle.json_text.specs.declared.tape.Entry.{Entry}
 use Rattle.json_text.specs.declared.tape.Kind.TheVariants as kinds
-use Rattle.json_text.specs.declared.tape.Shape.{Shape}
-use Rattle.json_text.specs.declared.tape.Shape.TheVariants.{Array, Object}
-use Rattle.json_text.specs.declared.tape.Level.{Level}
-use Rattle.json_text.specs.declared.tape.Level.TheVariants.{Root, Inside}
-use Rattle.json_text.specs.declared.tape.Want.{Want}
 use Rattle.json_text.specs.declared.tape.Want.TheVariants as wants
-use Rattle.json_text.specs.declared.tape.Open.{Open}
-use Rattle.json_text.specs.declared.tape.BuildFault.{BuildFault}
-use Rattle.json_text.specs.declared.tape.BuildFault.TheVariants.{NotJson, Memory}
-use Rattle.json_walk.specs.declared.lexing.Lexed.{Lexed}
 use Rattle.json_walk.specs.declared.lexing.Lexed.TheVariants as lexed
-use Rattle.json_walk.specs.declared.second_stage.Spot.{Spot}
-use Rattle.json_text.specs.Machine.{Token, Opening, Closing, Comma, Between, Text, Word, State, step, put_close, put_comma, closes, after_comma, level_of, first_of, Took, IsSmall}
-use Rattle.tape_cells.specs.Built.{Built, standing}
-use Rattle.json_text.specs.Tokens.{sign_at, is_atom, Taken}
-use Rattle.json_walk.specs.Lexing.{Marked}
-use Rattle.json_walk.specs.Walked.{TokenAt, begins_value, is_text, AsksValue, AsksName, IsListed, place, byte_at, Point, point, Walked, stays, moves, Outlasts, few, Halts, want_at, AsksChild, shape_of, width, ending, WalksValue, WalksInto, WalksTo, spot_behind, no_more, token_of, end_of, price_of, behind, is_whole, spot_after}
-use Rattle.json_walk.proofs.WalkSteps.{unopened, unput, cond_none, not_root, first_byte, blocked, here_halts, halts_more, walked_more, one, over_sign, refused_halts, value_only, name_only, colon_only, value_any, named_step, open_level, leaf_level}
+use Rattle.json_text.specs.Machine.{Comma}
+use Rattle.json_walk.specs.Walked.{AsksValue, AsksName, byte_at, Outlasts, few, AsksChild, shape_of, width, ending, WalksInto, WalksTo, spot_behind, price_of, behind, is_whole, spot_after}
+use Rattle.json_walk.proofs.WalkSteps.{not_root, first_byte, blocked, here_halts, halts_more, walked_more, one, over_sign, refused_halts, value_only, name_only, colon_only, value_any, named_step, open_level}
 use Rattle.json_walk.proofs.Listed.{in_text}
 use Rattle.json_walk.proofs.TokensAt.{sign_token}
 use Rattle.json_walk.proofs.MachineWalk.{step_small}
-use Rattle.std.proofs.lemmas.Bool.{cases_Bool}
 
 is_first : (b : Bool) → true ≡ not b → b ≡ false
-is_first true e = absurd (cc)
-is_first false e = refl
+is_first b e = grind arith
 
 -- a constant that is not 0
 pub is_object : (n : ℕ) → (n ≡ 0 → ⊥) → false ≡ not (not (eqb n 0))
-is_object zero h = absurd (h refl)
-is_object (suc n) h = grind (arith, nat_tests)
+is_object n h = grind (arith, nat_tests)
 
 pub is_behind : (b : Bool) → false ≡ not b → b ≡ true
-is_behind true e = refl
-is_behind false e = absurd (cc)
+is_behind b e = grind arith
 
 other_close : (shape other : Shape) → (other ≡ shape → ⊥) → closes other (Inside shape) wants.Next ≡ false
-other_close Array Array n = absurd (n refl)
-other_close Object Object n = absurd (n refl)
-other_close _ _ n = refl
+other_close shape other n = grind arith
 
 close_other : (shape other : Shape) (p : ℕ) (es : List Entry) (os : List Open) (d : ℕ) → level_of os ≡ Inside shape → (other ≡ shape → ⊥) → put_close other p es os wants.Next None d ≡ None
-close_other shape other p es (o ∷ o' ∷ os) d l n = cond_none (closes other o.level wants.Next) _ (ap (λ x. closes other x wants.Next) l ∙ other_close shape other n)
-close_other shape other p es _ d l n = refl
+close_other shape other p es os d l n = grind arith
 
 same_closing : (p : ℕ) (shape other : Shape) → other ≡ shape → Closing other p ≡ Closing shape p
 same_closing p shape other e = ap (λ x. Closing x p) e
 
 -- behind a value only a comma or the end is taken
 next_only : (tok : Token) (b : Built) (shape : Shape) → level_of b.opens ≡ Inside shape → (tok ≡ Comma → ⊥) → ((p : ℕ) → tok ≡ Closing shape p → ⊥) → step tok (standing b wants.Next None) ≡ None
-next_only (Opening other p) b shape l n c = unopened other p b.entries b.opens wants.Next None b.deep refl
-next_only (Closing other p) b shape l n c = close_other shape other p b.entries b.opens b.deep l (λ e. c p (same_closing p shape other e))
-next_only Comma b shape l n c = absurd (n refl)
-next_only Between b shape l n c = refl
-next_only (Text x) b shape l n c = unput x kinds.Text b.entries b.opens wants.Next None b.deep refl
-next_only (Word x kind) b shape l n c = unput x kind b.entries b.opens wants.Next None b.deep refl
+next_only tok b shape l n c = grind arith
 
 first_close : (shape : Shape) → closes shape (Inside shape) (first_of shape) ≡ closes shape (Inside shape) wants.Next
-first_close Array = refl
-first_close Object = refl
+first_close shape = grind arith
 
 cond_same : {A : Type 0} (b c : Bool) (x : A) → b ≡ c → cond b (Some x) None ≡ cond c (Some x) None
 cond_same b c x e = ap (λ y. cond y (Some x) None) e
 
 close_first : (shape : Shape) (p : ℕ) (es : List Entry) (os : List Open) (d : ℕ) → level_of os ≡ Inside shape → put_close shape p es os (first_of shape) None d ≡ put_close shape p es os wants.Next None d
-close_first shape p es (o ∷ o' ∷ os) d l = cond_same (closes shape o.level (first_of shape)) (closes shape o.level wants.Next) _ (ap (λ y. closes shape y (first_of shape)) l ∙ first_close shape ∙ sym (ap (λ y. closes shape y wants.Next) l))
-close_first shape p es _ d l = refl
+close_first shape p es os d l = grind arith
 
 -- a container is closed at its first child's place as it is behind a value
 close_any : (shape : Shape) (p : ℕ) (b : Built) (behind : Bool) → level_of b.opens ≡ Inside shape → step (Closing shape p) (standing b (want_at behind (level_of b.opens)) None) ≡ step (Closing shape p) (standing b wants.Next None)
-close_any shape p b true l = refl
-close_any shape p b false l = ap (λ v. step (Closing shape p) (standing b (want_at false v) None)) l ∙ close_first shape p b.entries b.opens b.deep l
+close_any shape p b behind l = grind arith
 
 ending_sign : (shape : Shape) (p : ℕ) → sign_at p (ending shape) ≡ Some (Closing shape p)
-ending_sign Array p = refl
-ending_sign Object p = refl
+ending_sign shape p = grind arith
 
 ending_atom : (shape : Shape) → is_atom (ending shape) ≡ false
-ending_atom Array = refl
-ending_atom Object = refl
+ending_atom shape = grind arith
 
 -- what a child has to begin with behind a comma
 abbrev next_of : Shape → Want
@@ -93,17 +65,14 @@ next_of Array = wants.Value
 next_of Object = wants.Name
 
 comma_step : (b : Built) (shape : Shape) → level_of b.opens ≡ Inside shape → step Comma (standing b wants.Next None) ≡ Some (standing b (next_of shape) None)
-comma_step b Array l = ap (λ x. put_comma b.entries b.opens (after_comma x wants.Next) b.deep) l
-comma_step b Object l = ap (λ x. put_comma b.entries b.opens (after_comma x wants.Next) b.deep) l
+comma_step b shape l = grind arith
 
 module _ (bytes items : List ℕ) (listed : IsListed bytes items) where
   next_asks : (shape : Shape) (k : ℕ) → AsksChild bytes items k shape (next_of shape)
-  next_asks Array k = (refl, λ e. absurd (cc))
-  next_asks Object k = (refl, λ e. absurd (cc))
+  next_asks shape k = search arith
 
   first_asks : (shape : Shape) (k : ℕ) → byte_at bytes items k ≢ ending shape → AsksChild bytes items k shape (first_of shape)
-  first_asks Array k n = (refl, λ e. n)
-  first_asks Object k n = (refl, λ e. n)
+  first_asks shape k n = search arith
 
   pub no_sign_halts : (k now : ℕ) (mark : Bool) (b : Built) (shape : Shape) → k < length items → level_of b.opens ≡ Inside shape → byte_at bytes items k ≢ 44 → byte_at bytes items k ≢ ending shape → Halts bytes items (point k (standing b wants.Next None) now mark)
   no_sign_halts k now mark b shape l level comma end =
@@ -112,8 +81,7 @@ module _ (bytes items : List ℕ) (listed : IsListed bytes items) where
       next_only tok b shape level (λ e. comma (first.3 e)) (closing shape end first.1 first.2)))
     where
       closing : (shape : Shape) → byte_at bytes items k ≢ ending shape → {tok : Token} → ((q : ℕ) → tok ≡ Closing Object q → byte_at bytes items k ≡ 125) → ((q : ℕ) → tok ≡ Closing Array q → byte_at bytes items k ≡ 93) → (p : ℕ) → tok ≡ Closing shape p → ⊥
-      closing Array n object array p e = n (array p e)
-      closing Object n object array p e = n (object p e)
+      closing shape n object array p e = grind arith
 
   pub comma_walks : (k now later : ℕ) (mark : Bool) (b : Built) (shape : Shape) → k < length items → level_of b.opens ≡ Inside shape → byte_at bytes items k ≡ 44 → later ≤ now + 3
       → (w : Want) × AsksChild bytes items (k + 1) shape w × Walked bytes items (point k (standing b wants.Next None) now mark) (point (k + 1) (standing b w None) later mark)
@@ -124,71 +92,48 @@ module _ (bytes items : List ℕ) (listed : IsListed bytes items) where
   close_walks k now later mark old new shape l q took p = over_sign bytes items k (ending shape) now later mark (Closing shape (place items k)) _ _ l (in_text bytes items listed k l) q (ending_sign shape (place items k)) (ending_atom shape) took p
 
   -- a container that a sign ends
-  closing_walks : (k now : ℕ) (mark : Bool) (old new : Built) (shape : Shape) (made : Result (Unit {0}) BuildFault) → k < length items → byte_at bytes items k ≡ ending shape → Took (step (Closing shape (place items k)) (standing old wants.Next None)) made (standing new wants.Next None)
-      → WalksTo bytes items (point k (standing old wants.Next None) now mark) (spot_behind made k) new now mark
-  closing_walks k now mark old new shape (Ok x) l q took = close_walks k now (now + 1) mark old new shape l q took (omega arith)
-  closing_walks k now mark old new shape (Err NotJson) l q took = refused_halts bytes items listed k now mark (Closing shape (place items k)) _ l (sign_token bytes (place items k) (Closing shape (place items k)) (in_text bytes items listed k l) (ap (sign_at (place items k)) q ∙ ending_sign shape (place items k))) took
-  closing_walks k now mark old new shape (Err Memory) l q took = tt
-
   pub ended_walks : (k now : ℕ) (mark : Bool) (old new : Built) (shape : Shape) (made : Result (Unit {0}) BuildFault) (r : Result Spot BuildFault) → k < length items → byte_at bytes items k ≡ ending shape → Took (step (Closing shape (place items k)) (standing old wants.Next None)) made (standing new wants.Next None) → r ≡ spot_behind made k
       → WalksTo bytes items (point k (standing old wants.Next None) now mark) r new now mark
-  ended_walks k now mark old new shape made r l q took e = subst (λ x. WalksTo bytes items (point k (standing old wants.Next None) now mark) x new now mark) (sym e) (closing_walks k now mark old new shape made l q took)
+  ended_walks k now mark old new shape (Ok x) r l q took e = rw e (close_walks k now (now + 1) mark old new shape l q took (omega arith))
+  ended_walks k now mark old new shape (Err NotJson) r l q took e =
+      rw e (refused_halts bytes items listed k now mark (Closing shape (place items k)) _ l (sign_token bytes (place items k) (Closing shape (place items k)) (in_text bytes items listed k l) (ap (sign_at (place items k)) q ∙ ending_sign shape (place items k))) took)
+  ended_walks k now mark old new shape (Err Memory) r l q took e = rw e tt
 
   -- the state before a container's first child, or behind one
   entry_state : (b : Built) (shape : Shape) (behind : Bool) → level_of b.opens ≡ Inside shape → standing b (want_at behind (level_of b.opens)) None ≡ standing b (want_at behind (Inside shape)) None
   entry_state b shape behind l = ap (λ v. standing b (want_at behind v) None) l
 
-  closing_entered : (k next now later : ℕ) (mark : Bool) (behind : Bool) (old new : Built) (shape : Shape) (made : Result (Unit {0}) BuildFault) → next ≡ k + 1 → k < length items → level_of old.opens ≡ Inside shape → byte_at bytes items k ≡ ending shape → Took (step (Closing shape (place items k)) (standing old wants.Next None)) made (standing new wants.Next None) → later ≤ now + 1
-      → WalksInto bytes items (point k (standing old (want_at behind (level_of old.opens)) None) (now + 1) mark) shape next (no_more made) new later mark
-  closing_entered k next now later mark behind old new shape (Ok x) e l level q took p =
-      subst (λ n. Walked bytes items (point k (standing old (want_at behind (level_of old.opens)) None) (now + 1) mark) (point n (standing new wants.Next None) (later + 1) mark)) (sym e)
-      (over_sign bytes items k (ending shape) (now + 1) (later + 1) mark (Closing shape (place items k)) _ _ l (in_text bytes items listed k l) q (ending_sign shape (place items k)) (ending_atom shape) (close_any shape (place items k) old behind level ∙ took) (omega (arith, p)))
-  closing_entered k next now later mark behind old new shape (Err NotJson) e l level q took p =
-      refused_halts bytes items listed k (now + 1) mark (Closing shape (place items k)) _ l (sign_token bytes (place items k) (Closing shape (place items k)) (in_text bytes items listed k l) (ap (sign_at (place items k)) q ∙ ending_sign shape (place items k))) (close_any shape (place items k) old behind level ∙ took)
-  closing_entered k next now later mark behind old new shape (Err Memory) e l level q took p = tt
-
   pub closed_entered : (k next now later : ℕ) (mark : Bool) (behind : Bool) (old new : Built) (shape : Shape) (made : Result (Unit {0}) BuildFault) (r : Result (Option ℕ) BuildFault) → next ≡ k + 1 → k < length items → level_of old.opens ≡ Inside shape → byte_at bytes items k ≡ ending shape → Took (step (Closing shape (place items k)) (standing old wants.Next None)) made (standing new wants.Next None) → later ≤ now + 1 → r ≡ no_more made
       → WalksInto bytes items (point k (standing old (want_at behind (level_of old.opens)) None) (now + 1) mark) shape next r new later mark
-  closed_entered k next now later mark behind old new shape made r e l level q took p is =
-      subst (λ x. WalksInto bytes items (point k (standing old (want_at behind (level_of old.opens)) None) (now + 1) mark) shape next x new later mark) (sym is) (closing_entered k next now later mark behind old new shape made e l level q took p)
+  closed_entered k next now later mark behind old new shape (Ok x) r e l level q took p is =
+      rw is (subst (λ n. Walked bytes items (point k (standing old (want_at behind (level_of old.opens)) None) (now + 1) mark) (point n (standing new wants.Next None) (later + 1) mark)) (sym e) (over_sign bytes items k (ending shape) (now + 1) (later + 1) mark (Closing shape (place items k)) _ _ l (in_text bytes items listed k l) q (ending_sign shape (place items k)) (ending_atom shape) (close_any shape (place items k) old behind level ∙ took) (omega (arith, p))))
+  closed_entered k next now later mark behind old new shape (Err NotJson) r e l level q took p is =
+      rw is (refused_halts bytes items listed k (now + 1) mark (Closing shape (place items k)) _ l (sign_token bytes (place items k) (Closing shape (place items k)) (in_text bytes items listed k l) (ap (sign_at (place items k)) q ∙ ending_sign shape (place items k))) (close_any shape (place items k) old behind level ∙ took))
+  closed_entered k next now later mark behind old new shape (Err Memory) r e l level q took p is = rw is tt
 
   pub first_entered : (k next now later : ℕ) (mark : Bool) (behind : Bool) (b : Built) (shape : Shape) → true ≡ not behind → k ≤ next → level_of b.opens ≡ Inside shape → byte_at bytes items k ≢ ending shape → later ≤ now + 1
       → WalksInto bytes items (point k (standing b (want_at behind (level_of b.opens)) None) (now + 1) mark) shape next (Ok (Some k)) b later mark
-  first_entered k next now later mark behind b shape e' le level n p =
-      let e = is_first behind e' in
+  first_entered k next now later mark behind b shape e' le level n p = let e = is_first behind e' in
       (level, le, (first_of shape, first_asks shape k n, stays refl (sym (ap (λ x. standing b (want_at x (level_of b.opens)) None) e ∙ entry_state b shape false level)) refl p))
 
   pub comma_entered : (k next now later : ℕ) (mark : Bool) (behind : Bool) (b : Built) (shape : Shape) → false ≡ not behind → next ≡ k + 1 → k < length items → level_of b.opens ≡ Inside shape → byte_at bytes items k ≡ 44 → later ≤ now + 1
       → WalksInto bytes items (point k (standing b (want_at behind (level_of b.opens)) None) (now + 1) mark) shape next (Ok (Some next)) b later mark
-  comma_entered k next now later mark behind b shape e' f l level q p =
-      let e = is_behind behind e' in
-      let w = comma_walks k (now + 1) later mark b shape l level q (omega (arith, p)) in (
-        level,
-        omega arith,
-        (
-          w.0,
-          subst (λ n. AsksChild bytes items n shape w.0) (sym f) w.1,
-          subst (λ n. Walked bytes items (point k (standing b (want_at behind (level_of b.opens)) None) (now + 1) mark) (point n (standing b w.0 None) later mark)) (sym f)
-              (subst (λ x. Walked bytes items (point k (standing b (want_at x (level_of b.opens)) None) (now + 1) mark) (point (k + 1) (standing b w.0 None) later mark)) (sym e) w.2),
-        ),
-      )
+  comma_entered k next now later mark behind b shape e' f l level q p = let e = is_behind behind e' in
+      let w = comma_walks k (now + 1) later mark b shape l level q (omega (arith, p)) in grind arith
 
   pub none_entered : (k now : ℕ) (mark : Bool) (behind : Bool) (b : Built) (shape : Shape) → false ≡ not behind → k < length items → level_of b.opens ≡ Inside shape → byte_at bytes items k ≢ 44 → byte_at bytes items k ≢ ending shape
       → Halts bytes items (point k (standing b (want_at behind (level_of b.opens)) None) (now + 1) mark)
-  none_entered k now mark behind b shape e' l level comma end =
-      let e = is_behind behind e' in
+  none_entered k now mark behind b shape e' l level comma end = let e = is_behind behind e' in
       subst (λ x. Halts bytes items (point k (standing b (want_at x (level_of b.opens)) None) (now + 1) mark)) (sym e) (no_sign_halts k (now + 1) mark b shape l level comma end)
 
   pub over_halts : (k now : ℕ) (mark : Bool) (s : State) (shape : Shape) → length items ≤ k → level_of s.opens ≡ Inside shape → Halts bytes items (point k s now mark)
   over_halts k now mark s shape l level = here_halts bytes items _ (few 0 (omega (arith, l)) (λ h. not_root level h.0))
 
 pub closed_behind : (k : ℕ) (made : Result (Unit {0}) BuildFault) (r : Result Spot BuildFault) → r ≡ spot_behind made k → IfOk r (λ next. (next.number ≡ k + 1) × (next.behind ≡ true))
-closed_behind k (Ok x) r e = subst (λ x. IfOk x (λ next. (next.number ≡ k + 1) × (next.behind ≡ true))) (sym e) (refl, refl)
-closed_behind k (Err fault) r e = subst (λ x. IfOk x (λ next. (next.number ≡ k + 1) × (next.behind ≡ true))) (sym e) tt
+closed_behind k made r e = grind arith
 
 pub if_ok : {A : Type 0} {P Q : A → Type 0} (r : Result A BuildFault) → ((x : A) → P x → Q x) → IfOk r P → IfOk r Q
-if_ok (Ok x) f h = f x h
-if_ok (Err fault) f h = tt
+if_ok r f h = search arith
 
 -- ---- Children
 
@@ -200,18 +145,10 @@ pub small_state : (k : ℕ) (b : Built) (v w : Want) (m n : Option Extent) → I
 small_state k b v w m n h = record { entries = h.entries; opens = h.opens }
 
 text_or : (tok : Token) → (is_text tok ≡ false) ⊎ ((x : Extent) × (tok ≡ Text x))
-text_or (Text x) = inr (x, refl)
-text_or _ = inl refl
-
-colon_or : (tok : Token) → (tok ≡ Between → ⊥) ⊎ (tok ≡ Between)
-colon_or Between = inr refl
-colon_or _ = inl (λ e. cc)
+text_or tok = grind arith
 
 value_level : (tok : Token) (b : Built) (shape : Shape) (name : Option Extent) (s : State) → level_of b.opens ≡ Inside shape → begins_value tok ≡ true → step tok (standing b wants.Value name) ≡ Some s → level_of s.opens ≡ Root → ⊥
-value_level (Opening other p) b shape name s l v e = not_root (open_level other p b.entries b.opens name b.deep s e)
-value_level (Text x) b shape name s l v e = not_root (leaf_level x kinds.Text b.entries b.opens name b.deep s e ∙ l)
-value_level (Word x kind) b shape name s l v e = not_root (leaf_level x kind b.entries b.opens name b.deep s e ∙ l)
-value_level _ b shape name s l v e = absurd (cc)
+value_level tok b shape name s l v e = grind arith
 
 module _ (bytes items : List ℕ) (listed : IsListed bytes items) where
   pub walked_small : (a b : Point) → Walked bytes items a b → IsSmall a.number a.state → IsSmall b.number b.state
@@ -222,17 +159,13 @@ module _ (bytes items : List ℕ) (listed : IsListed bytes items) where
   pub value_walks_more : {a b : Point} (shape : Shape) (k looked : ℕ) (r : Result (Option ℕ) BuildFault) (new : Built) (mark : Bool) → Walked bytes items a b → WalksValue bytes items b shape k r new looked mark → WalksValue bytes items a shape k r new looked mark
   value_walks_more shape k looked (Ok (Some byte)) new mark w h = (walked_more bytes items w h.0, h.1, h.2, h.3)
   value_walks_more shape k looked (Ok None) new mark w h = (walked_more bytes items w h.0, h.1)
-  value_walks_more shape k looked (Err NotJson) new mark w h = halts_more bytes items w h
-  value_walks_more shape k looked (Err Memory) new mark w h = tt
+  value_walks_more shape k looked r new mark w h = grind (arith, halts_more)
 
   pub walk_walks_more : {a b : Point} (looked : ℕ) (r : Result Spot BuildFault) (new : Built) (mark : Bool) → Walked bytes items a b → WalksTo bytes items b r new looked mark → WalksTo bytes items a r new looked mark
-  walk_walks_more looked (Ok spot) new mark w v = walked_more bytes items w v
-  walk_walks_more looked (Err NotJson) new mark w h = halts_more bytes items w h
-  walk_walks_more looked (Err Memory) new mark w h = tt
+  walk_walks_more looked r new mark w v = search (arith, walked_more, halts_more)
 
   pub walks_fault : (a : Point) (shape : Shape) (k looked : ℕ) (fault : BuildFault) (new : Built) (mark : Bool) → WalksValue bytes items a shape k (Err fault) new looked mark → WalksTo bytes items a (Err fault) new looked mark
-  walks_fault a shape k looked NotJson new mark h = h
-  walks_fault a shape k looked Memory new mark h = tt
+  walks_fault a shape k looked fault new mark h = search arith
 
   -- ---- Too few places
 
@@ -252,14 +185,7 @@ module _ (bytes items : List ℕ) (listed : IsListed bytes items) where
   )
 
   colon_outlasts : (k : ℕ) (b : Built) (shape : Shape) (x : Extent) → level_of b.opens ≡ Inside shape → Outlasts bytes items 2 k (standing b wants.Colon (Some x))
-  colon_outlasts k b shape x l = (
-    (λ h. not_root l h.0),
-    λ j s' inside t. elim (colon_or t.tok) [
-      | inl n ↦ absurd (none_some s' (colon_only t.tok b (Some x) n) t.steps)
-      | inr y ↦ (let same : standing b wants.Value (Some x) ≡ s' = same_Some (standing b wants.Value (Some x)) s' (ap (λ tok. step tok (standing b wants.Colon (Some x))) (sym y) ∙ t.steps) in
-          subst (Outlasts bytes items 1 (suc k)) same (value_outlasts (suc k) b shape wants.Value (Some x) l (refl, λ e. absurd (cc))))
-    ],
-  )
+  colon_outlasts k b shape x l = grind (arith, not_root, none_some, colon_only, same_Some, value_outlasts)
 
   name_outlasts : (k : ℕ) (b : Built) (shape : Shape) (w : Want) → level_of b.opens ≡ Inside shape → AsksName bytes items k w → Outlasts bytes items 3 k (standing b w None)
   name_outlasts k b shape w l asks = (
@@ -285,17 +211,14 @@ module _ (bytes items : List ℕ) (listed : IsListed bytes items) where
       → (AsksName bytes items k w → Walked bytes items (point k (standing old w None) now mark) (point (k + 2) (standing old wants.Value (Some x)) between mark))
       → ((v : Want) → AsksValue other items (k + 2) v → WalksValue other items (point (k + 2) (standing old v (Some x)) between mark) (shape_of object) (k + 2 + 1) r new later mark')
       → AsksChild bytes items k (shape_of object) w → WalksValue bytes items (point k (standing old w None) now mark) (shape_of object) (k + width (shape_of object)) r new later mark'
-  member_walks other true k now between later mark mark' old new w x r e same named valued asks =
-      let z : k + 2 + 1 ≡ k + 3 = omega arith in
+  member_walks other true k now between later mark mark' old new w x r e same named valued asks = let z : k + 2 + 1 ≡ k + 3 = omega arith in
       let walks = subst (λ n. WalksValue bytes items (point (k + 2) (standing old wants.Value (Some x)) between mark) Object n r new later mark') z
       (subst (λ b. WalksValue b items (point (k + 2) (standing old wants.Value (Some x)) between mark) Object (k + 2 + 1) r new later mark') same (valued wants.Value (refl, λ e. absurd (cc)))) in
       value_walks_more Object (k + 3) later r new mark' (named asks) walks
   member_walks other false k now between later mark mark' old new w x r e same named valued asks = absurd (cc)
 
   same_inside : (s t : Shape) → Inside s ≡ Inside t → s ≡ t
-  same_inside Array Object e = absurd (cc)
-  same_inside Object Array e = absurd (cc)
-  same_inside _ _ e = refl
+  same_inside s t e = grind arith
 
   pub may_continue : (a : Point) (k : ℕ) (level : Level) (shape : Shape) (b : Built) (looked : ℕ) (mark : Bool) → level ≡ Inside shape → (w : Want) × AsksChild bytes items k shape w × Walked bytes items a (point k (standing b w None) looked mark) → MayContinue bytes items a k level b looked mark
   may_continue a k level shape b looked mark e (w, asks, walked) = λ other f. (w, subst (λ s. AsksChild bytes items k s w) (same_inside shape other (sym e ∙ f)) asks, walked)
@@ -309,10 +232,7 @@ module _ (bytes items : List ℕ) (listed : IsListed bytes items) where
   -- the child that a loop has come to, by what was known before it
   pub child_walks : (other : List ℕ) (a : Point) (k n now later : ℕ) (mark mark' : Bool) (level : Level) (shape : Shape) (old new : Built) (r r' : Result (Option ℕ) BuildFault) → level ≡ Inside shape → other ≡ bytes → MayContinue bytes items a k level old now mark → r ≡ r' → n ≡ k + width shape
       → ((w : Want) → AsksChild other items k shape w → WalksValue other items (point k (standing old w None) now mark) shape (k + width shape) r new later mark') → WalksValue bytes items a shape n r' new later mark'
-  child_walks other a k n now later mark mark' level shape old new r r' e same may is size walks =
-      let g = may shape e in
-      let here' = subst (λ b. WalksValue b items (point k (standing old g.0 None) now mark) shape (k + width shape) r new later mark') same (walks g.0 (subst (λ b. AsksChild b items k shape g.0) (sym same) g.1)) in
-      subst (λ x. WalksValue bytes items a shape n x new later mark') is (subst (λ x. WalksValue bytes items a shape x r new later mark') (sym size) (value_walks_more shape (k + width shape) later r new mark' g.2 here'))
+  child_walks other a k n now later mark mark' level shape old new r r' e same may is size walks = grind (arith, value_walks_more)
 
   pub child_fault : (other : List ℕ) (a : Point) (k now later : ℕ) (mark mark' : Bool) (level : Level) (shape : Shape) (old new : Built) (r : Result (Option ℕ) BuildFault) (fault : BuildFault) → level ≡ Inside shape → other ≡ bytes → MayContinue bytes items a k level old now mark → r ≡ Err fault
       → ((w : Want) → AsksChild other items k shape w → WalksValue other items (point k (standing old w None) now mark) shape (k + width shape) r new later mark') → WalksTo bytes items a (Err fault) new later mark'
@@ -341,26 +261,21 @@ module _ (bytes items : List ℕ) (listed : IsListed bytes items) where
   first_taken now later mark mark' old new (lexed.Text x) l t m p took = (one bytes items 0 now (later + 1) mark mark' (Text x) _ _ l t took (omega (arith, p)) m, λ e. absurd (cc))
   first_taken now later mark mark' old new (lexed.Number x) l t m p took = (one bytes items 0 now (later + 1) mark mark' (Word x kinds.Number) _ _ l t took (omega (arith, p)) m, λ e. absurd (cc))
   first_taken now later mark mark' old new (lexed.Word kind x) l t m p took = (one bytes items 0 now (later + 1) mark mark' (Word x kind) _ _ l t took (omega (arith, p)) m, λ e. absurd (cc))
-  first_taken now later mark mark' old new (lexed.Opens shape) l t m p took =
-      let level = open_level shape (place items 0) old.entries old.opens None old.deep _ took in (
-        subst (λ v. Walked bytes items (point 0 (standing old wants.Value None) now mark) (point 1 (standing new (want_at false v) None) (later + 1) mark')) (sym level)
-            (one bytes items 0 now (later + 1) mark mark' (Opening shape (place items 0)) _ _ l t took (omega (arith, p)) m),
-        λ e. not_root level,
-      )
-
-  first_walks : (now later : ℕ) (mark mark' : Bool) (old new : Built) (l : Lexed) (made : Result (Unit {0}) BuildFault) → 0 < length items → TokenAt bytes (place items 0) (token_of (place items 0) l) → Marked bytes (place items 0) mark (Ok (end_of (place items 0) l)) mark' → later ≤ now + price_of l
-      → Took (step (token_of (place items 0) l) (standing old wants.Value None)) made (standing new (behind l) None) → First (point 0 (standing old wants.Value None) now mark) (spot_after made l) new later mark'
-  first_walks now later mark mark' old new l (Ok x) inside t m p took = first_taken now later mark mark' old new l inside t m p took
-  first_walks now later mark mark' old new l (Err NotJson) inside t m p took = (refused_halts bytes items listed 0 now mark (token_of (place items 0) l) _ inside t took, tt)
-  first_walks now later mark mark' old new l (Err Memory) inside t m p took = (tt, tt)
+  first_taken now later mark mark' old new (lexed.Opens shape) l t m p took = grind (
+    arith,
+    open_level shape (place items 0) old.entries old.opens None old.deep _ took,
+    one bytes items 0 now (later + 1) mark mark' (Opening shape (place items 0)) _ _ l t took (omega (arith, p)) m,
+  )
 
   pub whole_walks : (now later : ℕ) (mark mark' : Bool) (old new : Built) (l : Lexed) (made : Result (Unit {0}) BuildFault) (r : Result Spot BuildFault) → 0 < length items → TokenAt bytes (place items 0) (token_of (place items 0) l) → Marked bytes (place items 0) mark (Ok (end_of (place items 0) l)) mark' → later ≤ now + price_of l
       → Took (step (token_of (place items 0) l) (standing old wants.Value None)) made (standing new (behind l) None) → r ≡ spot_after made l → First (point 0 (standing old wants.Value None) now mark) r new later mark'
-  whole_walks now later mark mark' old new l made r inside t m p took e = subst (λ x. First (point 0 (standing old wants.Value None) now mark) x new later mark') (sym e) (first_walks now later mark mark' old new l made inside t m p took)
+  whole_walks now later mark mark' old new l (Ok x) r inside t m p took e = rw e (first_taken now later mark mark' old new l inside t m p took)
+  whole_walks now later mark mark' old new l (Err NotJson) r inside t m p took e =
+      rw e (refused_halts bytes items listed 0 now mark (token_of (place items 0) l) _ inside t took, tt)
+  whole_walks now later mark mark' old new l (Err Memory) r inside t m p took e = rw e (tt, tt)
 
   pub spot_one : (made : Result (Unit {0}) BuildFault) (l : Lexed) (r : Result Spot BuildFault) → 0 < length items → r ≡ spot_after made l → IfOk r (λ next. next.number ≤ length items)
-  spot_one (Ok x) l r inside e = subst (λ y. IfOk y (λ next. next.number ≤ length items)) (sym e) (omega (arith, inside))
-  spot_one (Err fault) l r inside e = subst (λ y. IfOk y (λ next. next.number ≤ length items)) (sym e) tt
+  spot_one made l r inside e = grind arith
 
   -- no place, no token
   pub nothing_halts : (now : ℕ) (mark : Bool) (b : Built) → length items ≤ 0 → Halts bytes items (point 0 (standing b wants.Value None) now mark)

@@ -1,14 +1,9 @@
 -- What is known at the end of a walk, and at a refusal.
-use Rattle.std.proofs.Common.{◌≡◌, ◌≢◌, ℕ, ◌+◌, ◌≤◌, ◌<◌, List, [], ◌∷◌, ◌++◌, length, drop, get_or, None, true, false, ap, ◌∙◌, arith}
-use Rattle.std.proofs.lemmas.Bool.Decides.{nat_tests}
-use Rattle.std.proofs.lemmas.List.{drop_more}
-use Rattle.json_text.specs.Letters.{IsBlank}
-use Rattle.json_text.specs.Answer.{IsJson, StandsForAll, HasDepth, IsNoJson}
+use Rattle.json_text.proofs.Names.{◌≡◌, ◌≢◌, ℕ, ◌+◌, ◌≤◌, ◌<◌, List, [], ◌∷◌, ◌++◌, length, drop, get_or, None, true, false, ap, ◌∙◌, arith}
+use Rattle.json_text.proofs.Names.{nat_tests, drop_more, IsBlank, IsJson, StandsForAll, HasDepth, IsNoJson, Blank, class, is_blank, IsToken, Goes}
+use Rattle.json_text.proofs.Names.{stay, blank, token, Refused, Taken, State, step, level_of, IsSmall}
+use Rattle.json_walk.proofs.Names.{Root, Next}
 use Rattle.json_walk.proofs.Depths.{deepest_depth}
-use Rattle.json_text.specs.Tokens.{Blank, class, is_blank, IsToken, Goes, stay, blank, token, Refused, Taken}
-use Rattle.json_text.specs.Machine.{State, step, level_of, IsSmall}
-use Rattle.json_text.specs.declared.tape.Level.TheVariants.{Root}
-use Rattle.json_text.specs.declared.tape.Want.TheVariants.{Next}
 use Rattle.json_walk.proofs.MachineWalk.{Knows, knows_blank, knows_token, knows_end, knows_tree, small_more}
 use Rattle.json_text.proofs.Complete.{blank_class}
 

@@ -1,30 +1,15 @@
 -- Where a walk goes from one point to another: what each call shows of the tokens that it took.
-use Rattle.std.proofs.Common.{◌≡◌, ◌≢◌, ℕ, suc, ◌+◌, ◌<◌, ◌≤◌, Bool, true, false, IsTrue, cond, List, [], ◌∷◌, ◌++◌, length, drop, Option, Some, None, refl, sym, ap, subst, ◌∙◌, arith}
-use Rattle.std.specs.Prelude.{Result, Ok, Err}
-use Rattle.std.proofs.lemmas.Bool.Decides.{nat_tests}
-use Rattle.std.proofs.lemmas.Option.{cond_some}
-use Rattle.std.proofs.lemmas.List.{drop_more}
-use Rattle.json_text.specs.declared.tape.Kind.{Kind}
-use Rattle.json_text.specs.declared.tape.Kind.TheVariants as kinds
-use Rattle.json_text.specs.declared.tape.Extent.{Extent}
-use Rattle.json_text.specs.declared.tape.Entry.{Entry}
-use Rattle.json_text.specs.declared.tape.Shape.{Shape}
-use Rattle.json_text.specs.declared.tape.Shape.TheVariants.{Array, Object}
-use Rattle.json_text.specs.declared.tape.Level.{Level}
-use Rattle.json_text.specs.declared.tape.Level.TheVariants.{Root, Inside}
-use Rattle.json_text.specs.declared.tape.Want.{Want}
+use Rattle.json_text.proofs.Names.{◌≡◌, ◌≢◌, ℕ, suc, ◌+◌, ◌<◌, ◌≤◌, Bool, true, false, IsTrue, cond, List, ◌∷◌, ◌++◌, length, drop, Option, Some}
+use Rattle.json_text.proofs.Names.{None, refl, sym, ap, subst, ◌∙◌, arith, Result, Ok, Err, nat_tests, drop_more, Token, Opening, Closing, Text, Word}
+use Rattle.json_text.proofs.Names.{State, step, put_leaf, put_open, put_close, put_comma, takes_value, takes_name, closes, after_comma, level_of}
+use Rattle.json_text.proofs.Names.{first_of, Took, is_atom, sign_at, IsToken, sign}
+use Rattle.json_walk.proofs.Names.{Kind, Extent, Entry, Shape, Array, Object, Level, Root, Inside, Want, Open, BuildFault, NotJson, Memory, Lexed}
+use Rattle.json_walk.proofs.Names.{Built, standing, Marked, weight, TokenAt, begins_value, is_text, token_of, end_of, IsListed, place, Point, point}
+use Rattle.json_walk.proofs.Names.{Walked, stays, moves, Halts, want_at, no_more, WalksValue}
 use Rattle.json_text.specs.declared.tape.Want.TheVariants as wants
-use Rattle.json_text.specs.declared.tape.Open.{Open}
-use Rattle.json_text.specs.declared.tape.BuildFault.{BuildFault}
-use Rattle.json_text.specs.declared.tape.BuildFault.TheVariants.{NotJson, Memory}
-use Rattle.json_walk.specs.declared.lexing.Lexed.{Lexed}
 use Rattle.json_walk.specs.declared.lexing.Lexed.TheVariants as lexed
-use Rattle.json_text.specs.Machine.{Token, Opening, Closing, Comma, Between, Text, Word, State, step, put_leaf, put_open, put_close, put_comma, takes_value, takes_name, closes, after_comma, level_of, first_of, Took}
-use Rattle.tape_cells.specs.Built.{Built, standing}
-use Rattle.json_text.specs.Tokens.{is_atom, sign_at, IsToken, sign, text, word}
-use Rattle.json_walk.specs.Lexing.{Marked}
-use Rattle.json_walk.specs.Walking.{weight}
-use Rattle.json_walk.specs.Walked.{TokenAt, begins_value, is_text, NoneAt, IsNameAt, token_of, end_of, price_of, IsListed, place, byte_at, Point, point, Walked, stays, moves, IsBlocked, refused, Halts, want_at, AsksValue, AsksName, with_sign, no_more, WalksValue}
+use Rattle.json_text.specs.Machine.{Comma, Between}
+use Rattle.json_walk.specs.Walked.{NoneAt, IsNameAt, price_of, byte_at, IsBlocked, refused, AsksValue, AsksName, with_sign}
 use Rattle.json_walk.proofs.Tokens.{refused_all}
 use Rattle.json_walk.proofs.TokensAt.{sign_token, token_size, size, ends_at, no_word_marked}
 use Rattle.json_walk.proofs.Listed.{in_text}
@@ -32,74 +17,40 @@ use Rattle.json_walk.proofs.Listed.{in_text}
 -- ---- What the machine refuses
 
 unclosing : (shape : Shape) (l : Level) (w : Want) → closes shape (Inside shape) w ≡ false → closes shape l w ≡ false
-unclosing Array (Inside Array) w h = h
-unclosing Object (Inside Object) w h = h
-unclosing _ _ _ h = refl
+unclosing shape l w h = grind arith
 
 pub cond_none : {A : Type 0} (b : Bool) (x : A) → b ≡ false → cond b (Some x) None ≡ None
-cond_none true x e = absurd (cc)
-cond_none false x e = refl
+cond_none b x e = grind arith
 
 -- nothing is closed where the test says so
 unclosed : (shape : Shape) (p : ℕ) (es : List Entry) (os : List Open) (w : Want) (name : Option Extent) (d : ℕ) → closes shape (Inside shape) w ≡ false → put_close shape p es os w name d ≡ None
-unclosed shape p es (o ∷ o' ∷ os) w name d n = cond_none (closes shape o.level w) _ (unclosing shape o.level w n)
-unclosed shape p es _ w name d n = refl
+unclosed shape p es os w name d n = grind arith
 
 -- a comma comes behind a value alone
 no_comma : (l : Level) (w : Want) → (w ≡ wants.Next → ⊥) → after_comma l w ≡ None
-no_comma (Inside Array) wants.Next n = absurd (n refl)
-no_comma (Inside Object) wants.Next n = absurd (n refl)
-no_comma _ _ n = refl
+no_comma l w n = grind arith
 
 uncommaed : (b : Built) (w : Want) (name : Option Extent) → (w ≡ wants.Next → ⊥) → step Comma (standing b w name) ≡ None
 uncommaed b w name n = ap (λ r. put_comma b.entries b.opens r b.deep) (no_comma (level_of b.opens) w n)
 
 -- no value may come
 pub unput : (x : Extent) (kind : Kind) (es : List Entry) (os : List Open) (w : Want) (name : Option Extent) (d : ℕ) → takes_value w ≡ false → put_leaf x kind es os w name d ≡ None
-unput x kind es [] w name d n = refl
-unput x kind es (o ∷ os) w name d n = cond_none (takes_value w) _ n
+unput x kind es os w name d n = grind arith
 
 pub unopened : (shape : Shape) (p : ℕ) (es : List Entry) (os : List Open) (w : Want) (name : Option Extent) (d : ℕ) → takes_value w ≡ false → put_open shape p es os w name d ≡ None
-unopened shape p es [] w name d n = refl
-unopened shape p es (o ∷ os) w name d n = cond_none (takes_value w) _ n
+unopened shape p es os w name d n = grind arith
 
 -- where a colon has to come, nothing else is taken
 pub colon_only : (tok : Token) (b : Built) (name : Option Extent) → (tok ≡ Between → ⊥) → step tok (standing b wants.Colon name) ≡ None
-colon_only (Opening shape p) b name n = unopened shape p b.entries b.opens wants.Colon name b.deep refl
-colon_only (Closing Array p) b name n = unclosed Array p b.entries b.opens wants.Colon name b.deep refl
-colon_only (Closing Object p) b name n = unclosed Object p b.entries b.opens wants.Colon name b.deep refl
-colon_only Comma b name n = uncommaed b wants.Colon name (λ e. cc)
-colon_only Between b name n = absurd (n refl)
-colon_only (Text x) b name n = unput x kinds.Text b.entries b.opens wants.Colon name b.deep refl
-colon_only (Word x kind) b name n = unput x kind b.entries b.opens wants.Colon name b.deep refl
+colon_only tok b name n = grind arith
 
 -- where a name has to come, nothing but a string or the end of an empty object
 pub name_only : (tok : Token) (b : Built) (w : Want) → takes_name w ≡ true → is_text tok ≡ false → (w ≡ wants.FirstName → (p : ℕ) → tok ≡ Closing Object p → ⊥) → step tok (standing b w None) ≡ None
-name_only (Opening shape p) b wants.Name t n c = unopened shape p b.entries b.opens wants.Name None b.deep refl
-name_only (Opening shape p) b wants.FirstName t n c = unopened shape p b.entries b.opens wants.FirstName None b.deep refl
-name_only (Closing Array p) b wants.Name t n c = unclosed Array p b.entries b.opens wants.Name None b.deep refl
-name_only (Closing Object p) b wants.Name t n c = unclosed Object p b.entries b.opens wants.Name None b.deep refl
-name_only (Closing Array p) b wants.FirstName t n c = unclosed Array p b.entries b.opens wants.FirstName None b.deep refl
-name_only (Closing Object p) b wants.FirstName t n c = absurd (c refl p refl)
-name_only Comma b wants.Name t n c = uncommaed b wants.Name None (λ e. cc)
-name_only Comma b wants.FirstName t n c = uncommaed b wants.FirstName None (λ e. cc)
-name_only Between b wants.Name t n c = refl
-name_only Between b wants.FirstName t n c = refl
-name_only (Word x kind) b wants.Name t n c = unput x kind b.entries b.opens wants.Name None b.deep refl
-name_only (Word x kind) b wants.FirstName t n c = unput x kind b.entries b.opens wants.FirstName None b.deep refl
-name_only _ b _ t n c = absurd (cc)
+name_only tok b w t n c = grind arith
 
 -- where a value has to come, nothing but its beginning or the end of an empty array
 pub value_only : (tok : Token) (b : Built) (w : Want) (name : Option Extent) → takes_value w ≡ true → begins_value tok ≡ false → (w ≡ wants.FirstValue → (p : ℕ) → tok ≡ Closing Array p → ⊥) → step tok (standing b w name) ≡ None
-value_only (Closing Array p) b wants.Value name t n c = unclosed Array p b.entries b.opens wants.Value name b.deep refl
-value_only (Closing Object p) b wants.Value name t n c = unclosed Object p b.entries b.opens wants.Value name b.deep refl
-value_only (Closing Object p) b wants.FirstValue name t n c = unclosed Object p b.entries b.opens wants.FirstValue name b.deep refl
-value_only (Closing Array p) b wants.FirstValue name t n c = absurd (c refl p refl)
-value_only Comma b wants.Value name t n c = uncommaed b wants.Value name (λ e. cc)
-value_only Comma b wants.FirstValue name t n c = uncommaed b wants.FirstValue name (λ e. cc)
-value_only Between b wants.Value name t n c = refl
-value_only Between b wants.FirstValue name t n c = refl
-value_only _ b _ name t n c = absurd (cc)
+value_only tok b w name t n c = grind arith
 
 -- ---- Points
 
@@ -111,8 +62,7 @@ module _ (bytes items : List ℕ) where
       moves (record { inside = m.inside; end = m.end; taken = m.taken; next = m.next; looks = omega (arith, l, m.looks); marked = m.marked }) v
 
   walked_same : (a b c : Point) → b.number ≡ a.number → b.state ≡ a.state → b.exceeds ≡ a.exceeds → Walked bytes items b c → Walked bytes items (point a.number a.state b.looked a.exceeds) c
-  walked_same a b c n s x w =
-      subst (λ y. Walked bytes items (point a.number a.state b.looked y) c) x (subst (λ y. Walked bytes items (point a.number y b.looked b.exceeds) c) s (subst (λ y. Walked bytes items (point y b.state b.looked b.exceeds) c) n w))
+  walked_same a b c n s x w = grind arith
 
   pub walked_more : {a b c : Point} → Walked bytes items a b → Walked bytes items b c → Walked bytes items a c
   walked_more {a = a} {b = b} {c = c} (stays n s x l) w = walked_paid a.number b.looked a.looked a.exceeds a.state c l (walked_same a b c n s x w)
@@ -130,16 +80,14 @@ module _ (bytes items : List ℕ) where
   -- over one token
   pub one : (k now later : ℕ) (mark mark' : Bool) (tok : Token) (s s' : State) → k < length items → TokenAt bytes (place items k) tok → step tok s ≡ Some s' → later ≤ now + 3 + weight tok
       → Marked bytes (place items k) mark (Ok (place items k + size tok)) mark' → Walked bytes items (point k s now mark) (point (k + 1) s' later mark')
-  one k now later mark mark' tok s s' l t e p m =
-      let z : k + 1 ≡ suc k = omega arith in
-      moves (record {
-        inside = l;
-        end = place items k + length t.bytes;
-        taken = record { vs = t.bytes; rest = t.rest; tok = tok; stands = t.stands; is_token = t.is_token; steps = e; end = refl };
-        next = z;
-        looks = p;
-        marked = subst (λ n. Marked bytes (place items k) mark (Ok (place items k + n)) mark') (token_size t.is_token) m;
-      }) (here _)
+  one k now later mark mark' tok s s' l t e p m = let z : k + 1 ≡ suc k = omega arith in moves (record {
+    inside = l;
+    end = place items k + length t.bytes;
+    taken = record { vs = t.bytes; rest = t.rest; tok = tok; stands = t.stands; is_token = t.is_token; steps = e; end = refl };
+    next = z;
+    looks = p;
+    marked = subst (λ n. Marked bytes (place items k) mark (Ok (place items k + n)) mark') (token_size t.is_token) m;
+  }) (here _)
 
   -- over a token of one byte
   pub over_sign : (k b now later : ℕ) (mark : Bool) (tok : Token) (s s' : State) → k < length items → place items k < length bytes → byte_at bytes items k ≡ b → sign_at (place items k) b ≡ Some tok → is_atom b ≡ false → step tok s ≡ Some s' → later ≤ now + 3
@@ -154,26 +102,19 @@ module _ (bytes items : List ℕ) where
 -- ---- Names
 
 pub named_step : (b : Built) (w : Want) (x : Extent) → takes_name w ≡ true → step (Text x) (standing b w None) ≡ Some (standing b wants.Colon (Some x))
-named_step b wants.Name x t = refl
-named_step b wants.FirstName x t = refl
-named_step b _ x t = absurd (cc)
+named_step b w x t = grind arith
 
 sign_token_byte : (p b : ℕ) (tok : Token) → sign_at p b ≡ Some tok → (tok ≡ Between → b ≡ 58) × ((q : ℕ) → tok ≡ Closing Object q → b ≡ 125) × ((q : ℕ) → tok ≡ Closing Array q → b ≡ 93) × (tok ≡ Comma → b ≡ 44)
 sign_token_byte p b (Closing Array q) h = ((λ e. absurd (cc)), (λ r e. absurd (cc)), (λ r e. grind (arith, nat_tests)), (λ e. absurd (cc)))
-sign_token_byte p b (Closing Object q) h = ((λ e. absurd (cc)), (λ r e. grind (arith, nat_tests)), (λ r e. absurd (cc)), (λ e. absurd (cc)))
-sign_token_byte p b Comma h = ((λ e. absurd (cc)), (λ r e. absurd (cc)), (λ r e. absurd (cc)), (λ e. grind (arith, nat_tests)))
-sign_token_byte p b Between h = ((λ e. grind (arith, nat_tests)), (λ r e. absurd (cc)), (λ r e. absurd (cc)), (λ e. absurd (cc)))
-sign_token_byte p b _ h = ((λ e. absurd (cc)), (λ r e. absurd (cc)), (λ r e. absurd (cc)), (λ e. absurd (cc)))
+sign_token_byte p b tok h = grind arith
 
 -- a sign that is none of these
 sign_byte : {p : ℕ} {vs rest : List ℕ} {tok : Token} → IsToken p vs tok rest → (b : ℕ) (cs : List ℕ) → b ∷ cs ≡ vs ++ rest → (tok ≡ Between → b ≡ 58) × ((q : ℕ) → tok ≡ Closing Object q → b ≡ 125) × ((q : ℕ) → tok ≡ Closing Array q → b ≡ 93) × (tok ≡ Comma → b ≡ 44)
 sign_byte (sign {p = p} {b = b'} {tok = tok} h) b cs e = let f : b' ≡ b = cc in subst (λ x. (tok ≡ Between → x ≡ 58) × ((q : ℕ) → tok ≡ Closing Object q → x ≡ 125) × ((q : ℕ) → tok ≡ Closing Array q → x ≡ 93) × (tok ≡ Comma → x ≡ 44)) f (sign_token_byte p b' tok h)
-sign_byte (text cs' h) b cs e = ((λ e. absurd (cc)), (λ r e. absurd (cc)), (λ r e. absurd (cc)), (λ e. absurd (cc)))
-sign_byte (word a n k) b cs e = ((λ e. absurd (cc)), (λ r e. absurd (cc)), (λ r e. absurd (cc)), (λ e. absurd (cc)))
+sign_byte _ b cs e = ((λ e. absurd (cc)), (λ r e. absurd (cc)), (λ r e. absurd (cc)), (λ e. absurd (cc)))
 
 quote_here : {p : ℕ} {vs rest : List ℕ} {x : Extent} → IsToken p vs (Text x) rest → (b : ℕ) (cs : List ℕ) → b ∷ cs ≡ vs ++ rest → b ≡ 34
-quote_here {rest = rest} (text cs' (inside, a, f)) b cs e = let g = ap (λ l. l ++ rest) f in cc
-quote_here (sign {p = p} {b = b'} h) b cs e = absurd (grind (arith, nat_tests))
+quote_here h b cs e = grind (arith, nat_tests)
 
 module _ (bytes items : List ℕ) (listed : IsListed bytes items) where
   pub first_byte : (k : ℕ) (tok : Token) → k < length items → TokenAt bytes (place items k) tok → (tok ≡ Between → byte_at bytes items k ≡ 58) × ((q : ℕ) → tok ≡ Closing Object q → byte_at bytes items k ≡ 125) × ((q : ℕ) → tok ≡ Closing Array q → byte_at bytes items k ≡ 93) × (tok ≡ Comma → byte_at bytes items k ≡ 44)
@@ -188,9 +129,7 @@ module _ (bytes items : List ℕ) (listed : IsListed bytes items) where
 
   pub name_and_colon : (k now later : ℕ) (mark : Bool) (b : Built) (w : Want) (x : Extent) → k + 1 < length items → AsksName bytes items k w → IsNameAt bytes (place items k) (Some x) → byte_at bytes items (k + 1) ≡ 58 → later ≤ now + x.len + 6
       → Walked bytes items (point k (standing b w None) now mark) (point (k + 2) (standing b wants.Value (Some x)) later mark)
-  name_and_colon k now later mark b w x l asks t q r =
-      let between = now + x.len + 3 in
-      let z : k + 1 + 1 ≡ k + 2 = omega arith in
+  name_and_colon k now later mark b w x l asks t q r = let between = now + x.len + 3 in let z : k + 1 + 1 ≡ k + 2 = omega arith in
       walked_more bytes items (over_name k now between mark b w x (omega (arith, l)) asks t (omega arith))
       (subst (λ n. Walked bytes items (point (k + 1) (standing b wants.Colon (Some x)) between mark) (point n (standing b wants.Value (Some x)) later mark)) z
       (over_sign bytes items (k + 1) 58 between later mark Between (standing b wants.Colon (Some x)) (standing b wants.Value (Some x)) l (in_text bytes items listed (k + 1) l) q refl refl refl (omega (arith, r))))
@@ -201,40 +140,30 @@ module _ (bytes items : List ℕ) (listed : IsListed bytes items) where
 
   pub no_colon_halts : (k now later : ℕ) (mark : Bool) (b : Built) (w : Want) (x : Extent) → k + 1 < length items → AsksName bytes items k w → IsNameAt bytes (place items k) (Some x) → later ≤ now + x.len + 3 → byte_at bytes items (k + 1) ≢ 58
       → Halts bytes items (point k (standing b w None) now mark)
-  no_colon_halts k now later mark b w x l asks t p n =
-      halts_more bytes items (over_name k now later mark b w x (omega (arith, l)) asks t p)
+  no_colon_halts k now later mark b w x l asks t p n = halts_more bytes items (over_name k now later mark b w x (omega (arith, l)) asks t p)
       (here_halts bytes items _ (blocked bytes items (k + 1) later mark (standing b wants.Colon (Some x)) l (λ tok at. colon_only tok b (Some x) (λ e. n ((first_byte (k + 1) tok l at).0 e)))))
 
 -- the bytes of a name without a backslash are looked at once, those of any other one have been looked at
 pub looks_paid : (plain : Bool) (now named colon later len : ℕ) → named ≤ now + len + 1 → (IsTrue plain → named ≤ now + 2) → colon ≤ named + 1 → later ≤ colon + len → (plain ≡ false → later ≡ colon) → later ≤ now + len + 6
-looks_paid true now named colon later len a q c s u = let k = q refl in omega (arith, k)
-looks_paid false now named colon later len a q c s u = let k = u refl in omega (arith, k)
+looks_paid plain now named colon later len a q c s u = grind arith
 
 -- ---- Values
 
 leaf_any : (x : Extent) (kind : Kind) (es : List Entry) (os : List Open) (name : Option Extent) (d : ℕ) → put_leaf x kind es os wants.FirstValue name d ≡ put_leaf x kind es os wants.Value name d
-leaf_any x kind es [] name d = refl
-leaf_any x kind es (o ∷ os) name d = refl
+leaf_any x kind es os name d = grind arith
 
 open_any : (shape : Shape) (p : ℕ) (es : List Entry) (os : List Open) (name : Option Extent) (d : ℕ) → put_open shape p es os wants.FirstValue name d ≡ put_open shape p es os wants.Value name d
-open_any shape p es [] name d = refl
-open_any shape p es (o ∷ os) name d = refl
+open_any shape p es os name d = grind arith
 
 -- a value is taken first as it is later
 pub value_any : (tok : Token) (b : Built) (w : Want) (name : Option Extent) → takes_value w ≡ true → begins_value tok ≡ true → step tok (standing b w name) ≡ step tok (standing b wants.Value name)
-value_any tok b wants.Value name t v = refl
-value_any (Opening shape p) b wants.FirstValue name t v = open_any shape p b.entries b.opens name b.deep
-value_any (Text x) b wants.FirstValue name t v = leaf_any x kinds.Text b.entries b.opens name b.deep
-value_any (Word x kind) b wants.FirstValue name t v = leaf_any x kind b.entries b.opens name b.deep
-value_any _ b _ name t v = absurd (cc)
+value_any tok b w name t v = grind arith
 
 pub leaf_level : (x : Extent) (kind : Kind) (es : List Entry) (os : List Open) (name : Option Extent) (d : ℕ) (s : State) → put_leaf x kind es os wants.Value name d ≡ Some s → level_of s.opens ≡ level_of os
-leaf_level x kind es [] name d s e = absurd (cc)
-leaf_level x kind es (o ∷ os) name d s e = let k = (cond_some true _ s e).1 in sym (ap (λ (y : State). level_of y.opens) k)
+leaf_level x kind es os name d s e = grind arith
 
 pub open_level : (shape : Shape) (p : ℕ) (es : List Entry) (os : List Open) (name : Option Extent) (d : ℕ) (s : State) → put_open shape p es os wants.Value name d ≡ Some s → level_of s.opens ≡ Inside shape
-open_level shape p es [] name d s e = absurd (cc)
-open_level shape p es (o ∷ os) name d s e = let k = (cond_some true _ s e).1 in sym (ap (λ (y : State). level_of y.opens) k)
+open_level shape p es os name d s e = grind arith
 
 -- a string, a number or another word, that is a value
 abbrev is_leaf : Token → Bool
@@ -243,14 +172,10 @@ is_leaf (Word x kind) = true
 is_leaf _ = false
 
 leaf_begins : (tok : Token) → is_leaf tok ≡ true → begins_value tok ≡ true
-leaf_begins (Text x) h = refl
-leaf_begins (Word x kind) h = refl
-leaf_begins _ h = absurd (cc)
+leaf_begins tok h = grind arith
 
 leaf_keeps : (tok : Token) (b : Built) (name : Option Extent) (s : State) → is_leaf tok ≡ true → step tok (standing b wants.Value name) ≡ Some s → level_of s.opens ≡ level_of b.opens
-leaf_keeps (Text x) b name s h e = leaf_level x kinds.Text b.entries b.opens name b.deep s e
-leaf_keeps (Word x kind) b name s h e = leaf_level x kind b.entries b.opens name b.deep s e
-leaf_keeps _ b name s h e = absurd (cc)
+leaf_keeps tok b name s h e = grind arith
 
 pub not_root : {l : Level} {shape : Shape} → l ≡ Inside shape → l ≡ Root → ⊥
 not_root e f = let g = sym e ∙ f in cc
@@ -270,21 +195,14 @@ module _ (bytes items : List ℕ) (listed : IsListed bytes items) where
   leaf_walks k now later byte mark mark' shape old new w name tok (Ok x) l inside asks t leaf took p m q =
       let any = value_any tok old w name asks.0 (leaf_begins tok leaf) in
       (one bytes items k now later mark mark' tok _ _ (omega (arith, l)) t (any ∙ took) p m, leaf_keeps tok old name _ leaf took ∙ inside, q, l)
-  leaf_walks k now later byte mark mark' shape old new w name tok (Err NotJson) l inside asks t leaf took p m q =
-      refused_halts k now mark tok (standing old w name) (omega (arith, l)) t (value_any tok old w name asks.0 (leaf_begins tok leaf) ∙ took)
-  leaf_walks k now later byte mark mark' shape old new w name tok (Err Memory) l inside asks t leaf took p m q = tt
+  leaf_walks k now later byte mark mark' shape old new w name tok made l inside asks t leaf took p m q = grind arith
 
   pub open_walks : (k now later : ℕ) (mark mark' : Bool) (shape : Shape) (old new : Built) (w : Want) (name : Option Extent) → k < length items → AsksValue bytes items k w → TokenAt bytes (place items k) (Opening shape (place items k))
       → step (Opening shape (place items k)) (standing old wants.Value name) ≡ Some (standing new (first_of shape) None) → later ≤ now + 1 → Marked bytes (place items k) mark (Ok (place items k + 1)) mark'
       → Walked bytes items (point k (standing old w name) now mark) (point (k + 1) (standing new (want_at false (level_of new.opens)) None) (later + 1) mark') × (level_of new.opens ≡ Root → ⊥)
-  open_walks k now later mark mark' shape old new w name l asks t took p m =
-      let tok = Opening shape (place items k) in
-      let any = value_any tok old w name asks.0 refl in
-      let level = open_level shape (place items k) old.entries old.opens name old.deep _ took in (
-        subst (λ v. Walked bytes items (point k (standing old w name) now mark) (point (k + 1) (standing new (want_at false v) None) (later + 1) mark')) (sym level)
-            (one bytes items k now (later + 1) mark mark' tok _ _ l t (any ∙ took) (omega (arith, p)) m),
-        not_root level,
-      )
+  open_walks k now later mark mark' shape old new w name l asks t took p m = let tok = Opening shape (place items k) in
+      let any = value_any tok old w name asks.0 refl in let level = open_level shape (place items k) old.entries old.opens name old.deep _ took in
+      grind (arith, one bytes items k now (later + 1) mark mark' tok _ _ l t (any ∙ took) (omega (arith, p)) m, not_root level)
 
   -- the same by what was lexed
   pub lexed_walks : (k now between later byte : ℕ) (mark mark' : Bool) (shape : Shape) (old new : Built) (w : Want) (name : Option Extent) (l l' : Lexed) (made : Result (Unit {0}) BuildFault) (r : Result (Option ℕ) BuildFault) → k + 1 < length items → level_of old.opens ≡ Inside shape → AsksValue bytes items k w
@@ -293,8 +211,7 @@ module _ (bytes items : List ℕ) (listed : IsListed bytes items) where
       → Took (step (token_of (place items k) l') (standing old wants.Value name)) made (standing new wants.Next None) → later ≤ between + 1 → byte ≡ byte_at bytes items (k + 1) → r ≡ with_sign made byte
       → WalksValue bytes items (point k (standing old w name) now mark) shape (k + 1) r new later mark'
   lexed_walks k now between later byte mark mark' shape old new w name l l' made r inside level asks e t m looked leaf price took last q is =
-      let i = place items k in
-      let more = subst (λ x. between ≤ now + price_of x) e looked in
+      let i = place items k in let more = subst (λ x. between ≤ now + price_of x) e looked in
       subst (λ x. WalksValue bytes items (point k (standing old w name) now mark) shape (k + 1) x new later mark') (sym is)
       (leaf_walks k now later byte mark mark' shape old new w name (token_of i l') made inside level asks (subst (λ x. TokenAt bytes i (token_of i x)) e t) leaf took (omega (arith, more, price, last))
       (subst (λ n. Marked bytes i mark (Ok n) mark') (ends_at i l') (subst (λ x. Marked bytes i mark (Ok (end_of i x)) mark') e m)) q)
@@ -304,11 +221,9 @@ module _ (bytes items : List ℕ) (listed : IsListed bytes items) where
       → Took (step (Opening inner (place items k)) (standing old wants.Value name)) made (standing new (first_of inner) None)
       → WalksValue bytes items (point k (standing old w name) now mark) shape (k + 1) (no_more made) new later mark'
   inside_walks k now later mark mark' shape inner old new w name l (Ok x) inside asks e t m looked took =
-      let i = place items k in
-      let more = subst (λ x. later ≤ now + price_of x) e looked in
+      let i = place items k in let more = subst (λ x. later ≤ now + price_of x) e looked in
       open_walks k now later mark mark' inner old new w name inside asks (subst (λ x. TokenAt bytes i (token_of i x)) e t) took (omega (arith, more)) (subst (λ x. Marked bytes i mark (Ok (end_of i x)) mark') e m)
-  inside_walks k now later mark mark' shape inner old new w name l (Err NotJson) inside asks e t m looked took =
-      let i = place items k in
+  inside_walks k now later mark mark' shape inner old new w name l (Err NotJson) inside asks e t m looked took = let i = place items k in
       refused_halts k now mark (Opening inner i) (standing old w name) inside (subst (λ x. TokenAt bytes i (token_of i x)) e t) (value_any (Opening inner i) old w name asks.0 refl ∙ took)
   inside_walks k now later mark mark' shape inner old new w name l (Err Memory) inside asks e t m looked took = tt
 
@@ -317,5 +232,4 @@ module _ (bytes items : List ℕ) (listed : IsListed bytes items) where
       → Took (step (Opening inner (place items k)) (standing old wants.Value name)) made (standing new (first_of inner) None) → r ≡ no_more made
       → WalksValue bytes items (point k (standing old w name) now mark) shape (k + 1) r new later mark'
   opened_walks k now later mark mark' shape inner old new w name l made r inside asks e t m looked took is =
-      subst (λ x. WalksValue bytes items (point k (standing old w name) now mark) shape (k + 1) x new later mark') (sym is)
-      (inside_walks k now later mark mark' shape inner old new w name l made inside asks e t m looked took)
+      rw is (inside_walks k now later mark mark' shape inner old new w name l made inside asks e t m looked took)

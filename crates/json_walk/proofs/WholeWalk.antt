@@ -1,28 +1,13 @@
 -- What a whole walk shows of a text: its tape where it comes to the end, and that there is none where it halts.
-use Rattle.std.proofs.Common.{◌≡◌, ◌≢◌, ℕ, zero, suc, ◌+◌, ◌<◌, ◌≤◌, ◌^◌, inl, inr, Bool, true, false, List, [], ◌∷◌, ◌++◌, length, drop, get_or, Some, None, refl, sym, ap, subst, ◌∙◌, arith}
-use Rattle.std.specs.Prelude.{Err}
-use Rattle.std.proofs.lemmas.Bool.{cases_lt}
-use Rattle.std.proofs.lemmas.List.{drop_more}
-use Rattle.structural_index.specs.Places.{places}
-use Rattle.json_text.specs.Answer.{IsJson, IsNoJson, StandsForAll, HasDepth}
-use Rattle.json_walk.specs.Building.{IsBounded}
-use Rattle.json_text.specs.Limits.{AreWithinLimits}
-use Rattle.json_text.specs.declared.tape.Kind.TheVariants as kinds
-use Rattle.json_text.specs.declared.tape.Level.TheVariants.{Root}
+use Rattle.json_text.proofs.Names.{◌≡◌, ◌≢◌, ℕ, zero, suc, ◌+◌, ◌<◌, ◌≤◌, ◌^◌, inl, inr, Bool, true, false, List, [], ◌∷◌, ◌++◌, length, drop, get_or}
+use Rattle.json_text.proofs.Names.{Some, None, refl, sym, ap, subst, ◌∙◌, arith, Err, cases_lt, drop_more, IsJson, IsNoJson, StandsForAll, HasDepth}
+use Rattle.json_text.proofs.Names.{AreWithinLimits, Token, State, step, put_close, level_of, Blank, class, IsToken, Goes, stay, blank, token, Taken}
+use Rattle.json_walk.proofs.Names.{places, IsBounded, Root, BuildFault, NotJson, Memory, Spot, Entry, Open, Shape, Built, standing, IsListed, place}
+use Rattle.json_walk.proofs.Names.{Point, point, Walked, stays, moves, Halts, want_at, at}
 use Rattle.json_text.specs.declared.tape.Want.TheVariants as wants
-use Rattle.json_text.specs.declared.tape.BuildFault.{BuildFault}
-use Rattle.json_text.specs.declared.tape.BuildFault.TheVariants.{NotJson, Memory}
-use Rattle.json_walk.specs.declared.second_stage.Spot.{Spot}
-use Rattle.json_text.specs.Machine.{Token, Opening, Closing, Comma, Between, Text, Word, State, step, closes, put_close, put_comma, after_comma, level_of}
-use Rattle.json_text.specs.declared.tape.Entry.{Entry}
-use Rattle.json_text.specs.declared.tape.Open.{Open}
-use Rattle.json_text.specs.declared.tape.Shape.{Shape}
-use Rattle.json_text.specs.declared.tape.Shape.TheVariants.{Array, Object}
-use Rattle.tape_cells.specs.Built.{Built, standing, nothing}
-use Rattle.json_text.specs.Tokens.{Blank, class, IsToken, Goes, stay, blank, token, Taken}
-use Rattle.json_walk.specs.Walked.{IsListed, place, Point, point, Walked, stays, moves, Outlasts, IsBlocked, refused, few, Halts, want_at, at, WalksTo}
+use Rattle.tape_cells.specs.Built.{nothing}
+use Rattle.json_walk.specs.Walked.{Outlasts, IsBlocked, refused, few, WalksTo}
 use Rattle.json_text.proofs.Complete.{blank_class}
-use Rattle.json_walk.proofs.WalkSteps.{unopened, unput, cond_none}
 use Rattle.json_walk.proofs.Listed.{in_text, next_is, no_blank}
 use Rattle.json_walk.proofs.Marks.{Kept, kept_start, kept_token}
 use Rattle.json_walk.proofs.PlaceWalk.{Walks, walks_start, walks_end, walks_refused}
@@ -46,20 +31,10 @@ way_begun (token {vs = vs} {rest = rest} {tok = tok} {s' = s'} e f i st w) b cs 
 
 -- behind the value of a whole text nothing is taken
 no_root_close : (shape : Shape) (p : ℕ) (es : List Entry) (os : List Open) (d : ℕ) → level_of os ≡ Root → put_close shape p es os wants.Next None d ≡ None
-no_root_close shape p es (o ∷ o' ∷ os) d l = cond_none (closes shape o.level wants.Next) _ (ap (λ x. closes shape x wants.Next) l ∙ no_root shape)
-  where
-    no_root : (shape : Shape) → closes shape Root wants.Next ≡ false
-    no_root Array = refl
-    no_root Object = refl
-no_root_close shape p es _ d l = refl
+no_root_close shape p es os d l = grind arith
 
 nothing_more : (tok : Token) (b : Built) → level_of b.opens ≡ Root → step tok (standing b wants.Next None) ≡ None
-nothing_more (Opening other p) b l = unopened other p b.entries b.opens wants.Next None b.deep refl
-nothing_more (Closing other p) b l = no_root_close other p b.entries b.opens b.deep l
-nothing_more Comma b l = ap (λ x. put_comma b.entries b.opens (after_comma x wants.Next) b.deep) l
-nothing_more Between b l = refl
-nothing_more (Text x) b l = unput x kinds.Text b.entries b.opens wants.Next None b.deep refl
-nothing_more (Word x kind) b l = unput x kind b.entries b.opens wants.Next None b.deep refl
+nothing_more tok b l = grind arith
 
 module _ (bytes items : List ℕ) (listed : IsListed bytes items) (before : ℕ) where
   -- what is known at a point of a walk
@@ -71,19 +46,12 @@ module _ (bytes items : List ℕ) (listed : IsListed bytes items) (before : ℕ)
   at_place k now s l w = subst (λ x. Walks bytes k x before now s) (sym (next_is bytes items listed k 0 l)) w
 
   known_less : (k : ℕ) (s : State) (now less : ℕ) (mark : Bool) → less ≤ now → Known k s now mark → Known k s less mark
-  known_less k s now less mark l h =
-      let w = h.walks in
-      let paid = w.paid in
-      record { walks = record { knows = w.knows; here = w.here; paid = omega (arith, l, paid); few = w.few }; kept = h.kept }
+  known_less k s now less mark l h = grind arith
 
   known_walked : (a b : Point) → Walked bytes items a b → Known a.number a.state a.looked a.exceeds → Known b.number b.state b.looked b.exceeds
-  known_walked a b (stays n s x l) h =
-      subst (λ y. Known b.number b.state b.looked y) (sym x) (subst (λ y. Known b.number y b.looked a.exceeds) (sym s) (subst (λ y. Known y a.state b.looked a.exceeds) (sym n) (known_less a.number a.state a.looked b.looked a.exceeds l h)))
-  known_walked a b (moves {b = c} m w) h =
-      let k = a.number in
-      let i = place items k in
-      let inside = in_text bytes items listed k m.inside in
-      let z : k + 1 ≡ c.number = omega (arith, m.next) in
+  known_walked a b (stays n s x l) h = grind arith
+  known_walked a b (moves {b = c} m w) h = let k = a.number in let i = place items k in
+      let inside = in_text bytes items listed k m.inside in let z : k + 1 ≡ c.number = omega (arith, m.next) in
       let walks = walks_next bytes k i m.end before a.looked c.looked a.state c.state (at_place k a.looked a.state m.inside h.walks) inside m.taken m.looks in
       let kept = kept_token bytes i m.end a.exceeds c.exceeds a.state c.state inside m.taken m.marked h.kept in
       known_walked c b w (record { walks = subst (λ n. Walks bytes n (get_or (places bytes) n (length bytes)) before c.looked c.state) z walks; kept = kept })
@@ -95,9 +63,7 @@ module _ (bytes items : List ℕ) (listed : IsListed bytes items) (before : ℕ)
   outlasts_none zero k now s w l out = reads_none bytes (get_or (places bytes) k (length bytes)) s w.knows (past_places k now s w (omega (arith, l))) out
   outlasts_none (suc n) k now s w l out = elim (cases_lt k (length items)) [
     | inl a ↦ (λ t x.
-        let i = place items k in
-        let here = at_place k now s a w in
-        let inside = in_text bytes items listed k a in
+        let i = place items k in let here = at_place k now s a w in let inside = in_text bytes items listed k a in
         let b = way_begun (here.knows.back t x).1 (get_or bytes i 0) (drop (i + 1) bytes) (drop_more bytes i 0 inside) (solid_by_test (get_or bytes i 0) (no_blank bytes items listed k a)) in
         let taken : Taken bytes i (i + length b.vs) s b.next = record { vs = b.vs; rest = b.rest; tok = b.tok; stands = b.stands; is_token = b.is_token; steps = b.steps; end = refl } in
         let z : k + 1 ≡ suc k = omega arith in
@@ -122,8 +88,7 @@ module _ (bytes items : List ℕ) (listed : IsListed bytes items) (before : ℕ)
 
   -- more tokens than those of a text
   pub more_none : (spot : Spot) (b : Built) (looked : ℕ) (mark : Bool) → Walked bytes items first_point (at spot b looked mark) → level_of b.opens ≡ Root → spot.behind ≡ true → spot.number < length items → IsNoJson bytes
-  more_none spot b looked mark w level behind l =
-      let known = known_walked first_point (at spot b looked mark) w known_first in
+  more_none spot b looked mark w level behind l = let known = known_walked first_point (at spot b looked mark) w known_first in
       let same : standing b (want_at spot.behind (level_of b.opens)) None ≡ standing b wants.Next None = ap (λ x. standing b (want_at x (level_of b.opens)) None) behind in
       blocked_none (at spot b looked mark) known (refused l (λ vs rest tok e t. ap (step tok) same ∙ nothing_more tok b level))
 
@@ -137,15 +102,10 @@ module _ (bytes items : List ℕ) (listed : IsListed bytes items) (before : ℕ)
 
   pub whole_walk : (spot : Spot) (b : Built) (looked : ℕ) (mark : Bool) → Walked bytes items first_point (at spot b looked mark) → level_of b.opens ≡ Root → spot.behind ≡ true → length items ≤ spot.number → WholeWalk b.entries b.deep looked mark
   whole_walk spot b looked mark w level behind l =
-      let known = known_walked first_point (at spot b looked mark) w known_first in
-      let k = spot.number in
-      let i = get_or (places bytes) k (length bytes) in
-      let walks = known.walks in
-      let over = past_places k (looked + 1) _ walks l in
+      let known = known_walked first_point (at spot b looked mark) w known_first in let k = spot.number in
+      let i = get_or (places bytes) k (length bytes) in let walks = known.walks in let over = past_places k (looked + 1) _ walks l in
       let want : want_at spot.behind (level_of b.opens) ≡ wants.Next = ap (λ x. want_at x (level_of b.opens)) behind in
-      let end = walks_end bytes k i before (looked + 1) _ walks over (level, want) in
-      let short = listed.short in
-      record {
+      let end = walks_end bytes k i before (looked + 1) _ walks over (level, want) in let short = listed.short in record {
         json = end.json;
         stands = end.stands;
         bounded = λ t x. (let most = end.bounded t x in omega (arith, most));

@@ -1,8 +1,7 @@
 -- The letters of a word, by the number that its first four make.
-use Rattle.std.proofs.Common.{◌≡◌, ℕ, suc, ◌+◌, ◌*◌, ◌<◌, ◌≤◌, List, [], ◌∷◌, length, take, drop, get_or, refl, sym, ap, ◌∙◌, arith}
+use Rattle.std.proofs.Common.{◌≡◌, ℕ, suc, ◌+◌, ◌*◌, ◌<◌, ◌≤◌, List, [], ◌∷◌, length, take, drop, get_or, refl, sym, ◌∙◌, arith}
 use Rattle.std.proofs.lemmas.List.{drop_more, take_all}
 use Rattle.structural_index.specs.Letters.{word_at}
-use Rattle.structural_index.proofs.Letters.{digits}
 
 take_next : (text : List ℕ) (i j n : ℕ) → i + 1 ≡ j → i < length text → take (suc n) (drop i text) ≡ get_or text i 0 ∷ take n (drop j text)
 take_next text i j n e l = grind (arith, drop_more text i 0 l, e)
@@ -10,12 +9,7 @@ take_next text i j n e l = grind (arith, drop_more text i 0 l, e)
 four_letters : (bs : List ℕ) (n a b c d word : ℕ) → ((k : ℕ) → get_or bs k 0 < 256) → 4 ≤ length bs → word ≡ word_at bs 0
     → a < 256 → b < 256 → c < 256 → d < 256 → word ≡ a + b * 256 + c * 65536 + d * 16777216
     → take (suc (suc (suc (suc n)))) bs ≡ a ∷ b ∷ c ∷ d ∷ take n (drop 4 bs)
-four_letters bs n a b c d word fits room w ha hb hc hd e =
-    let s = digits word _ _ _ _ a b c d (fits 0) (fits 1) (fits 2) (fits 3) ha hb hc hd w e in
-    take_next bs 0 1 (suc (suc (suc n))) refl (omega arith)
-    ∙ (λ k. s.0 k ∷ (take_next bs 1 2 (suc (suc n)) refl (omega arith)
-    ∙ (λ k. s.1 k ∷ (take_next bs 2 3 (suc n) refl (omega arith)
-    ∙ (λ k. s.2 k ∷ (take_next bs 3 4 n refl (omega arith) ∙ ap (λ x. x ∷ take n (drop 4 bs)) s.3) k)) k)) k)
+four_letters bs n a b c d word fits room w ha hb hc hd e = grind arith
 
 pub spells_four : (bs : List ℕ) (a b c d word : ℕ) → ((k : ℕ) → get_or bs k 0 < 256) → length bs ≡ 4 → word ≡ word_at bs 0
     → a < 256 → b < 256 → c < 256 → d < 256 → word ≡ a + b * 256 + c * 65536 + d * 16777216 → bs ≡ a ∷ b ∷ c ∷ d ∷ []
@@ -24,5 +18,4 @@ spells_four bs a b c d word fits long w ha hb hc hd e = sym (take_all 4 bs (omeg
 pub spells_five : (bs : List ℕ) (a b c d last word : ℕ) → ((k : ℕ) → get_or bs k 0 < 256) → length bs ≡ 5 → word ≡ word_at bs 0
     → a < 256 → b < 256 → c < 256 → d < 256 → word ≡ a + b * 256 + c * 65536 + d * 16777216 → get_or bs 4 0 ≡ last → bs ≡ a ∷ b ∷ c ∷ d ∷ last ∷ []
 spells_five bs a b c d last word fits long w ha hb hc hd e f =
-    sym (take_all 5 bs (omega arith)) ∙ four_letters bs 1 a b c d word fits (omega arith) w ha hb hc hd e
-    ∙ ap (λ l. a ∷ b ∷ c ∷ d ∷ l) (take_next bs 4 5 0 refl (omega arith) ∙ ap (λ x. x ∷ []) f)
+    cc (take_all 5 bs (omega arith), four_letters bs 1 a b c d word fits (omega arith) w ha hb hc hd e, take_next bs 4 5 0 refl (omega arith))

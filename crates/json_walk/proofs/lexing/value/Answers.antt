@@ -1,6 +1,4 @@
-use Rattle.std.proofs.Common.{sym, ap, ◌∙◌}
-use Rattle.json_text.specs.Tokens.{sign_at}
-use Rattle.json_text.specs.Machine.{Opening}
+use Rattle.json_text.proofs.Names.{sym, ap, ◌∙◌, sign_at, Opening}
 use Rattle.json_text.specs.declared.tape.Shape.TheVariants.{Array, Object}
 use Rattle.json_walk.proofs.TokensAt.{sign_token}
 use Rattle.json_walk.proofs.lexing.value.Goals as goal

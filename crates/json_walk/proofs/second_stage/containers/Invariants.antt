@@ -1,9 +1,5 @@
-use Rattle.std.proofs.Common.{◌≡◌, ◌≤◌, ◌-◌, false, length}
-use Rattle.json_text.specs.declared.tape.Level.TheVariants.{Root}
-use Rattle.json_text.specs.Machine.{level_of}
-use Rattle.json_walk.specs.Placing.{HoldSlashes}
-use Rattle.json_walk.specs.Walked.{Walked, at}
-use Rattle.name_stamps.specs.Stamps.{DuplicateCheck}
+use Rattle.json_text.proofs.Names.{◌≡◌, ◌≤◌, ◌-◌, false, length, level_of}
+use Rattle.json_walk.proofs.Names.{Root, HoldSlashes, Walked, at, DuplicateCheck}
 use Rattle.json_walk.proofs.second_stage.containers.Given as goal
 
 abbrev pub invariant-loop-shape : goal.invariant-loop-shape

@@ -4,20 +4,13 @@ use Rattle.json_walk.proofs.WalkContainer.{over_halts, closed_entered, first_ent
 use Rattle.json_walk.proofs.second_stage.entered.Goals as goal
 
 pub returns-then-spot-places-clause-entered : goal.returns-then-spot-places-clause-entered
-returns-then-spot-places-clause-entered g c = λ exceeds.
-    over_halts c.args.looks.now.0 c.args.places.now c.requires.listed c.args.spot.number _ exceeds _ _ (omega (arith, c.if-spot-places.true)) c.requires.level
+returns-then-spot-places-clause-entered g c = search (arith, over_halts)
 
 pub at-sign-requires : goal.at-sign-requires
-at-sign-requires g c =
-    in_text c.args.looks.now.0 c.args.places.now c.requires.listed c.args.spot.number (omega (arith, c.if-spot-places.false))
+at-sign-requires g c = in_text c.args.looks.now.0 c.args.places.now c.requires.listed c.args.spot.number (omega (arith, c.if-spot-places.false))
 
 pub returns-then-sign-ending-clause-entered : goal.returns-then-sign-ending-clause-entered
-returns-then-sign-ending-clause-entered g c = λ exceeds.
-    let bytes = c.args.looks.now.0 in
-    let items = c.args.places.now in
-    let k = c.args.spot.number in
-    closed_entered bytes items c.requires.listed k (k + 1) c.args.looks.now.1 c.at-sign.new.self.1 exceeds c.args.spot.behind c.args.builder.now c.shut.new.builder _ c.shut.result c.nothing_more.result refl (omega (arith, c.if-spot-places.false)) c.requires.level (omega (arith, c.if-sign-ending.true, c.ending.ensures, c.at-sign.ensures.value))
-    c.shut.ensures.took (omega (arith, ap (λ (p : List ℕ × ℕ). p.1) c.at-sign.ensures.counted)) c.nothing_more.ensures
+returns-then-sign-ending-clause-entered g c = grind (arith, closed_entered)
 
 pub returns-then-not-spot-clause-entered : goal.returns-then-not-spot-clause-entered
 returns-then-not-spot-clause-entered g c = λ exceeds.

@@ -1,7 +1,5 @@
-use Rattle.std.proofs.Common.{◌+◌, ℕ, List, None, Some, sym, get_or, subst, ap, length, arith}
-use Rattle.json_walk.specs.Walked.{IsNameAt, source_in, Walked, point}
-use Rattle.tape_cells.specs.Built.{standing}
-use Rattle.json_text.specs.declared.tape.Want.TheVariants.{Value}
+use Rattle.json_walk.proofs.Names.{Walked, point, standing, Value}
+use Rattle.std.proofs.Common.{◌+◌, ℕ, List, None, Some, sym, get_or, subst, ap, arith}
 use Rattle.json_walk.proofs.Listed.{in_text, closes_before, next_is}
 use Rattle.json_walk.proofs.WalkSteps.{looks_paid, name_and_colon, no_name_halts, no_colon_halts}
 use Rattle.json_walk.proofs.second_stage.named.Goals as goal
@@ -17,17 +15,12 @@ name-requires-clause-closes c =
     closes_before c.args.looks.now.0 c.args.places.now c.requires.listed c.args.k _ (omega (arith, c.requires.inside)) (next_is c.args.looks.now.0 c.args.places.now c.requires.listed (c.args.k + 1) 0 c.requires.inside)
 
 pub at-requires : goal.at-requires
-at-requires c =
-    let same = ap length c.name.ensures.same in
-    let l = in_text c.args.looks.now.0 c.args.places.now c.requires.listed (c.args.k + 1) c.requires.inside in
-    omega (arith, same, l)
+at-requires c = grind (arith, in_text)
 
 pub returns-in-Some-clause-named : goal.returns-in-Some-clause-named
 returns-in-Some-clause-named c = λ b w exceeds asks.
-    let bytes = c.args.looks.now.0 in
-    let items = c.args.places.now in
-    let k = c.args.k in
-    let counted = ap (λ (p : List ℕ × ℕ). p.1) c.at.ensures.counted in
+    let bytes = c.args.looks.now.0 in let items = c.args.places.now in
+    let k = c.args.k in let counted = ap (λ (p : List ℕ × ℕ). p.1) c.at.ensures.counted in
     let same = ap (λ (b : List ℕ). get_or b (get_or items (k + 1) 0) 0) c.name.ensures.same in
     let paid = looks_paid c.in-Some.name.plain c.args.looks.now.1 c.name.new.looks.1 c.at.new.self.1 c.stamped.new.looks.1 c.in-Some.name.source.len c.in-Some.ensures.looked c.in-Some.ensures.quick (omega (arith, counted)) c.stamped.ensures.looked c.stamped.ensures.unlooked in
     subst (λ x. Walked bytes items (point k (standing b w None) c.args.looks.now.1 exceeds) (point (k + 2) (standing b Value (Some x)) c.stamped.new.looks.1 exceeds)) (sym c.stamped.ensures.source)
@@ -35,13 +28,9 @@ returns-in-Some-clause-named c = λ b w exceeds asks.
 
 pub returns-in_default-clause-named : goal.returns-in_default-clause-named
 returns-in_default-clause-named c = λ b w exceeds asks.
-    let bytes = c.args.looks.now.0 in
-    let items = c.args.places.now in
-    let k = c.args.k in
-    let same = ap (λ (b : List ℕ). get_or b (get_or items (k + 1) 0) 0) c.name.ensures.same in
+    let bytes = c.args.looks.now.0 in let items = c.args.places.now in
+    let k = c.args.k in let same = ap (λ (b : List ℕ). get_or b (get_or items (k + 1) 0) 0) c.name.ensures.same in
     no_colon_halts bytes items c.requires.listed k c.args.looks.now.1 c.name.new.looks.1 exceeds b w c.in-Some.name.source c.requires.inside asks c.in-Some.ensures.name (omega (arith, c.in-Some.ensures.looked)) (λ e. omega (arith, same, c.at.ensures.value, c.if-at-eq58.false, e))
 
 pub returns-in_default-2-clause-named : goal.returns-in_default-2-clause-named
-returns-in_default-2-clause-named c = λ b w exceeds asks.
-    let none = ap source_in c.in_default.is in
-    no_name_halts c.args.looks.now.0 c.args.places.now c.requires.listed c.args.k c.args.looks.now.1 exceeds b w (omega (arith, c.requires.inside)) asks (subst (IsNameAt c.args.looks.now.0 (get_or c.args.places.now c.args.k 0)) none c.name.ensures.name)
+returns-in_default-2-clause-named c = grind (arith, no_name_halts)

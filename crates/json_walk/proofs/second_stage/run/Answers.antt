@@ -1,9 +1,6 @@
-use Rattle.std.proofs.Common.{◌≡◌, ◌∙◌, ◌+◌, not, eqb, sym, ap, subst, arith}
-use Rattle.std.specs.Prelude.{ℕ, Option, Result, Ok}
-use Rattle.json_text.specs.declared.tape.BuildFault.{BuildFault}
-use Rattle.json_walk.specs.Walked.{IsListed, WalksValue, at, width, shape_of}
-use Rattle.json_walk.specs.Placing.{HoldSlashes}
-use Rattle.name_stamps.specs.Stamps.{DuplicateCheck}
+use Rattle.json_text.proofs.Names.{◌≡◌, ◌∙◌, ◌+◌, not, eqb, sym, ap, subst, arith, ℕ, Option, Result, Ok}
+use Rattle.json_walk.proofs.Names.{BuildFault, IsListed, WalksValue, at, HoldSlashes, DuplicateCheck}
+use Rattle.json_walk.specs.Walked.{width, shape_of}
 use Rattle.json_walk.proofs.Listed.{near, number_below}
 use Rattle.json_walk.proofs.WalkContainer.{entered_none, entered_some, may_continue, child_walks, next_may_continue, walks_ended, child_fault, few_halts, walked_small, walked_onward, small_state, if_ok}
 use Rattle.json_walk.proofs.WalkSteps.{halts_more}
@@ -18,24 +15,11 @@ returns-in-Ok-None-clause-walks g c = entered_none c.args.looks.now.0 c.args.pla
 pub loop-k-init : goal.loop-k-init
 loop-k-init g c =
     let entered = entered_some c.args.looks.now.0 c.args.places.now c.requires.listed _ _ _ _ _ c.in-Ok-Some.field-0 _ _ c.in-Ok-Some.field-0-is (c.in-Ok-Some.ensures.entered c.args.may_exceed.now) in
-    let inside = c.in-Ok-Some.ensures.inside in
-    let next = entered.1 in
-    record {
-      same = c.in-Ok-Some.ensures.same;
-      slashes = c.requires.slashes;
-      level = entered.0 ∙ sym c.requires.level;
-      continues = may_continue c.args.looks.now.0 c.args.places.now c.requires.listed _ _ _ _ _ _ _ c.requires.level entered.2;
-      to = omega (arith, inside, next);
-      checked = c.in-Ok.ensures.checked c.args.looks.now.0 (c.in-Ok-Some.ensures.checked c.args.looks.now.0 c.requires.checked);
-      has_slot = c.in-Ok.ensures.has_slot;
-    }
+    let inside = c.in-Ok-Some.ensures.inside in let next = entered.1 in
+    grind (arith, may_continue c.args.looks.now.0 c.args.places.now c.requires.listed _ _ _ _ _ _ _ c.requires.level entered.2)
 
 pub overflow_add-k : goal.overflow_add-k
-overflow_add-k g c =
-    let below = number_below c.args.looks.now.0 c.args.places.now c.requires.listed c.loop-k.k c.loop-k.invariant.to in
-    let short = c.requires.listed.short in
-    let few = c.width.ensures.few in
-    omega (arith, below, short, few)
+overflow_add-k g c = grind (arith, number_below)
 
 pub child-requires-clause-listed : goal.child-requires-clause-listed
 child-requires-clause-listed g c = subst (λ b. IsListed b c.args.places.now) (sym c.loop-k.invariant.same) c.requires.listed
@@ -47,9 +31,7 @@ pub child-requires-clause-level : goal.child-requires-clause-level
 child-requires-clause-level g c = c.loop-k.invariant.level ∙ c.requires.level
 
 pub child-requires-clause-small : goal.child-requires-clause-small
-child-requires-clause-small g c =
-    let continues = c.loop-k.invariant.continues _ c.requires.level in
-    small_state _ _ _ _ _ _ (walked_small c.args.looks.now.0 c.args.places.now c.requires.listed _ _ continues.2 (small_state _ _ _ _ _ _ c.requires.small))
+child-requires-clause-small g c = grind (arith, small_state, walked_small)
 
 pub child-requires-clause-checked : goal.child-requires-clause-checked
 child-requires-clause-checked g c = subst (λ b. DuplicateCheck b c.loop-k.builder c.loop-k.seen) (sym c.loop-k.invariant.same) c.loop-k.invariant.checked
@@ -84,52 +66,38 @@ returns-in-Ok-None-child-clause-opened g c = λ first.
     (walks g (goal.at.returns-in-Ok-None-child-clause-opened g c).After-child _ _ (c.in-Ok-None-child.is ∙ ap Ok c.in-Ok-None-child.field-0-is) (ap (λ x. c.loop-k.k + x) c.width-in-Ok-None-child.ensures.value)).1
 
 pub returns-in-Ok-None-child-clause-further : goal.returns-in-Ok-None-child-clause-further
-returns-in-Ok-None-child-clause-further g c =
-    let continues = c.loop-k.invariant.continues _ c.requires.level in
-    let on = walked_onward c.args.looks.now.0 c.args.places.now c.requires.listed _ _ continues.2 in
-    let some = c.width-in-Ok-None-child.ensures.some in
-    let same = c.width-in-Ok-None-child.ensures.value ∙ sym c.width.ensures.value in
-    let test = c.loop-k-test.true in
-    (omega (arith, on, some), omega (arith, same, test))
+returns-in-Ok-None-child-clause-further g c = grind (arith, walked_onward)
 
 pub loop-k-preserved : goal.loop-k-preserved
 loop-k-preserved g c =
-    let n = c.loop-k.k + c.width-in-Ok-Some-eq44.result in
-    let same = c.width-in-Ok-Some-eq44.ensures.value ∙ sym c.width.ensures.value in
-    let test = c.loop-k-test.true in
+    let n = c.loop-k.k + c.width-in-Ok-Some-eq44.result in let same = c.width-in-Ok-Some-eq44.ensures.value ∙ sym c.width.ensures.value in
     let found = walks g (goal.at.loop-k-preserved g c).After-child n _ (c.in-Ok-Some-eq44.is ∙ ap Ok c.in-Ok-Some-eq44.field-0-is) (ap (λ x. c.loop-k.k + x) c.width-in-Ok-Some-eq44.ensures.value) in
     record {
       same = c.in-Ok-Some-eq44.ensures.same ∙ c.loop-k.invariant.same;
       slashes = subst (λ b. HoldSlashes b c.child.new.slashes) c.loop-k.invariant.same c.in-Ok-Some-eq44.ensures.slashes;
       level = found.1 ∙ sym c.requires.level;
-      continues = next_may_continue _ _ c.requires.listed _ n _ c.child.new.looks.1 c.child.new.may_exceed _ _ c.child.new.builder c.in-Ok-Some-eq44.field-0-0 c.requires.level (let t = c.in-Ok-Some-eq44.field-0-0-test in omega (arith, t)) (omega arith) found;
-      to = omega (arith, same, test);
+      continues = next_may_continue _ _ c.requires.listed _ n _ c.child.new.looks.1 c.child.new.may_exceed _ _ c.child.new.builder c.in-Ok-Some-eq44.field-0-0 c.requires.level (omega arith) (omega arith) found;
+      to = omega (arith, same);
       checked = subst (λ b. DuplicateCheck b c.child.new.builder c.child.new.seen) c.loop-k.invariant.same c.in-Ok-Some-eq44.ensures.checked;
       has_slot = where_some _ c.in-Ok-Some-eq44.field-0 c.in-Ok-Some-eq44.field-0-0 c.in-Ok-Some-eq44.field-0-is c.in-Ok-Some-eq44.ensures.has_slot;
     }
 
 pub ended-requires-clause-near : goal.ended-requires-clause-near
-ended-requires-clause-near g c =
-    let same = c.width-in-Ok-Some-child.ensures.value ∙ sym c.width.ensures.value in
-    let test = c.loop-k-test.true in
-    near c.args.looks.now.0 c.args.places.now c.requires.listed (c.loop-k.k + c.width-in-Ok-Some-child.result) (omega (arith, same, test))
+ended-requires-clause-near g c = grind (arith, near)
 
 pub ended-requires-clause-level : goal.ended-requires-clause-level
 ended-requires-clause-level g c =
     (walks g (goal.at.ended-requires-clause-level g c).After-child _ _ (c.in-Ok-Some-child.is ∙ ap Ok c.in-Ok-Some-child.field-0-is) (ap (λ x. c.loop-k.k + x) c.width-in-Ok-Some-child.ensures.value)).1
 
 pub returns-in-Ok-Some-child-clause-walks : goal.returns-in-Ok-Some-child-clause-walks
-returns-in-Ok-Some-child-clause-walks g c =
-    let n = c.loop-k.k + c.width-in-Ok-Some-child.result in
+returns-in-Ok-Some-child-clause-walks g c = let n = c.loop-k.k + c.width-in-Ok-Some-child.result in
     let found = walks g (goal.at.returns-in-Ok-Some-child-clause-walks g c).After-child n _ (c.in-Ok-Some-child.is ∙ ap Ok c.in-Ok-Some-child.field-0-is) (ap (λ x. c.loop-k.k + x) c.width-in-Ok-Some-child.ensures.value) in
     walks_ended _ _ c.requires.listed _ n c.child.new.looks.1 c.child.new.may_exceed _ c.child.new.builder c.ended.new.builder c.in-Ok-Some-child.sign c.ended.result found (c.ended.ensures.walks _ c.child.new.looks.1 c.child.new.may_exceed c.requires.listed)
 
 pub returns-in-Ok-Some-child-clause-further : goal.returns-in-Ok-Some-child-clause-further
-returns-in-Ok-Some-child-clause-further g c =
-    let continues = c.loop-k.invariant.continues _ c.requires.level in
+returns-in-Ok-Some-child-clause-further g c = let continues = c.loop-k.invariant.continues _ c.requires.level in
     let on = walked_onward c.args.looks.now.0 c.args.places.now c.requires.listed _ _ continues.2 in
-    let same = c.width-in-Ok-Some-child.ensures.value ∙ sym c.width.ensures.value in
-    let test = c.loop-k-test.true in
+    let same = c.width-in-Ok-Some-child.ensures.value ∙ sym c.width.ensures.value in let test = c.loop-k-test.true in
     if_ok c.ended.result (λ next h. (let e = h.0 in omega (arith, on, e), let e = h.0 in omega (arith, e, same, test))) c.ended.ensures.behind
 
 pub returns-in-Ok-Some-child-clause-opened : goal.returns-in-Ok-Some-child-clause-opened
@@ -137,8 +105,6 @@ returns-in-Ok-Some-child-clause-opened g c = if_ok c.ended.result (λ next h fir
 
 pub returns-clause-walks : goal.returns-clause-walks
 returns-clause-walks g c =
-    let continues = c.loop-k.invariant.continues _ c.requires.level in
-    let test = c.loop-k-test.false in
-    let size = c.width.ensures.value in
+    let continues = c.loop-k.invariant.continues _ c.requires.level in let test = c.loop-k-test.false in let size = c.width.ensures.value in
     halts_more c.args.looks.now.0 c.args.places.now continues.2
     (few_halts c.args.looks.now.0 c.args.places.now c.requires.listed c.loop-k.k c.loop-k.looks.1 c.loop-k.may_exceed c.loop-k.builder _ continues.0 (omega (arith, test, size)) (c.loop-k.invariant.level ∙ c.requires.level) continues.1)

@@ -1,8 +1,6 @@
-use Rattle.std.proofs.Common.{◌≡◌, ◌≤◌, ◌-◌, length, IsTrue, not, eqb}
-use Rattle.json_text.specs.Machine.{level_of}
-use Rattle.json_walk.specs.Placing.{HoldSlashes}
-use Rattle.json_walk.specs.Walked.{at}
-use Rattle.name_stamps.specs.Stamps.{DuplicateCheck, HasSlot}
+use Rattle.json_text.proofs.Names.{◌≡◌, ◌≤◌, ◌-◌, length, IsTrue, not, eqb, level_of}
+use Rattle.json_walk.proofs.Names.{HoldSlashes, at, DuplicateCheck}
+use Rattle.name_stamps.specs.Stamps.{HasSlot}
 use Rattle.json_walk.proofs.WalkContainer.{MayContinue}
 use Rattle.json_walk.proofs.second_stage.run.Given as goal
 

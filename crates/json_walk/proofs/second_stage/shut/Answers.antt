@@ -1,7 +1,5 @@
-use Rattle.std.proofs.Common.{None, subst}
-use Rattle.json_text.specs.Machine.{Closing, step, Took}
-use Rattle.tape_cells.specs.Built.{standing}
-use Rattle.json_text.specs.declared.tape.Want.TheVariants.{Next}
+use Rattle.json_text.proofs.Names.{None, subst, Closing, step, Took}
+use Rattle.json_walk.proofs.Names.{standing, Next}
 use Rattle.json_walk.proofs.CheckSteps.{close_checked, on_both}
 use Rattle.json_walk.proofs.second_stage.shut.Goals as goal
 

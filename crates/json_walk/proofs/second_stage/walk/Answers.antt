@@ -1,12 +1,6 @@
-use Rattle.std.proofs.Common.{◌≡◌, ◌∙◌, length, refl, sym, ap, subst, arith}
-use Rattle.std.specs.Prelude.{Ok, Err}
-use Rattle.json_text.specs.declared.tape.BuildFault.TheVariants.{NotJson}
-use Rattle.json_text.specs.Answer.{StandsForAll}
-use Rattle.json_text.specs.Limits.{AreWithinLimits}
+use Rattle.json_text.proofs.Names.{◌≡◌, ◌∙◌, length, refl, sym, ap, subst, arith, Ok, Err, StandsForAll, AreWithinLimits, AreSuspects}
+use Rattle.json_walk.proofs.Names.{NotJson, IsListed, Walked, at, DuplicateCheck}
 use Rattle.tape_cells.specs.Built.{nothing}
-use Rattle.json_walk.specs.Walked.{IsListed, Walked, at}
-use Rattle.name_stamps.specs.Stamps.{DuplicateCheck}
-use Rattle.json_text.specs.Suspects.{AreSuspects}
 use Rattle.json_walk.proofs.Walking.{unclosed_none, control_none}
 use Rattle.json_walk.proofs.WalkContainer.{walked_small, small_state, walks_same}
 use Rattle.json_walk.proofs.WholeWalk.{WholeWalk, began, fault_none, more_none, whole_walk, first_point}
@@ -22,26 +16,18 @@ returns-then-index-clause-refused c = λ e t x. elim c.then-index.branch [
 
 -- the list that is walked
 listed : (c : After-as_slice-places) → IsListed c.args.looks.now.0 c.as_slice-places.result.now
-listed c = record {
-  list = c.as_slice-places.ensures.value ∙ c.requires.index.places_are;
-  short = c.requires.short;
-  utf8 = c.requires.utf8;
-  controls = λ h. absurd (let no = c.if-index-2.false in let yes = c.requires.index.control_is.1 h in cc);
-  closed = λ h. absurd (let no = c.if-index.false in let yes = c.requires.index.unclosed_is.1 h in cc);
-}
+listed c = record { list = grind arith; short = c.requires.short; utf8 = c.requires.utf8; controls = λ h. grind arith; closed = λ h. grind arith }
 
 pub returns-in-Err-clause-refused : goal.returns-in-Err-clause-refused
 returns-in-Err-clause-refused c = λ e.
     fault_none _ _ (listed (goal.at.returns-in-Err-clause-refused c).After-as_slice-places) c.args.looks.now.1 _ c.in-Err.fault c.whole.new.builder c.whole.new.looks.1 c.whole.new.may_exceed c.in_ok-builder.ensures c.in-Err.ensures.walks (let f : c.in-Err.fault ≡ NotJson = cc in f)
 
 pub containers-requires-clause-small : goal.containers-requires-clause-small
-containers-requires-clause-small c =
-    let list = listed (goal.at.containers-requires-clause-small c).After-as_slice-places in
+containers-requires-clause-small c = let list = listed (goal.at.containers-requires-clause-small c).After-as_slice-places in
     small_state _ _ _ _ _ _ (walked_small _ _ list _ _ (began _ _ list _ _ _ c.in_ok-builder.ensures c.in-Ok.ensures.walks) (record { entries = omega arith; opens = (omega arith, tt) }))
 
 pub containers-requires-clause-checked : goal.containers-requires-clause-checked
-containers-requires-clause-checked c =
-    subst (λ b. DuplicateCheck b c.whole.new.builder c.new-seen.result) (sym c.in-Ok.ensures.same)
+containers-requires-clause-checked c = subst (λ b. DuplicateCheck b c.whole.new.builder c.new-seen.result) (sym c.in-Ok.ensures.same)
     (c.in-Ok.ensures.checked c.new-seen.result (subst (λ b. DuplicateCheck c.args.looks.now.0 b c.new-seen.result) (sym c.in_ok-builder.ensures) (c.new-seen.ensures c.args.looks.now.0)))
 
 pub returns-in-Err-containers-clause-refused : goal.returns-in-Err-containers-clause-refused
@@ -59,15 +45,12 @@ ended c list =
 
 pub returns-then-last-places-clause-refused : goal.returns-then-last-places-clause-refused
 returns-then-last-places-clause-refused c = λ e.
-    let list = listed (goal.at.returns-then-last-places-clause-refused c).After-as_slice-places in
-    let over = c.in-Ok-containers.ensures.over in
+    let list = listed (goal.at.returns-then-last-places-clause-refused c).After-as_slice-places in let over = c.in-Ok-containers.ensures.over in
     more_none _ _ list _ c.in-Ok-containers.last _ _ _ (ended (goal.at.returns-then-last-places-clause-refused c).In-Ok-containers list) over.0 over.1 c.if-last-places.true
 
 found : (c : After-into_tape) (list : IsListed c.args.looks.now.0 c.as_slice-places.result.now)
     → WholeWalk c.args.looks.now.0 c.as_slice-places.result.now list c.args.looks.now.1 c.containers.new.builder.entries c.containers.new.builder.deep c.containers.new.looks.1 c.containers.new.may_exceed
-found c list =
-    let over = c.in-Ok-containers.ensures.over in
-    let done = c.if-last-places.false in
+found c list = let over = c.in-Ok-containers.ensures.over in let done = c.if-last-places.false in
     whole_walk _ _ list _ c.in-Ok-containers.last _ _ _ (ended (goal.at.returns-clause-spelt c).In-Ok-containers list) over.0 over.1 (omega (arith, done))
 
 pub returns-clause-spelt : goal.returns-clause-spelt
@@ -89,6 +72,5 @@ pub returns-clause-looked : goal.returns-clause-looked
 returns-clause-looked c = (found c (listed (goal.at.returns-clause-looked c).After-as_slice-places)).bounded
 
 pub returns-clause-suspects : goal.returns-clause-suspects
-returns-clause-suspects c =
-    subst (λ tape. AreSuspects c.args.looks.now.0 tape c.containers.new.seen.suspects.items) (sym c.into_tape.ensures)
+returns-clause-suspects c = subst (λ tape. AreSuspects c.args.looks.now.0 tape c.containers.new.seen.suspects.items) (sym c.into_tape.ensures)
     (suspects_left c.args.looks.now.0 c.containers.new.builder c.containers.new.seen (subst (λ b. DuplicateCheck b c.containers.new.builder c.containers.new.seen) c.in-Ok.ensures.same c.in-Ok-containers.ensures.checked))

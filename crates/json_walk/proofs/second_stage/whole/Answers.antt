@@ -1,7 +1,5 @@
-use Rattle.std.proofs.Common.{◌≡◌, ◌∙◌, ℕ, List, length, get_or, None, refl, ap, arith}
-use Rattle.std.proofs.lemmas.Bool.Decides.{nat_tests}
-use Rattle.structural_index.specs.Places.{places}
-use Rattle.json_text.specs.declared.tape.Want.TheVariants.{Value}
+use Rattle.json_text.proofs.Names.{◌∙◌, ℕ, List, length, get_or, ap, arith, nat_tests}
+use Rattle.json_walk.proofs.Names.{places}
 use Rattle.json_walk.proofs.Listed.{in_text, closes_before, no_blank, near, place_in}
 use Rattle.json_walk.proofs.WalkSteps.{no_value_halts}
 use Rattle.json_walk.proofs.WalkContainer.{whole_walks, spot_one, nothing_halts}
@@ -9,22 +7,16 @@ use Rattle.json_walk.proofs.CheckSteps.{whole_checked}
 use Rattle.json_walk.proofs.second_stage.whole.Goals as goal
 
 pub returns-then-is_empty-clause-walks : goal.returns-then-is_empty-clause-walks
-returns-then-is_empty-clause-walks c =
-    nothing_halts c.args.looks.now.0 c.args.places.now c.requires.listed c.args.looks.now.1 c.args.may_exceed.now c.args.builder.now (let e = c.if-is_empty.ensures in grind (arith, nat_tests))
+returns-then-is_empty-clause-walks c = grind (arith, nothing_halts)
 
 pub value-requires-clause-in_text : goal.value-requires-clause-in_text
 value-requires-clause-in_text c = in_text c.args.looks.now.0 c.args.places.now c.requires.listed 0 (let e = c.if-is_empty.ensures in grind (arith, nat_tests))
 
 pub value-requires-clause-near : goal.value-requires-clause-near
-value-requires-clause-near c =
-    let text = c.args.looks.now.0 in
-    let next : c.place_behind-next.result ≡ get_or (places text) 1 (length text) = c.place_behind-next.ensures ∙ ap (λ n. get_or c.args.places.now 1 n) c.length.ensures ∙ ap (λ (ps : List ℕ). get_or ps 1 (length text)) c.requires.listed.list in
-    let below = place_in text 1 in
-    omega (arith, next, below)
+value-requires-clause-near c = grind (arith, places, place_in)
 
 pub value-requires-clause-closes : goal.value-requires-clause-closes
-value-requires-clause-closes c =
-    let text = c.args.looks.now.0 in
+value-requires-clause-closes c = let text = c.args.looks.now.0 in
     closes_before text c.args.places.now c.requires.listed 0 c.place_behind-next.result (let e = c.if-is_empty.ensures in grind (arith, nat_tests))
     (c.place_behind-next.ensures ∙ ap (λ n. get_or c.args.places.now 1 n) c.length.ensures ∙ ap (λ (ps : List ℕ). get_or ps 1 (length text)) c.requires.listed.list)
 
@@ -32,8 +24,7 @@ pub value-requires-clause-no_blank : goal.value-requires-clause-no_blank
 value-requires-clause-no_blank c = no_blank c.args.looks.now.0 c.args.places.now c.requires.listed 0 (let e = c.if-is_empty.ensures in grind (arith, nat_tests))
 
 pub returns-in_default-clause-walks : goal.returns-in_default-clause-walks
-returns-in_default-clause-walks c =
-    no_value_halts c.args.looks.now.0 c.args.places.now c.requires.listed 0 c.args.looks.now.1 c.args.may_exceed.now c.args.builder.now Value None (let e = c.if-is_empty.ensures in grind (arith, nat_tests)) (refl, λ e. cc) c.in_default.ensures.value
+returns-in_default-clause-walks c = grind (arith, no_value_halts)
 
 pub put-requires-clause-near : goal.put-requires-clause-near
 put-requires-clause-near c = near c.args.looks.now.0 c.args.places.now c.requires.listed 0 (let e = c.if-is_empty.ensures in grind (arith, nat_tests))

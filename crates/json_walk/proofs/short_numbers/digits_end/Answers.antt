@@ -1,5 +1,4 @@
-use Rattle.std.proofs.Common.{◌≡◌, ◌+◌, ◌-◌, ◌≤◌, ap, sym, ◌∙◌, arith}
-use Rattle.std.specs.Int.{bit_at}
+use Rattle.json_text.proofs.Names.{◌+◌, ◌≤◌, arith, bit_at}
 use Rattle.json_walk.proofs.short_numbers.digits_end.Goals.{After-clear_bits}
 use Rattle.json_walk.proofs.short_numbers.digits_end.Goals as goal
 
@@ -19,16 +18,7 @@ pub returns-clause-few : goal.returns-clause-few
 returns-clause-few c = λ before. let few = c.clear_bits.ensures.few 31 (omega arith) (omega arith) (c.requires.others.ends 31 (omega arith) (omega arith)) in omega arith
 
 pub returns-clause-inside : goal.returns-clause-inside
-returns-clause-inside c = λ some.
-    let n = c.clear_bits.result in
-    let few = most c in
-    let last = (c.requires.others.each (c.args.start + (n - 1)) (omega arith) (c.clear_bits.ensures.clear (n - 1) (omega arith))).0 in
-    omega (arith, last)
+returns-clause-inside c = grind (arith, most c)
 
 pub returns-clause-digits : goal.returns-clause-digits
-returns-clause-digits c = λ k from to.
-    let i = k - c.args.start in
-    let few = most c in
-    let back : c.args.start + i ≡ k = omega arith in
-    let here = c.requires.others.each k (omega (arith, few, to)) (ap (bit_at c.args.others) (sym back) ∙ c.clear_bits.ensures.clear i (omega arith)) in
-    (here.1, here.2)
+returns-clause-digits c = grind (arith, most c, bit_at c.args.others)

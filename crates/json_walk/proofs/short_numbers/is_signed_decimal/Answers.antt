@@ -15,11 +15,8 @@ returns-then-point-bytes-clause-limits c = λ _.
 
 pub returns-clause-number : goal.returns-clause-number
 returns-clause-number c = λ t.
-    let lead = c.if-not-has_no_leading_zero.ensures in
-    let some = lead.some refl in
-    let within = c.digits_end-point.ensures.inside some in
-    let other = c.if-point-bytes.false in
-    decimal_number c.args.bytes.now c.args.first c.digits_end-point.result c.requires.sign c.requires.minus some (omega (arith, within, other)) c.digits_end-point.ensures.digits (lead.lead refl) (c.is_fraction.ensures.fraction t)
+    let lead = c.if-not-has_no_leading_zero.ensures in let some = lead.some refl in
+    decimal_number c.args.bytes.now c.args.first c.digits_end-point.result c.requires.sign c.requires.minus some (omega arith) c.digits_end-point.ensures.digits (lead.lead refl) (c.is_fraction.ensures.fraction t)
 
 pub returns-clause-limits : goal.returns-clause-limits
 returns-clause-limits c = λ t.
