@@ -1,11 +1,9 @@
 -- A name of an entry is one of an object's names, and back.
-use Rattle.std.proofs.Common.{◌≡◌, ℕ, ◌+◌, ◌⊎◌, inl, inr}
-use Rattle.json_text.specs.Tree.{Source, Name, Tree, Obj, Elements, Members}
+use Rattle.json_text.proofs.Names.{◌≡◌, ℕ, ◌+◌, ◌⊎◌, inl, inr, Source, Name, Tree, Obj, Elements, Members, Label, Named, extent, IsAt, itself}
+use Rattle.json_text.proofs.Names.{in_array, in_object, IsInElements, in_element, in_later_element, IsInMembers, in_member, in_later_member, size}
+use Rattle.json_text.proofs.Names.{IsString}
 use Rattle.json_text.specs.declared.tape.Extent.{Extent}
-use Rattle.json_text.specs.Tape.{Label, Named, extent, IsAt, itself, in_array, in_object, IsInElements, in_element, in_later_element, IsInMembers, in_member, in_later_member}
-use Rattle.json_text.specs.Nodes.{size}
 use Rattle.json_text.specs.Parts.{IsNameOf, first_name, later_name}
-use Rattle.json_text.specs.Letters.{IsString}
 use Rattle.json_text.proofs.Fits.{Lies, FitMembers}
 
 -- an object at a place of such a kind, one of whose names has this extent

@@ -1,9 +1,6 @@
 -- The orders that a document keeps.
-use Rattle.std.proofs.Common.{◌≡◌, ℕ, ◌<◌, List, length, Option, Some, None, MatchOption, Bor, subst}
-use Rattle.std.specs.List.{Contains}
-use Rattle.std.proofs.lemmas.List.Elements.{All-contains}
-use Rattle.json_text.specs.Tape.{entry_in}
-use Rattle.json_text.specs.Suspects.{IsWide}
+use Rattle.json_text.proofs.Names.{◌≡◌, ℕ, ◌<◌, List, length, Option, Some, None, subst, arith, Contains, entry_in, IsWide}
+use Rattle.std.proofs.Common.{MatchOption, Bor}
 use Rattle.json_tape.specs.Document.{Doc, count}
 use Rattle.name_order.specs.Ordered.{AreKept, IsOrderOf}
 use Rattle.name_order.specs.Orders.{Order}
@@ -14,5 +11,4 @@ module _ (i d : Doc) (e : i ≡ d) (orders : List Order) (kept : AreKept i.text 
       → MatchOption found (IsWide (entry_in d.entries n) → ⊥) (λ words. IsOrderOf d.text d.entries n words.now)
   unfolding count
   order_found n h None none = λ w. let (o, c, q) = (subst (λ (x : Doc). AreKept x.text x.entries (length x.entries) orders) e kept).all n h w in none o c q
-  order_found n h (Some words) c = subst (λ (x : Doc). IsOrderOf x.text x.entries n words.now) e
-      (All-contains (λ (o : Order). (o.object < length i.entries) × IsOrderOf i.text i.entries o.object o.words) orders (record { object = n; words = words.now }) kept.each c).1
+  order_found n h (Some words) c = grind arith

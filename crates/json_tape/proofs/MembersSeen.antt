@@ -1,13 +1,10 @@
 -- The members of an object, from one node to the next.
-use Rattle.std.proofs.Common.{◌≡◌, ℕ, suc, ◌+◌, ◌<◌, ◌≤◌, true, false, List, [], ◌∷◌, ◌++◌, length, get_or, refl, sym, ap, ◌∙◌, subst, arith, append_assoc, length-append}
-use Rattle.std.specs.Prelude.{bytes_eq}
-use Rattle.json_text.specs.Tree.{Name, Tree, Leaf, Arr, Obj, Elements, NoElement, Element, Members, NoMember, Member}
-use Rattle.json_text.specs.Letters.{IsString}
+use Rattle.json_text.proofs.Names.{◌≡◌, ℕ, suc, ◌+◌, ◌<◌, ◌≤◌, true, false, List, [], ◌∷◌, ◌++◌, length, get_or, refl, sym, ap, ◌∙◌, subst, arith}
+use Rattle.json_text.proofs.Names.{append_assoc, length-append, bytes_eq, Name, Tree, Leaf, Arr, Obj, Elements, NoElement, Element, Members, NoMember}
+use Rattle.json_text.proofs.Names.{Member, IsString, Node, Step, key, size, size_of_members, children, children_of, elements_from, members_from}
+use Rattle.json_text.proofs.Names.{is_named, first_where, Label, Named, extent, kind_of}
 use Rattle.json_text.specs.Meaning.{meaning}
-use Rattle.json_text.specs.Nodes.{Node, Step, key, size, size_of_members, children, children_of, elements_from, members_from, is_named, first_where}
-use Rattle.json_text.specs.Tape.{Label, Named, extent}
 use Rattle.json_tape.specs.Document.{Doc, Spot, IsDocument, spots, spot_at, spots_from, spots_members, node_at, count}
-use Rattle.json_text.specs.Tape.{kind_of}
 use Rattle.json_text.specs.declared.tape.Kind.TheVariants as kinds
 use Rattle.json_text.specs.declared.tape.Entry.{Entry}
 use Rattle.json_text.proofs.Entries as entries
@@ -44,34 +41,20 @@ object_rest : (d : Doc) (name : List ℕ) (way : List Step) (up : ℕ) (label : 
     → Rest d name k (suc k) end
 object_rest d name way up label later k end (Leaf s c) pre post w l c' f o e = absurd (no_object_kind c o)
 object_rest d name way up label later k end (Arr s es) pre post w l c f o e = absurd (cc)
-object_rest d name way up label later k end (Obj s ms) pre post w l c f o e =
-    let x = top way up label later k (Obj s ms) in record {
-      members = ms;
-      way = way;
-      pre = pre ++ x ∷ [];
-      post = post;
-      whole = w ∙ sym (append_assoc pre (x ∷ []) (spots_members way k (suc k) ms ++ post));
-      at = omega (arith, length-append pre (x ∷ []), l);
-      ends = omega (arith, e);
-      fits = f.1;
-      same = ap (first_where (is_named name)) (sym c);
-    }
+object_rest d name way up label later k end (Obj s ms) pre post w l c f o e = let x = top way up label later k (Obj s ms) in
+    grind (arith, append_assoc pre (x ∷ []) (spots_members way k (suc k) ms ++ post), length-append pre (x ∷ []))
 
 module _ (d : Doc) (s : IsDocument d) (name : List ℕ) where
   -- all members of an object
   pub all_rest : (n : ℕ) → n < count d → (e : Entry) → e ≡ get_or d.entries n e → kind_of (node_at d n).tree ≡ kinds.Object → Rest d name n (n + 1) e.after
   unfolding node_at
-  all_rest n h e q o =
-      let g = good d s n h in
-      let x = g.spot in
-      let r = spot_is d s n g in
+  all_rest n h e q o = let g = good d s n h in let x = g.spot in let r = spot_is d s n g in
       let a : e.after ≡ x.node.number + size x.node.tree = after_is d s n h e q ∙ ap (λ (y : Spot). n + size y.node.tree) r ∙ omega (arith, g.number) in
       let m : length g.pre ≡ x.node.number = g.at ∙ sym g.number in
       let c : children (spot_at d x.node.number).node ≡ children x.node = ap (λ j. children (spot_at d j).node) g.number ∙ ap (λ (y : Spot). children y.node) r in
       let k : kind_of x.node.tree ≡ kinds.Object = sym (ap (λ (y : Spot). kind_of y.node.tree) r) ∙ o in
       let z = object_rest d name x.node.way_up x.up x.label x.later x.node.number e.after x.node.tree g.pre g.post g.whole m c g.fits k a in
-      let p : suc n ≡ n + 1 = omega arith in
-      subst (λ j. Rest d name n j e.after) p (subst (λ j. Rest d name j (suc j) e.after) g.number z)
+      let p : suc n ≡ n + 1 = omega arith in subst (λ j. Rest d name n j e.after) p (subst (λ j. Rest d name j (suc j) e.after) g.number z)
 
   seen_from : (n k end : ℕ) (ms : Members) (way : List Step) (pre post : List Spot)
       → spots d ≡ pre ++ (spots_members way n k ms ++ post) → length pre ≡ k → end ≡ k + size_of_members ms → FitMembers d.text ms
@@ -79,16 +62,13 @@ module _ (d : Doc) (s : IsDocument d) (name : List ℕ) where
   unfolding node_at
   seen_from n k end NoMember way pre post w l z f same h = absurd (omega (arith, z, h))
   seen_from n k end (Member m t ms) way pre post w l z f same h =
-      let later = members_from way (k + size t) ms in
-      let way' = key (meaning m.characters) ∷ way in
-      let rest = spots_members way n (k + size t) ms in
-      let own' = spots_from way' n (Named (extent m.source)) later k t in
+      let later = members_from way (k + size t) ms in let way' = key (meaning m.characters) ∷ way in
+      let rest = spots_members way n (k + size t) ms in let own' = spots_from way' n (Named (extent m.source)) later k t in
       let x = top way' n (Named (extent m.source)) later k t in
       let whole : spots d ≡ pre ++ ((x ∷ inner way' k t) ++ (rest ++ post)) = w ∙ one_of pre way' n (Named (extent m.source)) later k t rest post in
       let p : spot_at d k ≡ x = place_is (spots d) pre x (inner way' k t) (rest ++ post) (none_there d) k whole l in
       let i : k < length (spots d) = (let y = ap (λ (xs : List Spot). length xs) whole in omega (arith, y, length-append pre ((x ∷ inner way' k t) ++ (rest ++ post)), l)) in
-      let j : k < count d = rw (count_is d s) i in
-      record {
+      let j : k < count d = rw (count_is d s) i in record {
         inside = j;
         member = m;
         lies = f.0;
@@ -125,22 +105,18 @@ module _ (d : Doc) (s : IsDocument d) (name : List ℕ) where
 
 -- no members are left
 pub none_left : (d : Doc) (name : List ℕ) (n k end : ℕ) → Rest d name n k end → end ≤ k → ◌≡◌ {A = List Node} [] (first_where (is_named name) (children (node_at d n)))
-none_left d name n k end r h = go r.members r.ends r.same
-  where
-    go : (ms : Members) → end ≡ k + size_of_members ms → first_where (is_named name) (members_from r.way k ms) ≡ first_where (is_named name) (children (node_at d n))
-        → ◌≡◌ {A = List Node} [] (first_where (is_named name) (children (node_at d n)))
-    go NoMember e same = same
-    go (Member m t ms) e same = absurd (let z = size_positive t in omega (arith, e, z, h))
+none_left d name n k end r h = go r.members r.ends r.same where
+  go : (ms : Members) → end ≡ k + size_of_members ms → first_where (is_named name) (members_from r.way k ms) ≡ first_where (is_named name) (children (node_at d n))
+      → ◌≡◌ {A = List Node} [] (first_where (is_named name) (children (node_at d n)))
+  go NoMember e same = same
+  go (Member m t ms) e same = absurd (let z = size_positive t in omega (arith, e, z, h))
 
 -- only an object's children have names
 pub unnamed : (name : List ℕ) (n : Node) → (kind_of n.tree ≡ kinds.Object → ⊥) → ◌≡◌ {A = List Node} [] (first_where (is_named name) (children n))
-unnamed name n f = go n.way_up n.number n.tree f
-  where
-    elements : (way : List Step) (i k : ℕ) (es : Elements) → ◌≡◌ {A = List Node} [] (first_where (is_named name) (elements_from way i k es))
-    elements way i k NoElement = refl
-    elements way i k (Element t es) = elements way (suc i) (k + size t) es
+unnamed name n f = go n.way_up n.number n.tree f where
+  elements : (way : List Step) (i k : ℕ) (es : Elements) → ◌≡◌ {A = List Node} [] (first_where (is_named name) (elements_from way i k es))
+  elements way i k NoElement = refl
+  elements way i k (Element t es) = elements way (suc i) (k + size t) es
 
-    go : (way : List Step) (k : ℕ) (t : Tree) → (kind_of t ≡ kinds.Object → ⊥) → ◌≡◌ {A = List Node} [] (first_where (is_named name) (children_of way k t))
-    go way k (Leaf s c) f = refl
-    go way k (Arr s es) f = elements way 0 (suc k) es
-    go way k (Obj s ms) f = absurd (f refl)
+  go : (way : List Step) (k : ℕ) (t : Tree) → (kind_of t ≡ kinds.Object → ⊥) → ◌≡◌ {A = List Node} [] (first_where (is_named name) (children_of way k t))
+  go way k t f = grind (arith, elements)

@@ -1,12 +1,10 @@
 -- Each part of a text's tree has a byte at least, so it ends within the text.
-use Rattle.std.proofs.Common.{◌≡◌, ℕ, ◌+◌, ◌<◌, ◌≤◌, List, length, drop, refl, ap, arith}
+use Rattle.std.proofs.Common.{◌≡◌, ℕ, ◌+◌, ◌<◌, ◌≤◌, List, length, ap, arith}
 use Rattle.std.proofs.lemmas.List.{length-take, length-drop}
-use Rattle.json_text.specs.Tree.{Scalar, Num, Str, Tree, Leaf, Arr, Obj, Elements, NoElement, Element, Members, NoMember, Member, Name, source_of, then_element, then_member}
+use Rattle.json_text.specs.Tree.{Scalar, Tree, Leaf, Arr, Obj, Elements, NoElement, Element, Members, NoMember, Member, Name, source_of, then_element, then_member}
 use Rattle.json_text.specs.Grammar.{IsScalarText, IsValue, scalar, array, object, IsElements, one_element, next_element, IsMembers, one_member, next_member, IsMember, member, IsText}
 use Rattle.json_text.specs.Parts.{IsElementOf, first_element, later_element, IsValueOf, first_value, later_value, HasPart, itself, element, value}
-use Rattle.json_text.proofs.Chars.{number_some}
 use Rattle.json_text.proofs.Fits.{Lies}
-use Rattle.json_walk.proofs.TokensAt.{long_enough}
 
 abbrev mutual
   Shown : Tree → Type 0
@@ -31,9 +29,7 @@ shown-then_member NoMember n t h g = (g, tt)
 shown-then_member (Member m a ms) n t h g = (h.0, shown-then_member ms n t h.1 g)
 
 scalar_some : (bs : List ℕ) (c : Scalar) → IsScalarText bs c → 0 < length bs
-scalar_some bs Num h = long_enough bs (number_some bs h)
-scalar_some bs (Str cs) (inside, h, e) = let n = ap length e in omega arith
-scalar_some bs _ e = let n = ap length e in omega arith
+scalar_some bs c h = grind arith
 
 mutual
   value_shown : {p : ℕ} {bs : List ℕ} {t : Tree} → IsValue p bs t → Shown t
@@ -67,22 +63,14 @@ part_shown (element p i) h = element_shown i (part_shown p h).1
 part_shown (value p i) h = value_of_shown i (part_shown p h).1
 
 source_some : (t : Tree) → Shown t → 0 < length (source_of t).bytes
-source_some (Leaf s c) h = h
-source_some _ h = h.0
+source_some t h = grind arith
 
 -- the bytes of a value are those of its tree, and there are some
 pub value_bytes : {p : ℕ} {bs : List ℕ} {t : Tree} → IsValue p bs t → (source_of t).bytes ≡ bs
-value_bytes (scalar h) = refl
-value_bytes _ = refl
+value_bytes h = grind arith
 
 pub value_some : {p : ℕ} {bs : List ℕ} {t : Tree} → IsValue p bs t → 0 < length bs
 value_some {t = t} h = let n = source_some t (value_shown h) in let e = ap length (value_bytes h) in omega arith
 
 pub part_ends : (text : List ℕ) (whole t : Tree) → IsText text whole → HasPart whole t → Lies text (source_of t) → (source_of t).place + length (source_of t).bytes ≤ length text
-part_ends text whole t h p l =
-    let s = source_of t in
-    let some = source_some t (part_shown p (value_shown h.value)) in
-    let m = ap length l in
-    let a = length-take (length s.bytes) (drop s.place text) in
-    let b = length-drop s.place text in
-    omega arith
+part_ends text whole t h p l = grind (arith, source_some, part_shown, value_shown, length-take, length-drop)

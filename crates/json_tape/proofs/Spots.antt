@@ -28,8 +28,7 @@ mutual
 
   pub tape_elements_is : (way : List Step) (i up k : ℕ) (es : Elements) → tape_of_elements es up i k ≡ map entry_at (spots_elements way i up k es)
   tape_elements_is way i up k NoElement = refl
-  tape_elements_is way i up k (Element t es) =
-      ap (λ j. tape_of t up (Index i) k ++ tape_of_elements es up j (k + size t)) (add-one i)
+  tape_elements_is way i up k (Element t es) = ap (λ j. tape_of t up (Index i) k ++ tape_of_elements es up j (k + size t)) (add-one i)
       ∙ rw (tape_is (place i ∷ way) up (Index i) (elements_from way (suc i) (k + size t) es) k t, tape_elements_is way (suc i) up (k + size t) es)
       (sym (map-append entry_at (spots_from (place i ∷ way) up (Index i) (elements_from way (suc i) (k + size t) es) k t) (spots_elements way (suc i) up (k + size t) es)))
 
@@ -83,8 +82,7 @@ inner way k (Arr s es) = spots_elements way 0 k (suc k) es
 inner way k (Obj s ms) = spots_members way k (suc k) ms
 
 pub top_first : (way : List Step) (up : ℕ) (label : Label) (later : List Node) (k : ℕ) (t : Tree) → spots_from way up label later k t ≡ top way up label later k t ∷ inner way k t
-top_first way up label later k (Leaf s c) = refl
-top_first way up label later k _ = refl
+top_first way up label later k t = grind arith
 
 abbrev pub end_of : Spot → ℕ
 end_of s = s.node.number + size s.node.tree
@@ -148,23 +146,13 @@ module _ (text : List ℕ) (root : Tree) (all : List Spot) (d : Spot) where
       → all ≡ pre ++ (spots_elements way i u k es ++ post) → length pre ≡ k → end_of (get_or all u d) ≡ k + size_of_elements es
       → NextIn all d k u (elements_from way i k es)
   next_element pre post way i u k NoElement e l f = omega (arith, f)
-  next_element pre post way i u k (Element t es) e l f =
-      let rest = spots_elements way (suc i) u (k + size t) es in
-      let later = elements_from way (suc i) (k + size t) es in
-      let g = e ∙ one_of pre (place i ∷ way) u (Index i) later k t rest post in
-      let p : get_or all k d ≡ top (place i ∷ way) u (Index i) later k t = place_is all pre (top (place i ∷ way) u (Index i) later k t) (inner (place i ∷ way) k t) (rest ++ post) d k g l in
-      (ap (λ (x : Spot). x.node) p, ap (λ (x : Spot). x.later) p, let z = size_positive t in omega (arith, f, z))
+  next_element pre post way i u k (Element t es) e l f = grind (arith, one_of, place_is, size_positive)
 
   next_member : (pre post : List Spot) (way : List Step) (u k : ℕ) (es : Members)
       → all ≡ pre ++ (spots_members way u k es ++ post) → length pre ≡ k → end_of (get_or all u d) ≡ k + size_of_members es
       → NextIn all d k u (members_from way k es)
   next_member pre post way u k NoMember e l f = omega (arith, f)
-  next_member pre post way u k (Member m t es) e l f =
-      let rest = spots_members way u (k + size t) es in
-      let later = members_from way (k + size t) es in
-      let g = e ∙ one_of pre (key (meaning m.characters) ∷ way) u (Named (extent m.source)) later k t rest post in
-      let p : get_or all k d ≡ top (key (meaning m.characters) ∷ way) u (Named (extent m.source)) later k t = place_is all pre (top (key (meaning m.characters) ∷ way) u (Named (extent m.source)) later k t) (inner (key (meaning m.characters) ∷ way) k t) (rest ++ post) d k g l in
-      (ap (λ (x : Spot). x.node) p, ap (λ (x : Spot). x.later) p, let z = size_positive t in omega (arith, f, z))
+  next_member pre post way u k (Member m t es) e l f = grind (arith, one_of, place_is, size_positive)
 
   itself : (pre post : List Spot) (way : List Step) (up : ℕ) (label : Label) (later : List Node) (k : ℕ) (t : Tree)
       → all ≡ pre ++ (spots_from way up label later k t ++ post) → length pre ≡ k → NextIn all d (k + size t) up later → up < length all → WayIn text all d k up label way
@@ -174,19 +162,13 @@ module _ (text : List ℕ) (root : Tree) (all : List Spot) (d : Spot) where
   under : (pre post : List Spot) (way : List Step) (up : ℕ) (label : Label) (later : List Node) (k : ℕ) (t : Tree)
       → all ≡ pre ++ (spots_from way up label later k t ++ post) → length pre ≡ k
       → (all ≡ (pre ++ top way up label later k t ∷ []) ++ (inner way k t ++ post)) × (length (pre ++ top way up label later k t ∷ []) ≡ suc k) × (end_of (get_or all k d) ≡ k + size t) × (k < length all) × ((get_or all k d).node.way_up ≡ way) × (children (get_or all k d).node ≡ children_of way k t)
-  under pre post way up label later k t e l =
-      let s = top way up label later k t in
-      let g : all ≡ pre ++ ((s ∷ inner way k t) ++ post) = e ∙ ap (λ ys. pre ++ (ys ++ post)) (top_first way up label later k t) in
-      let p : get_or all k d ≡ s = place_is all pre s (inner way k t) post d k g l in
-      (g ∙ sym (append_assoc pre (s ∷ []) (inner way k t ++ post)), omega (arith, length-append pre (s ∷ []), l), ap end_of p, let q = ap (λ (xs : List Spot). length xs) g in omega (arith, q, length-append pre ((s ∷ inner way k t) ++ post), l), ap (λ (x : Spot). x.node.way_up) p, ap (λ (x : Spot). children x.node) p)
+  under pre post way up label later k t e l = grind (arith, top_first, place_is, append_assoc, length-append)
 
   choose : (k n : ℕ) → (k ≡ n) ⊎ (suc k ≤ n) → Good text root all d k → (suc k ≤ n → Good text root all d n) → Good text root all d n
-  choose k n (inl q) a f = subst (Good text root all d) q a
-  choose k n (inr m) a f = f m
+  choose k n h a f = search arith
 
   split : (e n : ℕ) → (n < e) ⊎ (e ≤ n) → (n < e → Good text root all d n) → (e ≤ n → Good text root all d n) → Good text root all d n
-  split e n (inl m) f g = f m
-  split e n (inr m) f g = g m
+  split e n h f g = search arith
 
   -- one child further
   one_past : {whole : List Node} (x : Node) (later : List Node) → (before : List Node) × (whole ≡ before ++ (x ∷ later)) → (before : List Node) × (whole ≡ before ++ later)
@@ -198,12 +180,10 @@ module _ (text : List ℕ) (root : Tree) (all : List Spot) (d : Spot) where
         → ChildIn all d up label (top way up label later k t).node later → Fits text t → HasPart root t
         → (n : ℕ) → k ≤ n → n < k + size t → Good text root all d n
     walk pre post way up label later k (Leaf s c) e l f i w q fits part n h g = let j : k ≡ n = omega arith in subst (Good text root all d) j (itself pre post way up label later k (Leaf s c) e l f i w q fits part)
-    walk pre post way up label later k (Arr s es) e l f i w q fits part n h g =
-        let u = under pre post way up label later k (Arr s es) e l in
+    walk pre post way up label later k (Arr s es) e l f i w q fits part n h g = let u = under pre post way up label later k (Arr s es) e l in
         choose k n (first_or_later k n h) (itself pre post way up label later k (Arr s es) e l f i w q fits part)
         (λ m. walk_elements (pre ++ top way up label later k (Arr s es) ∷ []) post way 0 k (suc k) es u.0 u.1 (u.2 ∙ omega arith) u.3 u.4 (omega arith) ([], u.5) fits.1 (λ v x. element part x) n m (omega arith))
-    walk pre post way up label later k (Obj s es) e l f i w q fits part n h g =
-        let u = under pre post way up label later k (Obj s es) e l in
+    walk pre post way up label later k (Obj s es) e l f i w q fits part n h g = let u = under pre post way up label later k (Obj s es) e l in
         choose k n (first_or_later k n h) (itself pre post way up label later k (Obj s es) e l f i w q fits part)
         (λ m. walk_members (pre ++ top way up label later k (Obj s es) ∷ []) post way k (suc k) es u.0 u.1 (u.2 ∙ omega arith) u.3 u.4 (omega arith) ([], u.5) fits.1 (λ v x. value part x) n m (omega arith))
 
@@ -214,30 +194,23 @@ module _ (text : List ℕ) (root : Tree) (all : List Spot) (d : Spot) where
         → (n : ℕ) → k ≤ n → n < k + size_of_elements es → Good text root all d n
     walk_elements pre post way i u k NoElement e l f v y z b fits part n h g = absurd (omega arith)
     walk_elements pre post way i u k (Element t es) e l f v y z b fits part n h g =
-        let later = elements_from way (suc i) (k + size t) es in
-        let a = spots_from (place i ∷ way) u (Index i) later k t in
-        let rest = spots_elements way (suc i) u (k + size t) es in
-        let past : all ≡ (pre ++ a) ++ (rest ++ post) = skip_one all pre a rest post e in
+        let later = elements_from way (suc i) (k + size t) es in let a = spots_from (place i ∷ way) u (Index i) later k t in
+        let rest = spots_elements way (suc i) u (k + size t) es in let past : all ≡ (pre ++ a) ++ (rest ++ post) = skip_one all pre a rest post e in
         let long : length (pre ++ a) ≡ k + size t = omega (arith, length-append pre a, spot_count (place i ∷ way) u (Index i) later k t, l) in
-        let f2 : end_of (get_or all u d) ≡ (k + size t) + size_of_elements es = omega (arith, f) in
-        split (k + size t) n (cases_lt n (k + size t))
+        let f2 : end_of (get_or all u d) ≡ (k + size t) + size_of_elements es = omega (arith, f) in split (k + size t) n (cases_lt n (k + size t))
         (λ m. walk pre (rest ++ post) (place i ∷ way) u (Index i) later k t (keep_one all pre a rest post e) l (next_element (pre ++ a) post way (suc i) u (k + size t) es past long f2) v (inr (place i, refl, ap (λ ws. place i ∷ ws) (sym y), z)) (inr b) fits.0 (part t first_element) n h m)
         (λ m. walk_elements (pre ++ a) post way (suc i) u (k + size t) es past long f2 v y (omega (arith, z)) (one_past (top (place i ∷ way) u (Index i) later k t).node later b) fits.1 (λ w x. part w (later_element x)) n m (omega arith))
 
     pub walk_members : (pre post : List Spot) (way : List Step) (u k : ℕ) (es : Members)
         → all ≡ pre ++ (spots_members way u k es ++ post) → length pre ≡ k → end_of (get_or all u d) ≡ k + size_of_members es → u < length all → (get_or all u d).node.way_up ≡ way → u < k
         → (before : List Node) × (children (get_or all u d).node ≡ before ++ members_from way k es)
-        → FitMembers text es → ((v : Tree) → IsValueOf es v → HasPart root v)
-        → (n : ℕ) → k ≤ n → n < k + size_of_members es → Good text root all d n
+        → FitMembers text es → ((v : Tree) → IsValueOf es v → HasPart root v) → (n : ℕ) → k ≤ n → n < k + size_of_members es → Good text root all d n
     walk_members pre post way u k NoMember e l f v y z b fits part n h g = absurd (omega arith)
     walk_members pre post way u k (Member m t es) e l f v y z b fits part n h g =
-        let later = members_from way (k + size t) es in
-        let a = spots_from (key (meaning m.characters) ∷ way) u (Named (extent m.source)) later k t in
-        let rest = spots_members way u (k + size t) es in
-        let past : all ≡ (pre ++ a) ++ (rest ++ post) = skip_one all pre a rest post e in
+        let later = members_from way (k + size t) es in let a = spots_from (key (meaning m.characters) ∷ way) u (Named (extent m.source)) later k t in
+        let rest = spots_members way u (k + size t) es in let past : all ≡ (pre ++ a) ++ (rest ++ post) = skip_one all pre a rest post e in
         let long : length (pre ++ a) ≡ k + size t = omega (arith, length-append pre a, spot_count (key (meaning m.characters) ∷ way) u (Named (extent m.source)) later k t, l) in
-        let f2 : end_of (get_or all u d) ≡ (k + size t) + size_of_members es = omega (arith, f) in
-        split (k + size t) n (cases_lt n (k + size t))
+        let f2 : end_of (get_or all u d) ≡ (k + size t) + size_of_members es = omega (arith, f) in split (k + size t) n (cases_lt n (k + size t))
         (λ x. walk pre (rest ++ post) (key (meaning m.characters) ∷ way) u (Named (extent m.source)) later k t (keep_one all pre a rest post e) l (next_member (pre ++ a) post way u (k + size t) es past long f2) v
         (inr (key (meaning m.characters), (m, refl, refl, fits.0, fits.1), ap (λ ws. key (meaning m.characters) ∷ ws) (sym y), z)) (inr b) fits.2 (part t first_value) n h x)
         (λ x. walk_members (pre ++ a) post way u (k + size t) es past long f2 v y (omega (arith, z)) (one_past (top (key (meaning m.characters) ∷ way) u (Named (extent m.source)) later k t).node later b) fits.3 (λ w y. part w (later_value y)) n x (omega arith))

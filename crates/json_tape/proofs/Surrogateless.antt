@@ -1,15 +1,10 @@
 -- A text in which no escape of a surrogate begins has no lone one.
-use Rattle.std.proofs.Common.{◌≡◌, ◌≢◌, ℕ, zero, suc, ◌+◌, ◌-◌, ◌*◌, ◌<◌, ◌≤◌, ◌⊎◌, inl, inr, Some, None, List, [], ◌∷◌, ◌++◌, length, take, drop, get_or, refl, sym, ap, subst, ◌∙◌, arith}
-use Rattle.std.proofs.lemmas.Bool.{cases_lt}
-use Rattle.std.proofs.lemmas.List.{get_or_past, get_or_default, length-drop, get_or-drop, get_or-take}
+use Rattle.json_text.proofs.Names.{◌≡◌, ◌≢◌, ℕ, zero, suc, ◌+◌, ◌-◌, ◌*◌, ◌<◌, ◌≤◌, ◌⊎◌, inl, inr, Some, None, List, [], ◌∷◌, ◌++◌, length, take}
+use Rattle.json_text.proofs.Names.{drop, get_or, refl, sym, ap, subst, ◌∙◌, arith, common_steps, nat_tests, cases_lt, get_or_past, get_or_default}
+use Rattle.json_text.proofs.Names.{length-drop, get_or-drop, get_or-take, Spelt, Plain, Short, Unit4, Tree, Leaf, Obj, Str, IsHexDigit, IsChar}
+use Rattle.json_text.proofs.Names.{AreChars, IsString, Means, nothing, plain, short, unit, HasLone, IsText, extent, bytes_at}
 use Rattle.structural_index.specs.Places.{AreSlashBlocks}
 use Rattle.memchr.specs.Find.{OccursAt, FindsNeedle}
-use Rattle.json_text.specs.Tree.{Spelt, Plain, Short, Unit4, Tree, Leaf, Obj, Str}
-use Rattle.json_text.specs.Letters.{IsHexDigit, IsChar, AreChars, IsString}
-use Rattle.json_text.specs.Meaning.{Means, nothing, plain, short, unit, HasLone}
-use Rattle.json_text.specs.Grammar.{IsText}
-use Rattle.json_text.specs.Tape.{extent}
-use Rattle.json_text.specs.Limits.{bytes_at}
 use Rattle.json_strings.specs.Surrogates.{HasNoSurrogates, NoneInBlock}
 use Rattle.json_text.specs.Verdict.{SpellsLone}
 use Rattle.json_text.specs.declared.tape.Extent.{Extent}
@@ -52,10 +47,7 @@ part_none text x h = taken_none x.len (drop x.start text) (dropped_none x.start 
 
 -- a unit whose first digit is no D is no surrogate
 no_surrogate : (a b c d k l m n u : ℕ) → IsHexDigit a k → IsHexDigit b l → IsHexDigit c m → IsHexDigit d n → u ≡ 4096 * k + 256 * l + 16 * m + n → a ≢ 68 → a ≢ 100 → (u < 0xD800) ⊎ (0xDFFF < u)
-no_surrogate a b c d k l m n u ha hb hc hd e small large = elim (cases_lt k 13) [
-  | inl below ↦ inl (let x : l < 16 = grind arith in let y : m < 16 = grind arith in let z : n < 16 = grind arith in omega arith)
-  | inr above ↦ inr (let far : 14 ≤ k = grind arith in omega arith)
-]
+no_surrogate a b c d k l m n u ha hb hc hd e small large = search arith
 
 means_some : (bytes : List ℕ) (cs : List Spelt) → AreChars bytes cs → HasNoSurrogates bytes → (vs : List ℕ) × Means cs vs
 means_some bytes [] h free = ([], nothing)
@@ -70,20 +62,17 @@ means_some bytes (c ∷ cs) (one, others, h, more, e) free = by_kind c h (means_
 
 string_means : (bytes : List ℕ) (cs : List Spelt) → IsString bytes cs → HasNoSurrogates bytes → HasLone cs → ⊥
 string_means bytes cs (inside, are, e) free lone =
-    let some = means_some inside cs are (front inside (34 ∷ []) (λ k. subst HasNoSurrogates e free (suc k))) in
-    lone some.0 some.1
+    let some = means_some inside cs are (front inside (34 ∷ []) (λ k. subst HasNoSurrogates e free (suc k))) in lone some.0 some.1
 
 -- ---- The text
 
 pub none_lone : (text : List ℕ) (t : Tree) → IsText text t → HasNoSurrogates text → HasLonePart t → ⊥
-none_lone text t h free (part, has, q) = go part (part_fits (placed has).is_at text (text_fits text t h)) q
-  where
-    go : (s : Tree) → Fits text s → SpellsLone s → ⊥
-    go (Leaf s (Str cs)) f q = string_means s.bytes cs f.1 (subst HasNoSurrogates (sym f.0) (part_none text (extent s) free)) q
-    go (Obj s ms) f (m, is, q) =
-        let g = name_fits is text f.1 in
-        string_means m.source.bytes m.characters g.1 (subst HasNoSurrogates (sym g.0) (part_none text (extent m.source) free)) q
-    go _ f q = absurd q
+none_lone text t h free (part, has, q) = go part (part_fits (placed has).is_at text (text_fits text t h)) q where
+  go : (s : Tree) → Fits text s → SpellsLone s → ⊥
+  go (Leaf s (Str cs)) f q = string_means s.bytes cs f.1 (subst HasNoSurrogates (sym f.0) (part_none text (extent s) free)) q
+  go (Obj s ms) f (m, is, q) = let g = name_fits is text f.1 in
+      string_means m.source.bytes m.characters g.1 (subst HasNoSurrogates (sym g.0) (part_none text (extent m.source) free)) q
+  go _ f q = absurd q
 
 -- ---- The search for escapes of units
 
@@ -95,52 +84,36 @@ abbrev pub NoneBefore : List ℕ → ℕ → Type 0
 NoneBefore bs n = (k : ℕ) → k < n → get_or bs k 0 ≡ 92 → get_or bs (suc k) 0 ≡ 117 → (get_or bs (suc (suc k)) 0 ≢ 68) × (get_or bs (suc (suc k)) 0 ≢ 100)
 
 within : (bs : List ℕ) (k v : ℕ) → get_or bs k 0 ≡ suc v → k < length bs
-within bs k v e = elim (cases_lt k (length bs)) [
-  | inl below ↦ below
-  | inr above ↦ absurd (let z = get_or_past bs k 0 above in cc)
-]
+within bs k v e = elim (cases_lt k (length bs)) [ inl below ↦ below | inr above ↦ absurd (let z = get_or_past bs k 0 above in cc) ]
 
 -- where none begins in its bytes with the two behind them
 pub none_in_block : (text : List ℕ) (b end : ℕ) → end ≤ length text → (end < length text → b + 66 ≤ end) → HasNoSurrogates (take (end - b) (drop b text)) → NoneInBlock text b
 none_in_block text b end most far h k (from, to) e u =
-    let inside = within text k 91 e in
-    let n = end - b in
-    let i = k - b in
-    let here : b + i ≡ k = omega arith in
+    let inside = within text k 91 e in let n = end - b in let i = k - b in let here : b + i ≡ k = omega arith in
     let known : (j : ℕ) → k + j < end → get_or (take n (drop b text)) (i + j) 0 ≡ get_or text (k + j) 0 = λ j l.
     let at : b + (i + j) ≡ k + j = omega arith in
     get_or-take n (drop b text) (i + j) 0 (omega arith) ∙ get_or-drop b text (i + j) 0 ∙ ap (λ x. get_or text x 0) at in
-    let second = within text (suc k) 116 u in
-    elim (cases_lt (k + 2) end) [
+    let second = within text (suc k) 116 u in elim (cases_lt (k + 2) end) [
       | inl l ↦
-          (let zero_on : i + 0 ≡ i = omega arith in
-          let one_on : i + 1 ≡ suc i = omega arith in
-          let two_on : i + 2 ≡ suc (suc i) = omega arith in
-          let k_on : k + 0 ≡ k = omega arith in
-          let k_one : k + 1 ≡ suc k = omega arith in
-          let k_two : k + 2 ≡ suc (suc k) = omega arith in
-          let a = known 0 (omega arith) in let c = known 1 (omega arith) in let d = known 2 l in
+          (let zero_on : i + 0 ≡ i = omega arith in let one_on : i + 1 ≡ suc i = omega arith in let two_on : i + 2 ≡ suc (suc i) = omega arith in
+          let k_on : k + 0 ≡ k = omega arith in let k_one : k + 1 ≡ suc k = omega arith in
+          let k_two : k + 2 ≡ suc (suc k) = omega arith in let a = known 0 (omega arith) in let c = known 1 (omega arith) in let d = known 2 l in
           let part = take n (drop b text) in
           let first : get_or part i 0 ≡ 92 = subst (λ x. get_or part x 0 ≡ 92) zero_on (a ∙ ap (λ x. get_or text x 0) k_on ∙ e) in
           let unit : get_or part (suc i) 0 ≡ 117 = subst (λ x. get_or part x 0 ≡ 117) one_on (c ∙ ap (λ x. get_or text x 0) k_one ∙ u) in
           let last : get_or part (suc (suc i)) 0 ≡ get_or text (suc (suc k)) 0 = subst (λ x. get_or part x 0 ≡ get_or text (suc (suc k)) 0) two_on (d ∙ ap (λ x. get_or text x 0) k_two) in
-          let no = h i first unit in
-          (λ g. no.0 (last ∙ g), λ g. no.1 (last ∙ g)))
+          let no = h i first unit in (λ g. no.0 (last ∙ g), λ g. no.1 (last ∙ g)))
       | inr l ↦
           (let over : length text ≤ suc (suc k) = elim (cases_lt end (length text)) [
             | inl low ↦ absurd (let m = far low in omega arith)
             | inr high ↦ omega arith
-          ] in
-          let z = get_or_past text (suc (suc k)) 0 over in
-          (λ g. absurd (omega (arith, z, g)), λ g. absurd (omega (arith, z, g))))
+          ] in let z = get_or_past text (suc (suc k)) 0 over in (λ g. absurd (omega (arith, z, g)), λ g. absurd (omega (arith, z, g))))
     ]
 
 -- nor in any other, so none begins
 pub none_in_blocks : (text blocks : List ℕ) → AreSlashBlocks text blocks → ((j : ℕ) → j < length blocks → NoneInBlock text (get_or blocks j 0)) → HasNoSurrogates text
 none_in_blocks text blocks are none k e u =
-    let inside = within text k 91 e in
-    let (j, l, here) = are.all k inside (sym (get_or_default text k 0 32 inside) ∙ e) in
-    none j l k here e u
+    let inside = within text k 91 e in let (j, l, here) = are.all k inside (sym (get_or_default text k 0 32 inside) ∙ e) in none j l k here e u
 
 -- a block begins in the text
 pub block_inside : (text blocks : List ℕ) (j : ℕ) → AreSlashBlocks text blocks → j < length blocks → get_or blocks j 0 < length text
@@ -148,15 +121,7 @@ block_inside text blocks j are l = let (k, inside, here, e) = are.each j l in om
 
 -- an escape of a unit in the rest is an occurrence of its two bytes
 occurs : (text rest needle : List ℕ) (k m : ℕ) → rest ≡ drop k text → needle ≡ escape → get_or text (k + m) 0 ≡ 92 → get_or text (suc (k + m)) 0 ≡ 117 → OccursAt rest needle m
-occurs text rest needle k m r n slash u =
-    let long = length-drop k text in
-    let same = ap length r in
-    subst (λ x. OccursAt rest x m) (sym n) (record { fits = omega (arith, within text (suc (k + m)) 116 u, long, same); reads = reads })
-  where
-    reads : (j : ℕ) → j < length escape → get_or rest (m + j) 0 ≡ get_or escape j 0
-    reads zero h = ap (λ l. get_or l (m + 0) 0) r ∙ get_or-drop k text (m + 0) 0 ∙ (let z : k + (m + 0) ≡ k + m = omega arith in ap (λ i. get_or text i 0) z ∙ slash)
-    reads (suc zero) h = ap (λ l. get_or l (m + 1) 0) r ∙ get_or-drop k text (m + 1) 0 ∙ (let z : k + (m + 1) ≡ suc (k + m) = omega arith in ap (λ i. get_or text i 0) z ∙ u)
-    reads (suc (suc j)) h = absurd (omega (arith, h))
+occurs text rest needle k m r n slash u = grind (arith, nat_tests, common_steps, length-drop, within, get_or-drop)
 
 -- one found, and no D behind it
 pub none_on : (text rest needle : List ℕ) (k m : ℕ) → rest ≡ drop k text → needle ≡ escape → k ≤ length text → FindsNeedle rest needle 0 (Some m) → NoneBefore text k
@@ -167,23 +132,18 @@ none_on text rest needle k m r n l found before past = (
     | inl a ↦ before j a slash u
     | inr a ↦ elim (cases_lt j (k + m)) [
       | inl b ↦ absurd (let z : k + (j - k) ≡ j = omega arith in found.0.before (j - k) (omega arith) (omega arith) (occurs text rest needle k (j - k) r n (ap (λ i. get_or text i 0) z ∙ slash) (ap (λ i. get_or text (suc i) 0) z ∙ u)))
-      | inr b ↦ elim (cases_lt (k + m) j) [
-        | inl c ↦ absurd (let z : j ≡ k + (m + 1) = omega arith in let two : get_or text j 0 ≡ 117 = ap (λ i. get_or text i 0) z ∙ second in omega (arith, two, slash))
-        | inr c ↦ (let z : suc (suc j) ≡ k + (m + 2) = omega arith in rw z past)
-      ]
+      | inr b ↦ elim (cases_lt (k + m) j) [ inl c ↦ grind (arith, second) | inr c ↦ grind arith ]
     ]
   ],
-)
-  where
-    second : get_or text (k + (m + 1)) 0 ≡ 117
-    second = sym (ap (λ l. get_or l (m + 1) 0) r ∙ get_or-drop k text (m + 1) 0) ∙ found.1.reads 1 (let long = ap length n in omega (arith, long)) ∙ ap (λ l. get_or l 1 0) n
+) where
+  second : get_or text (k + (m + 1)) 0 ≡ 117
+  second = sym (ap (λ l. get_or l (m + 1) 0) r ∙ get_or-drop k text (m + 1) 0) ∙ found.1.reads 1 (let long = ap length n in omega (arith, long)) ∙ ap (λ l. get_or l 1 0) n
 
 -- none is left
 pub none_left : (text rest needle : List ℕ) (k : ℕ) → rest ≡ drop k text → needle ≡ escape → k ≤ length text → FindsNeedle rest needle 0 None → NoneBefore text k → HasNoSurrogates text
 none_left text rest needle k r n l found before j slash u = elim (cases_lt j k) [
   | inl a ↦ before j a slash u
   | inr a ↦ absurd
-      (let z : k + (j - k) ≡ j = omega arith in
-      let same = ap length r in
+      (let z : k + (j - k) ≡ j = omega arith in let same = ap length r in
       found (j - k) (omega arith) (omega (arith, within text j 91 slash, length-drop k text, same)) (occurs text rest needle k (j - k) r n (ap (λ i. get_or text i 0) z ∙ slash) (ap (λ i. get_or text (suc i) 0) z ∙ u)))
 ]

@@ -1,14 +1,11 @@
 -- The tree that is built from the entries of a text's tree is that tree.
-use Rattle.std.proofs.Common.{◌≡◌, ◌<◌, ◌^◌, ℕ, suc, ◌+◌, List, [], ◌∷◌, ◌++◌, length, Option, Some, None, refl, sym, ap, ◌∙◌, subst, append_assoc}
-use Rattle.std.proofs.lemmas.List.{take_at, drop_at, append-nil}
-use Rattle.json_text.specs.Tree.{Source, Name, Scalar, Str, Tree, Leaf, Arr, Obj, Elements, NoElement, Element, Members, NoMember, Member}
-use Rattle.json_text.specs.Letters.{IsString}
-use Rattle.json_text.specs.Grammar.{IsScalarText, IsText}
-use Rattle.json_text.specs.Nodes.{size}
-use Rattle.json_text.specs.Tape.{Label, Top, Index, Named, role_of, label_spot, extent, kind_of_scalar, element_count, member_count, tape_of, tape_of_elements, tape_of_members}
-use Rattle.json_text.specs.Answer.{IsJson, StandsForAll}
-use Rattle.json_text.specs.Verdict.{IsFaultless, IsAccepted}
-use Rattle.json_tape.specs.Document.{IsDocument, Built, elements_built, members_built, source_in, tree_built, name_built, built, first_built, tree_of}
+use Rattle.json_text.proofs.Names.{◌≡◌, ◌<◌, ◌^◌, ℕ, suc, ◌+◌, List, [], ◌∷◌, ◌++◌, length, Option, Some, None, refl, sym, ap, ◌∙◌, append_assoc}
+use Rattle.json_text.proofs.Names.{arith, take_at, drop_at, append-nil, Source, Name, Scalar, Str, Tree, Leaf, Arr, Obj, Elements, NoElement, Element}
+use Rattle.json_text.proofs.Names.{Members, NoMember, Member, IsString, IsScalarText, IsText, size, Label, Top, Index, Named, role_of, label_spot}
+use Rattle.json_text.proofs.Names.{extent, kind_of_scalar, element_count, member_count, tape_of, tape_of_elements, tape_of_members, IsJson}
+use Rattle.json_text.proofs.Names.{StandsForAll, IsAccepted}
+use Rattle.json_text.specs.Verdict.{IsFaultless}
+use Rattle.json_tape.specs.Document.{IsDocument, Built, elements_built, members_built, source_in, tree_built, name_built, built, tree_of}
 use Rattle.json_text.specs.declared.tape.Entry.{Entry}
 use Rattle.json_text.proofs.Fits.{Lies, Fits, FitElements, FitMembers, text_fits}
 use Rattle.json_strings.proofs.Spelled.{spelt_is}
@@ -55,16 +52,12 @@ module _ (text : List ℕ) where
   mutual
     pub built_tree : (t : Tree) (up : ℕ) (label : Label) (k : ℕ) (name : Option Name) (rest : List Entry) → Fits text t → IsNamed text label name
         → built text (tape_of t up label k ++ rest) ≡ record { name = name; tree = t } ∷ built text rest
-    built_tree (Leaf s c) up label k name rest f n =
-        ap (λ x. record { name = x; tree = tree_built (kind_of_scalar c) (source_in text (extent s)) [] } ∷ built text rest) n
-        ∙ ap (λ x. record { name = name; tree = x } ∷ built text rest) (ap (λ x. tree_built (kind_of_scalar c) x []) (built_source text s f.0) ∙ built_scalar s c [] f.1)
-    built_tree (Arr s es) up label k name rest f n =
-        let b = built_elements es k 0 (k + 1) rest f.1 in
+    built_tree (Leaf s c) up label k name rest f n = grind (arith, built_source, built_scalar)
+    built_tree (Arr s es) up label k name rest f n = let b = built_elements es k 0 (k + 1) rest f.1 in
         let front = take_at (elements_list es) (built text rest) (element_count es) (elements_length es) in
         let back = drop_at (elements_list es) (built text rest) (element_count es) (elements_length es) in
         rw (b, front, back, n, built_source text s f.0, elements_again es) refl
-    built_tree (Obj s ms) up label k name rest f n =
-        let b = built_members ms k (k + 1) rest f.1 in
+    built_tree (Obj s ms) up label k name rest f n = let b = built_members ms k (k + 1) rest f.1 in
         let front = take_at (members_list ms) (built text rest) (member_count ms) (members_length ms) in
         let back = drop_at (members_list ms) (built text rest) (member_count ms) (members_length ms) in
         rw (b, front, back, n, built_source text s f.0, members_again ms) refl
@@ -86,19 +79,11 @@ module _ (text : List ℕ) where
 -- the document of a text and its tape has the text's tree
 pub tree_is : (text : List ℕ) (entries : List Entry) (t : Tree) → IsText text t → entries ≡ tape_of t 0 Top 0 → tree_of (record { text = text; entries = entries }) ≡ t
 unfolding tree_of
-tree_is text entries t h e =
-    ap first_built (ap (built text) (e ∙ sym (append-nil (tape_of t 0 Top 0))) ∙ built_tree text t 0 Top 0 None [] (text_fits text t h) refl)
+tree_is text entries t h e = cc (append-nil (tape_of t 0 Top 0), built_tree text t 0 Top 0 None [] (text_fits text t h) refl)
 
 module _ (text source : List ℕ) (entries : List Entry) (same : source ≡ text) (json : IsJson text) (stands : StandsForAll text entries) where
   pub is_accepted : IsFaultless text → IsAccepted text (tree_of (record { text = source; entries = entries }))
-  is_accepted none =
-      let e = ap (λ x. tree_of (record { text = x; entries = entries })) same ∙ tree_is text entries json.0 json.1 (stands json.0 json.1) in
-      (subst (IsText text) (sym e) json.1, none)
+  is_accepted none = grind (arith, tree_is)
 
   pub document : IsFaultless text → length entries < 2 ^ 31 → IsDocument (record { text = source; entries = entries })
-  document none small =
-      let r = is_accepted none in record {
-        accepted = subst (λ x. IsAccepted x (tree_of (record { text = source; entries = entries }))) (sym same) r;
-        tape = stands (tree_of (record { text = source; entries = entries })) r.0;
-        small = small;
-      }
+  document none small = grind (arith, is_accepted)

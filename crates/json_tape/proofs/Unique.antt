@@ -1,36 +1,26 @@
 -- No two members of an object have one name, so that one that has it is the first.
-use Rattle.std.proofs.Common.{◌≡◌, ℕ, zero, suc, ◌+◌, ◌<◌, Bool, true, false, List, [], ◌∷◌, refl, sym, ap, ◌∙◌, subst, arith}
-use Rattle.std.specs.Prelude.{bytes_eq}
-use Rattle.std.specs.List.{Contains, list_any}
-use Rattle.std.specs.Cmp.Lexicographic.{bytes_decides}
-use Rattle.json_text.specs.Tree.{Source, Tree, Leaf, Arr, Obj, Elements, NoElement, Element, Members, NoMember, Member}
+use Rattle.json_text.proofs.Names.{◌≡◌, ℕ, zero, suc, ◌+◌, ◌<◌, Bool, true, false, List, [], ◌∷◌, refl, sym, ap, ◌∙◌, subst, arith, bytes_eq}
+use Rattle.json_text.proofs.Names.{Contains, list_any, bytes_decides, Source, Tree, Leaf, Arr, Obj, Elements, NoElement, Element, Members, NoMember}
+use Rattle.json_text.proofs.Names.{Member, Node, Step, size, elements_from, members_from, children_of, children, is_named, first_where, HasPart}
+use Rattle.json_text.proofs.Names.{is_same, repeats, meanings, or_parts}
 use Rattle.json_text.specs.Meaning.{meaning}
-use Rattle.json_text.specs.Nodes.{Node, Step, size, elements_from, members_from, children_of, children, is_named, first_where}
-use Rattle.json_text.specs.Parts.{HasPart}
-use Rattle.json_text.specs.Repeats.{is_same, repeats, meanings}
 use Rattle.json_tape.specs.Document.{Doc, IsDocument, node_at, count, tree_of}
 use Rattle.json_text.specs.declared.tape.TextFault.TheVariants.{LoneSurrogate, DuplicateName}
 use Rattle.json_tape.proofs.Readers.{part_is}
-use Rattle.json_text.proofs.Repeats.{or_right}
 use Rattle.name_order.proofs.TwinNames.{twins_of}
-use Rattle.std.proofs.lemmas.Bool.{or_parts}
 
 -- a node of the name, so a name among the members
 named_among : (name : List ℕ) (up : List Step) (k : ℕ) (ms : Members) (x : Node) → Contains (members_from up k ms) x → is_named name x ≡ true → list_any (λ y. is_same y name) (meanings ms) ≡ true
 named_among name up k NoMember x (i, l, e) h = absurd (omega (arith, l))
-named_among name up k (Member m t ms) x (zero, l, e) h =
-    let b : bytes_eq name (meaning m.characters) ≡ true = ap (is_named name) e ∙ h in
+named_among name up k (Member m t ms) x (zero, l, e) h = let b : bytes_eq name (meaning m.characters) ≡ true = ap (is_named name) e ∙ h in
     let s : is_same (meaning m.characters) name ≡ true = (bytes_decides (meaning m.characters) name).1 (sym ((bytes_decides name (meaning m.characters)).0 b)) in
     rw s refl
-named_among name up k (Member m t ms) x (suc i, l, e) h =
-    or_right (is_same (meaning m.characters) name) (list_any (λ y. is_same y name) (meanings ms)) (named_among name up (k + size t) ms x (i, omega (arith, l), e) h)
+named_among name up k (Member m t ms) x (suc i, l, e) h = grind (arith, named_among name up (k + size t) ms x (i, omega (arith, l), e) h)
 
 first_named : (name : List ℕ) (up : List Step) (k : ℕ) (ms : Members) (x : Node) → repeats (meanings ms) ≡ false → Contains (members_from up k ms) x → is_named name x ≡ true
     → first_where (is_named name) (members_from up k ms) ≡ x ∷ []
 first_named name up k NoMember x u (i, l, e) h = absurd (omega (arith, l))
-first_named name up k (Member m t ms) x u (zero, l, e) h =
-    let b : bytes_eq name (meaning m.characters) ≡ true = ap (is_named name) e ∙ h in
-    rw b (ap (λ n. n ∷ []) e)
+first_named name up k (Member m t ms) x u (zero, l, e) h = cc
 first_named name up k (Member m t ms) x u (suc i, l, e) h =
     let n = or_parts (list_any (λ y. is_same y (meaning m.characters)) (meanings ms)) (repeats (meanings ms)) u in
     let c : Contains (members_from up (k + size t) ms) x = (i, omega (arith, l), e) in
@@ -56,11 +46,10 @@ first_child_named name up k (Obj s ms) u x c h = sym (first_named name up (suc k
 
 -- an object of an accepted text
 distinct : (d : Doc) → IsDocument d → (s : Source) (ms : Members) → HasPart (tree_of d) (Obj s ms) → repeats (meanings ms) ≡ false
-distinct d is s ms p = go (repeats (meanings ms)) refl
-  where
-    go : (b : Bool) → repeats (meanings ms) ≡ b → repeats (meanings ms) ≡ false
-    go false e = e
-    go true e = absurd (is.accepted.1 DuplicateName (tree_of d, Obj s ms, is.accepted.0, p, twins_of ms (λ m i lone. is.accepted.1 LoneSurrogate (tree_of d, Obj s ms, is.accepted.0, p, (m, i, lone))) e))
+distinct d is s ms p = go (repeats (meanings ms)) refl where
+  go : (b : Bool) → repeats (meanings ms) ≡ b → repeats (meanings ms) ≡ false
+  go false e = e
+  go true e = absurd (is.accepted.1 DuplicateName (tree_of d, Obj s ms, is.accepted.0, p, twins_of ms (λ m i lone. is.accepted.1 LoneSurrogate (tree_of d, Obj s ms, is.accepted.0, p, (m, i, lone))) e))
 
 pub only_named : (d : Doc) → IsDocument d → (name : List ℕ) (n : ℕ) → n < count d → (x : Node) → Contains (children (node_at d n)) x → is_named name x ≡ true
     → x ∷ [] ≡ first_where (is_named name) (children (node_at d n))

@@ -3,9 +3,9 @@ use Rattle.std.proofs.Common.{◌≡◌, ℕ, zero, suc, ◌+◌, ◌<◌, ◌�
 use Rattle.json_text.specs.Tree.{Name, Tree, source_of, Leaf, Arr, Obj, Elements, NoElement, Element, Members, NoMember, Member, then_element, then_member}
 use Rattle.json_text.specs.Meaning.{meaning}
 use Rattle.json_text.specs.Nodes.{Node, Step, key, place, way_size, size, elements_from, members_from}
-use Rattle.json_text.specs.Grammar.{IsValue, array, object, IsElements, one_element, next_element, IsMembers, one_member, next_member, IsMember, member, IsText}
-use Rattle.json_text.specs.Tape.{Label, Top, Index, Named, element_count, extent}
-use Rattle.json_tape.specs.Document.{Doc, Spot, IsDocument, spots, spots_from, spots_elements, spots_members, tree_of, root_of, node_at, count}
+use Rattle.json_text.specs.Grammar.{IsValue, array, object, IsElements, one_element, next_element, IsMembers, one_member, next_member, IsMember, member}
+use Rattle.json_text.specs.Tape.{Label, Index, Named, element_count, extent}
+use Rattle.json_tape.specs.Document.{Doc, Spot, IsDocument, spots_from, spots_elements, spots_members, node_at, count}
 use Rattle.json_tape.proofs.Shown.{value_bytes, value_some}
 use Rattle.json_strings.proofs.Spelled.{string_room}
 use Rattle.json_tape.proofs.Readers.{count_is}
@@ -39,10 +39,7 @@ count-then_element (Element a es) t = ap suc (count-then_element es t)
 
 elements_many : {p : ℕ} {bs : List ℕ} {es : Elements} → IsElements p bs es → element_count es ≤ length bs
 elements_many (one_element h) = let n = value_some h in omega arith
-elements_many (next_element front s s' bs {es = es} {t = t} h k k' g) =
-    let m = elements_many h in
-    let c = count-then_element es t in
-    omega (arith, length-append (front ++ s ++ 44 ∷ s') bs, length-append (front ++ s) (44 ∷ s'), length-append front s)
+elements_many (next_element front s s' bs {es = es} {t = t} h k k' g) = grind (arith, elements_many h, count-then_element, length-append)
 
 mutual
   value_held : {p : ℕ} {bs : List ℕ} {t : Tree} → IsValue p bs t → Held t
@@ -52,31 +49,20 @@ mutual
 
   elements_held : {p : ℕ} {bs : List ℕ} {es : Elements} → IsElements p bs es → (room : ℕ) → length bs < room → HeldElements room 0 es
   elements_held (one_element h) room l = let e = ap length (value_bytes h) in (omega arith, value_held h, tt)
-  elements_held (next_element front s s' bs {es = es} {t = t} h k k' g) room l =
-      let a = length-append (front ++ s ++ 44 ∷ s') bs in
-      let b = length-append (front ++ s) (44 ∷ s') in
-      let c = length-append front s in
-      let e = ap length (value_bytes g) in
-      let m = elements_many h in
-      held-then_element room 0 es t (elements_held h room (omega arith)) (omega arith) (value_held g)
+  elements_held (next_element front s s' bs {es = es} {t = t} h k k' g) room l = let a = length-append (front ++ s ++ 44 ∷ s') bs in
+      let b = length-append (front ++ s) (44 ∷ s') in let c = length-append front s in let e = ap length (value_bytes g) in let m = elements_many h in
+      grind (arith, held-then_element room 0 es t (elements_held h room (omega arith)) (omega arith) (value_held g))
 
   members_held : {p : ℕ} {bs : List ℕ} {ms : Members} → IsMembers p bs ms → (room : ℕ) → length bs < room → HeldMembers room ms
   members_held (one_member h) room l = let m = member_held h room l in (m.0, m.1, tt)
-  members_held (next_member front s s' bs {ms = ms} {n = n} {t = t} h k k' g) room l =
-      let a = length-append (front ++ s ++ 44 ∷ s') bs in
-      let b = length-append (front ++ s) (44 ∷ s') in
-      let c = length-append front s in
-      let m = member_held g room (omega arith) in
-      held-then_member room ms n t (members_held h room (omega arith)) m.0 m.1
+  members_held (next_member front s s' bs {ms = ms} {n = n} {t = t} h k k' g) room l = let a = length-append (front ++ s ++ 44 ∷ s') bs in
+      let b = length-append (front ++ s) (44 ∷ s') in let c = length-append front s in let m = member_held g room (omega arith) in
+      grind (arith, held-then_member room ms n t (members_held h room (omega arith)) m.0 m.1)
 
   member_held : {p : ℕ} {bs : List ℕ} {n : Name} {t : Tree} → IsMember p bs n t → (room : ℕ) → length bs < room → (suc (length (meaning n.characters)) + length (source_of t).bytes ≤ room) × Held t
   member_held (member name s s' bs {n = n} {t = t} src h k k' g) room l =
-      let a = length-append (name ++ s ++ 58 ∷ s') bs in
-      let b = length-append (name ++ s) (58 ∷ s') in
-      let c = length-append name s in
-      let e = ap length (value_bytes g) in
-      let r = string_room name n.characters h in
-      (omega arith, value_held g)
+      let a = length-append (name ++ s ++ 58 ∷ s') bs in let b = length-append (name ++ s) (58 ∷ s') in
+      let c = length-append name s in let e = ap length (value_bytes g) in let r = string_room name n.characters h in (omega arith, value_held g)
 
 -- no way is longer
 abbrev AreShort : ℕ → List Spot → Type 0
@@ -101,29 +87,18 @@ module _ (most : ℕ) where
 
     elements_short : (way : List Step) (i up k : ℕ) (es : Elements) (room : ℕ) → HeldElements room i es → way_size way + room ≤ most → AreShort most (spots_elements way i up k es)
     elements_short way i up k NoElement room h l = tt
-    elements_short way i up k (Element t es) room h l =
-        let first = h.0 in
+    elements_short way i up k (Element t es) room h l = let first = h.0 in
         short_append most (spots_from (place i ∷ way) up (Index i) (elements_from way (suc i) (k + size t) es) k t) (spots_elements way (suc i) up (k + size t) es)
         (spots_short (place i ∷ way) up (Index i) (elements_from way (suc i) (k + size t) es) k t h.1 (omega arith))
         (elements_short way (suc i) up (k + size t) es room h.2 l)
 
     members_short : (way : List Step) (up k : ℕ) (ms : Members) (room : ℕ) → HeldMembers room ms → way_size way + room ≤ most → AreShort most (spots_members way up k ms)
     members_short way up k NoMember room h l = tt
-    members_short way up k (Member n t ms) room h l =
-        let first = h.0 in
+    members_short way up k (Member n t ms) room h l = let first = h.0 in
         short_append most (spots_from (key (meaning n.characters) ∷ way) up (Named (extent n.source)) (members_from way (k + size t) ms) k t) (spots_members way up (k + size t) ms)
         (spots_short (key (meaning n.characters) ∷ way) up (Named (extent n.source)) (members_from way (k + size t) ms) k t h.1 (omega arith))
         (members_short way up (k + size t) ms room h.2 l)
 
-text_room : (text : List ℕ) (t : Tree) → IsText text t → length (source_of t).bytes ≤ length text
-text_room text t h =
-    let e = ap length (value_bytes h.value) in
-    let w = ap length h.whole in
-    omega (arith, length-append (h.before ++ h.bytes) h.after, length-append h.before h.bytes)
-
 pub way_within : (d : Doc) → IsDocument d → (n : ℕ) → n < count d → way_size (node_at d n).way_up ≤ length d.text
 unfolding node_at
-way_within d s n h =
-    short_at (length d.text) (spots d) (record { node = root_of d; up = 0; label = Top; later = [] }) n
-    (spots_short (length d.text) [] 0 Top [] 0 (tree_of d) (value_held s.accepted.0.value) (let r = text_room d.text (tree_of d) s.accepted.0 in omega arith))
-    (let c = count_is d s in omega arith)
+way_within d s n h = grind (arith, short_at, spots_short, value_held, count_is, value_bytes, length-append)

@@ -1,12 +1,10 @@
-use Rattle.std.proofs.Common.{◌+◌, ◌<◌, ◌^◌, arith, rules}
+use Rattle.std.proofs.Common.{arith}
 use Rattle.json_tape.proofs.Readers.{small_count}
 use Rattle.json_tape.proofs.Siblings.{all_there}
 use Rattle.json_tape.proofs.children.Children.new.Goals as goal
 
 pub overflow_add-result : goal.overflow_add-result
-overflow_add-result c =
-    let m = small_count c.args.document.now c.end_of-end.ensures.document in
-    let g : c.args.n.0 + 1 < 2 ^ 32 = omega arith in search (rules, g)
+overflow_add-result c = grind (arith, small_count)
 
 pub invariant_of-result : goal.invariant_of-result
 invariant_of-result c = ((all_there c.args.document.now c.end_of-end.ensures.document c.args.n.0 c.requires c.end_of-end.result c.end_of-end.ensures.value).0, c.end_of-end.ensures.inside)

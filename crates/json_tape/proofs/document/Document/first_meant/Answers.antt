@@ -1,5 +1,4 @@
-use Rattle.std.proofs.Common.{◌+◌, ◌<◌, ◌^◌, ◌∙◌, sym, ap, arith, rules}
-use Rattle.std.specs.Prelude.{bytes_eq}
+use Rattle.json_text.proofs.Names.{◌∙◌, sym, ap, arith, bytes_eq}
 use Rattle.json_tape.specs.Document.{Doc}
 use Rattle.json_strings.specs.Keys.{sought_name}
 use Rattle.json_strings.proofs.Spelled.{quoted_at, scalars_at}
@@ -8,10 +7,7 @@ use Rattle.json_tape.proofs.MembersSeen.{all_rest, next_seen, none_left}
 use Rattle.json_tape.proofs.document.Document.first_meant.Goals as goal
 
 pub overflow_add-next : goal.overflow_add-next
-overflow_add-next c =
-    let m = small_count c.args.self.now c.entry-object.ensures.document in
-    let h = c.requires.inside in
-    let g : c.args.n.0 + 1 < 2 ^ 32 = omega arith in search (rules, g)
+overflow_add-next c = grind (arith, small_count)
 
 pub loop-next-init : goal.loop-next-init
 loop-next-init c = all_rest c.args.self.now c.entry-object.ensures.document (sought_name c.args.sought) c.args.n.0 c.requires.inside c.entry-object.result c.entry-object.ensures.value c.requires.object
@@ -37,8 +33,7 @@ pub loop-next-smaller : goal.loop-next-smaller
 loop-next-smaller c =
     let x = next_seen c.args.self.now c.entry-object.ensures.document (sought_name c.args.sought) c.args.n.0 c.loop-next.next c.entry-object.result.after c.loop-next.invariant c.loop-next-test.true in
     let p = past_is c.args.self.now c.entry-object.ensures.document c.loop-next.next x.inside c.entry-entry.result c.entry-entry.ensures.value in
-    let t = c.loop-next-test.true in
-    omega arith
+    let t = c.loop-next-test.true in omega arith
 
 pub loop-next-preserved : goal.loop-next-preserved
 loop-next-preserved c =

@@ -1,5 +1,4 @@
-use Rattle.std.proofs.Common.{◌+◌, ◌<◌, ◌^◌, ◌∙◌, sym, ap, arith, rules}
-use Rattle.std.specs.Prelude.{bytes_eq}
+use Rattle.json_text.proofs.Names.{◌∙◌, sym, ap, arith, bytes_eq}
 use Rattle.json_tape.specs.Document.{Doc}
 use Rattle.json_strings.proofs.Spelled.{quoted_at, scalars_at}
 use Rattle.json_tape.proofs.Readers.{small_count, past_is}
@@ -7,10 +6,7 @@ use Rattle.json_tape.proofs.MembersSeen.{all_rest, next_seen, none_left}
 use Rattle.json_tape.proofs.document.Document.first_named.Goals as goal
 
 pub overflow_add-k : goal.overflow_add-k
-overflow_add-k c =
-    let m = small_count c.args.self.now c.entry-object.ensures.document in
-    let h = c.requires.inside in
-    let g : c.args.n.0 + 1 < 2 ^ 32 = omega arith in search (rules, g)
+overflow_add-k c = grind (arith, small_count)
 
 pub loop-k-init : goal.loop-k-init
 loop-k-init c = all_rest c.args.self.now c.entry-object.ensures.document c.args.name.now c.args.n.0 c.requires.inside c.entry-object.result c.entry-object.ensures.value c.requires.object
@@ -36,8 +32,7 @@ pub loop-k-smaller : goal.loop-k-smaller
 loop-k-smaller c =
     let x = next_seen c.args.self.now c.entry-object.ensures.document c.args.name.now c.args.n.0 c.loop-k.k c.entry-object.result.after c.loop-k.invariant c.loop-k-test.true in
     let p = past_is c.args.self.now c.entry-object.ensures.document c.loop-k.k x.inside c.entry-entry.result c.entry-entry.ensures.value in
-    let t = c.loop-k-test.true in
-    omega arith
+    let t = c.loop-k-test.true in omega arith
 
 pub loop-k-preserved : goal.loop-k-preserved
 loop-k-preserved c =

@@ -1,5 +1,4 @@
-use Rattle.std.proofs.Common.{inl, inr, rules}
-use Rattle.std.proofs.lemmas.Bool.{false≢true}
+use Rattle.json_text.proofs.Names.{inl, inr, rules, false≢true}
 use Rattle.json_tape.proofs.Readers.{member_lead, member_role}
 use Rattle.json_tape.proofs.document.Document.has_name.Goals as goal
 

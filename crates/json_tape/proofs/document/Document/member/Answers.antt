@@ -1,6 +1,4 @@
-use Rattle.std.proofs.Common.{◌≡◌, sym, ◌∙◌, arith}
-use Rattle.json_tape.specs.Document.{node_at}
-use Rattle.json_text.specs.declared.tape.Kind.TheVariants as kinds
+use Rattle.std.proofs.Common.{sym, ◌∙◌, arith}
 use Rattle.json_tape.proofs.Readers.{kind_is}
 use Rattle.json_tape.proofs.MembersSeen.{unnamed}
 use Rattle.json_tape.proofs.document.Document.member.Goals as goal
@@ -12,12 +10,7 @@ pub first_by_bytes-requires-clause-object : goal.first_by_bytes-requires-clause-
 first_by_bytes-requires-clause-object c = sym (kind_is c.args.self.now c.entry-value.ensures.document c.args.n.0 c.requires c.entry-value.result c.entry-value.ensures.value) ∙ c.in-Object.is
 
 pub returns-in-Null : goal.returns-in-Null
-returns-in-Null c =
-    let no_object : c.entry-value.result.kind ≡ kinds.Object → ⊥ = (λ o. grind (arith, c.in-Null.is, o)) in
-    record {
-      node = unnamed c.args.name.now (node_at c.args.self.now c.args.n.0) (λ k. no_object (kind_is c.args.self.now c.entry-value.ensures.document c.args.n.0 c.requires c.entry-value.result c.entry-value.ensures.value ∙ k));
-      inside = tt;
-    }
+returns-in-Null c = grind (arith, unnamed, kind_is)
 
 pub sought_in-requires-clause-object : goal.sought_in-requires-clause-object
 sought_in-requires-clause-object c = sym (kind_is c.args.self.now c.entry-value.ensures.document c.args.n.0 c.requires c.entry-value.result c.entry-value.ensures.value) ∙ c.in-Object.is

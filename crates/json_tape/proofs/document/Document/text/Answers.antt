@@ -23,6 +23,5 @@ returns-clause-number c = λ k.
 pub returns-clause-short : goal.returns-clause-short
 returns-clause-short c =
     let v = text_is c.args.self.now c.entry.ensures.document c.args.n.0 c.requires c.entry.result c.entry.ensures.value c.source.result.now c.part_at.result.now c.source.ensures.value c.part_at.ensures in
-    let p = text_part c.args.self.now c.entry.ensures.document c.args.n.0 c.requires in
-    let b = text_short c.args.self.now c.entry.ensures.document in
+    let p = text_part c.args.self.now c.entry.ensures.document c.args.n.0 c.requires in let b = text_short c.args.self.now c.entry.ensures.document in
     part_short c.args.self.now.text _ _ p v b
