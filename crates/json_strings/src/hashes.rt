@@ -91,6 +91,7 @@ fn decoded_hash(mut scalars: Scalars<'_>) -> u64
 }
 
 /// The hash of what characters mean. They are decoded only where a byte is no character that stands for itself.
+#[tactic(auto, using(crate::proofs::PlainBytes::hash_over, crate::proofs::PlainBytes::hash_end))]
 #[inline(never)]
 pub fn long_hash(inside: &str) -> u64
     ensures { result ≡ hash_of (scalars_in (chars inside.now)) }

@@ -300,6 +300,7 @@ impl Document {
     }
 
     /// The number of the first value after this one and all values inside it.
+    #[tactic(auto, using(crate::proofs::Siblings::visit_to, json_text::proofs::Entries::size_positive))]
     pub fn after(&self, n: NodeId) -> u32
         requires { n.0 < count self.now }
         ensures nodes { seen self.now (counting n.0 (result - n.0)) ≡ visit (node_at self.now n.0) }

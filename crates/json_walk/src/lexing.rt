@@ -150,6 +150,7 @@ fn has_quote_before(looks: &mut Looks<'_>, i: usize, next: usize) -> bool
 }
 
 // The place past the string that begins at i, where the place behind it is this one, and whether it is known to have no backslash.
+#[tactic(auto, using(crate::proofs::Placing::plain_before, crate::proofs::Placing::held_before, crate::proofs::Placing::unheld_before, crate::proofs::Placing::scanned_part))]
 #[inline(always)]
 fn string_end(
     looks: &mut Looks<'_>,
