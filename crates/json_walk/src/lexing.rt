@@ -251,6 +251,7 @@ pub fn name(
 }
 
 // A word or a number. Marks where it may be beyond the limits of numbers.
+#[tactic(auto, using(crate::proofs::Runs::some_bytes, crate::proofs::Known::limited_marked, crate::proofs::TokensAt::word_at))]
 #[inline(always)]
 fn word(looks: &mut Looks<'_>, i: usize, next: usize, may_exceed: &mut bool) -> Option<Lexed>
     requires in_text { i < length looks.old.0 }
