@@ -12,4 +12,4 @@ returns-then-letters-eq-TRUE c =
 
 pub returns-then-bytes-eq101 : goal.returns-then-bytes-eq101
 returns-then-bytes-eq101 c =
-    spells_five c.args.bytes.now 102 97 108 115 101 c.four_letters.result (λ k. (c.type_inv.bytes k).fits) c.if-bytes-eq5.true c.four_letters.ensures (omega arith) (omega arith) (omega arith) (omega arith) c.if-four_bytes-eq-FALS.true c.if-bytes-eq101.true
+    spells_five c.args.bytes.now 102 97 108 115 101 c.four_letters.result (λ k. (c.type_inv.bytes k).fits) c.if-bytes-eq5.true c.four_letters.ensures (omega arith) (omega arith) (omega arith) (omega arith) c.if-four_letters-eq-FALS.true c.if-bytes-eq101.true
