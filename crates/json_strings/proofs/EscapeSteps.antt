@@ -2,7 +2,7 @@
 use Rattle.std.proofs.Common.{◌≡◌, ◌≢◌, ℕ, zero, suc, ◌+◌, ◌-◌, ◌<◌, ◌≤◌, Bool, true, false, cond, ◌&&◌, eqb, ltb, List, [], ◌∷◌, ◌++◌, length, drop, get_or, Some, None, refl, sym, ap, subst, ◌∙◌, arith}
 use Rattle.std.proofs.lemmas.Bool.Decides.{nat_tests}
 use Rattle.std.proofs.lemmas.List.{drop_more, length-drop}
-use Rattle.structural_index.specs.Seams.{AreSlashless}
+use Rattle.json_strings.specs.Spelling.{AreSlashless}
 use Rattle.json_text.specs.declared.modes.Mode.{Mode}
 use Rattle.json_text.specs.declared.modes.Mode.TheVariants.{Between, Escape, Hex}
 use Rattle.json_text.specs.declared.modes.Turn.TheVariants.{Fail, Go}

@@ -10,6 +10,8 @@ pub mod PlainBytes
 pub mod ShortHashes
 pub mod PackedWords
 pub mod StopBits
+pub mod Letters
+pub mod Slashless
 pub mod Beginnings
 pub mod PlainRuns
 pub mod LoneSteps

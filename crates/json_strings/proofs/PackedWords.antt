@@ -4,7 +4,7 @@ use Rattle.json_text.proofs.Names.{[], ◌∷◌, length, drop, map, replicate, 
 use Rattle.json_text.proofs.Names.{get_or-chunk, chunk, zip2, mask_l, top, bytes_eq, chars, cases_lt}
 use Rattle.std.proofs.Common.{Fits, w8}
 use Rattle.structural_index.proofs.Lanes.{loaded, none as nothing_set}
-use Rattle.structural_index.proofs.Letters.{digits}
+use Rattle.json_strings.proofs.Letters.{digits}
 use Rattle.json_strings.proofs.StopBits.{stands_alone}
 use Rattle.std.proofs.lemmas.Bool.{cases_eq}
 use Rattle.json_strings.specs.Spelling.{scalars_in, SpellPlainly, ArePlainAt, IsWord}

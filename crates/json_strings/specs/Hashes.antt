@@ -1,6 +1,6 @@
 -- Hashes of what names mean.
 use Rattle.std.specs.Prelude.{◌≡◌, ◌≢◌, ℕ, ◌+◌, ◌-◌, ◌*◌, ◌%◌, ◌^◌, ◌<◌, ◌≤◌, cond, ltb, eqb, List, [], ◌∷◌, length, take, drop, get_or}
-use Rattle.structural_index.specs.Letters.{word_at}
+use Rattle.json_strings.specs.Letters.{word_at}
 use Rattle.json_strings.specs.declared.hashes.Hashing.{Hashing}
 
 -- A hash of scalar values: eight of them at a time are a word, their number with the first as the highest digit of 256, and words

@@ -1,3 +1,4 @@
+pub mod Letters
 pub mod Spelling
 pub mod Reading
 pub mod Surrogates

@@ -3,7 +3,7 @@ use Rattle.std.specs.Prelude.{◌≡◌, ◌≢◌, ◌<◌, ◌≤◌, get_or, 
 use Rattle.std.specs.List.{list_any}
 use Rattle.std.specs.Str.{chars}
 use Rattle.std.specs.Char.{digit_value}
-use Rattle.structural_index.specs.Letters.{word_at}
+use Rattle.json_strings.specs.Letters.{word_at}
 use Rattle.json_text.specs.Tree.{Spelt, Plain, Short, Unit4}
 use Rattle.json_text.specs.Meaning.{meaning_after}
 use Rattle.json_text.specs.declared.tape.Extent.{Extent}
@@ -43,6 +43,10 @@ begins b = ltb b 128 || leb 192 b
 -- some byte is a backslash
 abbrev pub has_backslash : List ℕ → Bool
 has_backslash bs = list_any (λ b. nat_eq b 92) bs
+
+-- no byte from byte i to before byte j is a backslash
+abbrev pub AreSlashless : List ℕ → (i j : ℕ) → Type 0
+AreSlashless text i j = (k : ℕ) → i ≤ k → k < j → get_or text k 0 ≢ 0x5c
 
 -- two quotes or more stand there, one at the start and one at the end
 abbrev pub IsQuoted : List ℕ → Extent → Type 0

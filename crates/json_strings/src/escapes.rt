@@ -3,9 +3,8 @@
 ghost use Rattle.std.specs.Prelude.{◌≡◌, ◌+◌, ◌<◌, ◌≤◌, ◌&&◌, false, drop, get_or, length, IfSome, MatchOption};
 ghost use Rattle.json_text.specs.Scanning.{is_hex as hex, hold_escapes};
 
-use crate::scan::{is_hex, is_short};
+use crate::scan::{is_hex, is_short, slashless_end};
 use json_text::Mode;
-use structural_index::slashless_end;
 
 // How many bytes the escape of a unit has.
 const UNIT: usize = 6;

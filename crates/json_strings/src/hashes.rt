@@ -10,7 +10,7 @@ ghost use Rattle.json_strings.specs.Keys.{mixed as mix};
 use crate::scalars::{Scalars, unquoted};
 use json_text::Extent;
 use std::simd::prelude::*;
-use structural_index::{four_bytes, lanes_before};
+use structural_index::lanes_before;
 
 const FOUR: usize = 4;
 
@@ -91,6 +91,7 @@ fn decoded_hash(mut scalars: Scalars<'_>) -> u64
 }
 
 /// The hash of what characters mean. They are decoded only where a byte is no character that stands for itself.
+#[tactic(auto, using(crate::proofs::PlainBytes::hash_over, crate::proofs::PlainBytes::hash_end))]
 #[inline(never)]
 pub fn long_hash(inside: &str) -> u64
     ensures { result ≡ hash_of (scalars_in (chars inside.now)) }
@@ -133,7 +134,9 @@ fn fours_at(bytes: &[u8], first: usize, last: usize) -> u64
     requires last { last + 4 ≤ length bytes.now }
     ensures { result ≡ fours bytes.now first last }
 {
-    u64::from(four_bytes(bytes, first)) * HALF + u64::from(four_bytes(bytes, last))
+    let high = u32::from_le_bytes(u8x4::from_slice(&bytes[first..]).to_array());
+    let low = u32::from_le_bytes(u8x4::from_slice(&bytes[last..]).to_array());
+    u64::from(high) * HALF + u64::from(low)
 }
 
 /// A word of some bytes: of the first eight and the last eight, or of some of fewer.

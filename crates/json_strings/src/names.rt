@@ -79,6 +79,7 @@ impl<'a> Ord for Name<'a> {
 
     ghost matches_eq = { texts_ties };
 
+    #[tactic(auto, using(crate::proofs::PlainNames::plain_order))]
     fn cmp(&self, other: &Name<'a>) -> Ordering {
         if self.plain && other.plain {
             return self.inside.cmp(other.inside);

@@ -10,6 +10,7 @@ use json_text::Extent;
 use std::simd::prelude::*;
 
 // Whether the scalar values that are left are these.
+#[tactic(auto, using(crate::proofs::Comparing::other_next))]
 #[inline(never)]
 fn is_meant(mut scalars: Scalars<'_>, name: &[char]) -> bool
     ensures { result ≡ bytes_eq name.now scalars.entry }

@@ -160,6 +160,7 @@ fn after(state: Spelling, c: char) -> Meant
 }
 
 // How many bytes stand before the first backslash.
+#[tactic(auto, using(crate::proofs::PlainRuns::cut_there, crate::proofs::PlainRuns::none_before))]
 fn plain_run(text: &str) -> usize
     ensures boundary { IsCharBoundary text.now result }
     ensures plain { has_backslash (take result text.now) ≡ false }

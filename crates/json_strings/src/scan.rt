@@ -1,11 +1,14 @@
 // Strings: runs of bytes that stand for themselves, and what is between them byte by byte.
 
-ghost use Rattle.std.specs.Prelude.{IsTrue, ◌≡◌, false, ◌+◌, ◌<◌, ◌≤◌, length, drop, slice_index, IfSome};
+ghost use Rattle.std.specs.Prelude.{ℕ, IsTrue, ◌≡◌, ◌≢◌, false, ◌+◌, ◌<◌, ◌≤◌, length, drop, get_or, slice_index, IfSome};
+ghost use Rattle.std.specs.Int.{bit_at};
 ghost use Rattle.json_text.specs.Scanning.{turn as turn_of, is_short as short, is_hex as hex, string_end};
+ghost use Rattle.json_strings.specs.Spelling.{AreSlashless};
 ghost use Rattle.json_strings.specs.Surrogates.{number_of_hex, past_char, past_unit, past_byte, standing, lone_from, lone};
 
 use json_text::{Mode, Turn};
-use structural_index::{Looks, Stopped, slashless_run};
+use std::simd::prelude::*;
+use structural_index::{Looks, Stopped};
 
 /// Where a search for a lone surrogate stands: in which part of a character, the unit so far, and whether a high surrogate ended right before.
 #[derive(Clone, Copy)]
@@ -71,7 +74,7 @@ fn next_turn(mode: Mode, b: u8) -> Turn
 }
 
 // How many bytes are looked at in one load.
-const LANES: usize = 16;
+const LANES: usize = 32;
 
 // The byte that decides what comes next, where a scan of a string stands so at this place: bytes between characters that stand for themselves
 // are passed.
@@ -224,43 +227,38 @@ fn after_byte(state: Surrogates, b: u8) -> Option<Surrogates>
     }
 }
 
-// The place of the first backslash from here on, or the end.
+// The bits of those bytes of a load that are backslashes.
 #[inline(always)]
-#[tactic(auto, using(crate::proofs::Steps::lone_plain))]
-fn first_escape_slowly(bytes: &[u8], start: usize) -> usize
-    requires { start ≤ length bytes.now }
-    ensures bound { result ≤ length bytes.now }
-    ensures from { start ≤ result }
-    ensures passed { lone (drop result bytes.now) ≡ lone (drop start bytes.now) }
+fn backslash_bits(bytes: &[u8], at: usize) -> u64
+    requires { at + LANES ≤ length bytes.now }
+    ensures some { (k : ℕ) → bit_at result k ≡ 1 → (k < 32) × (get_or bytes.now (at + k) 0 ≡ 92) }
+    ensures none { (k : ℕ) → k < 32 → bit_at result k ≡ 0 → get_or bytes.now (at + k) 0 ≢ 92 }
 {
-    let mut k = start;
-    while k < bytes.len() {
-        if bytes[k] == b'\\' {
-            return k;
-        }
-        k += 1;
-    }
-    k
+    let lanes = u8x32::from_slice(&bytes[at..]);
+    lanes.simd_eq(u8x32::splat(b'\\')).to_bitmask()
 }
 
-// The same, many bytes at a time while there are as many.
+// The place of the first backslash from here on, or the end.
 #[inline(always)]
-#[tactic(auto, using(crate::proofs::LoneSteps::lone_plains))]
-fn first_escape(bytes: &[u8], start: usize) -> usize
-    requires { start ≤ length bytes.now }
-    ensures bound { result ≤ length bytes.now }
-    ensures from { start ≤ result }
-    ensures passed { lone (drop result bytes.now) ≡ lone (drop start bytes.now) }
+pub fn slashless_end(bytes: &[u8], from: usize) -> usize
+    requires { from ≤ length bytes.now }
+    ensures lower_bound { from ≤ result }
+    ensures upper_bound { result ≤ length bytes.now }
+    ensures none { AreSlashless bytes.now from result }
+    ensures backslash { result < length bytes.now → get_or bytes.now result 0 ≡ 92 }
 {
-    let mut k = start;
+    let mut k = from;
     while bytes.len() - k >= LANES {
-        let run = slashless_run(bytes, k);
-        if run < LANES {
-            return k + run;
+        let backslashes = backslash_bits(bytes, k);
+        if backslashes != 0 {
+            return k + backslashes.trailing_zeros() as usize;
         }
         k += LANES;
     }
-    first_escape_slowly(bytes, k)
+    while k < bytes.len() && bytes[k] != b'\\' {
+        k += 1;
+    }
+    k
 }
 
 fn is_new(state: Surrogates) -> bool
@@ -274,6 +272,7 @@ fn is_new(state: Surrogates) -> bool
 
 // The place at which a search goes on: where nothing is left of what stands before, the next backslash.
 #[inline(always)]
+#[tactic(auto, using(crate::proofs::LoneSteps::lone_to))]
 fn past_plain(state: Surrogates, bytes: &[u8], start: usize) -> usize
     requires { start ≤ length bytes.now }
     ensures bound { result ≤ length bytes.now }
@@ -281,7 +280,7 @@ fn past_plain(state: Surrogates, bytes: &[u8], start: usize) -> usize
     ensures passed { lone_from state (drop result bytes.now) ≡ lone_from state (drop start bytes.now) }
 {
     if is_new(state) {
-        first_escape(bytes, start)
+        slashless_end(bytes, start)
     } else {
         start
     }
@@ -297,7 +296,7 @@ pub fn is_lone(bytes: &[u8]) -> bool
         unit: 0,
         high: false,
     };
-    let mut k = first_escape(bytes, 0);
+    let mut k = slashless_end(bytes, 0);
     while k < bytes.len() {
         match after_byte(state, bytes[k]) {
             None => return true,

@@ -58,6 +58,7 @@ impl<'a> Iterator for Children<'a> {
 
     ghost remaining = { item_count (λ s. s) };
 
+    #[tactic(auto, using(crate::proofs::Siblings::first_left))]
     #[inline(always)]
     fn next(&mut self) -> Option<NodeId> {
         if self.next >= self.end {

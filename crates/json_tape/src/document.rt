@@ -249,6 +249,7 @@ impl Document {
     }
 
     /// The number of scalar values of a string, elements of an array or members of an object; `None` for other values.
+    #[tactic(auto, using(crate::proofs::Readers::kind_is, crate::proofs::Readers::string_length, crate::proofs::Readers::no_length))]
     pub fn length(&self, n: NodeId) -> Option<u32>
         requires { n.0 < count self.now }
         ensures { result ≡ length_of (node_at self.now n.0).tree }
@@ -300,6 +301,7 @@ impl Document {
     }
 
     /// The number of the first value after this one and all values inside it.
+    #[tactic(auto, using(crate::proofs::Siblings::visit_to, json_text::proofs::Entries::size_positive))]
     pub fn after(&self, n: NodeId) -> u32
         requires { n.0 < count self.now }
         ensures nodes { seen self.now (counting n.0 (result - n.0)) ≡ visit (node_at self.now n.0) }
@@ -349,6 +351,7 @@ impl Document {
     }
 
     /// Whether the value is that of a member with this name, given as scalar values.
+    #[tactic(auto, using(crate::proofs::Readers::member_lead, json_strings::proofs::Spelled::scalars_at, crate::proofs::Readers::nameless, crate::proofs::Readers::member_role))]
     pub fn name_is(&self, n: NodeId, name: &[char]) -> bool
         requires { n.0 < count self.now }
         ensures { result ≡ is_named name.now (node_at self.now n.0) }
@@ -408,6 +411,7 @@ impl Document {
     }
 
     // The member of this name, if it stands so many numbers behind the object.
+    #[tactic(auto, using(crate::proofs::Readers::child_among, crate::proofs::Readers::root_lead, crate::proofs::Unique::only_named))]
     #[inline(always)]
     fn member_at(&self, n: NodeId, name: &[char], distance: u32) -> Option<NodeId>
         requires { n.0 < count self.now }
@@ -515,6 +519,7 @@ impl Document {
     }
 
     // What stands between the quotes of a member's name.
+    #[tactic(auto, using(crate::proofs::Readers::member_lead, crate::proofs::Readers::member_role, json_strings::proofs::Spelled::scalars_at, json_strings::proofs::Spelled::string_short, crate::proofs::Readers::text_short))]
     fn name_inside(&self, n: NodeId) -> &str
         requires inside { n.0 < count self.now }
         requires named { HasName (node_at self.now n.0) }
@@ -536,6 +541,7 @@ impl Document {
     }
 
     /// The value of a string, as scalar values.
+    #[tactic(auto, using(crate::proofs::Readers::string_is, json_strings::proofs::Spelled::scalars_at, json_strings::proofs::Spelled::string_short, crate::proofs::Readers::text_short))]
     pub fn string_scalars(&self, n: NodeId) -> Scalars<'_>
         requires inside { n.0 < count self.now }
         requires string { kind_of (node_at self.now n.0).tree ≡ Kind.Text }

@@ -2,7 +2,7 @@
 use Rattle.json_text.proofs.Names.{◌≡◌, ℕ, ◌+◌, ◌-◌, ◌<◌, ◌≤◌, inl, inr, List, length, get_or, sym, ap, ◌∙◌, arith, cases_lt, get_or_past}
 use Rattle.json_text.proofs.Names.{get_or_default}
 use Rattle.structural_index.specs.Places.{AreSlashBlocks}
-use Rattle.structural_index.specs.Seams.{AreSlashless}
+use Rattle.json_strings.specs.Spelling.{AreSlashless}
 
 pub gap_free : (text blocks : List ℕ) (from to next : ℕ) → AreSlashBlocks text blocks → next ≤ length blocks → (0 < next → from ≡ get_or blocks (next - 1) 0 + 64) → to ≡ get_or blocks next (length text) → AreSlashless text from to
 gap_free text blocks from to next are most begins ends k a b e = let inside : k < length text = elim (cases_lt k (length text)) [

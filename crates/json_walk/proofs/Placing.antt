@@ -5,7 +5,7 @@ use Rattle.json_text.proofs.Names.{cases_lt, nat_tests, take-append-drop, drop_m
 use Rattle.json_text.proofs.Names.{string_end, turn, next_of, hold_escapes, quote_end, atom_end, is_atom, Taken, State}
 use Rattle.json_walk.proofs.Names.{byte, places, HasControlInside, IsSpan, IsAtomRun, is_plain_atom, next_place, ClosesBefore, StringEnds, Between}
 use Rattle.json_walk.proofs.Names.{weight}
-use Rattle.structural_index.specs.Seams.{AreSlashless}
+use Rattle.json_strings.specs.Spelling.{AreSlashless}
 use Rattle.json_text.specs.declared.modes.Mode.{Mode}
 use Rattle.json_text.specs.declared.modes.Turn.{Turn}
 use Rattle.json_walk.proofs.Bridge.{plain_spells, control_out, scan_ends, same_classes, same_default}

@@ -1,7 +1,7 @@
 -- The letters of a word, by the number that its first four make.
 use Rattle.std.proofs.Common.{◌≡◌, ℕ, suc, ◌+◌, ◌*◌, ◌<◌, ◌≤◌, List, [], ◌∷◌, length, take, drop, get_or, refl, sym, ◌∙◌, arith}
 use Rattle.std.proofs.lemmas.List.{drop_more, take_all}
-use Rattle.structural_index.specs.Letters.{word_at}
+use Rattle.json_strings.specs.Letters.{word_at}
 
 take_next : (text : List ℕ) (i j n : ℕ) → i + 1 ≡ j → i < length text → take (suc n) (drop i text) ≡ get_or text i 0 ∷ take n (drop j text)
 take_next text i j n e l = grind (arith, drop_more text i 0 l, e)

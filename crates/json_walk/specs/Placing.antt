@@ -1,7 +1,8 @@
 -- What a builder that goes from place to place asks of the text, and what it finds of a string.
 use Rattle.std.specs.Prelude.{◌≡◌, ◌<◌, ◌≤◌, ℕ, suc, ◌+◌, Bool, List, drop, length, Option, Some, None, IsUtf8}
 use Rattle.structural_index.specs.Places.{byte, HasControlInside, AreSlashBlocks}
-use Rattle.structural_index.specs.Seams.{IsSpan, IsSeam, AreSlashless, next_place}
+use Rattle.structural_index.specs.Seams.{IsSpan, IsSeam, next_place}
+use Rattle.json_strings.specs.Spelling.{AreSlashless}
 use Rattle.json_walk.specs.declared.slashes.Slashes.{Slashes}
 use Rattle.json_text.specs.Tokens.{quote_end}
 use Rattle.json_walk.specs.Bridge.{SpellsString}

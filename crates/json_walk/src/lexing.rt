@@ -3,13 +3,14 @@
 ghost use Rattle.std.specs.Prelude.{◌≡◌, ◌≢◌, ◌+◌, ◌-◌, ◌≤◌, ◌<◌, ◌↔◌, Ok, length, slice_index, IfSome, IsTrue, true, false};
 ghost use Rattle.decimal_order.specs.Number.{IsNumber};
 ghost use Rattle.json_text.specs.Tokens.{is_blank as blank};
+ghost use Rattle.json_strings.specs.Letters.{word_at};
 ghost use Rattle.json_walk.specs.Lexing.{IsWordKind, Marked};
 ghost use Rattle.tape_cells.specs.Opened.{HasRoom};
 ghost use Rattle.json_walk.specs.Walked.{IsNameAt, IsValueAt, FitsTape, source_in, end_of, price_of};
 ghost use Rattle.json_text.specs.Verdict.{text_limit};
 ghost use Rattle.json_walk.specs.Placing.{IsIndexed, HoldSlashes, ClosesBefore, StringEnds, end_in};
 ghost use Rattle.name_stamps.specs.Stamps.{IsPlain};
-ghost use Rattle.structural_index.specs.Seams.{AreSlashless};
+ghost use Rattle.json_strings.specs.Spelling.{AreSlashless};
 ghost use Rattle.structural_index.specs.Runs.{AreDigitsBut};
 
 use crate::exponents::has_short_exponent;
@@ -19,7 +20,8 @@ use decimal_order::{late_exponents_keep_limits, scan};
 use json_strings::{escapes_hold, quote_past};
 use json_text::{Extent, Kind, Shape};
 use name_stamps::Quoted;
-use structural_index::{Looks, Run, four_bytes};
+use std::simd::prelude::*;
+use structural_index::{Looks, Run};
 
 /// What a value begins with: all of it, or the bracket or brace that opens it. Strings and numbers are kinds of their own, so that
 /// the compiler knows their kinds where their entries are made.
@@ -92,13 +94,22 @@ const TRUE: u32 = 0x6575_7274;
 
 const FALS: u32 = 0x736c_6166;
 
+// The first four bytes as one number, the first one the lowest.
+#[inline(always)]
+fn four_letters(bytes: &[u8]) -> u32
+    requires { 4 ≤ length bytes.now }
+    ensures { result ≡ word_at bytes.now 0 }
+{
+    u32::from_le_bytes(u8x4::from_slice(bytes).to_array())
+}
+
 // The word that the bytes are.
 #[inline(always)]
 fn word_of(bytes: &[u8]) -> Option<WordKind>
     ensures { IfSome result (λ kind. IsWordKind bytes.now kind) }
 {
     if bytes.len() == 4 {
-        let letters = four_bytes(bytes, 0);
+        let letters = four_letters(bytes);
         if letters == NULL {
             return Some(WordKind::Null);
         }
@@ -107,7 +118,7 @@ fn word_of(bytes: &[u8]) -> Option<WordKind>
         }
         return None;
     }
-    if bytes.len() == 5 && four_bytes(bytes, 0) == FALS && bytes[4] == b'e' {
+    if bytes.len() == 5 && four_letters(bytes) == FALS && bytes[4] == b'e' {
         return Some(WordKind::False);
     }
     None
@@ -150,6 +161,7 @@ fn has_quote_before(looks: &mut Looks<'_>, i: usize, next: usize) -> bool
 }
 
 // The place past the string that begins at i, where the place behind it is this one, and whether it is known to have no backslash.
+#[tactic(auto, using(crate::proofs::Placing::plain_before, crate::proofs::Placing::held_before, crate::proofs::Placing::unheld_before, crate::proofs::Placing::scanned_part))]
 #[inline(always)]
 fn string_end(
     looks: &mut Looks<'_>,
@@ -250,6 +262,7 @@ pub fn name(
 }
 
 // A word or a number. Marks where it may be beyond the limits of numbers.
+#[tactic(auto, using(crate::proofs::Runs::some_bytes, crate::proofs::Known::limited_marked, crate::proofs::TokensAt::word_at))]
 #[inline(always)]
 fn word(looks: &mut Looks<'_>, i: usize, next: usize, may_exceed: &mut bool) -> Option<Lexed>
     requires in_text { i < length looks.old.0 }

@@ -117,6 +117,7 @@ fn put(
 }
 
 // The name at place number k and the colon behind it.
+#[tactic(auto, using(crate::proofs::Listed::in_text, crate::proofs::WalkSteps::no_name_halts))]
 #[inline(always)]
 fn named(
     looks: &mut Looks<'_>,
@@ -143,6 +144,7 @@ fn named(
 
 // The value at place number k, which has one behind it: an element, or a member of this name. Gives the sign behind it, which is looked
 // at before the entry is written, or nothing where a container was opened.
+#[tactic(auto, using(crate::proofs::WalkSteps::no_value_halts, crate::proofs::Listed::in_text))]
 #[inline(always)]
 fn valued<const OBJECT: bool>(
     looks: &mut Looks<'_>,
@@ -368,6 +370,7 @@ fn take_slot<const OBJECT: bool>(
 }
 
 // The children of the innermost container from here on, up to one that holds others or to the end of the container.
+#[tactic(auto, using(crate::proofs::Listed::number_below, crate::proofs::WalkContainer::small_state, crate::proofs::WalkContainer::walked_small, crate::proofs::WalkContainer::walked_onward, crate::proofs::Listed::near))]
 #[inline(always)]
 fn run<const OBJECT: bool>(
     looks: &mut Looks<'_>,
@@ -514,6 +517,7 @@ fn is_whole(lexed: Lexed) -> bool
 }
 
 // The value of the whole text, or the bracket or brace that opens it.
+#[tactic(auto, using(crate::proofs::WalkContainer::nothing_halts, crate::proofs::WalkSteps::no_value_halts))]
 #[inline(always)]
 fn whole(
     looks: &mut Looks<'_>,

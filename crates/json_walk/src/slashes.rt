@@ -2,7 +2,7 @@
 
 ghost use Rattle.std.specs.Prelude.{ℕ, List, ◌≡◌, ◌+◌, ◌-◌, ◌<◌, ◌≤◌, IsTrue, get_or, length};
 ghost use Rattle.structural_index.specs.Places.{AreSlashBlocks};
-ghost use Rattle.structural_index.specs.Seams.{AreSlashless};
+ghost use Rattle.json_strings.specs.Spelling.{AreSlashless};
 ghost use Rattle.json_walk.specs.Placing.{HoldSlashes};
 
 /// How many bytes a block has.

@@ -2,9 +2,8 @@
 use Rattle.json_text.proofs.Names.{◌≡◌, ℕ, ◌+◌, None, false, List, [], ◌∷◌, ◌++◌, length, append_assoc, sym, ap, ◌∙◌, arith, get_or-drop, encodes}
 use Rattle.json_text.proofs.Names.{Spelt, Plain, Source, AreChars, IsString, meaning_after, extent, bytes_at}
 use lib.Utf8.{encode}
-use Rattle.structural_index.specs.Seams.{AreSlashless}
 use Rattle.json_text.specs.Meaning.{meaning}
-use Rattle.json_strings.specs.Spelling.{has_backslash}
+use Rattle.json_strings.specs.Spelling.{has_backslash, AreSlashless}
 use Rattle.name_stamps.specs.Stamps.{bytes_stamp}
 use Rattle.json_text.specs.declared.tape.Extent.{Extent}
 use Rattle.json_text.proofs.Fits.{Lies}

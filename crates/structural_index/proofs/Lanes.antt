@@ -1,9 +1,9 @@
 -- What stands in one lane of a vector, and what a bit of a mask tells of it.
-use Rattle.std.proofs.Common.{◌≡◌, ℕ, ◌+◌, ◌*◌, ◌-◌, ◌/◌, ◌%◌, ◌^◌, ◌<◌, ◌≤◌, ◌≢◌, eqb, leb, ltb, bit_or, cond, Bool, true, false, List, map, replicate, length, get_or, w64, inl, inr, refl, sym, ap, ap₂, ◌∙◌, arith}
+use Rattle.std.proofs.Common.{◌≡◌, ℕ, ◌+◌, ◌*◌, ◌-◌, ◌%◌, ◌^◌, ◌<◌, ◌≤◌, ◌≢◌, eqb, leb, ltb, bit_or, cond, Bool, true, false, List, map, replicate, length, get_or, w64, inl, inr, refl, sym, ap, ap₂, ◌∙◌, arith}
 use Rattle.std.specs.Int.{bit_at, trailing_zeros}
-use Rattle.std.proofs.lemmas.Bool.{cases_lt, eqb-true}
+use Rattle.std.proofs.lemmas.Bool.{cases_lt}
 use Rattle.std.proofs.lemmas.Bool.Decides.{nat_tests}
-use Rattle.std.proofs.lemmas.List.{length-map, get_or-map, get_or_past}
+use Rattle.std.proofs.lemmas.List.{length-map, get_or-map}
 use Rattle.std.proofs.lemmas.Nat.{or_lt}
 use Rattle.std.proofs.lemmas.Nat.Bits.{bit_at-zero, bit_at-trailing_zeros, bit_at_set_same, bit_at_set_other}
 use Rattle.std.proofs.lemmas.Simd.{length-zip2, get_or-zip2, length-replicate, get_or-replicate, length-chunk, get_or-chunk, mask_l-mod, bit_mask_l}
@@ -53,17 +53,6 @@ set_only x0 e = grind arith
 -- and where it is set, the lane has
 pub on : (h n i : ℕ) (lanes : List ℕ) (x : ℕ) → n ≤ 64 → i < n → HasLane n i lanes x → bit_at (mask_l (map (top h) lanes) % 2 ^ 64) i ≡ 1 → top h x ≡ true
 on h n i lanes x few inside lane set = set_only (top h x) (sym (told h n i lanes x few inside lane) ∙ set)
-
--- no bit is set behind the last lane
-set_within : (h n i : ℕ) (lanes : List ℕ) → n ≤ 64 → length lanes ≡ n → bit_at (mask_l (map (top h) lanes) % 2 ^ 64) i ≡ 1 → i < n
-set_within h n i lanes few long set = elim (cases_lt i n) [
-  | inl inside ↦ inside
-  | inr past ↦ (let tops = map (top h) lanes in
-      let size = length-map lanes (top h) in
-      let whole = mask_l-mod tops 64 (omega (arith, size)) in
-      let clear = ap (λ m. bit_at m i) whole ∙ bit_mask_l tops i ∙ ap bit (get_or_past tops i false (omega (arith, size))) in
-      absurd (omega (arith, clear, set)))
-]
 
 -- no bit of 0 is set
 pub none : (mask i : ℕ) → mask ≡ 0 → bit_at mask i ≡ 0
@@ -121,27 +110,6 @@ at_most x y = cond (leb x y) 255 0
 
 abbrev pub less : ℕ → ℕ → ℕ
 less x y = cond (ltb x y) 255 0
-
--- ---- No backslash
-
-pub slashless_lane : (n i : ℕ) (v : List ℕ) (x : ℕ) → n ≤ 64 → i < n → HasLane n i v x → bit_at (mask_l (map (top 7) (zip2 equal v (replicate n 92))) % 2 ^ 64) i ≡ 0 → x ≢ 92
-slashless_lane n i v x few inside lane clear =
-    let backslash = combined equal n i v (replicate n 92) x 92 inside lane (repeated n i 92 inside) in
-    let t = alone (eqb x 92) (off 7 n i _ _ few inside backslash clear) in
-    λ e. grind (arith, nat_tests)
-
-backslash_on : (x : ℕ) → top 7 (cond (eqb x 92) 255 0) ≡ true → x ≡ 92
-backslash_on x t = go (eqb x 92) refl t
-  where
-    go : (b : Bool) → eqb x 92 ≡ b → top 7 (cond b 255 0) ≡ true → x ≡ 92
-    go true e t = eqb-true x 92 e
-    go false e t = absurd (cc)
-
-pub backslash_lane : (n i : ℕ) (v : List ℕ) (x : ℕ) → n ≤ 64 → i < n → HasLane n i v x → bit_at (mask_l (map (top 7) (zip2 equal v (replicate n 92))) % 2 ^ 64) i ≡ 1 → x ≡ 92
-backslash_lane n i v x few inside lane set = let backslash = combined equal n i v (replicate n 92) x 92 inside lane (repeated n i 92 inside) in grind (arith, backslash_on x (on 7 n i _ _ few inside backslash set))
-
-pub backslash_within : (n i : ℕ) (v : List ℕ) (x : ℕ) → n ≤ 64 → 0 < n → HasLane n 0 v x → bit_at (mask_l (map (top 7) (zip2 equal v (replicate n 92))) % 2 ^ 64) i ≡ 1 → i < n
-backslash_within n i v x few some lane set = set_within 7 n i _ few (combined equal n 0 v (replicate n 92) x 92 some lane (repeated n 0 92 some)).many set
 
 -- ---- No quote, no backslash and no control character
 

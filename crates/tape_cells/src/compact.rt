@@ -129,6 +129,7 @@ impl Tape {
     }
 
     /// One more container, which begins here and is not closed yet.
+    #[tactic(auto, using(crate::proofs::Sides::containers_few, crate::proofs::Sides::entries_many, crate::proofs::Sides::holder_kind, crate::proofs::Sides::container_added))]
     #[inline(always)]
     pub fn open(&mut self, kind: Kind, seat: Seat, place: u32) -> Result<(), AllocError>
         requires container { is_container kind ≡ true }
@@ -155,6 +156,7 @@ impl Tape {
     }
 
     /// Closes the container with this number behind this place.
+    #[tactic(auto, using(crate::proofs::Sides::closing_inside, crate::proofs::Sides::side_inside, crate::proofs::Sides::entries_many, crate::proofs::Sides::closing_done))]
     pub fn close(&mut self, number: u32, place: u32, children: u32)
         requires container { container_at self.old number ≡ true }
         requires place { place < 2 ^ 24 }
@@ -177,6 +179,7 @@ impl Tape {
     }
 
     /// How many members it has, where it is an object, and otherwise 0.
+    #[tactic(auto, using(crate::proofs::Sides::object_holds, crate::proofs::Sides::side_inside, crate::proofs::Sides::entries_many, std::proofs::Common::slice_index_or, crate::proofs::Sides::members_shown, crate::proofs::Sides::no_members_shown))]
     #[inline(always)]
     pub fn members(&self, n: u32) -> u32
         requires { n < length self.now }

@@ -7,15 +7,3 @@ pub returns-in-Some-clause-ends : goal.returns-in-Some-clause-ends
 returns-in-Some-clause-ends c = subst (StringEnds c.args.looks.now.0 c.args.i) c.in-Some.is
     (scanned_string c.args.looks.now.0 c.args.i c.quote_past.result c.requires.indexed.utf8 c.requires.in_text c.requires.quote
     (subst (λ b. c.quote_past.result ≡ quote_end (c.args.i + 1) (drop (c.args.i + 1) b)) c.has_quote_before.ensures.same c.quote_past.ensures.value))
-
-pub returns-then-spare-clause-ends : goal.returns-then-spare-clause-ends
-returns-then-spare-clause-ends c = grind (arith, plain_before)
-
-pub returns-then-spare-2-clause-ends : goal.returns-then-spare-2-clause-ends
-returns-then-spare-2-clause-ends c = grind (arith, plain_before)
-
-pub returns-then-escapes_hold-clause-ends : goal.returns-then-escapes_hold-clause-ends
-returns-then-escapes_hold-clause-ends c = grind (arith, held_before, scanned_part)
-
-pub returns-else-escapes_hold-clause-ends : goal.returns-else-escapes_hold-clause-ends
-returns-else-escapes_hold-clause-ends c = grind (arith, unheld_before, scanned_part)

@@ -11,9 +11,6 @@ run-others-requires-clause-order c = ahead c.args.looks.now.0 c.args.i c.args.ne
 pub run-others-requires-clause-last : goal.run-others-requires-clause-last
 run-others-requires-clause-last c = blanks_last c.args.looks.now.0 c.args.i c.args.next c.requires.in_text c.requires.closes c.requires.no_string
 
-pub word_kind-requires-clause-some : goal.word_kind-requires-clause-some
-word_kind-requires-clause-some c = grind (arith, some_bytes)
-
 pub returns-in-Null-clause-value : goal.returns-in-Null-clause-value
 returns-in-Null-clause-value c = search (arith, word_at)
 
@@ -35,12 +32,6 @@ returns-in-True-clause-marked c = search (arith, spelt_marked)
 pub returns-in-Number-clause-value : goal.returns-in-Number-clause-value
 returns-in-Number-clause-value c =
     word_at c.args.looks.now.0 c.run-others.result.bytes.now c.args.i c.args.next Number c.requires.in_text c.requires.closes c.run-others.ensures.value c.run-others.ensures.ends c.in-Number.ensures.0
-
-pub returns-in-Number-clause-marked : goal.returns-in-Number-clause-marked
-returns-in-Number-clause-marked c = grind (arith, limited_marked)
-
-pub returns-in-LongNumber-clause-value : goal.returns-in-LongNumber-clause-value
-returns-in-LongNumber-clause-value c = grind (arith, word_at)
 
 pub returns-in-Nothing-clause-value : goal.returns-in-Nothing-clause-value
 returns-in-Nothing-clause-value c = search (arith, no_value_at)

@@ -14,9 +14,6 @@ pub name-requires-clause-closes : goal.name-requires-clause-closes
 name-requires-clause-closes c =
     closes_before c.args.looks.now.0 c.args.places.now c.requires.listed c.args.k _ (omega (arith, c.requires.inside)) (next_is c.args.looks.now.0 c.args.places.now c.requires.listed (c.args.k + 1) 0 c.requires.inside)
 
-pub at-requires : goal.at-requires
-at-requires c = grind (arith, in_text)
-
 pub returns-in-Some-clause-named : goal.returns-in-Some-clause-named
 returns-in-Some-clause-named c = λ b w exceeds asks.
     let bytes = c.args.looks.now.0 in let items = c.args.places.now in
@@ -31,6 +28,3 @@ returns-in_default-clause-named c = λ b w exceeds asks.
     let bytes = c.args.looks.now.0 in let items = c.args.places.now in
     let k = c.args.k in let same = ap (λ (b : List ℕ). get_or b (get_or items (k + 1) 0) 0) c.name.ensures.same in
     no_colon_halts bytes items c.requires.listed k c.args.looks.now.1 c.name.new.looks.1 exceeds b w c.in-Some.name.source c.requires.inside asks c.in-Some.ensures.name (omega (arith, c.in-Some.ensures.looked)) (λ e. omega (arith, same, c.at.ensures.value, c.if-at-eq58.false, e))
-
-pub returns-in_default-2-clause-named : goal.returns-in_default-2-clause-named
-returns-in_default-2-clause-named c = grind (arith, no_name_halts)

@@ -18,9 +18,6 @@ loop-k-init g c =
     let inside = c.in-Ok-Some.ensures.inside in let next = entered.1 in
     grind (arith, may_continue c.args.looks.now.0 c.args.places.now c.requires.listed _ _ _ _ _ _ _ c.requires.level entered.2)
 
-pub overflow_add-k : goal.overflow_add-k
-overflow_add-k g c = grind (arith, number_below)
-
 pub child-requires-clause-listed : goal.child-requires-clause-listed
 child-requires-clause-listed g c = subst (λ b. IsListed b c.args.places.now) (sym c.loop-k.invariant.same) c.requires.listed
 
@@ -29,9 +26,6 @@ child-requires-clause-slashes g c = subst (λ b. HoldSlashes b c.loop-k.slashes)
 
 pub child-requires-clause-level : goal.child-requires-clause-level
 child-requires-clause-level g c = c.loop-k.invariant.level ∙ c.requires.level
-
-pub child-requires-clause-small : goal.child-requires-clause-small
-child-requires-clause-small g c = grind (arith, small_state, walked_small)
 
 pub child-requires-clause-checked : goal.child-requires-clause-checked
 child-requires-clause-checked g c = subst (λ b. DuplicateCheck b c.loop-k.builder c.loop-k.seen) (sym c.loop-k.invariant.same) c.loop-k.invariant.checked
@@ -65,9 +59,6 @@ pub returns-in-Ok-None-child-clause-opened : goal.returns-in-Ok-None-child-claus
 returns-in-Ok-None-child-clause-opened g c = λ first.
     (walks g (goal.at.returns-in-Ok-None-child-clause-opened g c).After-child _ _ (c.in-Ok-None-child.is ∙ ap Ok c.in-Ok-None-child.field-0-is) (ap (λ x. c.loop-k.k + x) c.width-in-Ok-None-child.ensures.value)).1
 
-pub returns-in-Ok-None-child-clause-further : goal.returns-in-Ok-None-child-clause-further
-returns-in-Ok-None-child-clause-further g c = grind (arith, walked_onward)
-
 pub loop-k-preserved : goal.loop-k-preserved
 loop-k-preserved g c =
     let n = c.loop-k.k + c.width-in-Ok-Some-eq44.result in let same = c.width-in-Ok-Some-eq44.ensures.value ∙ sym c.width.ensures.value in
@@ -81,9 +72,6 @@ loop-k-preserved g c =
       checked = subst (λ b. DuplicateCheck b c.child.new.builder c.child.new.seen) c.loop-k.invariant.same c.in-Ok-Some-eq44.ensures.checked;
       has_slot = where_some _ c.in-Ok-Some-eq44.field-0 c.in-Ok-Some-eq44.field-0-0 c.in-Ok-Some-eq44.field-0-is c.in-Ok-Some-eq44.ensures.has_slot;
     }
-
-pub ended-requires-clause-near : goal.ended-requires-clause-near
-ended-requires-clause-near g c = grind (arith, near)
 
 pub ended-requires-clause-level : goal.ended-requires-clause-level
 ended-requires-clause-level g c =

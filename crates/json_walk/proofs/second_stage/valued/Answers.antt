@@ -25,17 +25,11 @@ open-requires-clause-small g c = small_enough c.args.looks.now.0 c.args.places.n
 pub open-requires-clause-near : goal.open-requires-clause-near
 open-requires-clause-near g c = near c.args.looks.now.0 c.args.places.now c.requires.listed c.args.k (omega (arith, c.requires.inside))
 
-pub returns-in-None-clause-walks : goal.returns-in-None-clause-walks
-returns-in-None-clause-walks g c = grind (arith, no_value_halts)
-
 pub returns-in-Some-Opens-clause-walks : goal.returns-in-Some-Opens-clause-walks
 returns-in-Some-Opens-clause-walks g c = λ w asks.
     let bytes = c.args.looks.now.0 in let items = c.args.places.now in let value = c.in-Some-Opens.ensures in
     opened_walks bytes items c.requires.listed c.args.k c.args.looks.now.1 c.value.new.looks.1 c.args.may_exceed.now c.value.new.may_exceed _ c.in-Some-Opens.shape c.args.builder.now c.open.new.self w c.args.name c.in-Some-Opens.field-0 c.open.result c.nothing_more.result
     (omega (arith, c.requires.inside)) asks c.in-Some-Opens.field-0-is value.value value.marked value.looked c.open.ensures c.nothing_more.ensures
-
-pub at-sign-requires : goal.at-sign-requires
-at-sign-requires g c = grind (arith, in_text)
 
 pub leaf-requires-clause-small : goal.leaf-requires-clause-small
 leaf-requires-clause-small g c = small_enough c.args.looks.now.0 c.args.places.now c.requires.listed c.args.k _ (omega (arith, c.requires.inside)) c.requires.small
@@ -48,9 +42,6 @@ returns-in-Some-Text-clause-walks g c = λ w asks.
     lexed_walks bytes items c.requires.listed k c.args.looks.now.1 c.value.new.looks.1 c.at-sign.new.self.1 c.at-sign.result c.args.may_exceed.now c.value.new.may_exceed _ c.args.builder.now c.leaf.new.self w c.args.name c.in-Some-Text.field-0 (lexed.Text c.in-Some-Text.source) c.leaf.result c.signed.result
     c.requires.inside c.requires.level asks c.in-Some-Text.field-0-is value.value value.marked value.looked refl (omega arith) c.leaf.ensures (omega (arith, counted)) (omega (arith, same, byte)) c.signed.ensures
 
-pub at-sign-requires-in-Some-Number : goal.at-sign-requires-in-Some-Number
-at-sign-requires-in-Some-Number g c = grind (arith, in_text)
-
 pub leaf-requires-in-Some-Number-clause-small : goal.leaf-requires-in-Some-Number-clause-small
 leaf-requires-in-Some-Number-clause-small g c = small_enough c.args.looks.now.0 c.args.places.now c.requires.listed c.args.k _ (omega (arith, c.requires.inside)) c.requires.small
 
@@ -61,9 +52,6 @@ returns-in-Some-Number-clause-walks g c = λ w asks.
     let same = ap (λ (b : List ℕ). get_or b (get_or items (k + 1) 0) 0) c.value.ensures.same in let byte = c.at-sign-in-Some-Number.ensures.value in
     lexed_walks bytes items c.requires.listed k c.args.looks.now.1 c.value.new.looks.1 c.at-sign-in-Some-Number.new.self.1 c.at-sign-in-Some-Number.result c.args.may_exceed.now c.value.new.may_exceed _ c.args.builder.now c.leaf-in-Some-Number.new.self w c.args.name c.in-Some-Number.field-0 (lexed.Number c.in-Some-Number.source) c.leaf-in-Some-Number.result c.signed-in-Some-Number.result
     c.requires.inside c.requires.level asks c.in-Some-Number.field-0-is value.value value.marked value.looked refl (omega arith) c.leaf-in-Some-Number.ensures (omega (arith, counted)) (omega (arith, same, byte)) c.signed-in-Some-Number.ensures
-
-pub at-sign-requires-in-Some-Word : goal.at-sign-requires-in-Some-Word
-at-sign-requires-in-Some-Word g c = grind (arith, in_text)
 
 pub leaf-requires-in-Some-Word-clause-small : goal.leaf-requires-in-Some-Word-clause-small
 leaf-requires-in-Some-Word-clause-small g c = small_enough c.args.looks.now.0 c.args.places.now c.requires.listed c.args.k _ (omega (arith, c.requires.inside)) c.requires.small

@@ -6,9 +6,6 @@ use Rattle.json_walk.proofs.WalkContainer.{whole_walks, spot_one, nothing_halts}
 use Rattle.json_walk.proofs.CheckSteps.{whole_checked}
 use Rattle.json_walk.proofs.second_stage.whole.Goals as goal
 
-pub returns-then-is_empty-clause-walks : goal.returns-then-is_empty-clause-walks
-returns-then-is_empty-clause-walks c = grind (arith, nothing_halts)
-
 pub value-requires-clause-in_text : goal.value-requires-clause-in_text
 value-requires-clause-in_text c = in_text c.args.looks.now.0 c.args.places.now c.requires.listed 0 (let e = c.if-is_empty.ensures in grind (arith, nat_tests))
 
@@ -22,9 +19,6 @@ value-requires-clause-closes c = let text = c.args.looks.now.0 in
 
 pub value-requires-clause-no_blank : goal.value-requires-clause-no_blank
 value-requires-clause-no_blank c = no_blank c.args.looks.now.0 c.args.places.now c.requires.listed 0 (let e = c.if-is_empty.ensures in grind (arith, nat_tests))
-
-pub returns-in_default-clause-walks : goal.returns-in_default-clause-walks
-returns-in_default-clause-walks c = grind (arith, no_value_halts)
 
 pub put-requires-clause-near : goal.put-requires-clause-near
 put-requires-clause-near c = near c.args.looks.now.0 c.args.places.now c.requires.listed 0 (let e = c.if-is_empty.ensures in grind (arith, nat_tests))

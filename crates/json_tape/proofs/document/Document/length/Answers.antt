@@ -7,9 +7,3 @@ string_scalars-requires-clause-string c = sym (kind_is c.args.self.now c.entry-e
 
 pub returns-in-Array : goal.returns-in-Array
 returns-in-Array c = length_is c.args.self.now c.entry-entry.ensures.document c.args.n.0 c.requires c.entry-entry.result c.entry-entry.ensures.value c.in-Array.is
-
-pub returns-in-Text : goal.returns-in-Text
-returns-in-Text c = grind (arith, kind_is, string_length)
-
-pub returns-in-Null : goal.returns-in-Null
-returns-in-Null c = grind (arith, kind_is, kind_of, no_length)

@@ -8,9 +8,3 @@ pub unquoted-requires : goal.unquoted-requires
 unquoted-requires c =
     let m = member_lead c.args.self.now c.entry.ensures.document c.args.n.0 c.requires.inside c.entry.result c.entry.ensures.value (member_role c.args.self.now c.entry.ensures.document c.args.n.0 c.requires.inside c.entry.result c.entry.ensures.value c.requires.named) in
     quoted_at c.args.self.now.text c.deref.result.now c.entry.result.label m.0.source m.0.characters (c.deref.ensures ∙ ap (λ (x : Doc). x.text) c.self.view_is) m.1 m.3 m.4
-
-pub returns-clause-value : goal.returns-clause-value
-returns-clause-value c = grind (arith, member_lead, member_role, scalars_at, chars)
-
-pub returns-clause-short : goal.returns-clause-short
-returns-clause-short c = grind (arith, member_lead, member_role, scalars_at, chars, string_short, text_short)

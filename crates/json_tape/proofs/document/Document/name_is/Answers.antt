@@ -8,9 +8,3 @@ pub is_meant_by-requires : goal.is_meant_by-requires
 is_meant_by-requires c =
     let m = member_lead c.args.self.now c.entry-entry.ensures.document c.args.n.0 c.requires c.entry-entry.result c.entry-entry.ensures.value c.in-Member.is in
     quoted_at c.args.self.now.text c.deref.result.now c.entry-entry.result.label m.0.source m.0.characters (c.deref.ensures ∙ ap (λ (x : Doc). x.text) c.self.view_is) m.1 m.3 m.4
-
-pub returns-in-Member : goal.returns-in-Member
-returns-in-Member c = grind (arith, member_lead, scalars_at, bytes_eq)
-
-pub returns-in-Whole : goal.returns-in-Whole
-returns-in-Whole c = grind (arith, nameless, member_role)

@@ -8,9 +8,3 @@ pub unquoted-requires : goal.unquoted-requires
 unquoted-requires c =
     let m = string_is c.args.self.now c.entry.ensures.document c.args.n.0 c.requires.inside c.entry.result c.entry.ensures.value c.requires.string in
     quoted_at c.args.self.now.text c.deref.result.now c.entry.result.source m.0 m.1 (c.deref.ensures ∙ ap (λ (x : Doc). x.text) c.self.view_is) m.2 m.4 m.5
-
-pub returns-clause-value : goal.returns-clause-value
-returns-clause-value c = grind (arith, string_is, scalars_at, chars)
-
-pub returns-clause-short : goal.returns-clause-short
-returns-clause-short c = grind (arith, string_is, scalars_at, chars, string_short, text_short)

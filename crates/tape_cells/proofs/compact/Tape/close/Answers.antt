@@ -6,9 +6,3 @@ pub index-requires : goal.index-requires
 index-requires c =
     let w = closing_inside c.self.inside.cells.items c.self.inside.sides.items c.args.self.now c.args.number (record { start = 0; span = 0; label = 0; up = 0 }) c.self.view_is c.requires.container in
     omega (arith, w.0, c.self.inside.cells.ok.0)
-
-pub index_mut-requires : goal.index_mut-requires
-index_mut-requires c = grind (arith, closing_inside, side_inside)
-
-pub returns : goal.returns
-returns c = grind (arith, entries_many, closing_done)

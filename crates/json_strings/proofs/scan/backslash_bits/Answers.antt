@@ -1,7 +1,8 @@
 use Rattle.std.proofs.Common.{◌+◌, get_or, arith}
 use lib.Lanes.{chunk}
-use Rattle.structural_index.proofs.Lanes.{loaded, slashless_lane, backslash_lane, backslash_within}
-use Rattle.structural_index.proofs.looks.backslash_bits.Goals as goal
+use Rattle.structural_index.proofs.Lanes.{loaded}
+use Rattle.json_strings.proofs.Slashless.{slashless_lane, backslash_lane, backslash_within}
+use Rattle.json_strings.proofs.scan.backslash_bits.Goals as goal
 
 pub returns-clause-none : goal.returns-clause-none
 returns-clause-none c k inside clear = let bytes = c.args.bytes.now in let at = c.args.at in grind (arith, slashless_lane 32 k (chunk at 32 bytes) (get_or bytes (at + k) 0) (omega arith) inside (loaded bytes at 32 k c.requires inside) clear)

@@ -1,6 +1,6 @@
 use Rattle.std.proofs.Common.{arith}
-use Rattle.structural_index.proofs.Slashless.{all_slashless, first_backslash}
-use Rattle.structural_index.proofs.looks.slashless_end.Goals as goal
+use Rattle.json_strings.proofs.Slashless.{all_slashless, first_backslash}
+use Rattle.json_strings.proofs.scan.slashless_end.Goals as goal
 
 pub returns-then-backslashes-ne0-clause-upper_bound : goal.returns-then-backslashes-ne0-clause-upper_bound
 returns-then-backslashes-ne0-clause-upper_bound c =
