@@ -17,7 +17,7 @@ use crate::ast::{Argument, Call, Comparable, Expr, Op, Segment, Selector, SubQue
 use crate::class::{Class, is_lower, split_run};
 use crate::fault::ParseFault;
 use crate::literals::{ascii, literal, operator};
-use crate::scan::{behind, closed, skip_blanks};
+use crate::scan::{Read, behind, closed, skip_blanks};
 use crate::segments::{dotted_selectors, index, name, next_segment, next_selector, opening};
 use crate::singular::is_singular;
 use std::alloc::{AllocError, Global};
@@ -75,7 +75,7 @@ fn is_parenthesis(text: &[char]) -> bool
 // ---- Trees of what was read
 
 #[tactic(auto, unfolding(crate::specs::ReadingFilters::tested))]
-fn tested(side: Comparable, text: &[char]) -> Result<(Expr, &[char]), ParseFault>
+fn tested(side: Comparable, text: &[char]) -> Read<'_, Expr>
     ensures { Gives (λ x. (expr_view x.0, x.1.now)) result (tested (comparable_view side) text.now) }
 {
     match side {
@@ -148,7 +148,7 @@ fn filter(alloc: Global, expr: Expr) -> Result<Selector, AllocError>
 
 // What was read, behind which a parenthesis closes.
 #[tactic(auto, unfolding(crate::specs::Reading::closing))]
-fn closed_behind<T: Drop>(read: T, text: &[char]) -> Result<(T, &[char]), ParseFault>
+fn closed_behind<T: Drop>(read: T, text: &[char]) -> Read<'_, T>
     ensures { Gives (λ x. (x.0, x.1.now)) result (closing 0x29 read text.now) }
 {
     let rest = closed(skip_blanks(text), ')')?;
@@ -156,7 +156,7 @@ fn closed_behind<T: Drop>(read: T, text: &[char]) -> Result<(T, &[char]), ParseF
 }
 
 #[tactic(auto, unfolding(crate::specs::Reading::closing))]
-fn closed_expr(expr: Expr, text: &[char]) -> Result<(Expr, &[char]), ParseFault>
+fn closed_expr(expr: Expr, text: &[char]) -> Read<'_, Expr>
     ensures { Gives (λ x. (expr_view x.0, x.1.now)) result (closing 0x29 (expr_view expr) text.now) }
 {
     closed_behind(expr, text)
@@ -169,7 +169,7 @@ fn call<'a>(
     name: &[char],
     arguments: Vec<Argument>,
     text: &'a [char],
-) -> Result<(Call, &'a [char]), ParseFault>
+) -> Read<'a, Call>
     requires { IsTrue (list_all is_ascii name.now) }
     ensures { Gives (λ x. (call_view x.0, x.1.now)) result (closing 0x29 (call name.now (arguments_of (map argument_view arguments.items))) text.now) }
 {
@@ -182,7 +182,7 @@ fn call<'a>(
 
 #[cycle(expressions)]
 #[tactic(auto, unfolding(crate::specs::ReadingFilters::condition_in))]
-fn condition(alloc: Global, text: &[char], level: u8) -> Result<(Expr, &[char]), ParseFault>
+fn condition(alloc: Global, text: &[char], level: u8) -> Read<'_, Expr>
     ensures { Gives (λ x. (expr_view x.0, x.1.now)) result (condition_in level text.now) }
 {
     if level == 0 {
@@ -194,11 +194,7 @@ fn condition(alloc: Global, text: &[char], level: u8) -> Result<(Expr, &[char]),
 // What stands before the parenthesis that closes.
 #[cycle(expressions)]
 #[tactic(auto, unfolding(crate::specs::ReadingFilters::condition_in, crate::specs::ReadingFilters::arguments_at))]
-fn arguments(
-    alloc: Global,
-    text: &[char],
-    level: u8,
-) -> Result<(Vec<Argument>, &[char]), ParseFault>
+fn arguments(alloc: Global, text: &[char], level: u8) -> Read<'_, Vec<Argument>>
     ensures { Gives (λ x. (map argument_view x.0.items, x.1.now)) result (arguments_in level text.now) }
 {
     if level == 0 {
@@ -219,7 +215,7 @@ fn arguments(
 // A selector and the blanks behind it.
 #[cycle(expressions)]
 #[tactic(auto, unfolding(crate::specs::ReadingSegments::selector_at, crate::specs::ReadingSegments::filter_at))]
-fn selector(alloc: Global, text: &[char], level: u8) -> Result<(Selector, &[char]), ParseFault>
+fn selector(alloc: Global, text: &[char], level: u8) -> Read<'_, Selector>
     ensures { Gives (λ x. (selector_view x.0, x.1.now)) result (selector_at (condition_in level) text.now) }
 {
     let [c, rest @ ..] = text else {
@@ -239,11 +235,7 @@ fn selector(alloc: Global, text: &[char], level: u8) -> Result<(Selector, &[char
 
 // One or more selectors.
 #[cycle(expressions)]
-fn selectors(
-    alloc: Global,
-    text: &[char],
-    level: u8,
-) -> Result<(Vec<Selector>, &[char]), ParseFault>
+fn selectors(alloc: Global, text: &[char], level: u8) -> Read<'_, Vec<Selector>>
     ensures { Gives (λ x. (map selector_view x.0.items, x.1.now)) result (selectors_at (condition_in level) text.now) }
 {
     let (first, after_first) = selector(alloc, text, level)?;
@@ -263,7 +255,7 @@ fn selectors(
 
 #[cycle(expressions)]
 #[tactic(auto, unfolding(crate::specs::ReadingSegments::segment_at, crate::specs::ReadingSegments::selectors_from, crate::specs::ReadingSegments::bracketed_at))]
-fn segment(alloc: Global, text: &[char], level: u8) -> Result<(Segment, &[char]), ParseFault>
+fn segment(alloc: Global, text: &[char], level: u8) -> Read<'_, Segment>
     ensures { Gives (λ x. (segment_view x.0, x.1.now)) result (segment_at (condition_in level) text.now) }
 {
     let (descend, rest) = opening(text)?;
@@ -282,11 +274,7 @@ fn segment(alloc: Global, text: &[char], level: u8) -> Result<(Segment, &[char])
 
 /// The segments at the front. Each takes at least one character, which bounds their number.
 #[cycle(expressions)]
-pub fn segments(
-    alloc: Global,
-    text: &[char],
-    level: u8,
-) -> Result<(Vec<Segment>, &[char]), ParseFault>
+pub fn segments(alloc: Global, text: &[char], level: u8) -> Read<'_, Vec<Segment>>
     ensures { Gives (λ x. (map segment_view x.0.items, x.1.now)) result (segments_at (condition_in level) text.now) }
 {
     let mut out = Vec::new(alloc);
@@ -304,7 +292,7 @@ pub fn segments(
 
 #[cycle(expressions)]
 #[tactic(auto, unfolding(crate::specs::ReadingSegments::sub_query_at))]
-fn sub_query(alloc: Global, text: &[char], level: u8) -> Result<(SubQuery, &[char]), ParseFault>
+fn sub_query(alloc: Global, text: &[char], level: u8) -> Read<'_, SubQuery>
     ensures { Gives (λ x. (nested_view x.0, x.1.now)) result (sub_query_at (condition_in level) text.now) }
 {
     let [c, rest @ ..] = text else {
@@ -329,7 +317,7 @@ fn sub_query(alloc: Global, text: &[char], level: u8) -> Result<(SubQuery, &[cha
 // What stands behind a parenthesis.
 #[cycle(expressions)]
 #[tactic(auto, unfolding(crate::specs::ReadingFilters::parentheses_at))]
-fn parentheses(alloc: Global, text: &[char], level: u8) -> Result<(Expr, &[char]), ParseFault>
+fn parentheses(alloc: Global, text: &[char], level: u8) -> Read<'_, Expr>
     ensures { Gives (λ x. (expr_view x.0, x.1.now)) result (parentheses_at (condition_in level) (arguments_in level) text.now) }
 {
     let (expr, rest) = condition(alloc, skip_blanks(text), level)?;
@@ -339,7 +327,7 @@ fn parentheses(alloc: Global, text: &[char], level: u8) -> Result<(Expr, &[char]
 // A literal, a query or a call.
 #[cycle(expressions)]
 #[tactic(auto, unfolding(crate::specs::ReadingFilters::side_at, crate::specs::ReadingFilters::side_from, crate::specs::ReadingFilters::call_at))]
-fn side(alloc: Global, text: &[char], level: u8) -> Result<(Comparable, &[char]), ParseFault>
+fn side(alloc: Global, text: &[char], level: u8) -> Read<'_, Comparable>
     ensures { Gives (λ x. (comparable_view x.0, x.1.now)) result (side_at (condition_in level) (arguments_in level) text.now) }
 {
     let [c, ..] = text else {
@@ -365,7 +353,7 @@ fn side(alloc: Global, text: &[char], level: u8) -> Result<(Comparable, &[char])
 // What may stand behind an exclamation mark.
 #[cycle(expressions)]
 #[tactic(auto, unfolding(crate::specs::ReadingFilters::negatable_at))]
-fn negatable(alloc: Global, text: &[char], level: u8) -> Result<(Expr, &[char]), ParseFault>
+fn negatable(alloc: Global, text: &[char], level: u8) -> Read<'_, Expr>
     ensures { Gives (λ x. (expr_view x.0, x.1.now)) result (negatable_at (condition_in level) (arguments_in level) text.now) }
 {
     let [c, rest @ ..] = text else {
@@ -382,13 +370,7 @@ fn negatable(alloc: Global, text: &[char], level: u8) -> Result<(Expr, &[char]),
 // The other side of a comparison.
 #[cycle(expressions)]
 #[tactic(auto, unfolding(crate::specs::ReadingFilters::compared_at))]
-fn compared(
-    alloc: Global,
-    left: Comparable,
-    op: Op,
-    text: &[char],
-    level: u8,
-) -> Result<(Expr, &[char]), ParseFault>
+fn compared(alloc: Global, left: Comparable, op: Op, text: &[char], level: u8) -> Read<'_, Expr>
     ensures { Gives (λ x. (expr_view x.0, x.1.now)) result (compared_at (condition_in level) (arguments_in level) (comparable_view left) op text.now) }
 {
     let (right, rest) = side(alloc, text, level)?;
@@ -401,7 +383,7 @@ fn compared(
 
 #[cycle(expressions)]
 #[tactic(auto, unfolding(crate::specs::ReadingFilters::basic_at, crate::specs::ReadingFilters::basic_from))]
-fn basic(alloc: Global, text: &[char], level: u8) -> Result<(Expr, &[char]), ParseFault>
+fn basic(alloc: Global, text: &[char], level: u8) -> Read<'_, Expr>
     ensures { Gives (λ x. (expr_view x.0, x.1.now)) result (basic_at (condition_in level) (arguments_in level) text.now) }
 {
     let [c, rest @ ..] = text else {
@@ -425,12 +407,7 @@ fn basic(alloc: Global, text: &[char], level: u8) -> Result<(Expr, &[char]), Par
 // ---- Operands: the first, and the others that stand behind it. Most expressions have none, and then no list is made.
 
 #[cycle(expressions)]
-fn other_basics(
-    alloc: Global,
-    text: &[char],
-    level: u8,
-    limit: usize,
-) -> Result<(Vec<Expr>, &[char]), ParseFault>
+fn other_basics(alloc: Global, text: &[char], level: u8, limit: usize) -> Read<'_, Vec<Expr>>
     ensures { Gives (λ x. (map expr_view x.0.items, x.1.now)) result (repeat_at (next_operand 0x26) (basic_at (condition_in level) (arguments_in level)) limit text.now) }
 {
     let mut others = Vec::new(alloc);
@@ -448,7 +425,7 @@ fn other_basics(
 
 #[cycle(expressions)]
 #[tactic(auto, unfolding(crate::specs::ReadingFilters::and_at, crate::specs::ReadingFilters::basics_at, crate::specs::Reading::list_at))]
-fn and_expr(alloc: Global, text: &[char], level: u8) -> Result<(Expr, &[char]), ParseFault>
+fn and_expr(alloc: Global, text: &[char], level: u8) -> Read<'_, Expr>
     ensures { Gives (λ x. (expr_view x.0, x.1.now)) result (and_at (condition_in level) (arguments_in level) text.now) }
 {
     let (first, rest) = basic(alloc, text, level)?;
@@ -457,12 +434,7 @@ fn and_expr(alloc: Global, text: &[char], level: u8) -> Result<(Expr, &[char]), 
 }
 
 #[cycle(expressions)]
-fn other_and_exprs(
-    alloc: Global,
-    text: &[char],
-    level: u8,
-    limit: usize,
-) -> Result<(Vec<Expr>, &[char]), ParseFault>
+fn other_and_exprs(alloc: Global, text: &[char], level: u8, limit: usize) -> Read<'_, Vec<Expr>>
     ensures { Gives (λ x. (map expr_view x.0.items, x.1.now)) result (repeat_at (next_operand 0x7C) (and_at (condition_in level) (arguments_in level)) limit text.now) }
 {
     let mut others = Vec::new(alloc);
@@ -480,7 +452,7 @@ fn other_and_exprs(
 
 #[cycle(expressions)]
 #[tactic(auto, unfolding(crate::specs::ReadingFilters::or_at, crate::specs::ReadingFilters::ands_at, crate::specs::Reading::list_at))]
-fn or_expr(alloc: Global, text: &[char], level: u8) -> Result<(Expr, &[char]), ParseFault>
+fn or_expr(alloc: Global, text: &[char], level: u8) -> Read<'_, Expr>
     ensures { Gives (λ x. (expr_view x.0, x.1.now)) result (or_at (condition_in level) (arguments_in level) text.now) }
 {
     let (first, rest) = and_expr(alloc, text, level)?;
@@ -492,11 +464,7 @@ fn or_expr(alloc: Global, text: &[char], level: u8) -> Result<(Expr, &[char]), P
 
 #[cycle(expressions)]
 #[tactic(auto, unfolding(crate::specs::ReadingFilters::expression_argument_at))]
-fn expression_argument(
-    alloc: Global,
-    text: &[char],
-    level: u8,
-) -> Result<(Argument, &[char]), ParseFault>
+fn expression_argument(alloc: Global, text: &[char], level: u8) -> Read<'_, Argument>
     ensures { Gives (λ x. (argument_view x.0, x.1.now)) result (expression_argument_at (condition_in level) (arguments_in level) text.now) }
 {
     let (expr, rest) = or_expr(alloc, text, level)?;
@@ -507,7 +475,7 @@ fn expression_argument(
 // A literal that is the whole argument, or else an expression.
 #[cycle(expressions)]
 #[tactic(auto, unfolding(crate::specs::ReadingFilters::argument_at, crate::specs::ReadingFilters::argument_from))]
-fn argument(alloc: Global, text: &[char], level: u8) -> Result<(Argument, &[char]), ParseFault>
+fn argument(alloc: Global, text: &[char], level: u8) -> Read<'_, Argument>
     ensures { Gives (λ x. (argument_view x.0, x.1.now)) result (argument_at (condition_in level) (arguments_in level) text.now) }
 {
     match literal(alloc, text) {
@@ -524,11 +492,7 @@ fn argument(alloc: Global, text: &[char], level: u8) -> Result<(Argument, &[char
 }
 
 #[cycle(expressions)]
-fn some_arguments(
-    alloc: Global,
-    text: &[char],
-    level: u8,
-) -> Result<(Vec<Argument>, &[char]), ParseFault>
+fn some_arguments(alloc: Global, text: &[char], level: u8) -> Read<'_, Vec<Argument>>
     ensures { Gives (λ x. (map argument_view x.0.items, x.1.now)) result (some_arguments_at (condition_in level) (arguments_in level) text.now) }
 {
     let (first, after_first) = argument(alloc, text, level)?;

@@ -11,7 +11,7 @@ use crate::ast::{Literal, Op};
 use crate::class::{Class, is_lower, split_run};
 use crate::fault::ParseFault;
 use crate::numbers::number_end;
-use crate::scan::behind;
+use crate::scan::{Read, behind};
 use crate::strings::string;
 use std::alloc::{AllocError, Global};
 
@@ -43,7 +43,7 @@ fn keyword_of(word: &[char]) -> Option<Literal>
 }
 
 #[tactic(auto, unfolding(crate::specs::ReadingLiterals::keyword_at))]
-fn keyword(text: &[char]) -> Result<(Literal, &[char]), ParseFault>
+fn keyword(text: &[char]) -> Read<'_, Literal>
     ensures { Gives (λ x. (literal_view x.0, x.1.now)) result (keyword_at text.now) }
 {
     let (word, rest) = split_run(text, Class::Function);
@@ -54,7 +54,7 @@ fn keyword(text: &[char]) -> Result<(Literal, &[char]), ParseFault>
 }
 
 #[tactic(auto, unfolding(crate::specs::ReadingLiterals::number_at), using(crate::proofs::ReadNumbers::number_fits, crate::proofs::ReadNumbers::number_ascii))]
-fn number(alloc: Global, text: &[char]) -> Result<(Literal, &[char]), ParseFault>
+fn number(alloc: Global, text: &[char]) -> Read<'_, Literal>
     ensures { Gives (λ x. (literal_view x.0, x.1.now)) result (number_at text.now) }
 {
     let rest = number_end(text)?;
@@ -63,7 +63,7 @@ fn number(alloc: Global, text: &[char]) -> Result<(Literal, &[char]), ParseFault
 }
 
 #[tactic(auto, unfolding(crate::specs::ReadingLiterals::text_at))]
-fn text_in_quotes(alloc: Global, text: &[char]) -> Result<(Literal, &[char]), ParseFault>
+fn text_in_quotes(alloc: Global, text: &[char]) -> Read<'_, Literal>
     ensures { Gives (λ x. (literal_view x.0, x.1.now)) result (text_at text.now) }
 {
     let (scalars, rest) = string(alloc, text)?;
@@ -72,7 +72,7 @@ fn text_in_quotes(alloc: Global, text: &[char]) -> Result<(Literal, &[char]), Pa
 
 /// The literal at the front.
 #[tactic(auto, unfolding(crate::specs::ReadingLiterals::literal_at))]
-pub fn literal(alloc: Global, text: &[char]) -> Result<(Literal, &[char]), ParseFault>
+pub fn literal(alloc: Global, text: &[char]) -> Read<'_, Literal>
     ensures { Gives (λ x. (literal_view x.0, x.1.now)) result (literal_at text.now) }
 {
     let [c, ..] = text else {

@@ -8,7 +8,7 @@ ghost use Rattle.path_grammar.specs.ReadingNumbers.{signed_literal, digits_at, i
 use crate::ast::IntLit;
 use crate::class::{Class, split_run};
 use crate::fault::ParseFault;
-use crate::scan::{behind, skip_blanks};
+use crate::scan::{Read, behind, skip_blanks};
 
 const INT_LIMIT: u64 = 9_007_199_254_740_991;
 
@@ -38,7 +38,7 @@ fn literal(digits: &[char], is_negative: bool) -> IntLit
 }
 
 #[tactic(auto, unfolding(crate::specs::ReadingNumbers::digits_at))]
-fn digits(text: &[char], is_negative: bool) -> Result<(IntLit, &[char]), ParseFault>
+fn digits(text: &[char], is_negative: bool) -> Read<'_, IntLit>
     ensures { Gives (λ x. (x.0, x.1.now)) result (digits_at is_negative text.now) }
 {
     match text {
@@ -51,7 +51,7 @@ fn digits(text: &[char], is_negative: bool) -> Result<(IntLit, &[char]), ParseFa
 }
 
 #[tactic(auto, unfolding(crate::specs::ReadingNumbers::int_at))]
-fn int(text: &[char]) -> Result<(IntLit, &[char]), ParseFault>
+fn int(text: &[char]) -> Read<'_, IntLit>
     ensures { Gives (λ x. (x.0, x.1.now)) result (int_at text.now) }
 {
     let [c, rest @ ..] = text else {
@@ -68,7 +68,7 @@ fn int(text: &[char]) -> Result<(IntLit, &[char]), ParseFault>
 
 /// The integer at the front with the blanks after it, if one begins there.
 #[tactic(auto, unfolding(crate::specs::ReadingNumbers::part_at))]
-pub fn part(text: &[char]) -> Result<(Option<IntLit>, &[char]), ParseFault>
+pub fn part(text: &[char]) -> Read<'_, Option<IntLit>>
     ensures { Gives (λ x. (x.0, x.1.now)) result (part_at text.now) }
 {
     match text {

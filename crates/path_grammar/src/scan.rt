@@ -7,6 +7,9 @@ ghost use Rattle.path_grammar.specs.Reading.{Gives, after_run, behind};
 use crate::class::{Class, split_run};
 use crate::fault::ParseFault;
 
+/// What was read at the front of a text, and the text behind it.
+pub type Read<'a, T> = Result<(T, &'a [char]), ParseFault>;
+
 pub fn skip_blanks(text: &[char]) -> &[char]
     ensures { result.now ≡ after_run is_blank text.now }
 {

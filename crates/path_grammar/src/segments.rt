@@ -9,12 +9,12 @@ use crate::ast::{IntLit, Selector};
 use crate::class::{Class, is_first, split_run};
 use crate::fault::ParseFault;
 use crate::numbers::part;
-use crate::scan::{behind, skip_blanks};
+use crate::scan::{Read, behind, skip_blanks};
 use crate::strings::string;
 use std::alloc::Global;
 
 #[tactic(auto, unfolding(crate::specs::ReadingSegments::step_at, crate::specs::ReadingSegments::step_from))]
-fn step(text: &[char]) -> Result<(Option<IntLit>, &[char]), ParseFault>
+fn step(text: &[char]) -> Read<'_, Option<IntLit>>
     ensures { Gives (λ x. (x.0, x.1.now)) result (step_at text.now) }
 {
     match behind(text, ':') {
@@ -25,7 +25,7 @@ fn step(text: &[char]) -> Result<(Option<IntLit>, &[char]), ParseFault>
 
 // What stands behind the first colon of a slice.
 #[tactic(auto, unfolding(crate::specs::ReadingSegments::slice_at))]
-fn slice(start: Option<IntLit>, text: &[char]) -> Result<(Selector, &[char]), ParseFault>
+fn slice(start: Option<IntLit>, text: &[char]) -> Read<'_, Selector>
     ensures { Gives (λ x. (selector_view x.0, x.1.now)) result (slice_at start text.now) }
 {
     let (stop, rest) = part(skip_blanks(text))?;
@@ -34,7 +34,7 @@ fn slice(start: Option<IntLit>, text: &[char]) -> Result<(Selector, &[char]), Pa
 }
 
 #[tactic(auto, unfolding(crate::specs::ReadingSegments::index_at, crate::specs::ReadingSegments::index_from))]
-pub fn index(text: &[char]) -> Result<(Selector, &[char]), ParseFault>
+pub fn index(text: &[char]) -> Read<'_, Selector>
     ensures { Gives (λ x. (selector_view x.0, x.1.now)) result (index_at text.now) }
 {
     let (start, rest) = part(text)?;
@@ -48,7 +48,7 @@ pub fn index(text: &[char]) -> Result<(Selector, &[char]), ParseFault>
 }
 
 #[tactic(auto, unfolding(crate::specs::ReadingSegments::name_at))]
-pub fn name(alloc: Global, text: &[char]) -> Result<(Selector, &[char]), ParseFault>
+pub fn name(alloc: Global, text: &[char]) -> Read<'_, Selector>
     ensures { Gives (λ x. (selector_view x.0, x.1.now)) result (name_at text.now) }
 {
     let (name, rest) = string(alloc, text)?;
@@ -64,7 +64,7 @@ pub fn next_selector(text: &[char]) -> Option<&[char]>
 }
 
 #[tactic(auto, unfolding(crate::specs::ReadingSegments::dotted_at))]
-fn dotted(alloc: Global, text: &[char]) -> Result<(Selector, &[char]), ParseFault>
+fn dotted(alloc: Global, text: &[char]) -> Read<'_, Selector>
     ensures { Gives (λ x. (selector_view x.0, x.1.now)) result (dotted_at text.now) }
 {
     match text {
@@ -79,10 +79,7 @@ fn dotted(alloc: Global, text: &[char]) -> Result<(Selector, &[char]), ParseFaul
 }
 
 // The one selector of a segment without brackets.
-pub fn dotted_selectors(
-    alloc: Global,
-    text: &[char],
-) -> Result<(Vec<Selector>, &[char]), ParseFault>
+pub fn dotted_selectors(alloc: Global, text: &[char]) -> Read<'_, Vec<Selector>>
     ensures { Gives (λ x. (map selector_view x.0.items, x.1.now)) result (dotted_selectors_at text.now) }
 {
     let (selector, rest) = dotted(alloc, text)?;
@@ -92,7 +89,7 @@ pub fn dotted_selectors(
 }
 
 #[tactic(auto, unfolding(crate::specs::ReadingSegments::dots_at))]
-fn dots(text: &[char]) -> Result<(bool, &[char]), ParseFault>
+fn dots(text: &[char]) -> Read<'_, bool>
     ensures { Gives (λ x. (x.0, x.1.now)) result (dots_at text.now) }
 {
     let [c, rest @ ..] = text else {
@@ -109,7 +106,7 @@ fn dots(text: &[char]) -> Result<(bool, &[char]), ParseFault>
 
 // Whether the segment descends, and where its selectors begin.
 #[tactic(auto, unfolding(crate::specs::ReadingSegments::opening_at))]
-pub fn opening(text: &[char]) -> Result<(bool, &[char]), ParseFault>
+pub fn opening(text: &[char]) -> Read<'_, bool>
     ensures { Gives (λ x. (x.0, x.1.now)) result (opening_at text.now) }
 {
     let [c, rest @ ..] = text else {

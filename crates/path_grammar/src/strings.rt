@@ -6,7 +6,7 @@ ghost use Rattle.path_grammar.specs.Reading.{Gives};
 ghost use Rattle.path_grammar.specs.ReadingStrings.{hex_of, hex_at, unit_at, low_at, unicode_at, short_of, escape_at, character_at, inside_at, string_at};
 
 use crate::fault::ParseFault;
-use crate::scan::behind;
+use crate::scan::{Read, behind};
 use std::alloc::Global;
 
 #[tactic(auto, unfolding(crate::specs::ReadingStrings::hex_of))]
@@ -133,11 +133,7 @@ fn character(text: &[char], quote: char, other: char) -> Option<(char, &[char])>
     }
 }
 
-fn character_or_fault(
-    text: &[char],
-    quote: char,
-    other: char,
-) -> Result<(char, &[char]), ParseFault>
+fn character_or_fault(text: &[char], quote: char, other: char) -> Read<'_, char>
     ensures { Gives (λ x. (x.0, x.1.now)) result (character_at quote other text.now) }
 {
     match character(text, quote, other) {
@@ -147,12 +143,7 @@ fn character_or_fault(
 }
 
 // The characters up to the quote that closes.
-fn inside(
-    alloc: Global,
-    text: &[char],
-    quote: char,
-    other: char,
-) -> Result<(Vec<char>, &[char]), ParseFault>
+fn inside(alloc: Global, text: &[char], quote: char, other: char) -> Read<'_, Vec<char>>
     ensures { Gives (λ x. (x.0.items, x.1.now)) result (inside_at quote other (length text.now) text.now) }
 {
     let mut out = Vec::new(alloc);
@@ -170,7 +161,7 @@ fn inside(
 
 /// The scalar values of a string in single or double quotes.
 #[tactic(auto, unfolding(crate::specs::ReadingStrings::string_at))]
-pub fn string(alloc: Global, text: &[char]) -> Result<(Vec<char>, &[char]), ParseFault>
+pub fn string(alloc: Global, text: &[char]) -> Read<'_, Vec<char>>
     ensures { Gives (λ x. (x.0.items, x.1.now)) result (string_at text.now) }
 {
     let [c, rest @ ..] = text else {
