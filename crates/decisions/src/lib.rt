@@ -14,12 +14,15 @@ mod order;
 mod places;
 mod relation;
 mod scale;
+mod side;
 mod tables;
 mod telling;
 mod test;
 
 pub use decision::Decision;
 pub use laws::{tells_as_compared, tells_by_marks, tells_by_places};
+pub use order::literal_kind;
 pub use relation::Relation;
 pub use scale::Scale;
+pub use side::ComparedSide;
 pub use test::{Constant, Test};

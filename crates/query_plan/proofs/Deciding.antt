@@ -5,16 +5,16 @@ use Rattle.std.specs.Prelude.{not as opposite}
 use Rattle.std.proofs.Math.Nat.{suc-mul}
 use Rattle.std.specs.declared.result.Result.TheVariants.{Ok}
 use Rattle.path_grammar.specs.Tree.{Comparable}
-use Rattle.json_tape.specs.Nodes.{Node}
-use Rattle.tape_values.specs.Comparison.{Value, value_of, compared}
+use Rattle.json_text.specs.Nodes.{Node}
+use Rattle.path_meaning.specs.Comparison.{Value, value_of, compared}
 use Rattle.decisions.specs.Laws.{TellsAsCompared}
 use Rattle.decisions.specs.Tree.{Tested, Tests, any, each, negated, value, against, two, present, itself, rooted, no_tests, tested, expr_of, exprs_of_tests, uses, all_uses, meets_root, some_meet}
 use Rattle.decisions.specs.Truth.{truth, some_true, all_true, versus, related, IsRelated}
 use Rattle.decisions.specs.declared.relation.Relation.{Relation}
 use Rattle.path_grammar.specs.declared.ast.Op.{Op}
 use Rattle.path_grammar.specs.declared.ast.Op.TheVariants.{Eq, Ne, Le, Ge, Lt, Gt}
-use Rattle.node_lists.specs.Charge.{charge_expr, charge_exprs, charge_side}
-use Rattle.node_lists.specs.Evaluation.{holds, some_hold, all_hold, result}
+use Rattle.path_meaning.specs.Charge.{charge_expr, charge_exprs, charge_side}
+use Rattle.path_meaning.specs.Evaluation.{holds, some_hold, all_hold, result}
 use Rattle.node_lists.specs.Paying.{Refuses, Finds}
 use Rattle.node_lists.specs.declared.fault.SelectFault.{SelectFault}
 use Rattle.node_lists.proofs.Following.{refuses_from}

@@ -9,11 +9,11 @@ use Rattle.path_grammar.specs.Tree.{Expr, Exprs, exprs_of}
 use Rattle.path_grammar.specs.View.{expr_view}
 use Rattle.path_grammar.specs.declared.ast.Expr.{Expr as Source}
 use Rattle.path_types.specs.Validity.{is_valid_expr, are_valid_exprs}
-use Rattle.json_tape.specs.Nodes.{Node}
+use Rattle.json_text.specs.Nodes.{Node}
 use Rattle.decisions.specs.Tree.{listed}
 use Rattle.condition_reader.specs.Turns.{dealt}
-use Rattle.node_lists.specs.Charge.{charge_expr, charge_exprs}
-use Rattle.node_lists.specs.Evaluation.{holds, some_hold, all_hold}
+use Rattle.path_meaning.specs.Charge.{charge_expr, charge_exprs}
+use Rattle.path_meaning.specs.Evaluation.{holds, some_hold, all_hold}
 use Rattle.node_lists.specs.Paying.{Finds}
 use Rattle.query_plan.specs.Planned.{trees, operands_of, append_exprs, appended, first_of, behind_of, put_first, woven, joined, condition_view}
 use Rattle.node_lists.specs.declared.fault.SelectFault.{SelectFault}

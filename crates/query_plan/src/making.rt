@@ -11,7 +11,7 @@ ghost use Rattle.condition_reader.specs.Turns.{dealt};
 ghost use Rattle.query_plan.specs.Planned.{trees, joined, all_claims, query_of, claims_of, is_rooted, own_claim, as_argument, calling, condition_view, operand_view, selection_view, nested_view, stage_view, numbered};
 ghost use Rattle.decisions.specs.Views.{constant_view};
 ghost use Rattle.decisions.specs.Told.{is_told_on};
-ghost use Rattle.node_lists.specs.Links.{link_view};
+ghost use Rattle.path_meaning.specs.Links.{link_view};
 ghost use Rattle.query_plan.specs.Making.{is_valid_nodes};
 
 use crate::plan::{Condition, Nested, Operand, Parts, Selection, Stage};

@@ -2,13 +2,13 @@
 
 ghost use Rattle.std.specs.Prelude.{◌≡◌, ◌∷◌, [], map, IfSome};
 ghost use Rattle.json_tape.specs.Document.{node_at};
-ghost use Rattle.json_tape.specs.Nodes.{Node};
+ghost use Rattle.json_text.specs.Nodes.{Node};
 ghost use Rattle.path_grammar.specs.Tree.{exprs_of};
 ghost use Rattle.decisions.specs.Tree.{expr_of, listed};
 ghost use Rattle.decisions.specs.Views.{test_view};
-ghost use Rattle.node_lists.specs.Charge.{charge_from, charge_nested, charge_side, charge_expr, charge_exprs};
+ghost use Rattle.path_meaning.specs.Charge.{charge_from, charge_nested, charge_side, charge_expr, charge_exprs};
 ghost use Rattle.query_plan.specs.Planned.{trees, joined, condition_view, nested_view, operand_view};
-ghost use Rattle.node_lists.specs.Links.{links_view};
+ghost use Rattle.path_meaning.specs.Links.{links_view};
 
 use crate::plan::{Condition, Nested, Operand};
 use decisions::Decision;

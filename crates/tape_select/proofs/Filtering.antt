@@ -24,8 +24,8 @@ use Rattle.query_plan.specs.Slots.{AreClaimed}
 use Rattle.query_plan.specs.declared.plan.Condition.{Condition}
 use Rattle.query_plan.specs.declared.plan.Selection.{Selection}
 use Rattle.query_plan.specs.declared.plan.Stage.{Stage}
-use Rattle.node_lists.specs.declared.links.Link.{Link}
-use Rattle.node_lists.specs.declared.links.Link.TheVariants.{Key, Place}
+use Rattle.path_meaning.specs.declared.links.Link.{Link}
+use Rattle.path_meaning.specs.declared.links.Link.TheVariants.{Key, Place}
 use Rattle.node_lists.proofs.Adding.{append_nil, add_more, has_none, flat_more, sum_more}
 use Rattle.node_lists.specs.Paying.{Adds, Holds, Inside, FindsList}
 use Rattle.std.specs.declared.vec.Vec.{Vec}

@@ -1,7 +1,7 @@
 use Rattle.std.proofs.Common.{◌≡◌, ◌+◌, drop, map}
 use Rattle.json_tape.specs.Document.{node_at}
 use Rattle.path_grammar.specs.Tree.{exprs_of}
-use Rattle.node_lists.specs.Charge.{charge_exprs}
+use Rattle.path_meaning.specs.Charge.{charge_exprs}
 use Rattle.query_plan.specs.Planned.{trees, condition_view}
 use Rattle.query_plan.proofs.units.+units.Given as goal
 
