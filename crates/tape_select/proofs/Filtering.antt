@@ -34,7 +34,7 @@ use Rattle.node_lists.specs.declared.fault.SelectFault.{SelectFault}
 use Rattle.node_lists.proofs.Following.{refuses_from, one_unit}
 use Rattle.node_lists.proofs.Visits.{visit_length, visit_more, visit_charged}
 use Rattle.query_plan.proofs.Claims.{operand_claims, selection_claims, stages_claims}
-use Rattle.query_plan.proofs.Joining.{finds_some, finds_all}
+use Rattle.tape_select.proofs.Paid.{finds_some, finds_all}
 use Rattle.query_plan.proofs.LoneLinks.{stage_is}
 use Rattle.query_plan.proofs.Operands.{argued_charge, length_called, operand_charges}
 use Rattle.node_lists.proofs.Totals.{length_nodes}
