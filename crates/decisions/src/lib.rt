@@ -3,7 +3,7 @@
 //! A [`Test`] is such a condition: `||`, `&&` and `!` over comparisons (RFC 9535, section 2.3.5). Its [`Decision`] has the literals in order,
 //! and the truth for each kind of value at each place among them. Places are below the first literal, at it, between it and the next, and so on.
 //! [`Decision::holds`] finds the place by binary search and looks the truth up, whatever the number of comparisons. A [`Scale`] has the literals
-//! of a condition on several sides, whose truth depends on the marks of these.
+//! of a condition on several sides, whose truth depends on the marks of these. A side is whatever can be compared with them ([`ComparedSide`]).
 #![tactic(auto)]
 
 mod counting;
