@@ -24,8 +24,8 @@ use Rattle.query_plan.specs.Slots.{AreClaimed}
 use Rattle.query_plan.specs.declared.plan.Condition.{Condition}
 use Rattle.query_plan.specs.declared.plan.Selection.{Selection}
 use Rattle.query_plan.specs.declared.plan.Stage.{Stage}
-use Rattle.node_lists.specs.declared.links.Link.{Link}
-use Rattle.node_lists.specs.declared.links.Link.TheVariants.{Key, Place}
+use Rattle.path_meaning.specs.declared.links.Link.{Link}
+use Rattle.path_meaning.specs.declared.links.Link.TheVariants.{Key, Place}
 use Rattle.node_lists.proofs.Adding.{append_nil, add_more, has_none, flat_more, sum_more}
 use Rattle.node_lists.specs.Paying.{Adds, Holds, Inside, FindsList}
 use Rattle.std.specs.declared.vec.Vec.{Vec}
@@ -34,7 +34,7 @@ use Rattle.node_lists.specs.declared.fault.SelectFault.{SelectFault}
 use Rattle.node_lists.proofs.Following.{refuses_from, one_unit}
 use Rattle.node_lists.proofs.Visits.{visit_length, visit_more, visit_charged}
 use Rattle.query_plan.proofs.Claims.{operand_claims, selection_claims, stages_claims}
-use Rattle.query_plan.proofs.Joining.{finds_some, finds_all}
+use Rattle.tape_select.proofs.Paid.{finds_some, finds_all}
 use Rattle.query_plan.proofs.LoneLinks.{stage_is}
 use Rattle.query_plan.proofs.Operands.{argued_charge, length_called, operand_charges}
 use Rattle.node_lists.proofs.Totals.{length_nodes}

@@ -21,8 +21,7 @@ use Rattle.query_plan.proofs.Links.{links_charged, links_charged_first}
 use Rattle.tape_select.proofs.Found.{found_through}
 use Rattle.node_lists.proofs.Adding.{drawn, drawn_inside}
 use Rattle.node_lists.proofs.Naming.{adds_named, adds_wild}
-use Rattle.query_plan.proofs.Deciding.{free, paid, refused_first, refused_then}
-use Rattle.query_plan.proofs.Joining.{finds_some, finds_all}
+use Rattle.tape_select.proofs.Paid.{free, paid, refused_first, refused_then, finds_some, finds_all}
 use Rattle.tape_select.proofs.Telling.{kept, recalled, charged_nothing}
 use Rattle.tape_select.proofs.evaluation.+evaluation.Goals as goal
 
@@ -253,8 +252,8 @@ found_behind-returns-clause-found t c =
 pub decided-returns-then-times-eq0-clause-found : goal.decided-returns-then-times-eq0-clause-found
 decided-returns-then-times-eq0-clause-found t c =
     let d = c.args.doc.now in
-    free c.tells_as_compared.ensures (node_at d 0) (node_at d c.args.child.0) (operand_view c.args.operand.now).tree (test_view c.args.decision.now) c.related-relation.result c.related-relation.ensures.related c.args.state.now.meter.left c.holds.result
-    (sym c.uses-times.ensures ∙ c.if-times-eq0.true) c.holds.ensures
+    free c.tells_as_compared.ensures (node_at d 0) (node_at d c.args.child.0) (operand_view c.args.operand.now).tree (test_view c.args.decision.now) c.related-relation.result c.related-relation.ensures.related c.args.state.now.meter.left c.decision_holds.result
+    (sym c.uses-times.ensures ∙ c.if-times-eq0.true) c.decision_holds.ensures
 
 pub decided-returns-in_err-side-clause-found : goal.decided-returns-in_err-side-clause-found
 decided-returns-in_err-side-clause-found t c =
@@ -286,8 +285,8 @@ decided-returns-clause-found t c =
     let some : 0 < c.uses-times.result = (let n = c.if-times-eq0.false in omega arith) in
     let found = (c.in_ok-side.ensures).found in
     let parted = found.2 in
-    paid c.tells_as_compared.ensures (node_at d 0) (node_at d c.args.child.0) (operand_view c.args.operand.now).tree e c.related-relation.result c.related-relation.ensures.related old left c.spend_each.new.self.left c.uses-times.result (old - left) c.holds-2.result
-    c.uses-times.ensures some parted (omega arith) (rw c.from.ensures at c.in_ok-spend_each.ensures) (c.holds-2.ensures ∙ ap (λ v. truth v c.related-relation.result e) found.0)
+    paid c.tells_as_compared.ensures (node_at d 0) (node_at d c.args.child.0) (operand_view c.args.operand.now).tree e c.related-relation.result c.related-relation.ensures.related old left c.spend_each.new.self.left c.uses-times.result (old - left) c.decision_holds-2.result
+    c.uses-times.ensures some parted (omega arith) (rw c.from.ensures at c.in_ok-spend_each.ensures) (c.decision_holds-2.ensures ∙ ap (λ v. truth v c.related-relation.result e) found.0)
 
 pub joined_hold-returns-then-is_any-clause-found : goal.joined_hold-returns-then-is_any-clause-found
 joined_hold-returns-then-is_any-clause-found t c =
