@@ -1,7 +1,7 @@
 use Rattle.std.proofs.Common.{rules, sym, ◌∙◌, ◌++◌, ◌+◌, ◌-◌, ◌*◌, ◌<◌, ◌≡◌, [], ◌∷◌, arith, ap, refl, length, map, drop}
 use Rattle.std.proofs.lemmas.Grind.{common_steps}
 use Rattle.std.proofs.lemmas.List.{drop_all}
-use Rattle.std.specs.Prelude.{flat_map}
+use Rattle.std.specs.Prelude.{flat_map, codes}
 use Rattle.std.specs.Prelude.{filter as keep}
 use Rattle.std.proofs.lemmas.Result.{err_from_is_err_and}
 use Rattle.json_tape.specs.Document.{node_at}
@@ -10,20 +10,23 @@ use Rattle.path_grammar.specs.Tree as tree
 use Rattle.path_grammar.specs.Tree.{OneSegment, selectors_of, filter}
 use Rattle.decisions.specs.Truth.{truth}
 use Rattle.decisions.specs.Views.{test_view}
+use Rattle.tape_values.specs.Functions.{length_value}
 use Rattle.node_lists.specs.Evaluation.{selected, selected_by, holds}
 use Rattle.node_lists.specs.Nodelists.{nodes_of}
 use Rattle.node_lists.specs.Charge.{total_of, charge_from, charge_expr}
 use Rattle.node_lists.specs.Extra.{extra_in, nodes_from, charge_at, nodes_after, charge_after}
-use Rattle.query_plan.specs.Planned.{look, claims_of, query_of, path_of, trees, condition_view, operand_view, selection_view, stage_view, With, condition_step, operand_step, selection_step, nested_step, stage_step}
+use Rattle.query_plan.specs.Planned.{look, as_argument, calling, claims_of, query_of, path_of, trees, condition_view, operand_view, selection_view, stage_view, With, condition_step, operand_step, selection_step, nested_step, stage_step}
 use Rattle.node_lists.specs.Links.{links_view}
-use Rattle.query_plan.specs.declared.plan.Condition.TheFolds.{fold_out-Selection, the_lemmas}
+use Rattle.query_plan.specs.declared.plan.Condition.TheFolds.{fold_out-Operand, fold_out-Selection, the_lemmas}
 use Rattle.tape_select.proofs.Filtering.{stage_claimed, evaluated_step, charge_step, adds_paid, more_of, staying, staying_charge, descending, descending_charge, filter_charge, keep_more, keep_not, leaf_holds, leaf_costs, finds_linked, one_stage, finds_one, joined_more, paid_more, only_one, selections_more, extras_more, or_false, and_true, somes, alls}
 use Rattle.node_lists.proofs.Following.{refuses_from, nothing_from_nothing, nothing_for_nothing}
+use Rattle.query_plan.proofs.Operands.{argued_charge, length_called}
 use Rattle.query_plan.proofs.Links.{links_charged, links_charged_first}
 use Rattle.tape_select.proofs.Found.{found_through}
 use Rattle.node_lists.proofs.Adding.{append_nil, drawn, drawn_inside, flat_more, sum_more}
 use Rattle.query_plan.proofs.Claims.{selection_claims}
 use Rattle.node_lists.proofs.Naming.{adds_named, adds_wild}
+use Rattle.query_plan.proofs.LoneLinks.{stage_is}
 use Rattle.query_plan.proofs.Deciding.{free, paid, refused_first, refused_then}
 use Rattle.query_plan.proofs.Joining.{finds_some, finds_all}
 use Rattle.tape_select.proofs.Telling.{kept, recalled, charged_nothing}
@@ -155,6 +158,34 @@ pub all_selected-after_stage-requires : goal.all_selected-after_stage-requires
 all_selected-after_stage-requires t c =
     let one = one_stage c.args.stages.now c.stage-item.result c.in-len1.len_at_least c.in-len1.len_below c.stage-item.is in
     (search (rules, the_lemmas), (rw c.from_ref.ensures.value (only_one c.args.doc.now c.args.n c.requires.inside), ((rw one at c.requires.claimed).0, c.requires.kept)))
+
+pub filtered-does_hold-requires : goal.filtered-does_hold-requires
+filtered-does_hold-requires t c =
+    let i = c.loop-child.invariant in
+    (search (rules, the_lemmas), ((drawn_inside c.args.doc.now c.loop-child.child-iterator c.in-Some.child c.next.new.self c.in-Some.ensures.steps i.ahead).0, (c.requires.claimed, i.kept)))
+
+pub filtered-push-requires-clause-inside : goal.filtered-push-requires-clause-inside
+filtered-push-requires-clause-inside t c = (drawn_inside c.args.doc.now c.loop-child.child-iterator c.in-Some.child c.next.new.self c.in-Some.ensures.steps c.loop-child.invariant.ahead).0
+
+pub from_node-visited-requires : goal.from_node-visited-requires
+from_node-visited-requires t c =
+    (search (rules, the_lemmas), (c.requires.inside, (rw c.deref.ensures.value (rw (stage_is c.args.stage.now) at c.requires.claimed), (c.requires.kept, c.requires.sound))))
+
+pub from_node-selected_from-requires : goal.from_node-selected_from-requires
+from_node-selected_from-requires t c =
+    (search (rules, the_lemmas), (c.requires.inside, (rw c.deref-else-stage.ensures.value (rw (stage_is c.args.stage.now) at c.requires.claimed), (c.requires.kept, c.requires.sound))))
+
+pub side_by_kind-returns-in_ok-side-in-Length-clause-found : goal.side_by_kind-returns-in_ok-side-in-Length-clause-found
+unfolding Rattle.query_plan.specs.declared.plan.Condition.TheViews.out-Operand denote.Hole.Carrier.out
+side_by_kind-returns-in_ok-side-in-Length-clause-found t c =
+    let r = node_at c.args.doc.now 0 in
+    let n = node_at c.args.doc.now c.args.child.0 in
+    let v = (operand_view c.in-Length.operand.value).tree in
+    let whole : (operand_view c.args.operand.now).tree ≡ calling (codes "length") (as_argument v) = ap (λ x. x.tree) (fold_out-Operand (With tree.Expr) (With tree.Comparable) (With tree.Selector) (With tree.Nested) (With OneSegment) condition_step operand_step selection_step nested_step stage_step c.args.operand.now) ∙ rw c.in-Length.is refl in
+    let found = rw c.deref.ensures at c.in_ok-side-in-Length.ensures.found in
+    let charged = argued_charge r n v in
+    let spent = found.2 in
+    rw whole (c.length_of.ensures.value ∙ ap length_value found.0 ∙ sym (length_called r n v), c.length_of.ensures.side, omega (arith, charged, spent))
 
 pub selected_by-returns-in-Where-clause-added : goal.selected_by-returns-in-Where-clause-added
 unfolding Rattle.query_plan.specs.declared.plan.Condition.TheViews.out-Selection denote.Hole.Carrier.out
