@@ -4,7 +4,7 @@ use Rattle.json_text.specs.Tree.{Source, Name, Scalar, Null, True, False, Num, S
 use Rattle.json_text.specs.Meaning.{meaning}
 use Rattle.json_text.specs.Nodes.{Node, Step, key, place, size, elements_from, members_from}
 use Rattle.json_strings.specs.Spelling.{spelt}
-use Rattle.json_text.specs.Tape.{Label, Top, Index, Named, extent, element_count, member_count, tape_of}
+use Rattle.json_text.specs.Tape.{Label, Top, Index, Named, extent, tape_of}
 use Rattle.json_text.specs.Verdict.{IsAccepted}
 use Rattle.json_text.specs.declared.tape.Kind.{Kind}
 use Rattle.json_text.specs.declared.tape.Kind.TheVariants as kinds

@@ -1,5 +1,5 @@
 -- What is charged for each child of each document.
-use Rattle.std.proofs.Common.{◌≡◌, ℕ, ◌+◌, ◌*◌, Bool, List, Option, Some, None, ap, ◌∙◌, arith}
+use Rattle.std.proofs.Common.{◌≡◌, ℕ, ◌+◌, Bool, List, Option, Some, None, ◌∙◌, arith}
 use Rattle.std.specs.Prelude.{IfSome, codes}
 use Rattle.json_text.specs.Nodes.{Node}
 use Rattle.path_grammar.specs.Tree as tree

@@ -1,4 +1,4 @@
-use Rattle.std.proofs.Common.{◌≡◌, ◌∷◌, Option, Some, length, map, ap, ◌∙◌, arith}
+use Rattle.std.proofs.Common.{◌∷◌, Option, Some, map, ap, ◌∙◌, arith}
 use Rattle.std.proofs.lemmas.List.{length-map}
 use Rattle.path_meaning.specs.Comparison.{Value}
 use Rattle.path_meaning.specs.Functions.{whole_number}
