@@ -1,18 +1,19 @@
 #!/usr/bin/env python3
 """Tests in which order bin/build proves crates, on made tasks: each is done once, behind those that it waits for; the one with the longest way before it
-goes first, with all jobs, though others run; what waits for one that did not go well stays undone."""
+goes first, with several jobs, though others run, and with more where none do; what waits for one that did not go well stays undone."""
 import sys
 import threading
 import time
 from pathlib import Path
 
 sys.path.insert(0, str(Path(__file__).resolve().parent.parent / "bin/tools"))
-from proving import MOST_JOBS, Task, run_all, ways
+from proving import JOBS, JOBS_ALONE, Task, run_all, ways
 
 MANY = 4
-# a chain of large tasks, and tasks that nothing waits for: the name, what it waits for, its length
+# a chain of large tasks, and tasks that nothing waits for, of which one can be done beside the second of the chain and none beside the third: the name,
+# what it waits for, its length
 CHAIN = [("low", [], 400), ("middle", ["low"], 400), ("high", ["middle", "low"], 400)]
-OTHERS = [(f"other{at}", [], 10) for at in range(8)]
+OTHERS = [*((f"other{at}", [], 10) for at in range(8)), ("beside", ["low"], 10)]
 failures = []
 
 
@@ -51,8 +52,8 @@ def main():
     for name, waits, _ in named:
         check(f"{name} is behind those that it waits for", begun[name][3].issuperset(waits))
     check("the longest way goes first", begun["low"][0] == 0)
-    for name, _, _ in CHAIN:
-        check(f"{name} has all jobs", begun[name][1:3] == (min(MANY, MOST_JOBS), False))
+    for name, jobs in [("low", JOBS), ("middle", JOBS), ("high", JOBS_ALONE)]:
+        check(f"{name} has its jobs", begun[name][1:3] == (jobs, False))
     for name, _, _ in OTHERS:
         check(f"{name} is behind, with one job", begun[name][1:3] == (1, True))
     begun, told = ran(named, ["middle"])

@@ -13,9 +13,11 @@ from pathlib import Path
 
 PARTS = ("src", "specs", "proofs", "c")
 BYTES_EACH = 2_500_000_000
-# lines of source from which two jobs make a check shorter; four have made none shorter than two do, and each job reads all that lies below anew
+# lines of source from which several jobs make a check shorter. Each job reads all that lies below anew, so there are more than two only where nothing
+# else can be done meanwhile
 LARGE = 300
-MOST_JOBS = 2
+JOBS = 2
+JOBS_ALONE = 4
 
 
 def rooms_in_memory():
@@ -97,8 +99,8 @@ class Task:
     def __init__(self, name, waits, work, length=0):
         self.name, self.waits, self.work, self.length = name, waits, work, length
 
-    def jobs(self, idle):
-        return max(min(idle, MOST_JOBS), 1) if self.length >= LARGE else 1
+    def jobs(self, idle, is_alone=False):
+        return max(min(idle, JOBS_ALONE if is_alone else JOBS), 1) if self.length >= LARGE else 1
 
 
 def ways(tasks):
@@ -114,8 +116,9 @@ def ways(tasks):
 def run_all(tasks, many, tell, silence):
     """Does the tasks, many at a time, those with the longest way before them first; one whose work did not go well, and all that wait for it, stay
     undone. The end comes no sooner than that of the longest way: so where its next task is large, that one gets its jobs beside the lanes of the
-    others, which are behind it, if there is memory for both. Other large tasks get the lanes that no one else can use. tell gets each task that is
-    done, with whether it went well, and nothing but the names of those that run where none was done for so many seconds."""
+    others, which are behind it, if there is memory for both; and where nothing else can be done meanwhile, the lanes of these too. Other large tasks
+    get the lanes that no one else can use. tell gets each task that is done, with whether it went well, and nothing but the names of those that run
+    where none was done for so many seconds."""
     done, failed, running, runs, way, rooms = set(), set(), {}, {}, ways(tasks), rooms_in_memory()
     front = None
     with ThreadPoolExecutor(max(len(tasks), 1)) as pool:
@@ -129,7 +132,7 @@ def run_all(tasks, many, tell, silence):
             ready = sorted((it for it in left if done.issuperset(it.waits)), key=lambda it: -way[it.name])
             if ready and ready[0].length >= LARGE and all(way[it] <= way[ready[0].name] for it in running):
                 front = ready.pop(0)
-                begin(front, front.jobs(many), False)
+                begin(front, front.jobs(many, not ready and not running), False)
             ahead = running.get(front.name, 0) if front else 0
             for at, task in enumerate(ready):
                 idle = min(many, max(rooms, many) - ahead) - (sum(running.values()) - ahead)

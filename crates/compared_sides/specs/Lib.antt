@@ -1,3 +1,4 @@
 pub mod Values
 pub mod Answered
 pub mod Counted
+pub mod Insides

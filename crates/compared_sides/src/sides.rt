@@ -15,6 +15,7 @@ ghost use Rattle.compared_sides.specs.Values.{value_found};
 ghost use Rattle.decisions.specs.Told.{AreApart, IsCell};
 
 use crate::answers::{Answer, compare_once, make_room};
+use crate::deciding::SideIn;
 use crate::lengths::{Lengths, length_once};
 use decisions::{Constant, Decision, Relation, Scale};
 use json_tape::{Document, Kind, NodeId};
@@ -258,11 +259,14 @@ fn cell_beside(
     if !are_apart(doc, child, answers) {
         return None;
     }
-    let node = Side::Node(child);
+    let node = SideIn {
+        doc,
+        side: Side::Node(child),
+    };
     let length = length_of(doc, Side::Node(child), lengths);
     match total_of(doc, Side::Node(doc.root()), lengths) {
         None => None,
-        Some(total) => scale.cell_beside(doc, total, &node, &length),
+        Some(total) => scale.cell_beside(total, &node, &SideIn { doc, side: length }),
     }
 }
 
@@ -284,7 +288,10 @@ pub fn cell_of(
     if scale.is_rooted {
         return cell_beside(doc, scale, child, lengths, answers);
     }
-    let node = Side::Node(child);
+    let node = SideIn {
+        doc,
+        side: Side::Node(child),
+    };
     let length = length_of(doc, Side::Node(child), lengths);
-    scale.cell(doc, &node, &length)
+    scale.cell(&node, &SideIn { doc, side: length })
 }

@@ -1,7 +1,9 @@
 //! The lines on standard error that a server of many connections prints.
 
-use event_loop::{End, Ending, Gate, Held, Journal, Slow, Totals};
+use connection_turns::{End, Ending};
 use jiff::Timestamp;
+use open_connections::{Held, Journal, Slow, Totals};
+use socket_poll::Gate;
 use std::fmt;
 use std::time::{Clock, SystemTime, UNIX_EPOCH};
 
@@ -264,7 +266,7 @@ impl<'a> fmt::Display for CountLine<'a> {
 #[cfg(test)]
 mod tests {
     use super::*;
-    use event_loop::Counts;
+    use connection_turns::Counts;
     use std::net::{Ipv4Addr, SocketAddr, SocketAddrV4};
     use std::test::Fail;
 

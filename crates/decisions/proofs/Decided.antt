@@ -9,7 +9,7 @@ use Rattle.std.proofs.lemmas.List.{get_or-map, get_or_default, length-map}
 use Rattle.std.proofs.lemmas.List.Elements.{All-contains}
 use Rattle.path_grammar.specs.Tree.{Literal}
 use Rattle.decisions.specs.Tree.{Tested}
-use Rattle.tape_values.specs.Comparison.{Value, a_null, a_boolean, a_number, a_text, a_container, literal_value}
+use Rattle.path_meaning.specs.Comparison.{Value, a_null, a_boolean, a_number, a_text, a_container, literal_value}
 use Rattle.decisions.specs.Laws.{TellsByPlaces}
 use Rattle.decisions.specs.Order.{kind, value_cmp}
 use Rattle.decisions.specs.Places.{place, HasTie, from_place, AreCells, Decides}

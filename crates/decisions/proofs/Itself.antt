@@ -7,12 +7,12 @@ use Rattle.std.specs.declared.cmp.Ordering.TheVariants.{Equal}
 use Rattle.std.proofs.lemmas.Bool.Decides.{nat_tests}
 use Rattle.std.proofs.lemmas.Cmp.{nat_list_cmp_total, tied_itself}
 use Rattle.decimal_order.specs.Order.{number_cmp}
-use Rattle.json_tape.specs.Meaning.{meaning}
-use Rattle.json_tape.specs.Tape.{member_count}
-use Rattle.json_tape.specs.Tree.{Null, True, False, Num, Str, Tree, Leaf, Arr, Obj, Elements, NoElement, Element, Members, NoMember, Member}
+use Rattle.json_text.specs.Meaning.{meaning}
+use Rattle.json_text.specs.Tape.{member_count}
+use Rattle.json_text.specs.Tree.{Null, True, False, Num, Str, Tree, Leaf, Arr, Obj, Elements, NoElement, Element, Members, NoMember, Member}
 use Rattle.path_grammar.specs.declared.ast.Op.{Op}
 use Rattle.path_grammar.specs.declared.ast.Op.TheVariants.{Eq, Ne, Le, Ge, Lt, Gt}
-use Rattle.tape_values.specs.Comparison.{Value, a_null, a_boolean, a_number, a_text, a_container, has_member, equal_trees, equal_elements, each_in, equal_results, less_results, compared}
+use Rattle.path_meaning.specs.Comparison.{Value, a_null, a_boolean, a_number, a_text, a_container, has_member, equal_trees, equal_elements, each_in, equal_results, less_results, compared}
 use Rattle.decisions.specs.Truth.{told}
 use Rattle.decisions.proofs.Orders.{same_letters, less_letters}
 

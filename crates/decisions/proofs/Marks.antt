@@ -14,7 +14,7 @@ use Rattle.std.proofs.lemmas.Nat.{same_from_place}
 use Rattle.decimal_order.specs.Order.{number_cmp}
 use Rattle.path_grammar.specs.Tree.{Literal}
 use Rattle.path_grammar.specs.declared.ast.Op.{Op}
-use Rattle.tape_values.specs.Comparison.{Value, literal_value, compared}
+use Rattle.path_meaning.specs.Comparison.{Value, literal_value, compared}
 use Rattle.decisions.specs.Marks.{mark, cell, is_among, are_among}
 use Rattle.decisions.specs.Order.{kind, value_cmp}
 use Rattle.decisions.specs.Places.{place, HasTie}

@@ -12,7 +12,7 @@ use Rattle.decimal_order.specs.Order.{number_cmp}
 use Rattle.path_grammar.specs.Tree.{Literal, number, text, boolean, null}
 use Rattle.path_grammar.specs.declared.ast.Op.{Op}
 use Rattle.path_grammar.specs.declared.ast.Op.TheVariants.{Eq, Ne, Le, Ge, Lt, Gt}
-use Rattle.tape_values.specs.Comparison.{Value, a_null, a_boolean, a_number, a_text, literal_value, compared, equal_results, less_results, less_scalars}
+use Rattle.path_meaning.specs.Comparison.{Value, a_null, a_boolean, a_number, a_text, literal_value, compared, equal_results, less_results, less_scalars}
 use Rattle.decisions.specs.Order.{kind, digits_of, scalars_of, value_cmp}
 use Rattle.decisions.specs.Truth.{told, told_by, turned, versus}
 

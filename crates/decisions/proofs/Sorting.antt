@@ -17,7 +17,7 @@ use Rattle.std.proofs.lemmas.Cmp.{tied_itself}
 use Rattle.std.proofs.lemmas.Simd.{map-map}
 use Rattle.decimal_order.specs.Order.{number_cmp}
 use Rattle.path_grammar.specs.Tree.{Literal}
-use Rattle.tape_values.specs.Comparison.{Value, literal_value}
+use Rattle.path_meaning.specs.Comparison.{Value, literal_value}
 use Rattle.decisions.specs.Order.{value_cmp}
 use Rattle.decisions.specs.Places.{place}
 use Rattle.decisions.specs.Views.{constant_view, constant_value}

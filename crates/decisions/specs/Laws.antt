@@ -5,7 +5,7 @@ use Rattle.std.specs.Ordering.{nat_cmp}
 use Rattle.std.specs.declared.cmp.Ordering.TheVariants.{Equal}
 use Rattle.path_grammar.specs.Tree.{Literal}
 use Rattle.path_grammar.specs.declared.ast.Op.{Op}
-use Rattle.tape_values.specs.Comparison.{Value, literal_value, compared}
+use Rattle.path_meaning.specs.Comparison.{Value, literal_value, compared}
 use Rattle.decisions.specs.Order.{kind, value_cmp}
 use Rattle.decisions.specs.Truth.{told, told_by, turned, versus}
 use Rattle.decisions.specs.Places.{place, HasTie}

@@ -2,7 +2,7 @@
 use Rattle.std.specs.Prelude.{ℕ, ◌+◌, ◌*◌, List, [], ◌∷◌, length, Bool, true, false, ◌&&◌, ◌||◌, Option, Some}
 use Rattle.std.specs.Ordering.{is_eq}
 use Rattle.path_grammar.specs.Tree.{Literal}
-use Rattle.tape_values.specs.Comparison.{Value, literal_value}
+use Rattle.path_meaning.specs.Comparison.{Value, literal_value}
 use Rattle.decisions.specs.Order.{kind, value_cmp}
 use Rattle.decisions.specs.Places.{place}
 

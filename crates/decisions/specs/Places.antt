@@ -5,7 +5,7 @@ use Rattle.std.specs.Ordering.{nat_cmp, is_lt, is_le}
 use Rattle.std.specs.declared.cmp.Ordering.{Ordering}
 use Rattle.std.specs.declared.cmp.Ordering.TheVariants.{Equal}
 use Rattle.path_grammar.specs.Tree.{Literal}
-use Rattle.tape_values.specs.Comparison.{Value, literal_value}
+use Rattle.path_meaning.specs.Comparison.{Value, literal_value}
 use Rattle.decisions.specs.Order.{kind, value_cmp}
 use Rattle.decisions.specs.Tree.{Tested}
 use Rattle.decisions.specs.Truth.{truth_by, literals}

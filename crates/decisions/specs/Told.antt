@@ -1,9 +1,9 @@
 -- Conditions that are charged nothing, and that the marks of `@` and its length tell.
 use Rattle.std.specs.Prelude.{◌≡◌, ℕ, List, [], ◌∷◌, ◌++◌, map, length, Bool, true, false, ◌&&◌, ◌||◌, Option, Some, IsTrue, decimal}
 use Rattle.path_grammar.specs.Tree.{Literal, number, text, boolean, null, Nested, nested, no_segments, segment, Comparable, lit, single, func, Call, call, Arguments, no_arguments, argument, Argument, lit_argument, nodes_argument, func_argument, logical_argument, Expr, any, each, not, compare, test, test_call, Exprs, no_exprs, expr}
-use Rattle.json_tape.specs.Nodes.{Node}
-use Rattle.tape_values.specs.Comparison.{Value, value_of}
-use Rattle.tape_values.specs.Functions.{length_value, whole_number}
+use Rattle.json_text.specs.Nodes.{Node}
+use Rattle.path_meaning.specs.Comparison.{Value, value_of}
+use Rattle.path_meaning.specs.Functions.{length_value, whole_number}
 use Rattle.decisions.specs.Marks.{cell, are_among}
 use Rattle.decisions.specs.Truth.{IsRelated, no_relation}
 use Rattle.decisions.specs.Views.{constant_value}

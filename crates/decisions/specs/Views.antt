@@ -2,7 +2,7 @@
 use Rattle.std.specs.Prelude.{Option, Some}
 use Rattle.path_grammar.specs.Tree.{Literal}
 use Rattle.path_grammar.specs.View.{literal_view}
-use Rattle.tape_values.specs.Comparison.{Value, literal_value}
+use Rattle.path_meaning.specs.Comparison.{Value, literal_value}
 use Rattle.decisions.specs.Tree.{Tested, any, each, negated, value, against, two, present, itself, rooted, tests_of}
 use Rattle.decisions.specs.declared.test.Test.TheOpen.{Test-F}
 use Rattle.decisions.specs.declared.test.Test.{Test, fold-Test}

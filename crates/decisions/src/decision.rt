@@ -1,7 +1,6 @@
 //! A condition with its truth decided for each kind of value at each place.
 
 ghost use Rattle.std.specs.Prelude.{◌≡◌, IfOk};
-ghost use Rattle.tape_values.specs.Sides.{side_value, IsSide};
 ghost use Rattle.decisions.specs.Tree.{uses, meets_root};
 ghost use Rattle.decisions.specs.Truth.{truth};
 ghost use Rattle.decisions.specs.Views.{test_view};
@@ -9,16 +8,14 @@ ghost use Rattle.decisions.specs.Views.{test_view};
 use crate::counting::{meets_root, uses_of};
 use crate::gathering::literals_of;
 use crate::laws::tells_by_places;
-use crate::order::side_kind;
 use crate::places::side_place;
 use crate::relation::Relation;
+use crate::side::ComparedSide;
 use crate::tables::tables;
 use crate::telling::holds;
 use crate::test::{Constant, Test};
-use json_tape::Document;
 use std::alloc::{AllocError, Global};
 use std::marker::Model;
-use tape_values::Side;
 
 /// A condition with its truth decided for each kind of value at each place. It stands for the condition.
 #[derive(Drop)]
@@ -89,15 +86,14 @@ impl Decision {
     }
 
     /// Whether the condition holds where its side has a value, and `@` compares so with `$`: at once where these are apart.
-    pub fn holds<'a>(&'a self, doc: &'a Document, side: &Side<'a>, relation: Relation) -> bool
-        requires { IsSide doc.now side.now }
-        ensures { result ≡ truth (side_value doc.now side.now) relation (test_view self.now) }
+    pub fn holds<S: ComparedSide>(&self, side: &S, relation: Relation) -> bool
+        ensures { result ≡ truth (S.value side.now) relation (test_view self.now) }
     {
         tells_by_places();
         if !relation.is(self.relation) {
-            return holds(&self.test, doc, side, relation);
+            return holds(&self.test, side, relation);
         }
-        let cells = &self.tables[side_kind(doc, side)];
-        cells[side_place(doc, &self.literals, side)]
+        let cells = &self.tables[side.kind_number()];
+        cells[side_place(&self.literals, side)]
     }
 }

@@ -2,20 +2,17 @@
 
 ghost use Rattle.std.specs.Prelude.{◌≡◌, ◌+◌, ◌*◌, ◌≤◌, ◌∷◌, length, map, Some, IsTrue, IfOk, IfSome};
 ghost use Rattle.std.specs.List.Sorted.{IsSortedByKey};
-ghost use Rattle.tape_values.specs.Functions.{whole_number};
-ghost use Rattle.tape_values.specs.Sides.{side_value, IsSide};
+ghost use Rattle.path_meaning.specs.Functions.{whole_number};
 ghost use Rattle.decisions.specs.Marks.{mark, cell, are_among};
 ghost use Rattle.decisions.specs.Order.{value_cmp};
 ghost use Rattle.decisions.specs.Views.{constant_view, constant_value};
 
 use crate::gathering::in_order;
-use crate::order::side_kind;
 use crate::places::{side_place, total_place};
+use crate::side::ComparedSide;
 use crate::test::Constant;
 use decimal_order::orders_values;
-use json_tape::Document;
 use std::alloc::AllocError;
-use tape_values::Side;
 
 /// The literals of a condition in order. A condition that compares `@` and its length with these alone is told by their marks. Where it compares sides
 /// that are no literals too, the length of `$` stands beside these.
@@ -29,27 +26,20 @@ pub struct Scale {
 
 // The mark of a value.
 #[tactic(auto, using(crate::proofs::Decided::kinds_below))]
-fn mark<'a>(doc: &'a Document, literals: &'a [Constant], side: &Side<'a>) -> usize
-    requires side { IsSide doc.now side.now }
-    requires sorted { IsSortedByKey constant_value value_cmp literals.now }
-    ensures value { result ≡ mark (map constant_value literals.now) (side_value doc.now side.now) }
+fn mark<S: ComparedSide>(literals: &[Constant], side: &S) -> usize
+    requires { IsSortedByKey constant_value value_cmp literals.now }
+    ensures value { result ≡ mark (map constant_value literals.now) (S.value side.now) }
     ensures within { result ≤ 2 * length literals.now + 6 }
 {
-    side_kind(doc, side) + side_place(doc, literals, side)
+    side.kind_number() + side_place(literals, side)
 }
 
 // The same among one whole number more.
-fn mark_beside<'a>(
-    doc: &'a Document,
-    literals: &'a [Constant],
-    total: usize,
-    side: &Side<'a>,
-) -> usize
-    requires side { IsSide doc.now side.now }
-    requires sorted { IsSortedByKey constant_value value_cmp literals.now }
-    ensures { result ≡ mark (Some (whole_number total) ∷ map constant_value literals.now) (side_value doc.now side.now) }
+fn mark_beside<S: ComparedSide>(literals: &[Constant], total: usize, side: &S) -> usize
+    requires { IsSortedByKey constant_value value_cmp literals.now }
+    ensures { result ≡ mark (Some (whole_number total) ∷ map constant_value literals.now) (S.value side.now) }
 {
-    mark(doc, literals, side) + total_place(doc, total, side)
+    mark(literals, side) + total_place(total, side)
 }
 
 // Two marks among so many in one number, where there is one.
@@ -77,37 +67,22 @@ impl Scale {
     }
 
     /// The cell of two values, where there is a number for it.
-    pub fn cell<'a>(
-        &'a self,
-        doc: &'a Document,
-        first: &Side<'a>,
-        second: &Side<'a>,
-    ) -> Option<usize>
-        requires first { IsSide doc.now first.now }
-        requires second { IsSide doc.now second.now }
-        ensures { IfSome result (λ i. i ≡ cell (map constant_value self.now.literals.items) (side_value doc.now first.now) (side_value doc.now second.now)) }
+    pub fn cell<S: ComparedSide>(&self, first: &S, second: &S) -> Option<usize>
+        ensures { IfSome result (λ i. i ≡ cell (map constant_value self.now.literals.items) (S.value first.now) (S.value second.now)) }
     {
         let width = (2 * self.literals.len()).checked_add(7)?;
-        let row = mark(doc, &self.literals, first);
-        let column = mark(doc, &self.literals, second);
+        let row = mark(&self.literals, first);
+        let column = mark(&self.literals, second);
         let before = row.checked_mul(width)?;
         before.checked_add(column)
     }
 
     /// The same with a whole number beside the literals.
-    pub fn cell_beside<'a>(
-        &'a self,
-        doc: &'a Document,
-        total: usize,
-        first: &Side<'a>,
-        second: &Side<'a>,
-    ) -> Option<usize>
-        requires first { IsSide doc.now first.now }
-        requires second { IsSide doc.now second.now }
-        ensures { IfSome result (λ i. i ≡ cell (Some (whole_number total) ∷ map constant_value self.now.literals.items) (side_value doc.now first.now) (side_value doc.now second.now)) }
+    pub fn cell_beside<S: ComparedSide>(&self, total: usize, first: &S, second: &S) -> Option<usize>
+        ensures { IfSome result (λ i. i ≡ cell (Some (whole_number total) ∷ map constant_value self.now.literals.items) (S.value first.now) (S.value second.now)) }
     {
-        let row = mark_beside(doc, &self.literals, total, first);
-        let column = mark_beside(doc, &self.literals, total, second);
+        let row = mark_beside(&self.literals, total, first);
+        let column = mark_beside(&self.literals, total, second);
         let count = self.literals.len() + 1;
         joined(row, column, count)
     }

@@ -4,7 +4,7 @@ ghost use Rattle.std.specs.Prelude.{◌≡◌, ℕ, ◌+◌, ◌*◌, ◌<◌, �
 ghost use Rattle.std.specs.Ordering.{nat_cmp};
 ghost use Rattle.std.specs.declared.cmp.Ordering.{Ordering};
 ghost use Rattle.std.specs.List.Sorted.{IsSortedByKey};
-ghost use Rattle.tape_values.specs.Comparison.{compared};
+ghost use Rattle.path_meaning.specs.Comparison.{compared};
 ghost use Rattle.decisions.specs.Order.{value_cmp};
 ghost use Rattle.decisions.specs.Places.{AreCells, from_place};
 ghost use Rattle.decisions.specs.Tree.{tests_of};

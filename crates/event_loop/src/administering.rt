@@ -5,11 +5,11 @@ ghost use Rattle.open_connections.specs.Opened.{lanes_of, connected_in};
 ghost use Rattle.event_loop.specs.Drains.{IsOut, IsNotOut};
 
 use crate::fault::LoopFault;
-use crate::journal::Journal;
 use crate::rounds::Rounds;
 use admin_desk::PLACES;
 use admin_pages::Gauges;
 use connection_turns::End;
+use open_connections::Journal;
 use socket_poll::{Accepted, System, Time};
 use tenant_map::TENANT_LIMIT;
 

@@ -5,7 +5,6 @@
 
 mod administering;
 mod fault;
-mod journal;
 mod rounds;
 mod seconds;
 mod server;
@@ -13,7 +12,6 @@ mod told;
 
 pub use connection_turns::{Counts, End, Ending, Limits};
 pub use fault::LoopFault;
-pub use journal::{Held, Journal, Totals};
-pub use open_connections::{LEAST_MEMORY, Slow, loop_is_served};
+pub use open_connections::{Held, Journal, LEAST_MEMORY, Slow, Totals, loop_is_served};
 pub use server::Server;
 pub use socket_poll::{Accepted, Gate, Peer, Report, Since, Sockets, System, Time, Woken};

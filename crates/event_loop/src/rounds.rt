@@ -7,12 +7,11 @@ ghost use Rattle.open_connections.specs.Shares.{fresh_budgets};
 ghost use Rattle.event_loop.specs.Clocked.{IsNoted, NotesMoved};
 
 use crate::fault::LoopFault;
-use crate::journal::{Journal, Totals};
 use crate::seconds::Seconds;
 use crate::told::{Holding, Told};
 use admin_desk::Desk;
 use connection_turns::{End, Limits, Outcome};
-use open_connections::{Due, Open};
+use open_connections::{Due, Journal, Open, Totals};
 use path_listen::HubCore;
 use socket_poll::{Accepted, System, Time, Woken};
 use std::alloc::Global;

@@ -6,10 +6,9 @@ ghost use Rattle.open_connections.specs.Looping.{DoesSome, AreServed};
 ghost use Rattle.open_connections.specs.Shares.{fresh_budgets, limits_in, IsWithin};
 
 use crate::fault::LoopFault;
-use crate::journal::{Journal, Totals};
 use crate::rounds::Rounds;
 use connection_turns::Limits;
-use open_connections::loop_is_served;
+use open_connections::{Journal, Totals, loop_is_served};
 use path_listen::HubCore;
 use socket_poll::{Since, Sockets, System, Time};
 use std::alloc::Global;

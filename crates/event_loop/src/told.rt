@@ -1,6 +1,6 @@
 //! What a journal was told, and when.
 
-use crate::journal::{Held, Journal, Totals};
+use open_connections::{Held, Journal, Totals};
 
 /// The seconds between two counts that a journal is told, and between two lines on one limit.
 const MINUTE: u64 = 60;

@@ -4,7 +4,7 @@ use Rattle.json_text.specs.Tree.{Source, Name, Scalar, Null, True, False, Num, S
 use Rattle.json_text.specs.Meaning.{meaning}
 use Rattle.json_text.specs.Nodes.{Node, Step, key, place, size, elements_from, members_from}
 use Rattle.json_strings.specs.Spelling.{spelt}
-use Rattle.json_text.specs.Tape.{Label, Top, Index, Named, extent, element_count, member_count, tape_of}
+use Rattle.json_text.specs.Tape.{Label, Top, Index, Named, extent, tape_of}
 use Rattle.json_text.specs.Verdict.{IsAccepted}
 use Rattle.json_text.specs.declared.tape.Kind.{Kind}
 use Rattle.json_text.specs.declared.tape.Kind.TheVariants as kinds
@@ -15,7 +15,7 @@ use Rattle.json_text.specs.declared.tape.Lead.TheVariants as leads
 use Rattle.json_text.specs.declared.tape.Extent.{Extent}
 use Rattle.json_text.specs.declared.tape.Entry.{Entry}
 use Rattle.json_text.specs.declared.tape.NodeId.{NodeId}
-pub use Rattle.json_text.specs.Tape.{kind_of}
+pub use Rattle.json_text.specs.Tape.{kind_of, length_of}
 
 -- the bytes of the text, and the entries of its tape
 pub record Doc : Type 0 where
@@ -145,13 +145,6 @@ counting k zero = []
 counting k (suc n) = k ∷ counting (suc k) n
 
 -- ---- The facts of a node
-
--- the scalar values of a string, the elements of an array, the members of an object
-abbrev pub length_of : Tree → Option ℕ
-length_of (Leaf s (Str cs)) = Some (length (meaning cs))
-length_of (Leaf s c) = None
-length_of (Arr s es) = Some (element_count es)
-length_of (Obj s ms) = Some (member_count ms)
 
 -- what a string means
 abbrev pub string_meaning : Tree → List ℕ

@@ -1,6 +1,7 @@
 -- What it is for a list of entries to stand for a tree: entry k is the k-th tree, depth first.
-use Rattle.std.specs.Prelude.{◌≡◌, ℕ, suc, ◌+◌, List, [], ◌∷◌, ◌++◌, length, get_or, max, true, false}
+use Rattle.std.specs.Prelude.{◌≡◌, ℕ, suc, ◌+◌, List, [], ◌∷◌, ◌++◌, length, get_or, max, true, false, Option, Some, None}
 use Rattle.json_text.specs.Tree.{Source, Name, Scalar, Null, True, False, Num, Str, Tree, Leaf, Arr, Obj, Elements, NoElement, Element, Members, NoMember, Member}
+use Rattle.json_text.specs.Meaning.{meaning}
 use Rattle.json_text.specs.Nodes.{size, size_of_elements, size_of_members}
 use Rattle.json_text.specs.declared.tape.Kind.{Kind}
 use Rattle.json_text.specs.declared.tape.Kind.TheVariants as kinds
@@ -115,6 +116,13 @@ abbrev pub kind_of : Tree → Kind
 kind_of (Leaf s c) = kind_of_scalar c
 kind_of (Arr s es) = kinds.Array
 kind_of (Obj s ms) = kinds.Object
+
+-- the scalar values of a string, the elements of an array, the members of an object
+abbrev pub length_of : Tree → Option ℕ
+length_of (Leaf s (Str cs)) = Some (length (meaning cs))
+length_of (Leaf s c) = None
+length_of (Arr s es) = Some (element_count es)
+length_of (Obj s ms) = Some (member_count ms)
 
 -- the entry with a number, or one of nothing
 abbrev pub nothing_there : Entry

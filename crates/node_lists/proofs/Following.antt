@@ -6,8 +6,8 @@ use Rattle.json_tape.specs.Nodes.{Node}
 use Rattle.node_lists.specs.Evaluation.{evaluated, selected_by}
 use Rattle.node_lists.specs.Charge.{charge_from, charge_by}
 use Rattle.node_lists.specs.Links.{link_selector, links_view}
-use Rattle.node_lists.specs.declared.links.Link.{Link}
-use Rattle.node_lists.specs.declared.links.Link.TheVariants.{Key, Place}
+use Rattle.path_meaning.specs.declared.links.Link.{Link}
+use Rattle.path_meaning.specs.declared.links.Link.TheVariants.{Key, Place}
 use Rattle.node_lists.specs.Paying.{Refuses}
 use Rattle.node_lists.specs.declared.fault.SelectFault.{SelectFault}
 use Rattle.node_lists.specs.declared.fault.SelectFault.TheVariants.{Costly, Memory}

@@ -1,6 +1,6 @@
-pub mod Evaluation
+pub use Rattle.path_meaning.specs.Evaluation
+pub use Rattle.path_meaning.specs.Charge
+pub use Rattle.path_meaning.specs.Links
 pub mod Nodelists
-pub mod Charge
 pub mod Extra
 pub mod Paying
-pub mod Links

@@ -9,9 +9,9 @@ ghost use Rattle.node_lists.specs.Paying.{FindsOne};
 ghost use Rattle.node_lists.specs.Links.{link_selector, links_view};
 
 use crate::fault::SelectFault;
-use crate::links::{Link, Name};
 use crate::meter::Meter;
 use json_tape::{Document, NodeId};
+use path_meaning::{Link, Name};
 use tape_values::element;
 
 // The member of this name. Objects that are made alike have it at one distance, so that it is looked for first where the last one was.

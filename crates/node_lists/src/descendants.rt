@@ -9,10 +9,10 @@ ghost use Rattle.node_lists.specs.Nodelists.{nodes_of};
 ghost use Rattle.node_lists.specs.Paying.{Inside, Holds, Adds};
 
 use crate::fault::SelectFault;
-use crate::links::Name;
 use crate::meter::Meter;
 use crate::nodes::{push_children, push_some, reserve};
 use json_tape::{Document, Kind, NodeId};
+use path_meaning::Name;
 
 /// The members of this name of a node and of all its descendants, of which most are no objects.
 #[tactic(auto, using(crate::proofs::Naming::looking))]

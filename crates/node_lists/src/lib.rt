@@ -7,7 +7,6 @@
 mod chains;
 mod descendants;
 mod fault;
-mod links;
 mod meter;
 mod nodes;
 mod slices;
@@ -16,8 +15,8 @@ mod steps;
 pub use chains::{followed, step};
 pub use descendants::{children_below, named};
 pub use fault::SelectFault;
-pub use links::{Link, Name};
 pub use meter::Meter;
 pub use nodes::{child_total, lone, push, push_some, reserve, wild};
+pub use path_meaning::{Link, Name};
 pub use slices::sliced;
 pub use steps::stepped;

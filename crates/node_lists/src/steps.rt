@@ -9,10 +9,10 @@ ghost use Rattle.node_lists.specs.Links.{link_selector};
 
 use crate::chains::step;
 use crate::fault::SelectFault;
-use crate::links::Link;
 use crate::meter::Meter;
 use crate::nodes::push_some;
 use json_tape::{Document, NodeId};
+use path_meaning::Link;
 use std::alloc::Global;
 
 /// What a name or an index selects from several nodes, one unit for each of these.

@@ -6,6 +6,7 @@
 mod budgets;
 mod core_calls;
 mod due;
+mod journal;
 mod laws;
 mod needs;
 mod open;
@@ -14,6 +15,7 @@ mod waiting;
 pub use budgets::LEAST_MEMORY;
 pub use due::Due;
 pub use hub_metrics::Slow;
+pub use journal::{Held, Journal, Totals};
 pub use laws::loop_is_served;
 pub use open::Open;
 pub use waiting::Waiting;

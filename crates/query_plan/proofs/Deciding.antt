@@ -1,23 +1,19 @@
 -- Conditions that are decided beforehand.
-use Rattle.std.proofs.Common.{◌≡◌, ℕ, zero, suc, ◌+◌, ◌-◌, ◌*◌, ◌<◌, Bool, true, false, ◌&&◌, ◌||◌, Option, Some, None, refl, sym, ap, ◌∙◌, arith}
+use Rattle.std.proofs.Common.{◌≡◌, ℕ, zero, suc, ◌+◌, ◌*◌, Bool, true, false, ◌&&◌, ◌||◌, Option, Some, refl, sym, ap, ◌∙◌, arith}
 use Rattle.std.specs.Prelude.{IsTrue}
 use Rattle.std.specs.Prelude.{not as opposite}
 use Rattle.std.proofs.Math.Nat.{suc-mul}
-use Rattle.std.specs.declared.result.Result.TheVariants.{Ok}
 use Rattle.path_grammar.specs.Tree.{Comparable}
-use Rattle.json_tape.specs.Nodes.{Node}
-use Rattle.tape_values.specs.Comparison.{Value, value_of, compared}
+use Rattle.json_text.specs.Nodes.{Node}
+use Rattle.path_meaning.specs.Comparison.{Value, value_of, compared}
 use Rattle.decisions.specs.Laws.{TellsAsCompared}
 use Rattle.decisions.specs.Tree.{Tested, Tests, any, each, negated, value, against, two, present, itself, rooted, no_tests, tested, expr_of, exprs_of_tests, uses, all_uses, meets_root, some_meet}
 use Rattle.decisions.specs.Truth.{truth, some_true, all_true, versus, related, IsRelated}
 use Rattle.decisions.specs.declared.relation.Relation.{Relation}
 use Rattle.path_grammar.specs.declared.ast.Op.{Op}
 use Rattle.path_grammar.specs.declared.ast.Op.TheVariants.{Eq, Ne, Le, Ge, Lt, Gt}
-use Rattle.node_lists.specs.Charge.{charge_expr, charge_exprs, charge_side}
-use Rattle.node_lists.specs.Evaluation.{holds, some_hold, all_hold, result}
-use Rattle.node_lists.specs.Paying.{Refuses, Finds}
-use Rattle.node_lists.specs.declared.fault.SelectFault.{SelectFault}
-use Rattle.node_lists.proofs.Following.{refuses_from}
+use Rattle.path_meaning.specs.Charge.{charge_expr, charge_exprs, charge_side}
+use Rattle.path_meaning.specs.Evaluation.{holds, some_hold, all_hold, result}
 
 -- ---- The charge
 
@@ -79,7 +75,7 @@ module _ (root n : Node) (side : Comparable) where
 
   module _ (law : TellsAsCompared) (r : Relation) where
     mutual
-      holds_decided : (t : Tested) → (IsTrue (meets_root t) → IsRelated r (Some (value_of n.tree)) (Some (value_of root.tree))) → holds root (expr_of side t) n ≡ truth (result root side n) r t
+      pub holds_decided : (t : Tested) → (IsTrue (meets_root t) → IsRelated r (Some (value_of n.tree)) (Some (value_of root.tree))) → holds root (expr_of side t) n ≡ truth (result root side n) r t
       holds_decided (any ts) h = some_decided ts h
       holds_decided (each ts) h = all_decided ts h
       holds_decided (negated t) h = ap opposite (holds_decided t h)
@@ -109,7 +105,7 @@ module _ (root n : Node) (side : Comparable) where
 -- a side that is not written
 module _ (v w : Option Value) (r : Relation) where
   mutual
-    unused : (t : Tested) → uses t ≡ 0 → truth v r t ≡ truth w r t
+    pub unused : (t : Tested) → uses t ≡ 0 → truth v r t ≡ truth w r t
     unused (any ts) e = some_unused ts e
     unused (each ts) e = all_unused ts e
     unused (negated t) e = ap opposite (unused t e)
@@ -127,40 +123,3 @@ module _ (v w : Option Value) (r : Relation) where
     all_unused : (ts : Tests) → all_uses ts ≡ 0 → all_true (versus v) r ts ≡ all_true (versus w) r ts
     all_unused no_tests e = refl
     all_unused (tested t others) e = let a = unused t (omega arith) in let b = all_unused others (omega arith) in λ i. a i && b i
-
--- ---- Paid
-
-module _ (law : TellsAsCompared) (root n : Node) (side : Comparable) (t : Tested) where
-  pub free : (r : Relation) → (IsTrue (meets_root t) → IsRelated r (Some (value_of n.tree)) (Some (value_of root.tree))) → (old : ℕ) (found : Bool) → uses t ≡ 0 → found ≡ truth None r t → Finds {A = Bool} (Ok found) (holds root (expr_of side t) n) (charge_expr root (expr_of side t) n) old old
-  free r h old found none e =
-      let c = charge_decided root n side t in
-      let z : uses t * charge_side root side n ≡ 0 = rw none (omega arith) in
-      (e ∙ unused None (result root side n) r t none ∙ sym (holds_decided root n side law r t h), omega arith)
-
-  once_more : (k c : ℕ) → 0 < k → (k - 1) * c + c ≡ k * c
-  once_more zero c h = absurd (omega arith)
-  once_more (suc k) c h = let e : suc k - 1 ≡ k = omega arith in rw e (sym (suc-mul k c))
-
-  pub paid : (r : Relation) → (IsTrue (meets_root t) → IsRelated r (Some (value_of n.tree)) (Some (value_of root.tree))) → (old left new times once : ℕ) (found : Bool) → times ≡ uses t → 0 < times → left + charge_side root side n ≡ old → once + left ≡ old → new + (times - 1) * once ≡ left → found ≡ truth (result root side n) r t
-      → Finds {A = Bool} (Ok found) (holds root (expr_of side t) n) (charge_expr root (expr_of side t) n) old new
-  paid r h old left new times once found same some a b c e =
-      let charge = charge_decided root n side t in
-      let one : once ≡ charge_side root side n = omega arith in
-      let all = once_more times once some in
-      let whole : times * once ≡ charge_expr root (expr_of side t) n = rw (one, same) (sym charge) in
-      (e ∙ sym (holds_decided root n side law r t h), omega arith)
-
-  pub refused_first : (old times : ℕ) (f : SelectFault) → times ≡ uses t → 0 < times → Refuses (charge_side root side n) old f → Refuses (charge_expr root (expr_of side t) n) old f
-  refused_first old times f same some h =
-      let charge = charge_decided root n side t in
-      let all = once_more times (charge_side root side n) some in
-      let whole : times * charge_side root side n ≡ charge_expr root (expr_of side t) n = rw same (sym charge) in
-      refuses_from (charge_side root side n) old (charge_expr root (expr_of side t) n) old f (λ l. omega arith) h
-
-  pub refused_then : (old left times once : ℕ) (f : SelectFault) → times ≡ uses t → 0 < times → left + charge_side root side n ≡ old → once + left ≡ old → Refuses ((times - 1) * once) left f → Refuses (charge_expr root (expr_of side t) n) old f
-  refused_then old left times once f same some a b h =
-      let charge = charge_decided root n side t in
-      let one : once ≡ charge_side root side n = omega arith in
-      let all = once_more times once some in
-      let whole : times * once ≡ charge_expr root (expr_of side t) n = rw (one, same) (sym charge) in
-      refuses_from ((times - 1) * once) left (charge_expr root (expr_of side t) n) old f (λ l. omega arith) h

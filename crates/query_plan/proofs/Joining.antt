@@ -1,6 +1,6 @@
 -- Lists of operands in parts.
 use Rattle.std.proofs.Common.{◌≡◌, ℕ, zero, suc, ◌+◌, ◌<◌, ◌≤◌, Bool, true, false, ◌&&◌, ◌||◌, List, [], ◌∷◌, ◌++◌, map, length, drop, get_or, Option, Some, None, refl, sym, ap, subst, ◌∙◌, arith}
-use Rattle.std.specs.Prelude.{IsTrue, Result, nat_eq}
+use Rattle.std.specs.Prelude.{IsTrue, nat_eq}
 use Rattle.std.specs.List.{All}
 use Rattle.std.proofs.lemmas.Bool.Decides.{nat_tests}
 use Rattle.std.proofs.lemmas.List.Elements.{All-head, All-rest}
@@ -9,14 +9,12 @@ use Rattle.path_grammar.specs.Tree.{Expr, Exprs, exprs_of}
 use Rattle.path_grammar.specs.View.{expr_view}
 use Rattle.path_grammar.specs.declared.ast.Expr.{Expr as Source}
 use Rattle.path_types.specs.Validity.{is_valid_expr, are_valid_exprs}
-use Rattle.json_tape.specs.Nodes.{Node}
+use Rattle.json_text.specs.Nodes.{Node}
 use Rattle.decisions.specs.Tree.{listed}
 use Rattle.condition_reader.specs.Turns.{dealt}
-use Rattle.node_lists.specs.Charge.{charge_expr, charge_exprs}
-use Rattle.node_lists.specs.Evaluation.{holds, some_hold, all_hold}
-use Rattle.node_lists.specs.Paying.{Finds}
+use Rattle.path_meaning.specs.Charge.{charge_expr, charge_exprs}
+use Rattle.path_meaning.specs.Evaluation.{holds, some_hold, all_hold}
 use Rattle.query_plan.specs.Planned.{trees, operands_of, append_exprs, appended, first_of, behind_of, put_first, woven, joined, condition_view}
-use Rattle.node_lists.specs.declared.fault.SelectFault.{SelectFault}
 use Rattle.query_plan.specs.declared.plan.Condition.{Condition}
 use Rattle.query_plan.proofs.Makings.{push_tree, both_true}
 
@@ -143,25 +141,17 @@ module _ (root n : Node) where
   charge_joined is_any = in_joined ◌+◌ 0 (λ e. charge_expr root e n) (λ es. charge_exprs root es n) (λ a. omega arith) (λ a b c. omega arith) (λ a b c. omega arith) refl (λ e es. refl) is_any (charge_own is_any)
 
   -- as a condition
-  holds_listed : (is_any : Bool) (ks : List ℕ) (es : List Expr) → is_any ≡ true → holds root (listed is_any (joined is_any ks es)) n ≡ some_hold root (exprs_of es) n
+  pub holds_listed : (is_any : Bool) (ks : List ℕ) (es : List Expr) → is_any ≡ true → holds root (listed is_any (joined is_any ks es)) n ≡ some_hold root (exprs_of es) n
   holds_listed true ks es e = some_joined ks es
   holds_listed false ks es e = absurd cc
 
-  holds_each : (is_any : Bool) (ks : List ℕ) (es : List Expr) → is_any ≡ false → holds root (listed is_any (joined is_any ks es)) n ≡ all_hold root (exprs_of es) n
+  pub holds_each : (is_any : Bool) (ks : List ℕ) (es : List Expr) → is_any ≡ false → holds root (listed is_any (joined is_any ks es)) n ≡ all_hold root (exprs_of es) n
   holds_each false ks es e = all_joined ks es
   holds_each true ks es e = absurd cc
 
   pub charge_listed : (is_any : Bool) (ks : List ℕ) (es : List Expr) → charge_expr root (listed is_any (joined is_any ks es)) n ≡ charge_exprs root (exprs_of es) n
   charge_listed true ks es = charge_joined true ks es
   charge_listed false ks es = charge_joined false ks es
-
-  pub finds_some : (r : Result Bool SelectFault) (is_any : Bool) (ks : List ℕ) (es : List Expr) (old new : ℕ) → is_any ≡ true → Finds r (some_hold root (exprs_of es) n) (charge_exprs root (exprs_of es) n) old new
-      → Finds r (holds root (listed is_any (joined is_any ks es)) n) (charge_expr root (listed is_any (joined is_any ks es)) n) old new
-  finds_some r is_any ks es old new e h = rw (holds_listed is_any ks es e, charge_listed is_any ks es) h
-
-  pub finds_all : (r : Result Bool SelectFault) (is_any : Bool) (ks : List ℕ) (es : List Expr) (old new : ℕ) → is_any ≡ false → Finds r (all_hold root (exprs_of es) n) (charge_exprs root (exprs_of es) n) old new
-      → Finds r (holds root (listed is_any (joined is_any ks es)) n) (charge_expr root (listed is_any (joined is_any ks es)) n) old new
-  finds_all r is_any ks es old new e h = rw (holds_each is_any ks es e, charge_listed is_any ks es) h
 
 -- ---- Made
 

@@ -7,3 +7,4 @@ pub mod Operands
 pub mod Deciding
 pub mod Joining
 pub mod Scales
+pub mod Charged

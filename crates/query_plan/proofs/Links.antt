@@ -5,13 +5,13 @@ use Rattle.path_grammar.specs.Tree.{OneSegment, selector, no_selectors}
 use Rattle.path_grammar.specs.View.{segments_view, segment_view}
 use Rattle.path_grammar.specs.declared.ast.Segment.{Segment}
 use Rattle.path_types.specs.Validity.{is_valid, are_valid}
-use Rattle.json_tape.specs.Nodes.{Node}
-use Rattle.node_lists.specs.Evaluation.{evaluated, selected, from_starts}
-use Rattle.node_lists.specs.Charge.{charge_from}
+use Rattle.json_text.specs.Nodes.{Node}
+use Rattle.path_meaning.specs.Evaluation.{evaluated, selected, from_starts}
+use Rattle.path_meaning.specs.Charge.{charge_from}
 use Rattle.query_plan.specs.Planned.{path_of, query_of}
-use Rattle.node_lists.specs.Links.{link_selector, link_view, links_view}
-use Rattle.node_lists.specs.declared.links.Link.{Link}
-use Rattle.node_lists.specs.declared.links.Link.TheVariants.{Key, Place}
+use Rattle.path_meaning.specs.Links.{link_selector, link_view, links_view}
+use Rattle.path_meaning.specs.declared.links.Link.{Link}
+use Rattle.path_meaning.specs.declared.links.Link.TheVariants.{Key, Place}
 use Rattle.query_plan.specs.declared.plan.Stage.{Stage}
 use Rattle.query_plan.proofs.Makings.{both_true}
 

@@ -2,8 +2,8 @@
 use Rattle.std.proofs.Common.{◌≡◌, false, [], ◌∷◌, map, refl}
 use Rattle.path_grammar.specs.Tree as tree
 use Rattle.path_grammar.specs.Tree.{OneSegment, selectors_of}
-use Rattle.node_lists.specs.Links.{link_selector, link_view}
-use Rattle.node_lists.specs.declared.links.Link.{Link}
+use Rattle.path_meaning.specs.Links.{link_selector, link_view}
+use Rattle.path_meaning.specs.declared.links.Link.{Link}
 use Rattle.query_plan.specs.Planned.{With, trees, all_claims, selection_view, stage_view, condition_step, operand_step, selection_step, nested_step, stage_step}
 use Rattle.query_plan.specs.declared.plan.Condition.TheFolds.{fold_out-Stage}
 use Rattle.query_plan.specs.declared.plan.Stage.{Stage}

@@ -4,10 +4,10 @@ use Rattle.std.specs.Prelude.{codes}
 use Rattle.std.proofs.lemmas.List.{drop_more}
 use Rattle.path_grammar.specs.Tree as tree
 use Rattle.path_grammar.specs.Tree.{exprs_of}
-use Rattle.json_tape.specs.Nodes.{Node}
-use Rattle.tape_values.specs.Functions.{value_argued, length_value}
-use Rattle.node_lists.specs.Evaluation.{result, argued}
-use Rattle.node_lists.specs.Charge.{charge_expr, charge_exprs, charge_side, charge_nested}
+use Rattle.json_text.specs.Nodes.{Node}
+use Rattle.path_meaning.specs.Functions.{value_argued, length_value}
+use Rattle.path_meaning.specs.Evaluation.{result, argued}
+use Rattle.path_meaning.specs.Charge.{charge_expr, charge_exprs, charge_side, charge_nested}
 use Rattle.query_plan.specs.Planned.{trees, as_argument, calling, condition_view}
 use Rattle.query_plan.specs.declared.plan.Condition.{Condition}
 

@@ -6,14 +6,14 @@ use Rattle.decisions.specs.Tree.{expr_of, listed}
 use Rattle.decisions.specs.Views.{constant_view, test_view}
 use Rattle.decisions.specs.Told.{is_told_on}
 use Rattle.decisions.specs.declared.scale.Scale.{Scale}
-use Rattle.node_lists.specs.Links.{link_selector, link_view}
+use Rattle.path_meaning.specs.Links.{link_selector, link_view}
 use Rattle.query_plan.specs.declared.plan.Condition.TheOpen.{Condition-F, Operand-F, Selection-F, Nested-F, Stage-F}
 use Rattle.query_plan.specs.declared.plan.Condition.{Condition, fold-Condition}
 use Rattle.query_plan.specs.declared.plan.Operand.{Operand, fold-Operand}
 use Rattle.query_plan.specs.declared.plan.Selection.{Selection, fold-Selection}
 use Rattle.query_plan.specs.declared.plan.Nested.{Nested, fold-Nested}
 use Rattle.query_plan.specs.declared.plan.Stage.{Stage, fold-Stage}
-use Rattle.node_lists.specs.declared.links.Link.{Link}
+use Rattle.path_meaning.specs.declared.links.Link.{Link}
 
 -- ---- Slots
 

@@ -3,10 +3,10 @@
 ghost use Rattle.std.specs.Prelude.{◌≡◌, ◌∷◌, [], map, IfSome, IsTrue};
 ghost use Rattle.path_grammar.specs.Tree.{wild};
 ghost use Rattle.query_plan.specs.Planned.{trees, selection_view, stage_view};
-ghost use Rattle.node_lists.specs.Links.{link_selector, link_view};
+ghost use Rattle.path_meaning.specs.Links.{link_selector, link_view};
 
 use crate::plan::{Selection, Stage};
-use node_lists::Link;
+use path_meaning::Link;
 
 /// The name or the index, where there is no other selector.
 pub fn only_link(selections: &[Selection]) -> Option<&Link>

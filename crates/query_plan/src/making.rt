@@ -11,7 +11,7 @@ ghost use Rattle.condition_reader.specs.Turns.{dealt};
 ghost use Rattle.query_plan.specs.Planned.{trees, joined, all_claims, query_of, claims_of, is_rooted, own_claim, as_argument, calling, condition_view, operand_view, selection_view, nested_view, stage_view, numbered};
 ghost use Rattle.decisions.specs.Views.{constant_view};
 ghost use Rattle.decisions.specs.Told.{is_told_on};
-ghost use Rattle.node_lists.specs.Links.{link_view};
+ghost use Rattle.path_meaning.specs.Links.{link_view};
 ghost use Rattle.query_plan.specs.Making.{is_valid_nodes};
 
 use crate::plan::{Condition, Nested, Operand, Parts, Selection, Stage};
@@ -19,8 +19,8 @@ use crate::short::{decided, decided_group};
 use crate::told::{in_groups, scale_of};
 use condition_reader::Groups;
 use decisions::{Constant, Scale};
-use node_lists::{Link, Name};
 use path_grammar::{Argument, Call, Comparable, Expr, Literal, Segment, Selector, SubQuery};
+use path_meaning::{Link, Name};
 use path_types::ValidQuery;
 use std::alloc::{AllocError, Global};
 use std::cell::Cell;

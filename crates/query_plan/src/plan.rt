@@ -1,8 +1,8 @@
 //! A query made ready for evaluation: a tree in which the kind of each part is decided.
 
 use decisions::{Constant, Decision, Scale};
-use node_lists::Link;
 use path_grammar::{IntLit, Op};
+use path_meaning::Link;
 
 /// A segment (RFC 9535, section 2.5).
 #[derive(Drop)]

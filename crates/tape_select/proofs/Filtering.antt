@@ -1,5 +1,5 @@
 -- Walks of the evaluation: the part at the index first, and then the rest.
-use Rattle.std.proofs.Common.{◌≡◌, ℕ, suc, ◌+◌, ◌≤◌, ◌-◌, ◌*◌, ◌<◌, Bool, true, false, ◌&&◌, ◌||◌, List, [], ◌∷◌, ◌++◌, map, length, drop, get_or, reverse, Option, Some, None, Result, Ok, Err, ℤ, pos, nat_eq, refl, sym, ap, ◌∙◌, arith, append_assoc, cond}
+use Rattle.std.proofs.Common.{◌≡◌, ℕ, zero, suc, ◌+◌, ◌≤◌, ◌-◌, ◌*◌, ◌<◌, Bool, true, false, ◌&&◌, ◌||◌, List, [], ◌∷◌, ◌++◌, map, length, drop, get_or, reverse, Option, Some, None, Result, Ok, Err, ℤ, pos, nat_eq, refl, sym, ap, ◌∙◌, arith, append_assoc, cond}
 use Rattle.std.specs.Prelude.{flat_map, int_lt}
 use Rattle.std.specs.Prelude.{filter as keep, not as opposite}
 use Rattle.std.proofs.lemmas.Bool.Decides.{nat_tests}
@@ -11,7 +11,7 @@ use Rattle.path_grammar.specs.declared.ast.IntLit.{IntLit}
 use Rattle.path_grammar.specs.declared.ast.IntLit.TheVariants.{Within, Beyond}
 use Rattle.json_tape.specs.Tree.{Tree, Leaf, Arr, Obj}
 use Rattle.json_tape.specs.Nodes.{Node, Step, children, children_of, elements, elements_of, visit}
-use Rattle.json_tape.specs.Document.{Doc}
+use Rattle.json_tape.specs.Document.{Doc, count}
 use Rattle.json_text.specs.declared.tape.NodeId.{NodeId}
 use Rattle.tape_values.specs.Selection.{at_index, nth_if, position_in, step_of, in_order, sliced}
 use Rattle.node_lists.specs.Evaluation.{evaluated, selected, selected_by, holds, some_hold, all_hold, is_empty}
@@ -24,8 +24,8 @@ use Rattle.query_plan.specs.Slots.{AreClaimed}
 use Rattle.query_plan.specs.declared.plan.Condition.{Condition}
 use Rattle.query_plan.specs.declared.plan.Selection.{Selection}
 use Rattle.query_plan.specs.declared.plan.Stage.{Stage}
-use Rattle.node_lists.specs.declared.links.Link.{Link}
-use Rattle.node_lists.specs.declared.links.Link.TheVariants.{Key, Place}
+use Rattle.path_meaning.specs.declared.links.Link.{Link}
+use Rattle.path_meaning.specs.declared.links.Link.TheVariants.{Key, Place}
 use Rattle.node_lists.proofs.Adding.{append_nil, add_more, has_none, flat_more, sum_more}
 use Rattle.node_lists.specs.Paying.{Adds, Holds, Inside, FindsList}
 use Rattle.std.specs.declared.vec.Vec.{Vec}
@@ -34,7 +34,7 @@ use Rattle.node_lists.specs.declared.fault.SelectFault.{SelectFault}
 use Rattle.node_lists.proofs.Following.{refuses_from, one_unit}
 use Rattle.node_lists.proofs.Visits.{visit_length, visit_more, visit_charged}
 use Rattle.query_plan.proofs.Claims.{operand_claims, selection_claims, stages_claims}
-use Rattle.query_plan.proofs.Joining.{finds_some, finds_all}
+use Rattle.tape_select.proofs.Paid.{finds_some, finds_all}
 use Rattle.query_plan.proofs.LoneLinks.{stage_is}
 use Rattle.query_plan.proofs.Operands.{argued_charge, length_called, operand_charges}
 use Rattle.node_lists.proofs.Totals.{length_nodes}
@@ -283,3 +283,15 @@ pub leaf_costs : (root : Node) (ss : Selectors) (n : Node) → [] ≡ children n
 leaf_costs root ss n c = cost_none root n ss (sym c) (no_elements n.way_up n.number n.tree (sym c))
 
 pub ruleset visiting = (visit_more, visit_charged, append_assoc, has_none)
+
+-- ---- A list that grows as the rest becomes shorter
+
+pub joined_more : (new out part rest all target : List Node) → new ≡ out ++ part → all ≡ part ++ rest → out ++ all ≡ target → new ++ rest ≡ target
+joined_more new out part rest all target made split before = rw made (append_assoc out part rest ∙ ap (λ ns. out ++ ns) (sym split) ∙ before)
+
+pub paid_more : (new old initial all whole part rest : ℕ) → old + all ≡ initial + whole → new + part ≡ old → whole ≡ part + rest → new + all ≡ initial + rest
+paid_more new old initial all whole part rest before paid split = omega (arith, before, paid, split)
+
+pub only_one : (d : Doc) (n : NodeId) → n.0 < count d → Inside d (n ∷ [])
+only_one d n h zero x lt = h
+only_one d n h (suc k) x lt = absurd (omega (arith, lt))

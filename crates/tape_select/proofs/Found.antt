@@ -11,7 +11,7 @@ use Rattle.compared_sides.specs.Values.{value_found}
 use Rattle.node_lists.specs.Nodelists.{nodes_of}
 use Rattle.query_plan.specs.Planned.{path_of, query_of}
 use Rattle.node_lists.specs.Links.{links_view}
-use Rattle.node_lists.specs.declared.links.Link.{Link}
+use Rattle.path_meaning.specs.declared.links.Link.{Link}
 use Rattle.query_plan.specs.declared.plan.Stage.{Stage}
 use Rattle.tape_select.specs.declared.state.Found.{Found}
 use Rattle.query_plan.proofs.Links.{through_links}

@@ -1,5 +1,6 @@
 pub mod Found
 pub mod Slots
+pub mod Paid
 pub mod Filtering
 pub mod Rows
 pub mod Telling

@@ -19,7 +19,9 @@ ghost use Rattle.tape_select.specs.Memo.{FindsNodes, FindsFor, FindsSide, Keeps}
 
 use crate::state::{Found, State, beginning, found_by_links, found_in, keep, recall};
 use crate::truths::{keep as keep_truth, known};
-use compared_sides::{cell_of, compare, compare_length, length_of, related, side_found};
+use compared_sides::{
+    cell_of, compare, compare_length, decision_holds, length_of, related, side_found,
+};
 use decisions::{Decision, Scale, tells_as_compared, tells_by_marks};
 use json_tape::{Document, NodeId};
 use node_lists::{
@@ -213,14 +215,13 @@ fn decided(
     let relation = related(doc, decision, child, &mut state.answers);
     let times = decision.uses();
     if times == 0 {
-        let nothing = Side::Nothing;
-        return Ok(decision.holds(doc, &nothing, relation));
+        return Ok(decision_holds(doc, decision, Side::Nothing, relation));
     }
     let before = state.meter.left;
     let side = side_of(doc, plan, operand, child, state)?;
     let once = before - state.meter.left;
     state.meter.spend_each(u64::from(times - 1), once)?;
-    Ok(decision.holds(doc, &side, relation))
+    Ok(decision_holds(doc, decision, side, relation))
 }
 
 // Pays what a condition is charged that cannot change the answer: without a look at the child where that is the same for all.
@@ -239,7 +240,7 @@ fn pass_by(
     ensures paid { Pays result (charge_expr (node_at doc.now 0) (condition_view condition.now).tree (node_at doc.now child.0)) state.old.meter.left state.new.meter.left }
     ensures kept { Keeps doc.now (claims_of plan.now.stages.items) state.new }
 {
-    match units_of(doc, condition, child) {
+    match units_of(condition) {
         Some(units) => state.meter.spend(u64::from(units)),
         None => {
             holds_by_kind(doc, plan, condition, child, state)?;

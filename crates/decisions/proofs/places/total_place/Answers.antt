@@ -2,8 +2,7 @@ use Rattle.std.proofs.Common.{◌≡◌, ℕ, ◌+◌, Some, cond, sym, ap, refl
 use Rattle.std.specs.Ordering.{nat_cmp, is_lt, is_le}
 use Rattle.std.specs.declared.cmp.Ordering.TheVariants.{Less, Equal, Greater}
 use Rattle.path_grammar.specs.declared.ast.Op.TheVariants.{Lt, Le}
-use Rattle.tape_values.specs.Functions.{whole_number}
-use Rattle.tape_values.specs.Sides.{side_value}
+use Rattle.path_meaning.specs.Functions.{whole_number}
 use Rattle.decisions.specs.Order.{kind, value_cmp}
 use Rattle.decisions.specs.Told.{whole}
 use Rattle.decisions.proofs.Counts.{place_beside}
@@ -11,22 +10,22 @@ use Rattle.decisions.proofs.Orders.{less_kind, greater_kind, compared_alike}
 use Rattle.decisions.proofs.places.total_place.Goals as goal
 
 pub returns-in-Less-clause-place : goal.returns-in-Less-clause-place
-returns-in-Less-clause-place c =
-    let v = side_value c.args.doc.now c.args.side.now in
-    let k : nat_cmp 4 (kind v) ≡ Less = ap (nat_cmp 4) (sym c.side_kind.ensures) ∙ sym c.cmp.ensures ∙ c.in-Less.is in
+returns-in-Less-clause-place g c =
+    let v = g.S.ComparedSide.value c.args.side.now in
+    let k : nat_cmp 4 (kind v) ≡ Less = ap (nat_cmp 4) (sym c.kind_number.ensures) ∙ sym c.cmp.ensures ∙ c.in-Less.is in
     sym (place_beside value_cmp (Some (whole_number c.args.total)) v Less (less_kind (Some (whole_number c.args.total)) v k))
 
 pub returns-in-Greater-clause-place : goal.returns-in-Greater-clause-place
-returns-in-Greater-clause-place c =
-    let v = side_value c.args.doc.now c.args.side.now in
-    let k : nat_cmp 4 (kind v) ≡ Greater = ap (nat_cmp 4) (sym c.side_kind.ensures) ∙ sym c.cmp.ensures ∙ c.in-Greater.is in
+returns-in-Greater-clause-place g c =
+    let v = g.S.ComparedSide.value c.args.side.now in
+    let k : nat_cmp 4 (kind v) ≡ Greater = ap (nat_cmp 4) (sym c.kind_number.ensures) ∙ sym c.cmp.ensures ∙ c.in-Greater.is in
     sym (place_beside value_cmp (Some (whole_number c.args.total)) v Greater (greater_kind (Some (whole_number c.args.total)) v k))
 
 pub returns-in-Equal-clause-place : goal.returns-in-Equal-clause-place
-returns-in-Equal-clause-place c =
+returns-in-Equal-clause-place g c =
     let n = c.orders_values.ensures.numbers in
-    let v = side_value c.args.doc.now c.args.side.now in
-    let k : nat_cmp 4 (kind v) ≡ Equal = ap (nat_cmp 4) (sym c.side_kind.ensures) ∙ sym c.cmp.ensures ∙ c.in-Equal.is in
+    let v = g.S.ComparedSide.value c.args.side.now in
+    let k : nat_cmp 4 (kind v) ≡ Equal = ap (nat_cmp 4) (sym c.kind_number.ensures) ∙ sym c.cmp.ensures ∙ c.in-Equal.is in
     let o = value_cmp (Some (whole_number c.args.total)) v in
     let below : c.compare_total-below.result ≡ is_lt o = c.compare_total-below.ensures ∙ compared_alike n Lt v (whole c.args.total) k in
     let most : c.compare_total-most.result ≡ is_le o = c.compare_total-most.ensures ∙ compared_alike n Le v (whole c.args.total) k in

@@ -1,5 +1,7 @@
 use Rattle.std.proofs.Common.{rules, List, ◌++◌, ◌∙◌, ap, map, refl, arith}
+use Rattle.std.proofs.lemmas.Grind.{common_steps}
 use Rattle.path_grammar.specs.declared.ast.Expr.{Expr}
+use Rattle.path_grammar.specs.declared.ast.Argument.TheFolds.{the_lemmas}
 use Rattle.path_grammar.specs.Tree.{exprs_of}
 use Rattle.path_grammar.specs.View.{segments_view, selectors_view, segment_view, selector_view, expr_view}
 use Rattle.path_types.specs.Validity.{is_valid, are_valid, are_valid_exprs, is_valid_selector, is_valid_expr}
@@ -21,6 +23,36 @@ pub function-returns-clause-same : goal.function-returns-clause-same
 function-returns-clause-same t c =
     let e = one_call c.args.call.now c.as_slice.result.now c.argument-item.result c.as_slice.ensures.value (search rules) (search rules) c.argument-item.is in
     rw e (rw c.deref.ensures.value at c.applied.ensures.same)
+
+pub function-applied-requires : goal.function-applied-requires
+function-applied-requires t c =
+    let e = one_call c.args.call.now c.as_slice.result.now c.argument-item.result c.as_slice.ensures.value (search rules) (search rules) c.argument-item.is in
+    (search (rules, the_lemmas), rw c.deref.ensures.value (rw e at c.requires.valid))
+
+-- Rattle's own tries at these take seconds before one succeeds
+pub selections-returns-clause-same : goal.selections-returns-clause-same
+selections-returns-clause-same t c = grind (arith, common_steps)
+
+pub stages-returns-clause-same : goal.stages-returns-clause-same
+stages-returns-clause-same t c = grind (arith, common_steps)
+
+pub conditions-returns-clause-same : goal.conditions-returns-clause-same
+conditions-returns-clause-same t c = grind (arith, common_steps)
+
+pub group-returns-clause-same : goal.group-returns-clause-same
+group-returns-clause-same t c = grind (arith, common_steps)
+
+pub selections-selection-requires : goal.selections-selection-requires
+selections-selection-requires t c = (search (rules, the_lemmas), (valid_more (λ xs. are_valid (selectors_view xs)) (λ x. is_valid_selector (selector_view x)) c.args.selectors.now c.loop-selector.selector-index c.selector-item.result (λ x xs. refl) c.loop-selector-test.true c.selector-item.is c.loop-selector.invariant.valid).0)
+
+pub stages-stage-requires : goal.stages-stage-requires
+stages-stage-requires t c = (search (rules, the_lemmas), (valid_more (λ xs. is_valid (segments_view xs)) (λ x. are_valid (segment_view x).selectors) c.args.segments.now c.loop-i.i c.index-segments-i.result (λ x xs. refl) c.loop-i-test.true c.index-segments-i.is c.loop-i.invariant.valid).0)
+
+pub conditions-condition-requires : goal.conditions-condition-requires
+conditions-condition-requires t c = (search (rules, the_lemmas), (valid_more (λ xs. are_valid_exprs (exprs_of (map expr_view xs))) (λ x. is_valid_expr (expr_view x)) c.args.operands.now c.loop-operand.operand-index c.operand-item.result (λ x xs. refl) c.loop-operand-test.true c.operand-item.is c.loop-operand.invariant.valid).0)
+
+pub group-condition-requires : goal.group-condition-requires
+group-condition-requires t c = (search (rules, the_lemmas), (valid_more (λ xs. are_valid_exprs (exprs_of (map expr_view xs))) (λ x. is_valid_expr (expr_view x)) c.args.operands.now c.loop-i.i c.index-operands-i.result (λ x xs. refl) c.loop-i-test.true c.index-operands-i.is c.loop-i.invariant.valid).0)
 
 pub selections-loop-selector-preserved : goal.selections-loop-selector-preserved
 selections-loop-selector-preserved t c =

@@ -1,6 +1,6 @@
 use Rattle.std.proofs.Common.{◌≡◌, ◌++◌, drop, length, map}
 use Rattle.path_grammar.specs.View.{segment_view}
-use Rattle.node_lists.specs.Links.{link_view}
+use Rattle.path_meaning.specs.Links.{link_view}
 use Rattle.query_plan.proofs.making.links.Given as goal
 
 abbrev pub invariant-loop-segment : goal.invariant-loop-segment

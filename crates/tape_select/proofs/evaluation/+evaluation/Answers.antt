@@ -1,5 +1,7 @@
-use Rattle.std.proofs.Common.{sym, ◌∙◌, ◌++◌, ◌-◌, ◌*◌, ◌<◌, ◌≡◌, [], ◌∷◌, arith, ap, refl, length, map}
-use Rattle.std.specs.Prelude.{flat_map}
+use Rattle.std.proofs.Common.{rules, sym, ◌∙◌, ◌++◌, ◌+◌, ◌-◌, ◌*◌, ◌<◌, ◌≡◌, [], ◌∷◌, arith, ap, refl, length, map, drop}
+use Rattle.std.proofs.lemmas.Grind.{common_steps}
+use Rattle.std.proofs.lemmas.List.{drop_all}
+use Rattle.std.specs.Prelude.{flat_map, codes}
 use Rattle.std.specs.Prelude.{filter as keep}
 use Rattle.std.proofs.lemmas.Result.{err_from_is_err_and}
 use Rattle.json_tape.specs.Document.{node_at}
@@ -8,21 +10,24 @@ use Rattle.path_grammar.specs.Tree as tree
 use Rattle.path_grammar.specs.Tree.{OneSegment, selectors_of, filter}
 use Rattle.decisions.specs.Truth.{truth}
 use Rattle.decisions.specs.Views.{test_view}
-use Rattle.node_lists.specs.Evaluation.{selected, holds}
+use Rattle.tape_values.specs.Functions.{length_value}
+use Rattle.node_lists.specs.Evaluation.{selected, selected_by, holds}
 use Rattle.node_lists.specs.Nodelists.{nodes_of}
 use Rattle.node_lists.specs.Charge.{total_of, charge_from, charge_expr}
-use Rattle.node_lists.specs.Extra.{extra_in, nodes_from, charge_at}
-use Rattle.query_plan.specs.Planned.{look, claims_of, query_of, path_of, trees, condition_view, operand_view, selection_view, stage_view, With, condition_step, operand_step, selection_step, nested_step, stage_step}
+use Rattle.node_lists.specs.Extra.{extra_in, nodes_from, charge_at, nodes_after, charge_after}
+use Rattle.query_plan.specs.Planned.{look, as_argument, calling, claims_of, query_of, path_of, trees, condition_view, operand_view, selection_view, stage_view, With, condition_step, operand_step, selection_step, nested_step, stage_step}
 use Rattle.node_lists.specs.Links.{links_view}
-use Rattle.query_plan.specs.declared.plan.Condition.TheFolds.{fold_out-Selection}
-use Rattle.tape_select.proofs.Filtering.{stage_claimed, evaluated_step, charge_step, adds_paid, more_of, staying, staying_charge, descending, descending_charge, filter_charge, keep_more, keep_not, leaf_holds, leaf_costs, finds_linked, one_stage, finds_one}
+use Rattle.query_plan.specs.declared.plan.Condition.TheFolds.{fold_out-Operand, fold_out-Selection, the_lemmas}
+use Rattle.tape_select.proofs.Filtering.{stage_claimed, evaluated_step, charge_step, adds_paid, more_of, staying, staying_charge, descending, descending_charge, filter_charge, keep_more, keep_not, leaf_holds, leaf_costs, finds_linked, one_stage, finds_one, joined_more, paid_more, only_one, selections_more, extras_more, or_false, and_true, somes, alls}
 use Rattle.node_lists.proofs.Following.{refuses_from, nothing_from_nothing, nothing_for_nothing}
+use Rattle.query_plan.proofs.Operands.{argued_charge, length_called}
 use Rattle.query_plan.proofs.Links.{links_charged, links_charged_first}
 use Rattle.tape_select.proofs.Found.{found_through}
-use Rattle.node_lists.proofs.Adding.{drawn, drawn_inside}
+use Rattle.node_lists.proofs.Adding.{append_nil, drawn, drawn_inside, flat_more, sum_more}
+use Rattle.query_plan.proofs.Claims.{selection_claims}
 use Rattle.node_lists.proofs.Naming.{adds_named, adds_wild}
-use Rattle.query_plan.proofs.Deciding.{free, paid, refused_first, refused_then}
-use Rattle.query_plan.proofs.Joining.{finds_some, finds_all}
+use Rattle.tape_select.proofs.Paid.{free, paid, refused_first, refused_then, finds_some, finds_all}
+use Rattle.query_plan.proofs.LoneLinks.{stage_is}
 use Rattle.tape_select.proofs.Telling.{kept, recalled, charged_nothing}
 use Rattle.tape_select.proofs.evaluation.+evaluation.Goals as goal
 
@@ -64,6 +69,122 @@ selected_in_turn-returns-in_err-nodes-2-clause-found t c =
     rw (p.1, p.2)
     (refuses_from _ _ (charge_from r (query_of c.args.stages.now) (node_at d c.args.n.0 ∷ [])) c.args.state.now.meter.left c.in_err-nodes-2.field-0.0
     (λ h. omega (arith, ch, before, h)) got)
+
+pub selected_in_turn-after_stage-requires : goal.selected_in_turn-after_stage-requires
+selected_in_turn-after_stage-requires t c =
+    let k = stage_claimed (claims_of c.args.plan.now.stages.items) c.args.stages.now c.loop-stage.stage-index c.stage-item.result c.loop-stage-test.true c.stage-item.is c.loop-stage.invariant.claimed in
+    (search (rules, the_lemmas), (rw c.deref.ensures.value c.loop-stage.invariant.sound, (k.0, c.loop-stage.invariant.kept)))
+
+pub selected_in_turn-returns-clause-found : goal.selected_in_turn-returns-clause-found
+selected_in_turn-returns-clause-found t c =
+    let none = drop_all c.loop-stage.stage-index c.args.stages.now (let n = c.loop-stage-test.false in omega arith) in
+    let paid = rw none at c.loop-stage.invariant.paid in
+    (record { same = rw none at c.loop-stage.invariant.same; inside = c.loop-stage.invariant.sound }, omega (arith, paid))
+
+pub after_each-loop-n-preserved : goal.after_each-loop-n-preserved
+after_each-loop-n-preserved t c =
+    let d = c.args.doc.now in
+    let r = node_at d 0 in
+    let s = (stage_view c.args.stage.now).tree in
+    let ids = c.args.input.now in
+    let k = c.loop-n.n-index in
+    let i = c.loop-n.invariant in
+    let got = c.in_ok-from_node.ensures.added in
+    record {
+      same = joined_more (nodes_of d c.from_node.new.out.items) (nodes_of d c.loop-n.out.items) _ (nodes_after r s (nodes_of d (drop (k + 1) ids)))
+          (nodes_after r s (nodes_of d (drop k ids))) (nodes_after r s (nodes_of d ids)) got.0.same (flat_more (nodes_from r s) d ids k _ c.loop-n-test.true) i.same;
+      paid = paid_more c.from_node.new.state.meter.left c.loop-n.state.meter.left c.args.state.now.meter.left (charge_after r s (nodes_of d ids)) (charge_after r s (nodes_of d (drop k ids))) _
+          (charge_after r s (nodes_of d (drop (k + 1) ids))) i.paid got.1 (sum_more (charge_at r s) d ids k _ c.loop-n-test.true);
+      kept = c.in_ok-from_node.ensures.kept;
+      sound = got.0.inside;
+    }
+
+pub after_each-returns-clause-found : goal.after_each-returns-clause-found
+after_each-returns-clause-found t c =
+    let none = drop_all c.loop-n.n-index c.args.input.now (let n = c.loop-n-test.false in omega arith) in
+    let paid = rw none at c.loop-n.invariant.paid in
+    (record { same = sym (append_nil (nodes_of c.args.doc.now c.loop-n.out.items)) ∙ rw none at c.loop-n.invariant.same; inside = c.loop-n.invariant.sound }, omega (arith, paid))
+
+pub selected_from-loop-selection-preserved : goal.selected_from-loop-selection-preserved
+selected_from-loop-selection-preserved t c =
+    let d = c.args.doc.now in
+    let r = node_at d 0 in
+    let n = node_at d c.args.n.0 in
+    let ss = c.args.selections.now in
+    let k = c.loop-selection.selection-index in
+    let item = c.selection-item.result in
+    let lt = c.loop-selection-test.true in
+    let i = c.loop-selection.invariant in
+    let more = rw (← c.selection-item.is) at (selections_more r n ss k item lt) in
+    let charged = rw (← c.selection-item.is) at (extras_more r n ss k item lt) in
+    let got = c.in_ok-selected_by.ensures.added in
+    let before = i.paid in
+    let now_paid = got.1 in
+    record {
+      same = joined_more (nodes_of d c.selected_by.new.out.items) (nodes_of d c.loop-selection.out.items) (selected_by r (selection_view item).tree n) (selected r (selectors_of (trees (map selection_view (drop (k + 1) ss)))) n)
+          (selected r (selectors_of (trees (map selection_view (drop k ss)))) n) (nodes_of d c.args.out.now.items ++ selected r (selectors_of (trees (map selection_view ss))) n) got.0.same more i.same;
+      paid = omega (arith, charged, before, now_paid);
+      claimed = (rw (← c.selection-item.is) at (rw (selection_claims ss k item lt) at i.claimed)).1;
+      kept = c.in_ok-selected_by.ensures.kept;
+      sound = got.0.inside;
+    }
+
+pub selected_from-returns-clause-added : goal.selected_from-returns-clause-added
+selected_from-returns-clause-added t c =
+    let none = drop_all c.loop-selection.selection-index c.args.selections.now (let n = c.loop-selection-test.false in omega arith) in
+    let paid = rw none at c.loop-selection.invariant.paid in
+    (record { same = sym (append_nil (nodes_of c.args.doc.now c.loop-selection.out.items)) ∙ rw none at c.loop-selection.invariant.same; inside = c.loop-selection.invariant.sound }, omega (arith, paid))
+
+pub some_hold-returns-clause-found : goal.some_hold-returns-clause-found
+some_hold-returns-clause-found t c =
+    let none = drop_all c.loop-operand.operand-index c.args.operands.now (let n = c.loop-operand-test.false in omega arith) in
+    let paid = rw none at c.loop-operand.invariant.paid in
+    (sym (or_false c.loop-operand.some) ∙ rw none at c.loop-operand.invariant.same, omega (arith, paid))
+
+pub all_hold-returns-clause-found : goal.all_hold-returns-clause-found
+all_hold-returns-clause-found t c =
+    let none = drop_all c.loop-operand.operand-index c.args.operands.now (let n = c.loop-operand-test.false in omega arith) in
+    let paid = rw none at c.loop-operand.invariant.paid in
+    (sym (and_true c.loop-operand.all) ∙ rw none at c.loop-operand.invariant.same, omega (arith, paid))
+
+pub all_hold-loop-operand-preserved : goal.all_hold-loop-operand-preserved
+all_hold-loop-operand-preserved t c = grind (arith, common_steps, alls)
+
+pub some_hold-loop-operand-preserved : goal.some_hold-loop-operand-preserved
+some_hold-loop-operand-preserved t c = grind (arith, common_steps, somes)
+
+pub all_selected-after_stage-requires : goal.all_selected-after_stage-requires
+all_selected-after_stage-requires t c =
+    let one = one_stage c.args.stages.now c.stage-item.result c.in-len1.len_at_least c.in-len1.len_below c.stage-item.is in
+    (search (rules, the_lemmas), (rw c.from_ref.ensures.value (only_one c.args.doc.now c.args.n c.requires.inside), ((rw one at c.requires.claimed).0, c.requires.kept)))
+
+pub filtered-does_hold-requires : goal.filtered-does_hold-requires
+filtered-does_hold-requires t c =
+    let i = c.loop-child.invariant in
+    (search (rules, the_lemmas), ((drawn_inside c.args.doc.now c.loop-child.child-iterator c.in-Some.child c.next.new.self c.in-Some.ensures.steps i.ahead).0, (c.requires.claimed, i.kept)))
+
+pub filtered-push-requires-clause-inside : goal.filtered-push-requires-clause-inside
+filtered-push-requires-clause-inside t c = (drawn_inside c.args.doc.now c.loop-child.child-iterator c.in-Some.child c.next.new.self c.in-Some.ensures.steps c.loop-child.invariant.ahead).0
+
+pub from_node-visited-requires : goal.from_node-visited-requires
+from_node-visited-requires t c =
+    (search (rules, the_lemmas), (c.requires.inside, (rw c.deref.ensures.value (rw (stage_is c.args.stage.now) at c.requires.claimed), (c.requires.kept, c.requires.sound))))
+
+pub from_node-selected_from-requires : goal.from_node-selected_from-requires
+from_node-selected_from-requires t c =
+    (search (rules, the_lemmas), (c.requires.inside, (rw c.deref-else-stage.ensures.value (rw (stage_is c.args.stage.now) at c.requires.claimed), (c.requires.kept, c.requires.sound))))
+
+pub side_by_kind-returns-in_ok-side-in-Length-clause-found : goal.side_by_kind-returns-in_ok-side-in-Length-clause-found
+unfolding Rattle.query_plan.specs.declared.plan.Condition.TheViews.out-Operand denote.Hole.Carrier.out
+side_by_kind-returns-in_ok-side-in-Length-clause-found t c =
+    let r = node_at c.args.doc.now 0 in
+    let n = node_at c.args.doc.now c.args.child.0 in
+    let v = (operand_view c.in-Length.operand.value).tree in
+    let whole : (operand_view c.args.operand.now).tree ≡ calling (codes "length") (as_argument v) = ap (λ x. x.tree) (fold_out-Operand (With tree.Expr) (With tree.Comparable) (With tree.Selector) (With tree.Nested) (With OneSegment) condition_step operand_step selection_step nested_step stage_step c.args.operand.now) ∙ rw c.in-Length.is refl in
+    let found = rw c.deref.ensures at c.in_ok-side-in-Length.ensures.found in
+    let charged = argued_charge r n v in
+    let spent = found.2 in
+    rw whole (c.length_of.ensures.value ∙ ap length_value found.0 ∙ sym (length_called r n v), c.length_of.ensures.side, omega (arith, charged, spent))
 
 pub selected_by-returns-in-Where-clause-added : goal.selected_by-returns-in-Where-clause-added
 unfolding Rattle.query_plan.specs.declared.plan.Condition.TheViews.out-Selection denote.Hole.Carrier.out
@@ -253,8 +374,8 @@ found_behind-returns-clause-found t c =
 pub decided-returns-then-times-eq0-clause-found : goal.decided-returns-then-times-eq0-clause-found
 decided-returns-then-times-eq0-clause-found t c =
     let d = c.args.doc.now in
-    free c.tells_as_compared.ensures (node_at d 0) (node_at d c.args.child.0) (operand_view c.args.operand.now).tree (test_view c.args.decision.now) c.related-relation.result c.related-relation.ensures.related c.args.state.now.meter.left c.holds.result
-    (sym c.uses-times.ensures ∙ c.if-times-eq0.true) c.holds.ensures
+    free c.tells_as_compared.ensures (node_at d 0) (node_at d c.args.child.0) (operand_view c.args.operand.now).tree (test_view c.args.decision.now) c.related-relation.result c.related-relation.ensures.related c.args.state.now.meter.left c.decision_holds.result
+    (sym c.uses-times.ensures ∙ c.if-times-eq0.true) c.decision_holds.ensures
 
 pub decided-returns-in_err-side-clause-found : goal.decided-returns-in_err-side-clause-found
 decided-returns-in_err-side-clause-found t c =
@@ -286,8 +407,8 @@ decided-returns-clause-found t c =
     let some : 0 < c.uses-times.result = (let n = c.if-times-eq0.false in omega arith) in
     let found = (c.in_ok-side.ensures).found in
     let parted = found.2 in
-    paid c.tells_as_compared.ensures (node_at d 0) (node_at d c.args.child.0) (operand_view c.args.operand.now).tree e c.related-relation.result c.related-relation.ensures.related old left c.spend_each.new.self.left c.uses-times.result (old - left) c.holds-2.result
-    c.uses-times.ensures some parted (omega arith) (rw c.from.ensures at c.in_ok-spend_each.ensures) (c.holds-2.ensures ∙ ap (λ v. truth v c.related-relation.result e) found.0)
+    paid c.tells_as_compared.ensures (node_at d 0) (node_at d c.args.child.0) (operand_view c.args.operand.now).tree e c.related-relation.result c.related-relation.ensures.related old left c.spend_each.new.self.left c.uses-times.result (old - left) c.decision_holds-2.result
+    c.uses-times.ensures some parted (omega arith) (rw c.from.ensures at c.in_ok-spend_each.ensures) (c.decision_holds-2.ensures ∙ ap (λ v. truth v c.related-relation.result e) found.0)
 
 pub joined_hold-returns-then-is_any-clause-found : goal.joined_hold-returns-then-is_any-clause-found
 joined_hold-returns-then-is_any-clause-found t c =

@@ -1,19 +1,18 @@
-use Rattle.std.proofs.Common.{◌≡◌, ◌∷◌, Option, Some, length, map, ap, ◌∙◌, arith}
+use Rattle.std.proofs.Common.{◌∷◌, Option, Some, map, ap, ◌∙◌, arith}
 use Rattle.std.proofs.lemmas.List.{length-map}
-use Rattle.tape_values.specs.Comparison.{Value}
-use Rattle.tape_values.specs.Functions.{whole_number}
-use Rattle.tape_values.specs.Sides.{side_value}
+use Rattle.path_meaning.specs.Comparison.{Value}
+use Rattle.path_meaning.specs.Functions.{whole_number}
 use Rattle.decisions.specs.Marks.{mark}
 use Rattle.decisions.specs.Views.{constant_value}
 use Rattle.decisions.proofs.Marks.{cell_with}
 use Rattle.decisions.proofs.scale.Scale.cell_beside.Goals as goal
 
 pub returns : goal.returns
-returns c =
+returns g c =
     let xs = c.args.self.now.literals.items in
     let x : Option Value = Some (whole_number c.args.total) in
-    let v = side_value c.args.doc.now c.args.first.now in
-    let w = side_value c.args.doc.now c.args.second.now in
+    let v = g.S.ComparedSide.value c.args.first.now in
+    let w = g.S.ComparedSide.value c.args.second.now in
     let long = length-map xs constant_value in
     cell_with x (map constant_value xs) v w _ _ _ c.joined.result
     (c.mark_beside-row.ensures ∙ ap (λ ys. mark (x ∷ map constant_value ys) v) c.deref.ensures.value)

@@ -2,10 +2,10 @@
 -- selector goes over. All operands and arguments count, whatever the others say. `$` by itself is charged nothing.
 use Rattle.std.specs.Prelude.{ℕ, ◌+◌, List, [], ◌∷◌, length}
 use Rattle.path_grammar.specs.Tree.{Segments, no_segments, segment, Selectors, no_selectors, selector, Selector, name, wild, index, filter, slice, Expr, any, each, not, compare, test, test_call, Exprs, no_exprs, expr, Nested, nested, Comparable, lit, single, func, Call, call, Arguments, no_arguments, argument, Argument, lit_argument, nodes_argument, func_argument, logical_argument}
-use Rattle.json_tape.specs.Nodes.{Node, children, elements}
-use Rattle.json_tape.specs.Tree.{Tree}
-use Rattle.tape_values.specs.Selection.{sliced}
-use Rattle.node_lists.specs.Evaluation.{starts, from_starts, start, selected, root_node}
+use Rattle.json_text.specs.Nodes.{Node, children, elements}
+use Rattle.json_text.specs.Tree.{Tree}
+use Rattle.path_meaning.specs.Selection.{sliced}
+use Rattle.path_meaning.specs.Evaluation.{starts, from_starts, start, selected, root_node}
 
 -- the sum over a list
 abbrev pub total_of : {A : Type 0} → (A → ℕ) → List A → ℕ

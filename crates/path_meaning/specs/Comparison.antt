@@ -5,9 +5,9 @@ use Rattle.std.specs.Ordering.{is_eq, is_lt}
 use Rattle.path_grammar.specs.Tree.{Literal, number, text, boolean, null}
 use Rattle.path_grammar.specs.declared.ast.Op.{Op}
 use Rattle.path_grammar.specs.declared.ast.Op.TheVariants.{Eq, Ne, Le, Ge, Lt, Gt}
-use Rattle.json_tape.specs.Tree.{Null, True, False, Num, Str, Tree, Leaf, Arr, Obj, Elements, NoElement, Element, Members, NoMember, Member}
-use Rattle.json_tape.specs.Meaning.{meaning}
-use Rattle.json_tape.specs.Tape.{member_count}
+use Rattle.json_text.specs.Tree.{Null, True, False, Num, Str, Tree, Leaf, Arr, Obj, Elements, NoElement, Element, Members, NoMember, Member}
+use Rattle.json_text.specs.Meaning.{meaning}
+use Rattle.json_text.specs.Tape.{member_count}
 use Rattle.decimal_order.specs.Order.{number_cmp}
 
 -- ---- Values

@@ -2,8 +2,8 @@
 use Rattle.std.specs.Prelude.{List, map, false}
 use Rattle.path_grammar.specs.Tree as tree
 use Rattle.path_grammar.specs.Tree.{OneSegment, Segments, segments_of}
-use Rattle.node_lists.specs.declared.links.Link.{Link}
-use Rattle.node_lists.specs.declared.links.Link.TheVariants.{Key, Place}
+use Rattle.path_meaning.specs.declared.links.Link.{Link}
+use Rattle.path_meaning.specs.declared.links.Link.TheVariants.{Key, Place}
 
 abbrev pub link_selector : Link → tree.Selector
 link_selector (Key n) = tree.name n.scalars.items

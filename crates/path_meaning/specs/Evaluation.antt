@@ -2,11 +2,11 @@
 use Rattle.std.specs.Prelude.{List, [], ◌∷◌, ◌++◌, Bool, true, false, ◌&&◌, ◌||◌, flat_map, Option, Some, None}
 use Rattle.std.specs.Prelude.{filter as keep, not as opposite}
 use Rattle.path_grammar.specs.Tree.{Segments, no_segments, segment, Selectors, no_selectors, selector, Selector, name, wild, index, filter, slice, Expr, any, each, not, compare, test, test_call, Exprs, no_exprs, expr, Nested, nested, Comparable, lit, single, func, Call, call, no_arguments, argument, Argument, lit_argument, nodes_argument, func_argument, logical_argument}
-use Rattle.json_tape.specs.Tree.{Tree}
-use Rattle.json_tape.specs.Nodes.{Node, children, elements, visit, is_named, first_where}
-use Rattle.tape_values.specs.Selection.{at_index, sliced}
-use Rattle.tape_values.specs.Comparison.{Value, literal_value, compared}
-use Rattle.tape_values.specs.Functions.{Argued, a_value, a_nodelist, only_value, applied}
+use Rattle.json_text.specs.Tree.{Tree}
+use Rattle.json_text.specs.Nodes.{Node, children, elements, visit, is_named, first_where}
+use Rattle.path_meaning.specs.Selection.{at_index, sliced}
+use Rattle.path_meaning.specs.Comparison.{Value, literal_value, compared}
+use Rattle.path_meaning.specs.Functions.{Argued, a_value, a_nodelist, only_value, applied}
 
 -- ---- Segments (section 2.5)
 

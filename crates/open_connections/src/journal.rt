@@ -1,7 +1,7 @@
 //! What a server reports while it runs.
 
 use connection_turns::{Counts, Ending};
-use open_connections::Slow;
+use hub_metrics::Slow;
 
 /// The totals of a server.
 #[derive(Clone, Copy, Debug)]
@@ -43,9 +43,7 @@ pub trait Journal {
     /// A second passed.
     fn ticked(&mut self);
 
-    /// A query took longer than [`Server::tell_slow`] was told.
-    ///
-    /// [`Server::tell_slow`]: crate::Server::tell_slow
+    /// A query took longer than a server was told to bear.
     fn slow(&mut self, slow: &Slow) {
         let _ = slow;
     }

@@ -1,9 +1,9 @@
 -- The functions of a query (RFC 9535, section 2.4), without `match` and `search`.
 use Rattle.std.specs.Prelude.{ℕ, List, [], ◌∷◌, length, Option, Some, None, codes, bytes_eq, if◌then◌else◌}
 use Rattle.std.specs.Fmt.{decimal}
-use Rattle.json_tape.specs.Document.{length_of}
-use Rattle.json_tape.specs.Nodes.{Node}
-use Rattle.tape_values.specs.Comparison.{Value, a_null, a_boolean, a_number, a_text, a_container, value_of}
+use Rattle.json_text.specs.Tape.{length_of}
+use Rattle.json_text.specs.Nodes.{Node}
+use Rattle.path_meaning.specs.Comparison.{Value, a_null, a_boolean, a_number, a_text, a_container, value_of}
 
 -- what an argument is (section 2.4.1): a value or Nothing, or a nodelist
 pub data Argued : Type 0 where

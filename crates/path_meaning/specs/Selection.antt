@@ -3,7 +3,7 @@ use Rattle.std.specs.Prelude.{ℕ, zero, suc, ◌-◌, ◌%◌, List, [], ◌∷
 use Rattle.std.specs.Int.{int_min, int_max}
 use Rattle.path_grammar.specs.declared.ast.IntLit.{IntLit}
 use Rattle.path_grammar.specs.declared.ast.IntLit.TheVariants.{Within, Beyond}
-use Rattle.json_tape.specs.Nodes.{Node}
+use Rattle.json_text.specs.Nodes.{Node}
 
 -- ---- Indexes (section 2.3.3)
 
