@@ -122,7 +122,7 @@ def make_library():
     print("crates/path_bench ..", end=" ", flush=True)
     began = time.monotonic()
     try:
-        ran = subprocess.run(["rt", "lib"], cwd=TOP / "crates/path_bench", stdin=subprocess.DEVNULL, stdout=subprocess.PIPE, stderr=subprocess.STDOUT, encoding="utf-8")
+        ran = subprocess.run([TOP / "bin/quick-rt", "lib"], cwd=TOP / "crates/path_bench", stdin=subprocess.DEVNULL, stdout=subprocess.PIPE, stderr=subprocess.STDOUT, encoding="utf-8")
         failed = ran.stdout if ran.returncode else ""
     except OSError as error:
         failed = f"no rt: {error}\n"

@@ -11,6 +11,7 @@ import subprocess
 from concurrent.futures import FIRST_COMPLETED, ThreadPoolExecutor, wait
 from pathlib import Path
 
+QUICK_RT = Path(__file__).resolve().parent.parent / "quick-rt"
 PARTS = ("src", "specs", "proofs", "c")
 BYTES_EACH = 2_500_000_000
 # lines of source from which several jobs make a check shorter. Each job reads all that lies below anew, so there are more than two only where nothing
@@ -85,7 +86,7 @@ class Room:
         """The exit status of a command of rt in the crate, what it said, and the seconds of a processor that it took. One that is behind others lets
         these have the processors."""
         how = {"cwd": self.folder, "stdin": subprocess.DEVNULL, "stdout": subprocess.PIPE, "stderr": subprocess.STDOUT}
-        with subprocess.Popen([*(["nice"] if behind else []), "rt", *words], **how) as ran:
+        with subprocess.Popen([*(["nice"] if behind else []), QUICK_RT, *words], **how) as ran:
             said = ran.stdout.read().decode(errors="replace").splitlines()
             _, status, used = os.wait4(ran.pid, 0)
             ran.returncode = -(status & 127) if status & 127 else status >> 8

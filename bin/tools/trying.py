@@ -12,7 +12,7 @@ from pathlib import Path
 
 from edits import OPEN, Edit, apply, in_groups, is_open, joined
 from holes import PARTS, HoledCopy, front_end
-from proving import Task, run_all
+from proving import QUICK_RT, Task, run_all
 
 TOOLS = [Path(__file__).resolve().parent / it for it in ("edits.py", "holes.py", "trying.py")]
 SECONDS = 1800
@@ -219,7 +219,7 @@ def was_judged(lines):
 def prove_libraries(crates, names):
     """Has rt prove what these crates stand on; whether it did."""
     for name in crates.below(names):
-        ended = subprocess.run(["rt", "lib"], cwd=crates.folder(name), stdin=subprocess.DEVNULL, stdout=subprocess.PIPE, stderr=subprocess.STDOUT, encoding="utf-8")
+        ended = subprocess.run([QUICK_RT, "lib"], cwd=crates.folder(name), stdin=subprocess.DEVNULL, stdout=subprocess.PIPE, stderr=subprocess.STDOUT, encoding="utf-8")
         if ended.returncode:
             print(*ended.stdout.splitlines()[-12:], f"{name} is not proved", sep="\n", flush=True)
             return False
