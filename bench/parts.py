@@ -29,7 +29,7 @@ class Missing(Exception):
 
 def library():
     if not os.access(LIBRARY, os.R_OK):
-        raise Missing(f"no library {LIBRARY}: rt lib makes it, in crates/path_bench")
+        raise Missing(f"no library {LIBRARY}: bin/build path_bench makes it")
     return LIBRARY
 
 

@@ -13,7 +13,7 @@ measures the program beside the peers that are installed, and writes docs/BENCHM
 
 What was measured is recorded in docs/plots/figures.json. A part that fails or takes more than {most} minutes is recorded as not measured, and
 the others go on. The program is the one that bin/build makes; with the environment's PATH_SERVER or PATH_BENCH naming others, which may have
-no proof, it writes into --into alone. `rt lib` makes the library of crates/path_bench, which some parts call. Plots need matplotlib (Debian's
+no proof, it writes into --into alone. `bin/build` makes the library of crates/path_bench, which some parts call. Plots need matplotlib (Debian's
 python3-matplotlib).
 """
 import argparse
@@ -116,13 +116,13 @@ def measure(name, settings):
 
 
 def make_library():
-    """Has rt make the library of crates/path_bench of the sources as they stand, unless the environment names one. What keeps it from that is told."""
+    """Has bin/build make the library of crates/path_bench of the sources as they stand, unless the environment names one. What keeps it from that is told."""
     if os.environ.get("PATH_BENCH"):
         return
     print("crates/path_bench ..", end=" ", flush=True)
     began = time.monotonic()
     try:
-        ran = subprocess.run([TOP / "bin/quick-rt", "lib"], cwd=TOP / "crates/path_bench", stdin=subprocess.DEVNULL, stdout=subprocess.PIPE, stderr=subprocess.STDOUT, encoding="utf-8")
+        ran = subprocess.run([TOP / "bin/build", "path_bench"], stdin=subprocess.DEVNULL, stdout=subprocess.PIPE, stderr=subprocess.STDOUT, encoding="utf-8")
         failed = ran.stdout if ran.returncode else ""
     except OSError as error:
         failed = f"no rt: {error}\n"

@@ -1,6 +1,7 @@
 #!/usr/bin/env python3
 """Tests bin/quick-rt on made toolchains: it does what their rt does, with the same arguments, output and exit status; the sum of a crate is made once
-though many ways lead to it, and anew once the prover has run; and where a toolchain's rt is another program, that one runs."""
+though many ways lead to it, and anew once the prover has run; a library of statements is made where it is not current, and has its sum beside it
+if the prover made it; and where a toolchain's rt is another program, that one runs."""
 import os
 import subprocess
 import sys
@@ -10,12 +11,14 @@ from pathlib import Path
 QUICK_RT = Path(__file__).resolve().parent.parent / "bin/quick-rt"
 # a chain of crates, each of which names all below it, so that 2 to the power of their number ways lead down
 RT = '''#!/usr/bin/env python3
+import os
 import sys
 import types
 
 
 class Crate:
     made = []
+    rlib = "out/rlib/made.rlib"
 
     def __init__(self, name, deps):
         self.name, self.deps = name, deps
@@ -26,13 +29,23 @@ class Crate:
 
     def call(self, *words):
         print("called", *words)
-        return 7
+        return STATUS
 
     def prove(self, *commands):
         raise SystemExit(9)
 
+    def is_built(self):
+        file = "out/rlib/stamp"
+        return os.path.isfile(file) and open(file).read() == self.stamp()
 
-rtlib = types.SimpleNamespace(Crate=Crate)
+    def words(self, flags, keeps):
+        return ["--crate-name", self.name, *flags, str(keeps)]
+
+    def build_rlib(self, flags, anew):
+        return self.call("whole", *flags)
+
+
+rtlib = types.SimpleNamespace(Crate=Crate, RATTLE="prover", help_of=lambda verb: HELP)
 
 
 def main(words):
@@ -40,6 +53,8 @@ def main(words):
     for name in "abcdefghijklmnop":
         crates.append(Crate(name, list(crates)))
     top = crates[-1]
+    if words[0] == "lib":
+        return top.build_rlib(words[1:], False)
     if words[0] == "prove":
         try:
             top.stamp()
@@ -54,9 +69,11 @@ def main(words):
     return status
 
 
+HELP, STATUS = "--statements", 7
 if __name__ == "__main__":
     sys.exit(main(sys.argv[1:]))
 '''
+BUILT = "called prover build --crate-name p --jobs 2 False --statements -o out/rlib/made.rlib\n"
 OTHERS = {"another program": '#!/bin/sh\necho "other $@"\nexit 5\n', "another inside": '#!/usr/bin/env python3\nimport sys\nprint("other", *sys.argv[1:])\nsys.exit(5)\n'}
 failures = []
 
@@ -78,7 +95,8 @@ def ran(room, text, *words):
     if not (room / "bin/rt").is_symlink():
         (room / "bin/rt").symlink_to(kit / "rt")
     env = {**os.environ, "PATH": f"{room}/bin:{os.environ['PATH']}"}
-    ended = subprocess.run([sys.executable, QUICK_RT, *words], env=env, stdin=subprocess.DEVNULL, stdout=subprocess.PIPE, encoding="utf-8", timeout=60)
+    how = {"cwd": room, "env": env, "stdin": subprocess.DEVNULL, "stdout": subprocess.PIPE, "encoding": "utf-8", "timeout": 60}
+    ended = subprocess.run([sys.executable, QUICK_RT, *words], **how)
     return ended.stdout, ended.returncode
 
 
@@ -87,11 +105,20 @@ def main():
         room = Path(made)
         check("sums are made once, and anew behind the prover", ran(room, RT, "call", "x", "--y"), ("called x --y\nTrue 16 32\n", 7))
         check("an exit of the prover", ran(room, RT, "prove"), ("32\n", 9))
+        statements, stamp = ["lib", "--jobs", "2", "--statements"], room / "out/rlib/stamp"
+        check("statements that are refused", (ran(room, RT, *statements), stamp.is_file()), ((BUILT, 7), False))
+        well = RT.replace("STATUS = \"--statements\", 7", "STATUS = \"--statements\", 0")
+        check("statements", (ran(room, well, *statements), stamp.is_file()), ((BUILT, 0), True))
+        check("statements that are current", ran(room, well, *statements), ("", 0))
+        stamp.write_text("of others")
+        check("statements of other files", ran(room, well, *statements), (BUILT, 0))
+        check("a library with its proofs", ran(room, well, "lib", "--jobs", "2"), ("called whole --jobs 2\n", 0))
+        check("a toolchain without statements", ran(room, well.replace("HELP, STATUS = \"--", "HELP, STATUS = \""), *statements), ("called whole --jobs 2\n", 0))
         for name, text in OTHERS.items():
-            check(name, ran(room, text, "lib", "--jobs", "1"), ("other lib --jobs 1\n", 5))
+            check(name, ran(room, text, *statements), ("other lib --jobs 2\n", 5))
     ended = subprocess.run([sys.executable, QUICK_RT, "version"], env={"PATH": "/nowhere"}, stdout=subprocess.PIPE, stderr=subprocess.PIPE, encoding="utf-8")
     check("no rt", (ended.returncode, ended.stderr), (1, "bin/quick-rt: there is no command rt on the PATH\n"))
-    print(f"{len(OTHERS) + 3} cases, {len(failures)} differ")
+    print(f"{len(OTHERS) + 9} cases, {len(failures)} differ")
     sys.exit(1 if failures else 0)
 
 

@@ -166,7 +166,7 @@ def main():
         print("refused_calls: not run, since there is no cc here")
         return
     if not os.access(PROGRAM, os.X_OK):
-        sys.exit(f"no program {PROGRAM}: rt run in crates/refused_calls makes it")
+        sys.exit(f"no program {PROGRAM}: bin/build refused_calls makes it")
     report = Report()
     with tempfile.TemporaryDirectory() as folder:
         refusals = Refusals(report, Calls(Path(folder)))

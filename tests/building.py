@@ -1,0 +1,103 @@
+#!/usr/bin/env python3
+"""Tests bin/build on a made tree of three crates with a made toolchain: each crate is proved once, over the libraries of those below it; libraries stand
+in build/proved and programs where their crates have them, or all in the crates' folders with --keep; a second run proves nothing, and one after an edit what
+changed and all above it; what a killed run left is put back; and a crate that is not proved keeps those above it from being tried."""
+import os
+import re
+import shutil
+import subprocess
+import sys
+import tempfile
+from pathlib import Path
+
+BIN = Path(__file__).resolve().parent.parent / "bin"
+# proves a crate, but one whose text says that it is wrong, where the library that is there is not of this text, and tells over which libraries
+RT = """#!/bin/sh
+name=$(basename "$PWD") text=$(cat src/*.rt)
+echo "$text" | grep -q wrong && echo "not proved" && exit 1
+over=$(cat ../*/out/rlib/made 2>/dev/null | tr '\\n' ' ')
+if [ "$1" = lib ]; then
+    [ "$(cat out/rlib/stamp 2>/dev/null)" = "$text" ] && exit 0
+    mkdir -p out/rlib
+    echo "$name" >out/rlib/made
+    echo "$text" >out/rlib/stamp
+else
+    mkdir -p out
+    printf '#!/bin/sh\\necho made of %s, over %s\\n' "$text" "$over" >out/$name
+    chmod +x out/$name
+fi
+echo "logic=proved functions=1"
+"""
+CRATES = {"low": ("", "lib"), "middle": (" low", "lib"), "top": (" middle low", "main")}
+failures = []
+
+
+def check(name, found, wanted):
+    if found != wanted:
+        failures.append(name)
+        print(f"FAILED: {name}: {found!r} in the place of {wanted!r}")
+
+
+class Tree:
+    def __init__(self, room):
+        self.at = room / "tree"
+        shutil.copytree(BIN, self.at / "bin", ignore=shutil.ignore_patterns("__pycache__"))
+        (self.at / "HANDLES").write_text("Handles allowed: none.\n")
+        (self.at / "crates.txt").write_text("".join(f"{name}:{uses}\n" for name, (uses, _) in CRATES.items()))
+        for name in CRATES:
+            self.write(name, f"{name} one")
+        (room / "rt").write_text(RT)
+        (room / "rt").chmod(0o755)
+        self.env = {**os.environ, "PATH": f"{room}:{os.environ['PATH']}"}
+
+    def write(self, name, text):
+        file = self.at / "crates" / name / "src" / f"{CRATES[name][1]}.rt"
+        file.parent.mkdir(parents=True, exist_ok=True)
+        file.write_text(f"{text}\n")
+
+    def build(self, *flags):
+        """The crates that a run proved, those that it found as they were, and its exit status."""
+        how = {"env": self.env, "stdin": subprocess.DEVNULL, "stderr": subprocess.PIPE, "encoding": "utf-8", "timeout": 60}
+        ended = subprocess.run([self.at / "bin/build", *flags, "top"], **how)
+        return [sorted(re.findall(rf"^bin/build: {one} (\w+), ", ended.stderr, re.M)) for one in ("proved", "kept")], ended.returncode
+
+    def says(self):
+        return subprocess.run([self.at / "crates/top/out/top"], stdout=subprocess.PIPE, encoding="utf-8").stdout
+
+    def libraries(self):
+        """Where libraries stand."""
+        return sorted(str(it.relative_to(self.at).parent) for it in self.at.rglob("rlib"))
+
+
+def main():
+    with tempfile.TemporaryDirectory(prefix="building-") as made:
+        tree = Tree(Path(made))
+        proved = [f"build/proved/crates/{it}/out" for it in ("low", "middle")]
+        check("a first run", tree.build(), ([["low", "middle", "top"], []], 0))
+        check("its program", tree.says(), "made of top one, over low middle\n")
+        check("its libraries", tree.libraries(), proved)
+        check("a second run", tree.build()[0][1][:2], ["low", "middle"])
+        tree.write("low", "low two")
+        check("an edit below", tree.build(), ([["low", "middle", "top"], []], 0))
+        tree.write("middle", "middle two")
+        check("an edit between", tree.build(), ([["middle", "top"], ["low"]], 0))
+        tree.write("middle", "wrong")
+        check("a fault", tree.build(), ([[], ["low"]], 1))
+        check("the program before it", tree.says(), "made of top one, over low middle\n")
+        tree.write("middle", "middle two")
+        # as a run that was killed while it proved low
+        lent = tree.at / "build/rooms/statements/low/crates/low/out"
+        lent.parent.mkdir(parents=True)
+        (tree.at / proved[0]).rename(lent)
+        check("what a killed run left", tree.build()[0][1][:2], ["low", "middle"])
+        tree.write("low", "low three")
+        check("--keep", tree.build("--keep"), ([["low", "middle", "top"], []], 0))
+        check("its libraries too", tree.libraries(), proved + [f"crates/{it}/out" for it in ("low", "middle")])
+        tree.write("low", "low four")
+        check("what rt finds current with --keep", tree.build("--keep")[0][1][:1], ["middle"])
+        check("rooms are put away", [it.name for it in (tree.at / "build/rooms").rglob("*") if it.name in CRATES], [])
+    print(f"13 cases, {len(failures)} differ")
+    sys.exit(1 if failures else 0)
+
+
+main()
