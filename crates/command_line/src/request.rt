@@ -103,97 +103,96 @@ fn replay<'a>(alloc: Global) -> Result<Command<'a>, AllocError> {
 }
 
 fn serve<'a>(alloc: Global) -> Result<Command<'a>, AllocError> {
+    let words = vec![in alloc;
+        word(alloc, "ADDR", ADDRESS_HELP),
+        word(alloc, "KEYS", KEYS_HELP),
+        word(alloc, "COUNT", "The number of connections, 1 to 1000000").value_parser(
+            ValueParser::Unsigned(1, MOST_CONNECTIONS)
+        ),
+    ]?;
     Command::new(alloc, "serve")
         .about("Prints the bound address, serves COUNT connections one after the other, and ends")
-        .arg(word(alloc, "ADDR", ADDRESS_HELP))?
-        .arg(word(alloc, "KEYS", KEYS_HELP))?
-        .arg(word(alloc, "COUNT", "The number of connections, 1 to 1000000").value_parser(
-            ValueParser::Unsigned(1, MOST_CONNECTIONS),
-        ))
+        .args(words)
 }
 
 fn listen<'a>(alloc: Global) -> Result<Command<'a>, AllocError> {
-    Command::new(alloc, "listen")
-        .about(
-            "Prints the bound address and serves many connections at once, until standard input is closed",
-        )
-        .arg(word(alloc, "ADDR", ADDRESS_HELP))?
-        .arg(keys_word(alloc)?)?
-        .arg(option(
+    let keys = keys_word(alloc)?;
+    let words = vec![in alloc;
+        word(alloc, "ADDR", ADDRESS_HELP),
+        keys,
+        option(
             alloc,
             "keys",
             "FILE",
             "A file with keys, separated by commas or line feeds",
-        ))?
-        .arg(
-            option(
-                alloc,
-                "connections",
-                "NUMBER",
-                "The most connections open at once, 1 to 1000000",
-            )
-            .default_value("10000")
-            .value_parser(ValueParser::Unsigned(1, MOST_OPEN)),
-        )?
-        .arg(
-            option(
-                alloc,
-                "memory",
-                "BYTES",
-                "The most bytes buffered for long requests and replies, at least 14680072",
-            )
-            .default_value("1073741824")
-            .value_parser(ValueParser::Unsigned(LEAST_BYTES, MOST_BYTES)),
-        )?
-        .arg(option(
+        ),
+        option(
+            alloc,
+            "connections",
+            "NUMBER",
+            "The most connections open at once, 1 to 1000000",
+        )
+        .default_value("10000")
+        .value_parser(ValueParser::Unsigned(1, MOST_OPEN)),
+        option(
+            alloc,
+            "memory",
+            "BYTES",
+            "The most bytes buffered for long requests and replies, at least 14680072",
+        )
+        .default_value("1073741824")
+        .value_parser(ValueParser::Unsigned(LEAST_BYTES, MOST_BYTES)),
+        option(
             alloc,
             "idle",
             "SECONDS",
             "Closes a connection that was idle for this long, 1 to 31536000",
         )
-        .value_parser(ValueParser::Unsigned(1, MOST_SECONDS)))?
-        .arg(seconds(
+        .value_parser(ValueParser::Unsigned(1, MOST_SECONDS)),
+        seconds(
             alloc,
             "stall",
             "Closes a connection that was idle for this long while it held memory that others wait for",
             "10",
-        ))?
-        .arg(seconds(
+        ),
+        seconds(
             alloc,
             "frame-time",
             "Closes a connection that held memory for this long while others wait for it",
             "60",
-        ))?
-        .arg(seconds(
+        ),
+        seconds(
             alloc,
             "spare",
             "At the limit on connections, closes one that was idle for this long to admit a new one",
             "10",
-        ))?
-        .arg(option(
+        ),
+        option(
             alloc,
             "admin",
             "ADDR",
             "Answers GET /health, /ready and /metrics, and POST /ready and /drain?grace=SECONDS by HTTP at this address",
-        ))?
-        .arg(
-            Arg::new(alloc, "log")
-                .long("log")
-                .help(
-                    "Prints a line of counts to standard error each minute, and one for each slow query",
-                )
-                .action(ArgAction::SetTrue),
-        )?
-        .arg(
-            option(
-                alloc,
-                "slow",
-                "MILLISECONDS",
-                "With --log, prints a line for each query that takes longer than this",
+        ),
+        Arg::new(alloc, "log")
+            .long("log")
+            .help(
+                "Prints a line of counts to standard error each minute, and one for each slow query",
             )
-            .default_value("100")
-            .value_parser(ValueParser::Unsigned(1, MOST_MILLISECONDS)),
+            .action(ArgAction::SetTrue),
+        option(
+            alloc,
+            "slow",
+            "MILLISECONDS",
+            "With --log, prints a line for each query that takes longer than this",
         )
+        .default_value("100")
+        .value_parser(ValueParser::Unsigned(1, MOST_MILLISECONDS)),
+    ]?;
+    Command::new(alloc, "listen")
+        .about(
+            "Prints the bound address and serves many connections at once, until standard input is closed",
+        )
+        .args(words)
 }
 
 // The keys, which may stand in a file instead.
@@ -227,17 +226,27 @@ fn call<'a>(alloc: Global) -> Result<Command<'a>, AllocError> {
         .arg(word(alloc, "ADDR", ADDRESS_HELP))
 }
 
+// Adds what was made to the subcommands.
+fn add<'a>(
+    subcommands: &mut Vec<Command<'a>>,
+    made: Result<Command<'a>, AllocError>,
+) -> Result<(), AllocError> {
+    Ok(subcommands.push(made?)?)
+}
+
 fn command<'a>(alloc: Global) -> Result<Command<'a>, AllocError> {
+    let mut subcommands = Vec::new(alloc);
+    add(&mut subcommands, query(alloc))?;
+    add(&mut subcommands, replay(alloc))?;
+    add(&mut subcommands, serve(alloc))?;
+    add(&mut subcommands, listen(alloc))?;
+    add(&mut subcommands, call(alloc))?;
     Command::new(alloc, "path_server")
         .version(VERSION)
         .about("Stores JSON texts for many tenants and answers JSONPath queries (RFC 9535)")
         .subcommand_required(true)
         .disable_help_subcommand(true)
-        .subcommand(query(alloc)?)?
-        .subcommand(replay(alloc)?)?
-        .subcommand(serve(alloc)?)?
-        .subcommand(listen(alloc)?)?
-        .subcommand(call(alloc)?)
+        .subcommands(subcommands)
 }
 
 fn parsed<'a>(alloc: Global, words: &'a [String]) -> Result<ArgMatches<'a>, Error> {
