@@ -25,8 +25,10 @@ else
     mkdir -p out
     printf '#!/bin/sh\\necho made of %s, over %s\\n' "$text" "$over" >out/$name
     chmod +x out/$name
+    echo "$text" >out/$name.stamp
 fi
 echo "logic=proved functions=1"
+case $text in *unhelpful*) exit 3 ;; esac
 """
 CRATES = {"low": ("", "lib"), "middle": (" low", "lib"), "top": (" middle low", "main")}
 failures = []
@@ -95,8 +97,10 @@ def main():
         check("its libraries too", tree.libraries(), proved + [f"crates/{it}/out" for it in ("low", "middle")])
         tree.write("low", "low four")
         check("what rt finds current with --keep", tree.build("--keep")[0][1][:1], ["middle"])
+        tree.write("top", "unhelpful")
+        check("a program that refuses --help", tree.build(), ([["low", "middle", "top"], []], 0))
         check("rooms are put away", [it.name for it in (tree.at / "build/rooms").rglob("*") if it.name in CRATES], [])
-    print(f"13 cases, {len(failures)} differ")
+    print(f"14 cases, {len(failures)} differ")
     sys.exit(1 if failures else 0)
 
 
