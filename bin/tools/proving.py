@@ -36,7 +36,7 @@ class Crates:
     """What crates.txt says: for each crate those of the repository that it stands on."""
 
     def __init__(self, top):
-        self.top = top
+        self.top, self.lower = top, {}
         lines = [line.partition("#")[0] for line in (top / "crates.txt").read_text(encoding="utf-8").splitlines()]
         self.lines = {line.split(":")[0].split()[0]: line for line in lines if ":" in line}
         self.uses = {name: [it for it in line.split(":")[1].split() if it in self.lines] for name, line in self.lines.items()}
@@ -46,11 +46,13 @@ class Crates:
 
     def below(self, names):
         """All crates below these, each behind those that it stands on."""
-        found = []
-        for name in names:
-            for lower in self.uses[name]:
-                found += [it for it in [*self.below([lower]), lower] if it not in found]
-        return found
+        found = {}
+        for lower in (it for name in names for it in self.uses[name]):
+            # found once, since many ways lead to most
+            if lower not in self.lower:
+                self.lower[lower] = [*self.below([lower]), lower]
+            found.update(dict.fromkeys(self.lower[lower]))
+        return list(found)
 
     def is_program(self, name):
         return (self.folder(name) / "src/main.rt").is_file()
