@@ -125,7 +125,7 @@ def make_library():
         ran = subprocess.run([TOP / "bin/build", "path_bench"], stdin=subprocess.DEVNULL, stdout=subprocess.PIPE, stderr=subprocess.STDOUT, encoding="utf-8")
         failed = ran.stdout if ran.returncode else ""
     except OSError as error:
-        failed = f"no rt: {error}\n"
+        failed = f"no bin/build: {error}\n"
     print(f"{time.monotonic() - began:.0f} s" + (": NOT MADE" if failed else ""), flush=True)
     print(failed, end="", file=sys.stderr)
 
