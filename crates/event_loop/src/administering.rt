@@ -9,7 +9,7 @@ use crate::rounds::Rounds;
 use admin_desk::PLACES;
 use admin_pages::Gauges;
 use connection_turns::End;
-use open_connections::Journal;
+use open_connections::{Journal, LoopCore};
 use socket_poll::{Accepted, System, Time};
 use tenant_map::TENANT_LIMIT;
 
@@ -22,7 +22,7 @@ struct Held {
     memory: [u64; TENANT_LIMIT],
 }
 
-impl<S: System + Drop, T: Time + Drop> Rounds<S, T> {
+impl<S: System + Drop, C: LoopCore, T: Time + Drop> Rounds<S, C, T> {
     /// Does a step of each connection of the address, accepts new ones, and begins a drain that was asked for.
     pub fn administer<J: Journal>(&mut self, journal: &J)
         ensures { Stays (lanes_of self.old.opened) (lanes_of self.new.opened) }
@@ -163,7 +163,7 @@ impl<S: System + Drop, T: Time + Drop> Rounds<S, T> {
 
     /// Ends a connection that is served, once the server has drained for as long as was asked.
     pub fn drain<J: Journal>(&mut self, key: usize, journal: &mut J) -> Result<(), LoopFault>
-        ensures lanes { DoesAtMost (LetGo key) (lanes_of self.old.opened) (lanes_of self.new.opened) }
+        ensures lanes { DoesAtMost C.steps (LetGo key) (lanes_of self.old.opened) (lanes_of self.new.opened) }
         ensures graced { IsNotOut self.old.drained self.old.desk.standing.grace self.old.seconds.last → Stays (lanes_of self.old.opened) (lanes_of self.new.opened) }
     {
         if !self.is_drained() {
@@ -173,7 +173,7 @@ impl<S: System + Drop, T: Time + Drop> Rounds<S, T> {
     }
 
     fn cut<J: Journal>(&mut self, key: usize, journal: &mut J) -> Result<(), LoopFault>
-        ensures { DoesAtMost (LetGo key) (lanes_of self.old.opened) (lanes_of self.new.opened) }
+        ensures { DoesAtMost C.steps (LetGo key) (lanes_of self.old.opened) (lanes_of self.new.opened) }
     {
         if !self.opened.is_served(key) {
             return Ok(());

@@ -12,6 +12,6 @@ mod told;
 
 pub use connection_turns::{Counts, End, Ending, Limits};
 pub use fault::LoopFault;
-pub use open_connections::{Held, Journal, LEAST_MEMORY, Slow, Totals, loop_is_served};
+pub use open_connections::{Held, Journal, LEAST_MEMORY, LoopCore, Slow, Totals};
 pub use server::Server;
 pub use socket_poll::{Accepted, Gate, Peer, Report, Since, Sockets, System, Time, Woken};

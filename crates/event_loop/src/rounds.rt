@@ -1,6 +1,5 @@
 //! The rounds of a loop: each waits for what is ready, takes connections in, and gives turns.
 ghost use Rattle.std.specs.Prelude.{◌≡◌, ℕ, None, IfOk, OnOk, IsFalse, IsTrue};
-ghost use Rattle.hub_metrics.specs.Measuring.{measured};
 ghost use Rattle.open_connections.specs.Looping.{Stays, DoesSome, DoesAtMost, HasTurn, LetGo};
 ghost use Rattle.open_connections.specs.Opened.{lanes_of, connected_in, has_time, IsPutOff};
 ghost use Rattle.open_connections.specs.Shares.{fresh_budgets};
@@ -11,8 +10,7 @@ use crate::seconds::Seconds;
 use crate::told::{Holding, Told};
 use admin_desk::Desk;
 use connection_turns::{End, Limits, Outcome};
-use open_connections::{Due, Journal, Open, Totals};
-use path_listen::HubCore;
+use open_connections::{Due, Journal, LoopCore, Open, Totals};
 use socket_poll::{Accepted, System, Time, Woken};
 use std::alloc::Global;
 use std::net::SocketAddr;
@@ -56,10 +54,10 @@ enum Place {
 
 /// What accepts, what is open, and the clock. Each method does steps of the loop: takes a connection in, gives it a turn, serves it no further.
 #[derive(Drop)]
-pub(crate) struct Rounds<S: System + Drop, T: Time + Drop> {
+pub(crate) struct Rounds<S: System + Drop, C: LoopCore, T: Time + Drop> {
     pub system: S,
     pub acceptor: Acceptor,
-    pub opened: Open<S::Stream, T>,
+    pub opened: Open<S::Stream, C, T>,
     pub seconds: Seconds<T>,
     pub limits: Limits,
     told: Told,
@@ -71,7 +69,7 @@ pub(crate) struct Rounds<S: System + Drop, T: Time + Drop> {
     pub drained: Option<u64>,
 }
 
-impl<S: System + Drop, T: Time + Drop> Rounds<S, T> {
+impl<S: System + Drop, C: LoopCore, T: Time + Drop> Rounds<S, C, T> {
     /// None is open.
     ///
     /// # Errors
@@ -82,14 +80,14 @@ impl<S: System + Drop, T: Time + Drop> Rounds<S, T> {
         system: S,
         seconds: T,
         turns: T,
-        core: HubCore,
+        core: C,
         limits: Limits,
-    ) -> Result<Rounds<S, T>, LoopFault>
+    ) -> Result<Rounds<S, C, T>, LoopFault>
         ensures listening { IfOk result (λ rounds. IsTrue rounds.acceptor.listens) }
         ensures unconnected { IfOk result (λ rounds. connected_in rounds.opened ≡ 0) }
         ensures none_taken { IfOk result (λ rounds. rounds.acceptor.taken ≡ 0) }
         ensures limits { IfOk result (λ rounds. rounds.limits ≡ limits) }
-        ensures hub { IfOk result (λ rounds. (lanes_of rounds.opened).hub ≡ measured core) }
+        ensures core { IfOk result (λ rounds. (lanes_of rounds.opened).core ≡ core) }
         ensures none { IfOk result (λ rounds. (q : ℕ) → (lanes_of rounds.opened).lines q ≡ None) }
         ensures budgets { IfOk result (λ rounds. rounds.opened.budgets ≡ fresh_budgets limits.memory) }
     {
@@ -135,7 +133,7 @@ impl<S: System + Drop, T: Time + Drop> Rounds<S, T> {
     ///
     /// `Net` where the system does not say what is ready, `Memory` where a growth was refused that no connection asked for.
     pub fn step<J: Journal>(&mut self, journal: &mut J) -> Result<(), LoopFault>
-        ensures { DoesSome (lanes_of self.old.opened) (lanes_of self.new.opened) }
+        ensures { DoesSome C.steps (lanes_of self.old.opened) (lanes_of self.new.opened) }
     {
         // the clock is read before the wait: what it says of idle connections is so only if nothing was reported since
         let is_later = self.is_later();
@@ -228,7 +226,7 @@ impl<S: System + Drop, T: Time + Drop> Rounds<S, T> {
 
     // Takes in connections that wait, as long as the limits allow. A server that does not listen takes in none.
     fn accept<J: Journal>(&mut self, journal: &mut J) -> Result<(), LoopFault>
-        ensures lanes { DoesSome (lanes_of self.old.opened) (lanes_of self.new.opened) }
+        ensures lanes { DoesSome C.steps (lanes_of self.old.opened) (lanes_of self.new.opened) }
         ensures deaf { IsFalse self.old.acceptor.listens → Stays (lanes_of self.old.opened) (lanes_of self.new.opened) }
     {
         self.acceptor.is_refused = false;
@@ -239,7 +237,7 @@ impl<S: System + Drop, T: Time + Drop> Rounds<S, T> {
     }
 
     fn accept_some<J: Journal>(&mut self, journal: &mut J) -> Result<(), LoopFault>
-        ensures { DoesSome (lanes_of self.old.opened) (lanes_of self.new.opened) }
+        ensures { DoesSome C.steps (lanes_of self.old.opened) (lanes_of self.new.opened) }
     {
         'accepts: for _ in 0..ACCEPTS {
             if !self.may_accept() {
@@ -281,7 +279,7 @@ impl<S: System + Drop, T: Time + Drop> Rounds<S, T> {
 
     // Accepts one, in this place.
     fn accept_one<J: Journal>(&mut self, place: Place, journal: &mut J) -> Result<(), LoopFault>
-        ensures { DoesSome (lanes_of self.old.opened) (lanes_of self.new.opened) }
+        ensures { DoesSome C.steps (lanes_of self.old.opened) (lanes_of self.new.opened) }
     {
         match self.system.accept() {
             Accepted::Stream(stream, peer) => self.admit(place, stream, peer, journal),
@@ -296,7 +294,7 @@ impl<S: System + Drop, T: Time + Drop> Rounds<S, T> {
 
     // No descriptor or no memory is left: one that is idle makes room, and where none is, it is tried again after a wait.
     fn make_room<J: Journal>(&mut self, place: Place, journal: &mut J) -> Result<(), LoopFault>
-        ensures { DoesSome (lanes_of self.old.opened) (lanes_of self.new.opened) }
+        ensures { DoesSome C.steps (lanes_of self.old.opened) (lanes_of self.new.opened) }
     {
         let place = self.instead_of(place);
         self.acceptor.is_refused = !matches!(place, Place::Idle(_));
@@ -321,7 +319,7 @@ impl<S: System + Drop, T: Time + Drop> Rounds<S, T> {
         peer: SocketAddr,
         journal: &mut J,
     ) -> Result<(), LoopFault>
-        ensures { DoesSome (lanes_of self.old.opened) (lanes_of self.new.opened) }
+        ensures { DoesSome C.steps (lanes_of self.old.opened) (lanes_of self.new.opened) }
     {
         self.displace(place, journal)?;
         self.take_in(stream, peer);
@@ -330,7 +328,7 @@ impl<S: System + Drop, T: Time + Drop> Rounds<S, T> {
 
     // Closes one that makes room.
     fn displace<J: Journal>(&mut self, place: Place, journal: &mut J) -> Result<(), LoopFault>
-        ensures { DoesSome (lanes_of self.old.opened) (lanes_of self.new.opened) }
+        ensures { DoesSome C.steps (lanes_of self.old.opened) (lanes_of self.new.opened) }
     {
         match place {
             Place::Idle(key) => self.finish(key, End::Displaced, journal),
@@ -340,7 +338,7 @@ impl<S: System + Drop, T: Time + Drop> Rounds<S, T> {
 
     // Takes a connection in. Where memory is refused, or it can't be waited for, it is closed.
     fn take_in(&mut self, mut stream: S::Stream, peer: SocketAddr)
-        ensures { DoesSome (lanes_of self.old.opened) (lanes_of self.new.opened) }
+        ensures { DoesSome C.steps (lanes_of self.old.opened) (lanes_of self.new.opened) }
     {
         let Some(key) = self.opened.vacant() else {
             return;
@@ -353,7 +351,7 @@ impl<S: System + Drop, T: Time + Drop> Rounds<S, T> {
 
     // Opens a connection under a key, and counts it.
     fn open(&mut self, key: usize, stream: S::Stream, peer: SocketAddr)
-        ensures { DoesSome (lanes_of self.old.opened) (lanes_of self.new.opened) }
+        ensures { DoesSome C.steps (lanes_of self.old.opened) (lanes_of self.new.opened) }
     {
         let number = self.acceptor.taken;
         let is_taken = self
@@ -364,7 +362,7 @@ impl<S: System + Drop, T: Time + Drop> Rounds<S, T> {
 
     // One turn for each connection that is due.
     fn take_turns<J: Journal>(&mut self, journal: &mut J) -> Result<(), LoopFault>
-        ensures { DoesSome (lanes_of self.old.opened) (lanes_of self.new.opened) }
+        ensures { DoesSome C.steps (lanes_of self.old.opened) (lanes_of self.new.opened) }
     {
         let list = self.opened.take_due()?;
         'turns: for due in &list {
@@ -376,7 +374,7 @@ impl<S: System + Drop, T: Time + Drop> Rounds<S, T> {
 
     // One turn for a connection that is due, where there is time for it in this round.
     fn serve<J: Journal>(&mut self, due: Due, journal: &mut J) -> Result<(), LoopFault>
-        ensures lanes { DoesSome (lanes_of self.old.opened) (lanes_of self.new.opened) }
+        ensures lanes { DoesSome C.steps (lanes_of self.old.opened) (lanes_of self.new.opened) }
         ensures kept { IsFalse (has_time due self.old.opened) → OnOk result (IsPutOff due self.old.opened self.new.opened) }
     {
         if self.opened.has_time(due) {
@@ -396,7 +394,7 @@ impl<S: System + Drop, T: Time + Drop> Rounds<S, T> {
 
     // One turn for a connection, and what follows from it.
     fn take_turn<J: Journal>(&mut self, key: usize, journal: &mut J) -> Result<(), LoopFault>
-        ensures { DoesSome (lanes_of self.old.opened) (lanes_of self.new.opened) }
+        ensures { DoesSome C.steps (lanes_of self.old.opened) (lanes_of self.new.opened) }
     {
         let outcome = self.turn(key);
         self.follow(key, outcome, journal)
@@ -404,7 +402,7 @@ impl<S: System + Drop, T: Time + Drop> Rounds<S, T> {
 
     // One turn for a connection. If bytes moved, the second that the clock tells behind it is noted.
     fn turn(&mut self, key: usize) -> Outcome
-        ensures lanes { DoesAtMost (HasTurn key) (lanes_of self.old.opened) (lanes_of self.new.opened) }
+        ensures lanes { DoesAtMost C.steps (HasTurn key) (lanes_of self.old.opened) (lanes_of self.new.opened) }
         ensures clock { NotesMoved key self.old.opened self.new.opened self.new.seconds.counted self.new.seconds.last }
     {
         let (outcome, has_moved) = self.opened.turn(key, self.seconds.last());
@@ -431,7 +429,7 @@ impl<S: System + Drop, T: Time + Drop> Rounds<S, T> {
         outcome: Outcome,
         journal: &mut J,
     ) -> Result<(), LoopFault>
-        ensures { DoesAtMost (LetGo key) (lanes_of self.old.opened) (lanes_of self.new.opened) }
+        ensures { DoesAtMost C.steps (LetGo key) (lanes_of self.old.opened) (lanes_of self.new.opened) }
     {
         match outcome {
             Outcome::Over(how) => self.finish(key, how, journal),
@@ -442,7 +440,7 @@ impl<S: System + Drop, T: Time + Drop> Rounds<S, T> {
 
     // After a turn at a connection that is open.
     fn go_on<J: Journal>(&mut self, key: usize, journal: &mut J) -> Result<(), LoopFault>
-        ensures { DoesAtMost (LetGo key) (lanes_of self.old.opened) (lanes_of self.new.opened) }
+        ensures { DoesAtMost C.steps (LetGo key) (lanes_of self.old.opened) (lanes_of self.new.opened) }
     {
         self.tell_slow(journal);
         match self.opened.settle(key, self.seconds.last()) {
@@ -468,7 +466,7 @@ impl<S: System + Drop, T: Time + Drop> Rounds<S, T> {
         how: End,
         journal: &mut J,
     ) -> Result<(), LoopFault>
-        ensures { DoesAtMost (LetGo key) (lanes_of self.old.opened) (lanes_of self.new.opened) }
+        ensures { DoesAtMost C.steps (LetGo key) (lanes_of self.old.opened) (lanes_of self.new.opened) }
     {
         if let Some(ending) = self.opened.ending(key, how) {
             journal.ended(&ending);
@@ -480,20 +478,20 @@ impl<S: System + Drop, T: Time + Drop> Rounds<S, T> {
     }
 
     fn linger(&mut self, key: usize) -> Result<(), LoopFault>
-        ensures { DoesAtMost (LetGo key) (lanes_of self.old.opened) (lanes_of self.new.opened) }
+        ensures { DoesAtMost C.steps (LetGo key) (lanes_of self.old.opened) (lanes_of self.new.opened) }
     {
         Ok(self.opened.linger(key, self.seconds.last())?)
     }
 
     fn close(&mut self, key: usize) -> Result<(), LoopFault>
-        ensures { DoesAtMost (LetGo key) (lanes_of self.old.opened) (lanes_of self.new.opened) }
+        ensures { DoesAtMost C.steps (LetGo key) (lanes_of self.old.opened) (lanes_of self.new.opened) }
     {
         Ok(self.opened.close(key, self.seconds.last())?)
     }
 
     // Where a second passed, connections whose time is up are closed, and the journal is told what there is to tell.
     fn look<J: Journal>(&mut self, is_later: bool, journal: &mut J) -> Result<(), LoopFault>
-        ensures { DoesSome (lanes_of self.old.opened) (lanes_of self.new.opened) }
+        ensures { DoesSome C.steps (lanes_of self.old.opened) (lanes_of self.new.opened) }
     {
         if !is_later {
             return Ok(());
@@ -505,7 +503,7 @@ impl<S: System + Drop, T: Time + Drop> Rounds<S, T> {
 
     // Closes the connections whose time is up.
     fn tick<J: Journal>(&mut self, journal: &mut J) -> Result<(), LoopFault>
-        ensures { DoesSome (lanes_of self.old.opened) (lanes_of self.new.opened) }
+        ensures { DoesSome C.steps (lanes_of self.old.opened) (lanes_of self.new.opened) }
     {
         'keys: for key in 0..self.opened.bound() {
             self.expire(key, journal)?;
@@ -515,7 +513,7 @@ impl<S: System + Drop, T: Time + Drop> Rounds<S, T> {
 
     // Closes a connection whose time is up.
     fn expire<J: Journal>(&mut self, key: usize, journal: &mut J) -> Result<(), LoopFault>
-        ensures { DoesAtMost (LetGo key) (lanes_of self.old.opened) (lanes_of self.new.opened) }
+        ensures { DoesAtMost C.steps (LetGo key) (lanes_of self.old.opened) (lanes_of self.new.opened) }
     {
         match self.opened.expiry(key, self.seconds.last(), &self.limits) {
             Outcome::Over(how) => self.finish(key, how, journal),

@@ -1,15 +1,13 @@
 //! A server of many connections.
 ghost use Rattle.std.specs.Prelude.{◌≡◌, ℕ, None, OnOk, IfOk, IsTrue};
 ghost use Rattle.event_loop.specs.Servers.{IsOver, lanes_in};
-ghost use Rattle.hub_metrics.specs.Measuring.{measured};
-ghost use Rattle.open_connections.specs.Looping.{DoesSome, AreServed};
+ghost use Rattle.open_connections.specs.Looping.{DoesSome};
 ghost use Rattle.open_connections.specs.Shares.{fresh_budgets, limits_in, IsWithin};
 
 use crate::fault::LoopFault;
 use crate::rounds::Rounds;
 use connection_turns::Limits;
-use open_connections::{Journal, Totals, loop_is_served};
-use path_listen::HubCore;
+use open_connections::{Journal, LoopCore, Totals};
 use socket_poll::{Since, Sockets, System, Time};
 use std::alloc::Global;
 use std::io::ErrorKind;
@@ -17,23 +15,23 @@ use std::marker::Model;
 use std::net::{Net, SocketAddr};
 use std::time::Clock;
 
-/// A server of many connections. Its value has whether it listens, its limits, the budgets of memory, and the hub with its counts and the bytes that
-/// each served connection is owed. It also has how many connections are open and were accepted, and how many bytes were read and written.
+/// A server of many connections. Its value has whether it listens, its limits, the budgets of memory, and the core with the bytes that each served
+/// connection is owed. It also has how many connections are open and were accepted, and how many bytes were read and written.
 #[derive(Drop)]
-pub struct Server<S: System + Drop, T: Time + Drop> {
-    rounds: Rounds<S, T>,
+pub struct Server<S: System + Drop, C: LoopCore, T: Time + Drop> {
+    rounds: Rounds<S, C, T>,
 }
 
-impl<S: System + Drop, T: Time + Drop> Model for Server<S, T> {
+impl<S: System + Drop, C: LoopCore, T: Time + Drop> Model for Server<S, C, T> {
     ghost use Rattle.event_loop.specs.Servers.{Serving};
     ghost use Rattle.open_connections.specs.Opened.{listed, connected_in};
 
-    ghost Value = { Serving };
+    ghost Value = { Serving C };
 
-    ghost view = { λ s. record { listens = s.rounds.acceptor.listens; connected = connected_in s.rounds.opened; taken = s.rounds.acceptor.taken; read = s.rounds.opened.read; written = s.rounds.opened.written; limits = s.rounds.limits; budgets = s.rounds.opened.budgets; hub = s.rounds.opened.core; lines = listed s.rounds.opened.connections } };
+    ghost view = { λ s. record { listens = s.rounds.acceptor.listens; connected = connected_in s.rounds.opened; taken = s.rounds.acceptor.taken; read = s.rounds.opened.read; written = s.rounds.opened.written; limits = s.rounds.limits; budgets = s.rounds.opened.budgets; core = s.rounds.opened.core; lines = listed s.rounds.opened.connections } };
 }
 
-impl<'r, R: Net + Clock + AllocGlobal> Server<Sockets, Since<'r, R>> {
+impl<'r, R: Net + Clock + AllocGlobal, C: LoopCore> Server<Sockets, C, Since<'r, R>> {
     /// Binds the address.
     ///
     /// # Errors
@@ -42,14 +40,14 @@ impl<'r, R: Net + Clock + AllocGlobal> Server<Sockets, Since<'r, R>> {
     pub fn bind(
         rt: &'r R,
         addr: SocketAddr,
-        core: HubCore,
+        core: C,
         limits: Limits,
-    ) -> Result<Server<Sockets, Since<'r, R>>, LoopFault>
+    ) -> Result<Server<Sockets, C, Since<'r, R>>, LoopFault>
         ensures listening { IfOk result (λ server. IsTrue server.listens) }
         ensures unconnected { IfOk result (λ server. server.connected ≡ 0) }
         ensures none_taken { IfOk result (λ server. server.taken ≡ 0) }
         ensures limits { IfOk result (λ server. server.limits ≡ limits) }
-        ensures hub { IfOk result (λ server. server.hub ≡ measured core) }
+        ensures core { IfOk result (λ server. server.core ≡ core) }
         ensures none { IfOk result (λ server. (q : ℕ) → (lanes_in server).lines q ≡ None) }
         ensures budgets { IfOk result (λ server. server.budgets ≡ fresh_budgets limits.memory) }
     {
@@ -62,34 +60,20 @@ impl<'r, R: Net + Clock + AllocGlobal> Server<Sockets, Since<'r, R>> {
     ///
     /// # Errors
     ///
-    /// `Net` if it cannot be bound, or the clock fails.
+    /// `Net` if it cannot be bound.
     pub fn administer(
         &mut self,
         rt: &'r R,
         addr: SocketAddr,
         keys: Vec<[u8; 16]>,
     ) -> Result<SocketAddr, LoopFault> {
-        let clock = Since::new(rt)?;
         let bound = self.rounds.system.administer(rt, addr)?;
-        self.rounds.opened.measure(clock);
         self.rounds.keys = keys;
         Ok(bound)
     }
-
-    /// Counts each query that takes longer than so many milliseconds of work, and tells the journal of it.
-    ///
-    /// # Errors
-    ///
-    /// `Net` if the clock fails.
-    pub fn tell_slow(&mut self, rt: &'r R, millis: u32) -> Result<(), LoopFault> {
-        let clock = Since::new(rt)?;
-        self.rounds.opened.measure(clock);
-        self.rounds.opened.tell_slow(u64::from(millis) * 1_000);
-        Ok(())
-    }
 }
 
-impl<S: System + Drop, T: Time + Drop> Server<S, T> {
+impl<S: System + Drop, C: LoopCore, T: Time + Drop> Server<S, C, T> {
     /// A server over this system and two clocks: one counts the seconds, and one the time of a turn.
     ///
     /// # Errors
@@ -100,14 +84,14 @@ impl<S: System + Drop, T: Time + Drop> Server<S, T> {
         system: S,
         seconds: T,
         turns: T,
-        core: HubCore,
+        core: C,
         limits: Limits,
-    ) -> Result<Server<S, T>, LoopFault>
+    ) -> Result<Server<S, C, T>, LoopFault>
         ensures listening { IfOk result (λ server. IsTrue server.listens) }
         ensures unconnected { IfOk result (λ server. server.connected ≡ 0) }
         ensures none_taken { IfOk result (λ server. server.taken ≡ 0) }
         ensures limits { IfOk result (λ server. server.limits ≡ limits) }
-        ensures hub { IfOk result (λ server. server.hub ≡ measured core) }
+        ensures core { IfOk result (λ server. server.core ≡ core) }
         ensures none { IfOk result (λ server. (q : ℕ) → (lanes_in server).lines q ≡ None) }
         ensures budgets { IfOk result (λ server. server.budgets ≡ fresh_budgets limits.memory) }
     {
@@ -152,11 +136,10 @@ impl<S: System + Drop, T: Time + Drop> Server<S, T> {
     /// `Net` if the system does not say what is ready, `Memory` if an allocation failed that was not for one connection.
     pub fn serve<J: Journal>(&mut self, journal: &mut J) -> Result<(), LoopFault>
         ensures over { OnOk result (IsOver self.new) }
-        ensures served { AreServed (lanes_in self.old) (lanes_in self.new) }
+        ensures steps { DoesSome C.steps (lanes_in self.old) (lanes_in self.new) }
         ensures limits { limits_in self.new.budgets ≡ limits_in self.old.budgets }
         ensures within { IsWithin self.new.budgets }
     {
-        loop_is_served();
         let done = self.run(journal);
         self.is_within();
         done
@@ -172,7 +155,7 @@ impl<S: System + Drop, T: Time + Drop> Server<S, T> {
     // Goes round until it is over.
     fn run<J: Journal>(&mut self, journal: &mut J) -> Result<(), LoopFault>
         ensures over { OnOk result (IsOver self.new) }
-        ensures steps { DoesSome (lanes_in self.old) (lanes_in self.new) }
+        ensures steps { DoesSome C.steps (lanes_in self.old) (lanes_in self.new) }
     {
         'rounds: for _ in 0..u64::MAX {
             if self.is_over() {
@@ -198,7 +181,7 @@ impl<S: System + Drop, T: Time + Drop> Server<S, T> {
     ///
     /// Those of [`Server::serve`].
     pub fn step<J: Journal>(&mut self, journal: &mut J) -> Result<(), LoopFault>
-        ensures steps { DoesSome (lanes_in self.old) (lanes_in self.new) }
+        ensures steps { DoesSome C.steps (lanes_in self.old) (lanes_in self.new) }
         ensures limits { limits_in self.new.budgets ≡ limits_in self.old.budgets }
         ensures within { IsWithin self.new.budgets }
     {
@@ -208,7 +191,7 @@ impl<S: System + Drop, T: Time + Drop> Server<S, T> {
     }
 
     fn round<J: Journal>(&mut self, journal: &mut J) -> Result<(), LoopFault>
-        ensures { DoesSome (lanes_in self.old) (lanes_in self.new) }
+        ensures { DoesSome C.steps (lanes_in self.old) (lanes_in self.new) }
     {
         self.rounds.step(journal)
     }

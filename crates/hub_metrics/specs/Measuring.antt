@@ -7,6 +7,7 @@ use Rattle.path_listen.specs.Answering as listen
 use Rattle.admin_pages.specs.declared.counted.Metrics.{Metrics}
 use Rattle.admin_pages.specs.declared.counted.Served.{Served}
 use Rattle.admin_pages.specs.Counting.{none, after_request}
+use Rattle.open_connections.specs.Looping.{CoreSteps}
 
 pub record Measured : Type 0 where
   pub hub : HubState
@@ -65,3 +66,7 @@ IsIdle conn now = listen.IsIdle conn now.hub
 
 abbrev pub is_over : ℕ → Measured → Bool
 is_over conn now = listen.is_over conn now.hub
+
+-- what it does at a connection, as a loop over it has it
+abbrev pub hub_steps : CoreSteps Measured
+hub_steps = record { opens = Opens; closes = Closes; takes = takes; answers = Answers }

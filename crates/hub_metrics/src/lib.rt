@@ -2,8 +2,14 @@
 //!
 //! [`MeasuredHub`] is a core of turns, as `path_listen::HubCore` is. What it answers is what the hub answers, and it counts each answer once. It also tells
 //! queries that took long.
+//!
+//! A loop over it is served by [`serve`]. What the loop's steps come to, in any order, is a law ([`loop_is_served`]).
 #![tactic(auto)]
 
+mod laws;
 mod measured_hub;
+mod serving;
 
-pub use measured_hub::{MeasuredHub, Slow};
+pub use laws::loop_is_served;
+pub use measured_hub::MeasuredHub;
+pub use serving::serve;

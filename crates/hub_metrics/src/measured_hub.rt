@@ -1,31 +1,22 @@
 //! A hub whose answers are counted.
-ghost use Rattle.std.specs.Prelude.{◌≡◌, drop, slice_index, unwrap_or, OnOk, OnErr};
-ghost use Rattle.hub_metrics.specs.Measuring.{Closes, Counts, Opens, is_slow, measured, served};
+ghost use Rattle.std.specs.Prelude.{◌≡◌, drop, slice_index, unwrap_or};
+ghost use Rattle.hub_metrics.specs.Measuring.{Counts, is_slow, measured, served};
 
 use admin_pages::{Metrics, Served};
+use open_connections::{LoopCore, Slow};
 use outbox::{Core, Step};
-use path_hub::ConnectFault;
 use path_listen::{Asked, HubCore};
 use socket_poll::Time;
 use std::marker::Model;
 use std::time::Duration;
+use tenant_map::Usage;
+use wire_frames::Part;
 
 /// The place of the status in a reply, behind its length.
 const STATUS: usize = 4;
 
 /// The command that a query has.
 const QUERY: u8 = 5;
-
-/// A query that took long.
-#[derive(Clone, Copy, Debug, PartialEq, Eq)]
-pub struct Slow {
-    /// The place of the tenant that asked it.
-    pub tenant: Option<usize>,
-    /// The units that it was charged, unless it was refused.
-    pub units: Option<u64>,
-    /// The microseconds that it took.
-    pub micros: u64,
-}
 
 /// A hub whose answers are counted. Its value is the hub and the counts.
 #[derive(Drop)]
@@ -88,90 +79,6 @@ impl<T: Time + Drop> MeasuredHub<T> {
         self.bound = Some(micros);
     }
 
-    /// The last slow query, which is told once.
-    pub fn take_slow(&mut self) -> Option<Slow>
-        ensures { self.new ≡ self.old }
-    {
-        let slow = self.slow;
-        self.slow = None;
-        slow
-    }
-
-    /// A turn begins at a connection, for whose next request earlier ones took so many microseconds. A query of it is under way, or none is.
-    pub fn begin(&mut self, worked: u64, is_working: bool)
-        ensures { self.new ≡ self.old }
-    {
-        self.latest = self.now();
-        self.heard = None;
-        self.worked = worked;
-        self.is_working = is_working;
-    }
-
-    /// The tenant that asked last: in this turn, or before it.
-    pub fn heard(&self, before: Option<usize>) -> Option<usize> {
-        match self.heard {
-            Some(tenant) => Some(tenant),
-            None => before,
-        }
-    }
-
-    /// The microseconds that turns took for the request that is answered next.
-    pub fn worked(&self) -> u64 {
-        self.worked
-    }
-
-    /// Whether a query of the turn's connection is under way.
-    pub fn is_working(&self) -> bool {
-        self.is_working
-    }
-
-    /// The hub.
-    pub fn hub(&self) -> &HubCore
-        ensures { result.now ≡ self.now.hub }
-    {
-        &self.core
-    }
-
-    /// What was counted.
-    pub fn metrics(&self) -> &Metrics
-        ensures { result.now ≡ self.now.metrics }
-    {
-        &self.metrics
-    }
-
-    /// Opens a connection's session.
-    ///
-    /// # Errors
-    ///
-    /// Those of [`HubCore::connect`], which change nothing.
-    pub fn connect(&mut self, conn: u32) -> Result<(), ConnectFault>
-        ensures ok { OnOk result (Opens conn self.old self.new) }
-        ensures err { OnErr result (self.new ≡ self.old) }
-    {
-        self.core.connect(conn)
-    }
-
-    /// Ends a connection's session.
-    pub fn disconnect(&mut self, conn: u32)
-        ensures { Closes conn self.old self.new }
-    {
-        self.core.disconnect(conn);
-    }
-
-    /// Gives up the work on the query that a connection has under way, as [`HubCore::give_up`] does.
-    pub fn give_up(&mut self, conn: u32)
-        ensures { self.new ≡ self.old }
-    {
-        self.core.give_up(conn);
-    }
-
-    /// Has a query go on for so many units from now on, as [`HubCore::share`] does.
-    pub fn share(&mut self, units: u64)
-        ensures { self.new ≡ self.old }
-    {
-        self.core.share(units);
-    }
-
     // Counts a reply to what was asked.
     fn count(&mut self, asked: Asked, reply: &[u8])
         ensures { Counts asked reply.now self.old self.new }
@@ -223,6 +130,96 @@ impl<T: Time + Drop> MeasuredHub<T> {
             None => None,
         }
     }
+}
+
+impl<T: Time + Drop> LoopCore for MeasuredHub<T> {
+    ghost use Rattle.std.specs.Prelude.{List};
+    ghost use Rattle.std.specs.Option.{option_map};
+    ghost use Rattle.request_replies.specs.Tenants.{map_of};
+    ghost use Rattle.tenant_map.specs.Quotas.{usage_of};
+    ghost use Rattle.hub_metrics.specs.Measuring.{hub_steps};
+
+    ghost steps = { hub_steps };
+
+    ghost counted = { λ m. m.metrics };
+
+    ghost held = { λ key m. option_map usage_of (map_of key m.hub.tenants) };
+
+    fn connect(&mut self, conn: u32) -> bool {
+        self.core.connect(conn).is_ok()
+    }
+
+    fn disconnect(&mut self, conn: u32) {
+        self.core.disconnect(conn);
+    }
+
+    fn begin(&mut self, worked: u64, is_working: bool) {
+        self.latest = self.now();
+        self.heard = None;
+        self.worked = worked;
+        self.is_working = is_working;
+    }
+
+    fn share(&mut self, units: u64) {
+        self.core.share(units);
+    }
+
+    fn give_up(&mut self, conn: u32) {
+        self.core.give_up(conn);
+    }
+
+    fn heard(&self, before: Option<usize>) -> Option<usize> {
+        match self.heard {
+            Some(tenant) => Some(tenant),
+            None => before,
+        }
+    }
+
+    fn worked(&self) -> u64 {
+        self.worked
+    }
+
+    fn is_working(&self) -> bool {
+        self.is_working
+    }
+
+    fn waits(&self, conn: u32) -> bool {
+        self.core.waits(conn)
+    }
+
+    fn waiting(&self, conn: u32) -> usize {
+        self.core.waiting(conn)
+    }
+
+    fn part(&self, conn: u32) -> Option<Part> {
+        self.core.part(conn)
+    }
+
+    fn most_reply(&self, conn: u32) -> usize {
+        self.core.most_reply(conn)
+    }
+
+    fn take_slow(&mut self) -> Option<Slow> {
+        let slow = self.slow;
+        self.slow = None;
+        slow
+    }
+
+    fn metrics(&self) -> &Metrics {
+        &self.metrics
+    }
+
+    fn usage(&self, key: &[u8; 16]) -> Option<Usage> {
+        self.core.usage(key)
+    }
+
+    fn memory(&self, key: &[u8; 16]) -> u64 {
+        self.core.memory(key)
+    }
+
+    ghost takes_so = { λ conn old piece new taken. taken };
+
+    ghost answers_so = { λ conn old reply new answered. answered };
 }
 
 impl<T: Time + Drop> Core for MeasuredHub<T> {

@@ -1,15 +1,18 @@
--- What a loop over one hub does, a step at a time, and what its steps come to: this project's own.
-use Rattle.std.specs.Prelude.{◌≡◌, ◌≢◌, ◌⊎◌, ℕ, List, [], ◌∷◌, map, Option, Some, None}
+-- What a loop over one core does, a step at a time: this project's own.
+use Rattle.std.specs.Prelude.{◌≡◌, ◌≢◌, ◌⊎◌, ℕ, List, [], ◌∷◌, Option, Some, None}
 use Rattle.outbox.specs.Lines.{Line, fresh}
-use Rattle.outbox.specs.Turns.{DoesAll}
-use Rattle.hub_metrics.specs.Measuring.{Measured, Opens, Closes, takes, Answers}
-use Rattle.path_listen.specs.Acts.{Act, Opened, Turned, Closed, lines_after}
-use Rattle.path_listen.specs.Served.{Serves}
 use Rattle.connection_turns.specs.Turning.{TakesTurn}
 
--- the hub and what it has counted, what each connection that is served is owed, the limits of the two budgets of memory, and how many bytes were read and written
-pub record Lanes : Type 0 where
-  pub hub : Measured
+-- what a core does at a connection: its session is opened or ended, a piece of its stream is taken, a request of it is answered
+pub record CoreSteps (C : Type 0) : Type 1 where
+  pub opens : ℕ → C → C → Type 0
+  pub closes : ℕ → C → C → Type 0
+  pub takes : ℕ → C → List ℕ → C → Type 0
+  pub answers : ℕ → C → List ℕ → C → Type 0
+
+-- the core, what each connection that is served is owed, the limits of the two budgets of memory, and how many bytes were read and written
+pub record Lanes (C : Type 0) : Type 0 where
+  pub core : C
   pub lines : ℕ → Option Line
   pub limits : ℕ × ℕ
   pub bytes : ℕ × ℕ
@@ -20,77 +23,39 @@ pub data Step : Type 0 where
   HasTurn : (conn : ℕ) → Step
   LetGo : (conn : ℕ) → Step
 
-abbrev pub OthersStay : ℕ → Lanes → Lanes → Type 0
+abbrev pub OthersStay : {C : Type 0} → ℕ → Lanes C → Lanes C → Type 0
 OthersStay conn old new = (q : ℕ) → q ≢ conn → new.lines q ≡ old.lines q
 
 -- one that is served has a turn
-pub record TurnAt (conn : ℕ) (old new : Lanes) : Type 0 where
+pub record TurnAt {C : Type 0} (s : CoreSteps C) (conn : ℕ) (old new : Lanes C) : Type 0 where
   pub line : Line
   pub line' : Line
   pub was : old.lines conn ≡ Some line
   pub is : new.lines conn ≡ Some line'
-  pub takes_turn : TakesTurn (takes conn) (Answers conn) line old.hub line' new.hub
+  pub takes_turn : TakesTurn (s.takes conn) (s.answers conn) line old.core line' new.core
   pub others : OthersStay conn old new
   pub limits_stay : new.limits ≡ old.limits
 
--- what a step does to each connection's line, and to the hub; no limit changes, and bytes move in turns alone
-abbrev pub Does : Step → Lanes → Lanes → Type 0
-Does (TakenIn conn) old new = Opens conn old.hub new.hub × (new.lines conn ≡ Some fresh) × OthersStay conn old new × (new.limits ≡ old.limits) × (new.bytes ≡ old.bytes)
-Does (HasTurn conn) old new = TurnAt conn old new
-Does (LetGo conn) old new = Closes conn old.hub new.hub × (new.lines conn ≡ None) × OthersStay conn old new × (new.limits ≡ old.limits) × (new.bytes ≡ old.bytes)
+-- what a step does to each connection's line, and to the core; no limit changes, and bytes move in turns alone
+abbrev pub Does : {C : Type 0} → CoreSteps C → Step → Lanes C → Lanes C → Type 0
+Does s (TakenIn conn) old new = s.opens conn old.core new.core × (new.lines conn ≡ Some fresh) × OthersStay conn old new × (new.limits ≡ old.limits) × (new.bytes ≡ old.bytes)
+Does s (HasTurn conn) old new = TurnAt s conn old new
+Does s (LetGo conn) old new = s.closes conn old.core new.core × (new.lines conn ≡ None) × OthersStay conn old new × (new.limits ≡ old.limits) × (new.bytes ≡ old.bytes)
 
 -- nothing of that changes
-pub record Stays (old new : Lanes) : Type 0 where
-  pub hub_stays : new.hub ≡ old.hub
+pub record Stays {C : Type 0} (old new : Lanes C) : Type 0 where
+  pub core_stays : new.core ≡ old.core
   pub lines_stay : (q : ℕ) → new.lines q ≡ old.lines q
   pub limits_stay : new.limits ≡ old.limits
   pub bytes_stay : new.bytes ≡ old.bytes
 
-abbrev pub DoesEach : List Step → Lanes → Lanes → Type 0
-DoesEach [] old new = Stays old new
-DoesEach (step ∷ steps) old new = (mid : Lanes) × Does step old mid × DoesEach steps mid new
+abbrev pub DoesEach : {C : Type 0} → CoreSteps C → List Step → Lanes C → Lanes C → Type 0
+DoesEach s [] old new = Stays old new
+DoesEach {C} s (step ∷ steps) old new = (mid : Lanes C) × Does s step old mid × DoesEach s steps mid new
 
 -- some steps; this step, or none
-abbrev pub DoesSome : Lanes → Lanes → Type 0
-DoesSome old new = (steps : List Step) × DoesEach steps old new
+abbrev pub DoesSome : {C : Type 0} → CoreSteps C → Lanes C → Lanes C → Type 0
+DoesSome s old new = (steps : List Step) × DoesEach s steps old new
 
-abbrev pub DoesAtMost : Step → Lanes → Lanes → Type 0
-DoesAtMost step old new = Does step old new ⊎ Stays old new
-
--- the step that an act is
-abbrev pub step_of : Act → Step
-step_of (Opened conn) = TakenIn conn
-step_of (Turned conn events) = HasTurn conn
-step_of (Closed conn) = LetGo conn
-
-abbrev pub all_lines_after : (ℕ → Line) → List Act → ℕ → Line
-all_lines_after lines [] = lines
-all_lines_after lines (act ∷ acts) = all_lines_after (lines_after lines act) acts
-
--- what an act does to the hub and to its counts
-abbrev pub Happens : (ℕ → Line) → Act → Measured → Measured → Type 0
-Happens lines (Opened conn) old new = Opens conn old new
-Happens lines (Turned conn events) old new = DoesAll (takes conn) (Answers conn) (lines conn) events old new
-Happens lines (Closed conn) old new = Closes conn old new
-
-abbrev pub AllHappen : (ℕ → Line) → List Act → Measured → Measured → Type 0
-AllHappen lines [] old new = new ≡ old
-AllHappen lines (act ∷ acts) old new = (mid : Measured) × Happens lines act old mid × AllHappen (lines_after lines act) acts mid new
-
--- lines of all connections that are those of the ones that are served
-abbrev pub Extends : (ℕ → Line) → (ℕ → Option Line) → Type 0
-Extends all served = (q : ℕ) (line : Line) → served q ≡ Some line → all q ≡ line
-
--- the acts that the steps are, one each: each request that is answered in them is counted once
-pub record ActsOf (steps : List Step) (lines : ℕ → Line) (old new : Lanes) : Type 0 where
-  pub acts : List Act
-  pub steps_are : map step_of acts ≡ steps
-  pub happen : AllHappen lines acts old.hub new.hub
-  pub lines_are : Extends (all_lines_after lines acts) new.lines
-
-abbrev pub LoopIsServed : Type 0
-LoopIsServed = (steps : List Step) (lines : ℕ → Line) (old new : Lanes) → Extends lines old.lines → DoesEach steps old new → (done : ActsOf steps lines old new) × Serves lines old.hub.hub done.acts new.hub.hub
-
--- what the law says of what a loop did
-abbrev pub AreServed : Lanes → Lanes → Type 0
-AreServed old new = (lines : ℕ → Line) → Extends lines old.lines → (steps : List Step) × (done : ActsOf steps lines old new) × Serves lines old.hub.hub done.acts new.hub.hub
+abbrev pub DoesAtMost : {C : Type 0} → CoreSteps C → Step → Lanes C → Lanes C → Type 0
+DoesAtMost s step old new = Does s step old new ⊎ Stays old new

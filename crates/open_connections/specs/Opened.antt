@@ -15,26 +15,26 @@ abbrev pub lines_in : {S : Type 0} → Slab (Connection S) → ℕ → Option Li
 lines_in slab q = option_and_then (λ c. line_of c) (get slab q)
 
 -- how many bytes were read and written
-abbrev pub bytes_of : {S T : Type 0} → Open S T → ℕ × ℕ
+abbrev pub bytes_of : {S C T : Type 0} → Open S C T → ℕ × ℕ
 bytes_of o = (o.read, o.written)
 
-abbrev pub lanes_of : {S T : Type 0} → Open S T → Lanes
-lanes_of o = record { hub = o.core; lines = lines_in o.connections; limits = limits_in o.budgets; bytes = bytes_of o }
+abbrev pub lanes_of : {S C T : Type 0} → Open S C T → Lanes C
+lanes_of o = record { core = o.core; lines = lines_in o.connections; limits = limits_in o.budgets; bytes = bytes_of o }
 
 -- whether the turns of the connection's tenant took less than a span in this round
-abbrev pub has_time : {S T : Type 0} → Due → Open S T → Bool
+abbrev pub has_time : {S C T : Type 0} → Due → Open S C T → Bool
 has_time due o = nat_lt (slice_index o.due.micros due.party) 1000
 
 -- its turn comes in the next round
-abbrev pub IsPutOff : {S T : Type 0} → Due → Open S T → Open S T → Type 0
+abbrev pub IsPutOff : {S C T : Type 0} → Due → Open S C T → Open S C T → Type 0
 IsPutOff due old new = new.due.first.items ≡ old.due.first.items ++ (due ∷ [])
 
 -- the connection with this key is served although its peer is gone
-abbrev pub lost_at : {S T : Type 0} → (key : ℕ) → Open S T → Bool
+abbrev pub lost_at : {S C T : Type 0} → (key : ℕ) → Open S C T → Bool
 lost_at key o = option_map_or (λ c. is_lost c) (get o.connections key) false
 
 -- how many are open
-abbrev pub connected_in : {S T : Type 0} → Open S T → ℕ
+abbrev pub connected_in : {S C T : Type 0} → Open S C T → ℕ
 connected_in o = slab_len o.connections
 
 -- what each is owed, in a list by key
@@ -42,17 +42,17 @@ abbrev pub listed : {S : Type 0} → Slab (Connection S) → List (Option Line)
 listed slab = map (λ slot. option_and_then (λ c. line_of c) slot) slab.slots
 
 -- the second by which the connection with this key is idle is this one, if it is there
-abbrev pub IsMarked : {S T : Type 0} → Open S T → (key second : ℕ) → Type 0
+abbrev pub IsMarked : {S C T : Type 0} → Open S C T → (key second : ℕ) → Type 0
 IsMarked o key second = IfSome (get o.connections key) (λ c. c.moved ≡ second)
 
 -- a query of the connection with this key is under way only if it gets a further turn
-abbrev pub IsStanding : {S T : Type 0} → (key : ℕ) → Open S T → Type 0
+abbrev pub IsStanding : {S C T : Type 0} → (key : ℕ) → Open S C T → Type 0
 IsStanding key o = IfSome (get o.connections key) (λ c. IsTrue c.is_working → IsTrue c.is_due)
 
 -- if it gets one now and did not before, it is the last of those that get one
-abbrev pub IsListed : {S T : Type 0} → (key : ℕ) → Open S T → Open S T → Type 0
+abbrev pub IsListed : {S C T : Type 0} → (key : ℕ) → Open S C T → Open S C T → Type 0
 IsListed key old new = IfSome (get old.connections key) (λ c. IfSome (get new.connections key) (λ d. IsFalse c.is_due → IsTrue d.is_due → IsLast d.is_working (due_at key d.tenant) old.due new.due))
 
 -- it gets one just if it did
-abbrev pub IsAsDue : {S T : Type 0} → (key : ℕ) → Open S T → Open S T → Type 0
+abbrev pub IsAsDue : {S C T : Type 0} → (key : ℕ) → Open S C T → Open S C T → Type 0
 IsAsDue key old new = IfSome (get old.connections key) (λ c. IfSome (get new.connections key) (λ d. d.is_due ≡ c.is_due))

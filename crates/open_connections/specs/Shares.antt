@@ -3,7 +3,7 @@ use Rattle.std.specs.Prelude.{◌≡◌, ◌≤◌, ◌-◌, ℕ, max, [], ◌++
 use Rattle.std.specs.Option.{option_and_then}
 use Rattle.slab.specs.Slab.{Slab, get}
 use Rattle.memory_budget.specs.States.{State, fresh, own, total}
-use Rattle.path_listen.specs.declared.needs.TheConstants.{LONGEST_FRAME, MOST_REPLY}
+use Rattle.wire_frames.specs.declared.parts.TheConstants.{LONGEST_FRAME, MOST_REPLY}
 use Rattle.connection_turns.specs.declared.claim.Claim.{Claim}
 use Rattle.connection_turns.specs.declared.claim.Pool.{Pool}
 use Rattle.connection_turns.specs.declared.claim.Pool.TheVariants.{Tenants, Strangers}

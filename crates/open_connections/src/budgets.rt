@@ -4,8 +4,8 @@ ghost use Rattle.open_connections.specs.Shares.{fresh_budgets, in_pool, limits_i
 
 use connection_turns::{Claim, Pool};
 use memory_budget::{Answer, Budget, Share};
-use path_listen::{LONGEST_FRAME, MOST_REPLY};
 use std::alloc::{AllocError, Global};
+use wire_frames::{LONGEST_FRAME, MOST_REPLY};
 
 /// The least limit on memory: room for one longest request and one longest reply.
 pub const LEAST_MEMORY: usize = LONGEST_FRAME + MOST_REPLY;
@@ -95,6 +95,7 @@ impl Budgets {
             None => self.strangers.next(),
         }
     }
+
     /// No more is held than the limits allow: the function does nothing, and its contract says it.
     pub fn are_within(&self)
         ensures { IsWithin self.now }

@@ -1,7 +1,17 @@
 //! What a server reports while it runs.
 
 use connection_turns::{Counts, Ending};
-use hub_metrics::Slow;
+
+/// A query that took long.
+#[derive(Clone, Copy, Debug, PartialEq, Eq)]
+pub struct Slow {
+    /// The place of the tenant that asked it.
+    pub tenant: Option<usize>,
+    /// The units that it was charged, unless it was refused.
+    pub units: Option<u64>,
+    /// The microseconds that it took.
+    pub micros: u64,
+}
 
 /// The totals of a server.
 #[derive(Clone, Copy, Debug)]

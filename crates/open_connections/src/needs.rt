@@ -1,9 +1,9 @@
 //! What a connection needs of the budgets before its next step, and what it gives back behind a turn.
 ghost use Rattle.std.specs.Prelude.{◌<◌, ◌≤◌};
 
+use crate::loop_core::LoopCore;
 use crate::open::PIECE;
 use connection_turns::{ALLOWANCE, Claim, Connection, Plan, Pool, Purpose};
-use path_listen::HubCore;
 use socket_poll::Peer;
 
 /// The bytes owed up to which a connection wants no share.
@@ -26,10 +26,10 @@ pub(crate) fn is_for_reply(claim: Option<Claim>) -> bool {
 }
 
 /// The most bytes that a turn reads: what is left of a frame that there is room for, and else what each may have.
-pub(crate) fn piece_of<S: Peer>(
+pub(crate) fn piece_of<S: Peer, C: LoopCore>(
     connection: &Connection<S>,
     plan: Plan,
-    core: &HubCore,
+    core: &C,
     conn: u32,
 ) -> usize
     ensures some { 0 < result }
@@ -88,9 +88,9 @@ pub(crate) fn left_of(claim: &Claim, owed: usize, has_answered: bool) -> After {
 }
 
 /// What a connection without a share needs beside a reply.
-pub(crate) fn need<S: Peer>(
+pub(crate) fn need<S: Peer, C: LoopCore>(
     connection: &Connection<S>,
-    core: &HubCore,
+    core: &C,
     conn: u32,
 ) -> Option<(Pool, Purpose, usize)> {
     let owed = connection.outbox.owed().len();
@@ -104,7 +104,7 @@ pub(crate) fn need<S: Peer>(
 }
 
 // The share of a frame that came in part.
-fn need_of_frame(core: &HubCore, conn: u32) -> Option<(Pool, Purpose, usize)> {
+fn need_of_frame<C: LoopCore>(core: &C, conn: u32) -> Option<(Pool, Purpose, usize)> {
     let part = core.part(conn)?;
     if part.length <= ALLOWANCE {
         return None;

@@ -1,36 +1,31 @@
-//! The connections that are open, the hub that answers them, and the memory that they share.
+//! The connections that are open, the core that answers them, and the memory that they share.
 ghost use Rattle.std.specs.Prelude.{◌≡◌, ◌<◌, ◌≤◌, ◌^◌, ◌++◌, ℕ, None, IfOk, OnOk, IfSome, IsTrue, IsFalse, MatchOption};
 ghost use Rattle.slab.specs.Slab.{get, slab_len};
 ghost use Rattle.open_connections.specs.Looping.{Stays, Does, DoesAtMost, TakenIn, HasTurn, LetGo};
 ghost use Rattle.std.specs.Bool.{MatchBool};
-ghost use Rattle.std.specs.Option.{option_map};
-ghost use Rattle.hub_metrics.specs.Measuring.{measured};
-ghost use Rattle.request_replies.specs.Tenants.{map_of};
-ghost use Rattle.tenant_map.specs.Quotas.{usage_of};
 ghost use Rattle.connection_turns.specs.Owed.{line_of};
 ghost use Rattle.open_connections.specs.Opened.{lanes_of, bytes_of, has_time, IsMarked, IsPutOff, IsStanding, IsListed, IsAsDue, lost_at};
 ghost use Rattle.open_connections.specs.Shares.{fresh_budgets, IsWithin, StayFree, IsGivenBack, claim_at};
 
 use crate::budgets::Budgets;
-use crate::core_calls::{
-    begin, connect, disconnect, give_up_query, measure, share, take_micros, take_slow, tell_slow,
-};
+use crate::core_calls::{begin, connect, disconnect, give_up_query, share, take_micros, take_slow};
 use crate::due::{Due, DueList};
+use crate::journal::Slow;
+use crate::loop_core::LoopCore;
 use crate::needs::{After, covers, is_for_reply, left_of, need, piece_of};
 use crate::waiting::{Waiting, waiting_among};
 use admin_pages::Metrics;
 use connection_turns::{
     Claim, Connection, Counted, Counts, End, Ending, Limits, Outcome, Phase, Plan, Pool, Purpose,
 };
-use hub_metrics::{MeasuredHub, Slow};
 use memory_budget::Answer;
 use outbox::CAP;
-use path_listen::{HubCore, MOST_REPLY};
 use slab::Slab;
 use socket_poll::{Peer, Report, Time};
 use std::alloc::{AllocError, Global};
 use std::net::SocketAddr;
 use tenant_map::Usage;
+use wire_frames::MOST_REPLY;
 
 /// The most bytes that one turn reads.
 pub(crate) const PIECE: usize = 65_536;
@@ -40,10 +35,10 @@ const ROOM: usize = CAP + MOST_REPLY;
 
 /// The connections that are open.
 #[derive(Drop)]
-pub struct Open<S: Peer, T: Time + Drop> {
+pub struct Open<S: Peer, C: LoopCore, T: Time + Drop> {
     alloc: Global,
     connections: Slab<Connection<S>>,
-    core: Counted<MeasuredHub<T>, T>,
+    core: Counted<C, T>,
     budgets: Budgets,
     buffer: Box<[u8; PIECE]>,
     // No key was above it.
@@ -58,18 +53,13 @@ pub struct Open<S: Peer, T: Time + Drop> {
     written: u64,
 }
 
-impl<S: Peer, T: Time + Drop> Open<S, T> {
+impl<S: Peer, C: LoopCore, T: Time + Drop> Open<S, C, T> {
     /// None is open.
-    pub fn new(
-        alloc: Global,
-        time: T,
-        core: HubCore,
-        memory: usize,
-    ) -> Result<Open<S, T>, AllocError>
+    pub fn new(alloc: Global, time: T, core: C, memory: usize) -> Result<Open<S, C, T>, AllocError>
         ensures empty { IfOk result (λ opened. slab_len opened.connections ≡ 0) }
         ensures unread { IfOk result (λ opened. opened.read ≡ 0) }
         ensures unwritten { IfOk result (λ opened. opened.written ≡ 0) }
-        ensures hub { IfOk result (λ opened. (lanes_of opened).hub ≡ measured core) }
+        ensures core { IfOk result (λ opened. (lanes_of opened).core ≡ core) }
         ensures none { IfOk result (λ opened. (q : ℕ) → (lanes_of opened).lines q ≡ None) }
         ensures budgets { IfOk result (λ opened. opened.budgets ≡ fresh_budgets memory) }
     {
@@ -80,7 +70,7 @@ impl<S: Peer, T: Time + Drop> Open<S, T> {
         Ok(Open {
             alloc,
             connections: Slab::new(alloc),
-            core: Counted::new(time, MeasuredHub::new(core)),
+            core: Counted::new(time, core),
             budgets: Budgets::new(alloc, memory),
             buffer,
             bound: 0,
@@ -116,20 +106,6 @@ impl<S: Peer, T: Time + Drop> Open<S, T> {
         self.core.counts()
     }
 
-    /// Measures how long requests take, by this clock.
-    pub fn measure(&mut self, clock: T)
-        ensures { Stays (lanes_of self.old) (lanes_of self.new) }
-    {
-        measure(&mut self.core, clock);
-    }
-
-    /// Tells queries that took longer than so many microseconds from now on.
-    pub fn tell_slow(&mut self, micros: u64)
-        ensures { Stays (lanes_of self.old) (lanes_of self.new) }
-    {
-        tell_slow(&mut self.core, micros);
-    }
-
     /// The last slow query, which is told once.
     pub fn take_slow(&mut self) -> Option<Slow>
         ensures { Stays (lanes_of self.old) (lanes_of self.new) }
@@ -139,21 +115,21 @@ impl<S: Peer, T: Time + Drop> Open<S, T> {
 
     /// What was counted of requests.
     pub fn metrics(&self) -> &Metrics
-        ensures { result.now ≡ self.now.core.metrics }
+        ensures { result.now ≡ C.counted self.now.core }
     {
         self.core.inner().metrics()
     }
 
     /// How much the tenant with this key holds.
     pub fn usage(&self, key: &[u8; 16]) -> Option<Usage>
-        ensures { result ≡ option_map usage_of (map_of key.now self.now.core.hub.tenants) }
+        ensures { result ≡ C.held key.now self.now.core }
     {
-        self.core.inner().hub().usage(key)
+        self.core.inner().usage(key)
     }
 
     /// The bytes of memory that the documents of the tenant with this key take. 0 if there is none.
     pub fn memory_of(&self, key: &[u8; 16]) -> u64 {
-        self.core.inner().hub().memory(key)
+        self.core.inner().memory(key)
     }
 
     /// The bytes that connections hold of the budgets, and those that there are.
@@ -206,7 +182,7 @@ impl<S: Peer, T: Time + Drop> Open<S, T> {
         stream: S,
         now: u64,
     ) -> bool
-        ensures lanes { MatchBool result (Does (TakenIn key) (lanes_of self.old) (lanes_of self.new)) (Stays (lanes_of self.old) (lanes_of self.new)) }
+        ensures lanes { MatchBool result (Does C.steps (TakenIn key) (lanes_of self.old) (lanes_of self.new)) (Stays (lanes_of self.old) (lanes_of self.new)) }
         ensures budgets { self.new.budgets ≡ self.old.budgets }
     {
         let Some(conn) = conn_of(key) else {
@@ -272,7 +248,7 @@ impl<S: Peer, T: Time + Drop> Open<S, T> {
         let Some(conn) = conn_of(key) else {
             return Ok(false);
         };
-        let most = self.core.inner().hub().most_reply(conn);
+        let most = self.core.inner().most_reply(conn);
         let Some(connection) = self.connections.get_mut(key) else {
             return Ok(false);
         };
@@ -297,7 +273,7 @@ impl<S: Peer, T: Time + Drop> Open<S, T> {
 
     /// One turn for a connection, and whether bytes moved. Where the peer is gone, nothing is done any more.
     pub fn turn(&mut self, key: usize, now: u64) -> (Outcome, bool)
-        ensures lanes { DoesAtMost (HasTurn key) (lanes_of self.old) (lanes_of self.new) }
+        ensures lanes { DoesAtMost C.steps (HasTurn key) (lanes_of self.old) (lanes_of self.new) }
         ensures bytes { IsFalse result.1 → bytes_of self.new ≡ bytes_of self.old }
         ensures lost { IsTrue (lost_at key self.old) → result.0 ≡ Outcome.Over End.ReadFault }
         ensures idle { IsTrue (lost_at key self.old) → Stays (lanes_of self.old) (lanes_of self.new) }
@@ -350,7 +326,7 @@ impl<S: Peer, T: Time + Drop> Open<S, T> {
     fn stands_by(&self, key: usize, plan: Plan) -> bool {
         match conn_of(key) {
             Some(conn) => {
-                matches!(plan, Plan::Answer | Plan::All) && self.core.inner().hub().waits(conn)
+                matches!(plan, Plan::Answer | Plan::All) && self.core.inner().waits(conn)
             }
             None => false,
         }
@@ -373,7 +349,7 @@ impl<S: Peer, T: Time + Drop> Open<S, T> {
 
     // One turn by a plan.
     fn work(&mut self, key: usize, plan: Plan) -> (Outcome, bool)
-        ensures lanes { DoesAtMost (HasTurn key) (lanes_of self.old) (lanes_of self.new) }
+        ensures lanes { DoesAtMost C.steps (HasTurn key) (lanes_of self.old) (lanes_of self.new) }
         ensures bytes { IsFalse result.1 → bytes_of self.new ≡ bytes_of self.old }
     {
         let Some(conn) = conn_of(key) else {
@@ -385,7 +361,7 @@ impl<S: Peer, T: Time + Drop> Open<S, T> {
         match connection.phase {
             Phase::Lingering => (drained(connection, &mut *self.buffer), false),
             Phase::Served => {
-                let most = piece_of(connection, plan, self.core.inner().hub(), conn);
+                let most = piece_of(connection, plan, self.core.inner(), conn);
                 let (read, written) = connection.turn(
                     &mut self.core,
                     conn,
@@ -429,7 +405,7 @@ impl<S: Peer, T: Time + Drop> Open<S, T> {
             return Ok(());
         };
         self.count_turn(key, now);
-        let waiting = self.core.inner().hub().waiting(conn);
+        let waiting = self.core.inner().waiting(conn);
         let Some(connection) = self.connections.get_mut(key) else {
             return Ok(());
         };
@@ -456,13 +432,13 @@ impl<S: Peer, T: Time + Drop> Open<S, T> {
     fn note_turn(&mut self, key: usize, now: u64)
         ensures { Stays (lanes_of self.old) (lanes_of self.new) }
     {
-        let hub = self.core.inner();
+        let core = self.core.inner();
         let Some(connection) = self.connections.get_mut(key) else {
             return;
         };
-        connection.worked = hub.worked();
-        connection.tenant = hub.heard(connection.tenant);
-        connection.is_working = hub.is_working();
+        connection.worked = core.worked();
+        connection.tenant = core.heard(connection.tenant);
+        connection.is_working = core.is_working();
         if connection.is_working && self.core.has_worked() {
             connection.renew(now);
         }
@@ -502,7 +478,7 @@ impl<S: Peer, T: Time + Drop> Open<S, T> {
         let Some(connection) = self.connections.get(key) else {
             return Ok(());
         };
-        match need(connection, self.core.inner().hub(), conn) {
+        match need(connection, self.core.inner(), conn) {
             Some((pool, purpose, bytes)) => {
                 self.claim(key, pool, purpose, bytes, now)?;
                 Ok(())
@@ -623,7 +599,7 @@ impl<S: Peer, T: Time + Drop> Open<S, T> {
 
     /// Ends a connection's session, and reads what still comes for a little while.
     pub fn linger(&mut self, key: usize, now: u64) -> Result<(), AllocError>
-        ensures lanes { DoesAtMost (LetGo key) (lanes_of self.old) (lanes_of self.new) }
+        ensures lanes { DoesAtMost C.steps (LetGo key) (lanes_of self.old) (lanes_of self.new) }
         ensures share { key < 2 ^ 32 → IsGivenBack (claim_at self.old.connections key) self.new.budgets }
     {
         let claim = self.end(key, now);
@@ -633,7 +609,7 @@ impl<S: Peer, T: Time + Drop> Open<S, T> {
 
     // Ends a connection's session, and hands out its share.
     fn end(&mut self, key: usize, now: u64) -> Option<Claim>
-        ensures lanes { DoesAtMost (LetGo key) (lanes_of self.old) (lanes_of self.new) }
+        ensures lanes { DoesAtMost C.steps (LetGo key) (lanes_of self.old) (lanes_of self.new) }
         ensures claim { key < 2 ^ 32 → result ≡ claim_at self.old.connections key }
     {
         let conn = conn_of(key)?;
@@ -646,7 +622,7 @@ impl<S: Peer, T: Time + Drop> Open<S, T> {
 
     /// Closes a connection.
     pub fn close(&mut self, key: usize, now: u64) -> Result<(), AllocError>
-        ensures lanes { DoesAtMost (LetGo key) (lanes_of self.old) (lanes_of self.new) }
+        ensures lanes { DoesAtMost C.steps (LetGo key) (lanes_of self.old) (lanes_of self.new) }
         ensures share { key < 2 ^ 32 → IsGivenBack (claim_at self.old.connections key) self.new.budgets }
     {
         let claim = self.let_go(key);
@@ -655,7 +631,7 @@ impl<S: Peer, T: Time + Drop> Open<S, T> {
 
     // Takes a connection off, and hands out its share.
     fn let_go(&mut self, key: usize) -> Option<Claim>
-        ensures lanes { DoesAtMost (LetGo key) (lanes_of self.old) (lanes_of self.new) }
+        ensures lanes { DoesAtMost C.steps (LetGo key) (lanes_of self.old) (lanes_of self.new) }
         ensures claim { key < 2 ^ 32 → result ≡ claim_at self.old.connections key }
     {
         let conn = conn_of(key)?;

@@ -2,7 +2,7 @@
 use Rattle.std.specs.Prelude.{◌≡◌, ℕ, ◌+◌, ◌<◌, ◌≤◌, List, length, slice_range, is_some}
 use Rattle.wire_frames.specs.Frames.{body_length, longest_body}
 use Rattle.tenant_map.specs.Tenancy.{Tenancy, place_in}
-use Rattle.path_listen.specs.declared.needs.Part.{Part}
+use Rattle.wire_frames.specs.declared.parts.Part.{Part}
 
 -- the bytes of the whole frame and those still to come, and whether its key is a tenant's
 pub record IsPart (tenancy : Tenancy) (bytes : List ℕ) (part : Part) : Type 0 where

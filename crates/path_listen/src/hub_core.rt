@@ -11,12 +11,13 @@ ghost use Rattle.tenant_map.specs.Quotas.{usage_of};
 ghost use Rattle.wire_frames.specs.Frames.{front};
 
 use crate::asked::{Asked, asked_of};
-use crate::needs::{Part, most_of, part_of};
+use crate::needs::{most_of, part_of};
 use outbox::{Core, Step};
 use path_hub::{ConnectFault, Hub, Share, Tasks};
 use std::alloc::Global;
 use std::marker::Model;
 use tenant_map::Usage;
+use wire_frames::Part;
 
 /// The units for which a query goes on, unless another number is told.
 const SHARE: u64 = 10_000;

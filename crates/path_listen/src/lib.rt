@@ -12,4 +12,3 @@ mod needs;
 pub use asked::Asked;
 pub use hub_core::HubCore;
 pub use laws::turns_are_served;
-pub use needs::{LONGEST_FRAME, MOST_REPLY, Part};

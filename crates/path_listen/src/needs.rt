@@ -11,9 +11,9 @@ ghost use Rattle.request_replies.specs.Tenants.{map_of};
 ghost use Rattle.path_listen.specs.Needs.{IsPart, IsNoPart};
 ghost use Rattle.path_listen.specs.Replies.{body_at, IsMostFor, IsMostBy, IsMostTo};
 
-use store_names::{CollName, DocName, LONGEST_DOCUMENT_NAME, LONGEST_REPLY};
+use store_names::{CollName, DocName, LONGEST_DOCUMENT_NAME};
 use tenant_map::{Tenant, Tenants};
-use wire_frames::{Command, LONGEST_BODY, Request, read_request};
+use wire_frames::{Command, LONGEST_BODY, MOST_REPLY, Part, Request, read_request};
 
 /// The bytes of a frame's length.
 const LENGTH_BYTES: usize = 4;
@@ -23,12 +23,6 @@ const KEY_AT: usize = 9;
 
 /// Where it ends.
 const KEY_END: usize = 25;
-
-/// The most bytes of a frame.
-pub const LONGEST_FRAME: usize = LENGTH_BYTES + LONGEST_BODY;
-
-/// The most bytes of a reply, with its length.
-pub const MOST_REPLY: usize = LENGTH_BYTES + LONGEST_REPLY;
 
 /// The most bytes of a reply without a text, a list or hits.
 const SHORT_REPLY: usize = 21;
@@ -41,17 +35,6 @@ const BEFORE_NAMES: usize = BEFORE_PAYLOAD + 4;
 
 /// The most bytes of a name in it, with its length.
 const LONGEST_NAME: usize = 1 + LONGEST_DOCUMENT_NAME;
-
-/// A frame of which not all came yet.
-#[derive(Clone, Copy, Debug, PartialEq, Eq)]
-pub struct Part {
-    /// The bytes of the whole frame, with its length.
-    pub length: usize,
-    /// Those of them that are still to come.
-    pub left: usize,
-    /// Whether its key names a tenant.
-    pub is_known: bool,
-}
 
 /// The frame that these bytes begin with, where not all of it came but its key did.
 pub(crate) fn part_of(tenants: &Tenants, bytes: &[u8]) -> Option<Part>

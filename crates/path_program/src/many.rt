@@ -6,7 +6,8 @@ ghost use Rattle.command_line.specs.Statuses.{status_of};
 use crate::key_file::read_key_file;
 use command_line::{AddressFault, Failure, Listening};
 use connection_lines::LoopLines;
-use event_loop::{Gate, Limits, LoopFault, Server, Since, Sockets, Totals};
+use event_loop::{Gate, Limits, LoopCore, LoopFault, Server, Since, Sockets, Time, Totals};
+use hub_metrics::MeasuredHub;
 use path_hub::Hub;
 use path_listen::HubCore;
 use path_server::read_keys;
@@ -15,8 +16,11 @@ use std::io::ErrorKind;
 use std::net::{Net, SocketAddr, ToSocketAddrs};
 use std::rt::{Clock, Files};
 
-/// A server at an address.
-type Bound<'r, R> = Server<Sockets, Since<'r, R>>;
+/// A server of this core at an address.
+type Bound<'r, R, C> = Server<Sockets, C, Since<'r, R>>;
+
+/// The hub, whose answers are measured.
+type Measured<'r, R> = MeasuredHub<Since<'r, R>>;
 
 /// The descriptor of standard error.
 const STANDARD_ERROR: i32 = 2;
@@ -45,33 +49,32 @@ fn serve_at<'r, R: Print + Eprint + Net + Clock + AllocGlobal>(
     rt: &'r R,
     wanted: &Listening<'_>,
     keys: &[[u8; 16]],
-    server: &mut Bound<'r, R>,
+    server: &mut Bound<'r, R, Measured<'r, R>>,
 ) -> Result<(), Failure> {
-    let administration = administer(rt, wanted, server, keys)?;
-    tell_slow(rt, wanted, server)?;
-    let lines = lines(rt, wanted)?;
-    serve_logged(rt, wanted, administration, server, lines)
-}
-
-// Prints the addresses, and serves until the end.
-fn serve_logged<R: Print + Eprint + Net + Clock + AllocGlobal>(
-    rt: &R,
-    wanted: &Listening<'_>,
-    administration: Option<SocketAddr>,
-    server: &mut Bound<'_, R>,
-    lines: LoopLines<'_, R>,
-) -> Result<(), Failure> {
-    begin(rt, wanted, administration, server)?;
+    let lines = begin(rt, wanted, keys, server)?;
     run(rt, wanted, server, lines)?;
     end(rt, &server.totals())
 }
 
+// Binds the administration address, where there is one, and prints the addresses. Hands out what writes the lines on standard error.
+fn begin<'r, R: Print + Eprint + Net + Clock + AllocGlobal, C: LoopCore>(
+    rt: &'r R,
+    wanted: &Listening<'_>,
+    keys: &[[u8; 16]],
+    server: &mut Bound<'r, R, C>,
+) -> Result<LoopLines<'r, R>, Failure> {
+    let administration = administer(rt, wanted, server, keys)?;
+    let lines = lines(rt, wanted)?;
+    tell(rt, wanted, administration, server)?;
+    Ok(lines)
+}
+
 // Prints the lines with the bound addresses.
-fn begin<R: Print + Net + Clock + AllocGlobal>(
+fn tell<R: Print + Net + Clock + AllocGlobal, C: LoopCore>(
     rt: &R,
     wanted: &Listening<'_>,
     administration: Option<SocketAddr>,
-    server: &Bound<'_, R>,
+    server: &Bound<'_, R, C>,
 ) -> Result<(), Failure> {
     match server.local_addr() {
         Ok(bound) => print_line(rt, "listening", &bound)?,
@@ -84,10 +87,10 @@ fn begin<R: Print + Net + Clock + AllocGlobal>(
 }
 
 // Binds the administration address, where there is one.
-fn administer<'r, R: Net + Clock + AllocGlobal>(
+fn administer<'r, R: Net + Clock + AllocGlobal, C: LoopCore>(
     rt: &'r R,
     wanted: &Listening<'_>,
-    server: &mut Bound<'r, R>,
+    server: &mut Bound<'r, R, C>,
     keys: &[[u8; 16]],
 ) -> Result<Option<SocketAddr>, Failure> {
     let Some(address) = wanted.admin else {
@@ -101,21 +104,6 @@ fn administer<'r, R: Net + Clock + AllocGlobal>(
     match server.administer(rt, addr, known) {
         Ok(bound) => Ok(Some(bound)),
         Err(fault) => Err(failure_of(rt.alloc(), address, fault)),
-    }
-}
-
-// Has slow queries counted and told, where that is wanted.
-fn tell_slow<'r, R: Net + Clock + AllocGlobal>(
-    rt: &'r R,
-    wanted: &Listening<'_>,
-    server: &mut Bound<'r, R>,
-) -> Result<(), Failure> {
-    if !wanted.log && wanted.admin.is_none() {
-        return Ok(());
-    }
-    match server.tell_slow(rt, wanted.slow) {
-        Ok(()) => Ok(()),
-        Err(fault) => Err(failure_of(rt.alloc(), wanted.address, fault)),
     }
 }
 
@@ -138,13 +126,13 @@ fn lines<'r, R: Eprint + Net + Clock + AllocGlobal>(
 }
 
 // Serves until the end.
-fn run<R: Eprint + Net + Clock + AllocGlobal>(
-    rt: &R,
+fn run<'r, R: Eprint + Net + Clock + AllocGlobal>(
+    rt: &'r R,
     wanted: &Listening<'_>,
-    server: &mut Bound<'_, R>,
-    mut lines: LoopLines<'_, R>,
+    server: &mut Bound<'r, R, Measured<'r, R>>,
+    mut lines: LoopLines<'r, R>,
 ) -> Result<(), Failure> {
-    match server.serve(&mut lines) {
+    match hub_metrics::serve(server, &mut lines) {
         Ok(()) => Ok(()),
         Err(fault) => Err(failure_of(rt.alloc(), wanted.address, fault)),
     }
@@ -184,21 +172,67 @@ fn bind<'r, R: Net + Clock + AllocGlobal>(
     rt: &'r R,
     wanted: &Listening<'_>,
     keys: &[[u8; 16]],
-) -> Result<Box<Bound<'r, R>>, Failure> {
+) -> Result<Box<Bound<'r, R, Measured<'r, R>>>, Failure> {
     let addr = address_of(rt, wanted.address)?;
-    let hub = Hub::new(rt.alloc(), keys).map_err(Failure::Tenants)?;
-    match Server::bind(rt, addr, HubCore::new(rt.alloc(), hub), limits_of(wanted)) {
+    let core = core_of(rt, wanted, keys)?;
+    bind_at(rt, wanted, addr, core)
+}
+
+// A server of a core at this address.
+fn bind_at<'r, R: Net + Clock + AllocGlobal, C: LoopCore>(
+    rt: &'r R,
+    wanted: &Listening<'_>,
+    addr: SocketAddr,
+    core: C,
+) -> Result<Box<Bound<'r, R, C>>, Failure> {
+    match Server::bind(rt, addr, core, limits_of(wanted)) {
         Ok(server) => boxed(rt.alloc(), server).map_err(|_| Failure::Memory),
         Err(fault) => Err(failure_of(rt.alloc(), wanted.address, fault)),
     }
 }
 
-fn boxed<'r, R: Net + Clock + AllocGlobal>(
+fn boxed<T: Drop>(alloc: Global, value: T) -> Result<Box<T>, AllocError> {
+    let value = Box::new(alloc, value)?;
+    Ok(value)
+}
+
+// The hub of these keys. Where somebody is told of it, the time of its answers is measured, and slow queries are counted and told.
+fn core_of<'r, R: Net + Clock + AllocGlobal>(
+    rt: &'r R,
+    wanted: &Listening<'_>,
+    keys: &[[u8; 16]],
+) -> Result<Measured<'r, R>, Failure> {
+    let clock = clock_of(rt, wanted)?;
+    let hub = Hub::new(rt.alloc(), keys).map_err(Failure::Tenants)?;
+    Ok(measured(rt.alloc(), wanted, hub, clock))
+}
+
+fn measured<T: Time + Drop>(
     alloc: Global,
-    server: Bound<'r, R>,
-) -> Result<Box<Bound<'r, R>>, AllocError> {
-    let server = Box::new(alloc, server)?;
-    Ok(server)
+    wanted: &Listening<'_>,
+    hub: Hub,
+    clock: Option<T>,
+) -> MeasuredHub<T> {
+    let mut core = MeasuredHub::new(HubCore::new(alloc, hub));
+    if let Some(clock) = clock {
+        core.measure(clock);
+        core.tell_slow(u64::from(wanted.slow) * 1_000);
+    }
+    core
+}
+
+// The clock that measures the time of answers, where it is wanted.
+fn clock_of<'r, R: Net + Clock + AllocGlobal>(
+    rt: &'r R,
+    wanted: &Listening<'_>,
+) -> Result<Option<Since<'r, R>>, Failure> {
+    if !wanted.log && wanted.admin.is_none() {
+        return Ok(None);
+    }
+    match Since::new(rt) {
+        Ok(clock) => Ok(Some(clock)),
+        Err(error) => Err(failure_of(rt.alloc(), wanted.address, LoopFault::from(error))),
+    }
 }
 
 // The first address that a text names.

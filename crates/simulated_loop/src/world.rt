@@ -4,6 +4,7 @@ use event_loop::{
     Accepted, Ending, Held, Journal, LEAST_MEMORY, Limits, Report, Server, System, Time, Totals,
     Woken,
 };
+use hub_metrics::MeasuredHub;
 use path_hub::Hub;
 use path_listen::HubCore;
 use simulated_peers::{Chance, End, Peer, Pipe, Shared, TENANTS, Tally, Times, key_of};
@@ -353,7 +354,7 @@ fn go_on<R: Print + AllocGlobal>(
 /// A server, its pipes and its clock.
 #[derive(Drop)]
 struct Stage<'w> {
-    server: Box<Server<Pipes<'w>, Watch<'w>>>,
+    server: Box<Server<Pipes<'w>, MeasuredHub<Watch<'w>>, Watch<'w>>>,
     ends: Ends<'w>,
     room: Room<'w>,
 }
@@ -539,7 +540,7 @@ fn server<'w>(
     seed: u64,
     limits: &Limits,
     hub: Hub,
-) -> Option<Server<Pipes<'w>, Watch<'w>>> {
+) -> Option<Server<Pipes<'w>, MeasuredHub<Watch<'w>>, Watch<'w>>> {
     let mut reports = Vec::new(alloc);
     reports.reserve(REPORTS).ok()?;
     let system = Pipes {
@@ -555,7 +556,7 @@ fn server<'w>(
         millis: room.millis,
         looks: room.looks,
     };
-    let core = HubCore::new(alloc, hub);
+    let core = MeasuredHub::new(HubCore::new(alloc, hub));
     Server::over(alloc, system, watch, watch, core, *limits).ok()
 }
 

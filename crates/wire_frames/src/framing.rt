@@ -13,7 +13,7 @@ use thiserror::Error;
 pub const LONGEST_BODY: usize = 6_291_456;
 
 /// The bytes of a frame's length.
-const LENGTH_BYTES: usize = 4;
+pub(crate) const LENGTH_BYTES: usize = 4;
 
 /// What the bytes that wait begin with.
 #[derive(Debug, Drop)]

@@ -7,6 +7,7 @@
 
 mod framing;
 mod laws;
+mod parts;
 mod replies;
 mod requests;
 
@@ -15,5 +16,6 @@ pub use laws::{
     cuts_do_not_matter, nothing_follows_a_fault, prefix_comes_first, reads_only_what_is_written,
     reads_what_is_written, splits_from_the_front, splits_one_way,
 };
+pub use parts::{LONGEST_FRAME, MOST_REPLY, Part};
 pub use replies::{reply_head, write_reply};
 pub use requests::{Command, Request, RequestFault, read_request};

@@ -8,5 +8,5 @@ pub returns : goal.returns
 returns g c =
     let was = c.self.inside.rounds.opened in
     let is = c.step.new.self.opened in
-    rw (← c.self.view_is) (some_then _ _ _ (no_step _ _ (seen (limits_in was.budgets) (bytes_of was) was.core was.connections))
-    (some_then _ _ _ c.step.ensures (no_step _ _ (shown (limits_in is.budgets) (bytes_of is) is.core is.connections))))
+    rw (← c.self.view_is) (some_then g.C.LoopCore.steps _ _ _ (no_step g.C.LoopCore.steps _ _ (seen (limits_in was.budgets) (bytes_of was) was.core was.connections))
+    (some_then g.C.LoopCore.steps _ _ _ c.step.ensures (no_step g.C.LoopCore.steps _ _ (shown (limits_in is.budgets) (bytes_of is) is.core is.connections))))

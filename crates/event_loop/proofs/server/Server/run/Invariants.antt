@@ -4,4 +4,4 @@ use Rattle.event_loop.proofs.server.Server.run.Given as goal
 
 -- what was done so far
 abbrev pub invariant-rounds : goal.invariant-rounds
-invariant-rounds g l = DoesSome (lanes_in l.initial.self) (lanes_in l.self)
+invariant-rounds g l = DoesSome g.C.LoopCore.steps (lanes_in l.initial.self) (lanes_in l.self)

@@ -5,6 +5,6 @@ use Rattle.open_connections.proofs.open.Open.close.Goals as goal
 
 pub returns : goal.returns
 returns g c = record {
-  lanes = at_most_then (LetGo c.args.key) _ _ _ c.let_go-claim.ensures.lanes c.give_up.ensures.lanes;
+  lanes = at_most_then g.C.LoopCore.steps (LetGo c.args.key) _ _ _ c.let_go-claim.ensures.lanes c.give_up.ensures.lanes;
   share = λ h. given_alike _ _ _ c.give_up.ensures.given (c.let_go-claim.ensures.claim h);
 }

@@ -6,5 +6,5 @@ use Rattle.open_connections.proofs.open.Open.end.Goals as goal
 
 pub returns-clause-lanes : goal.returns-clause-lanes
 returns-clause-lanes g c =
-    gone_steps (limits_in c.args.self.now.budgets) (bytes_of c.args.self.now) _ _ c.args.self.now.connections _ c.args.key c.in_ok-conn.conn _ c.in_ok-conn.ensures
+    gone_steps g.C.LoopCore.steps (limits_in c.args.self.now.budgets) (bytes_of c.args.self.now) _ _ c.args.self.now.connections _ c.args.key c.in_ok-conn.conn _ c.in_ok-conn.ensures
     (written c.args.self.now.connections c.args.key c.in_ok-connection.connection.now c.linger.new.self (sym c.in_ok-connection.ensures.value)) c.linger.ensures c.disconnect.ensures

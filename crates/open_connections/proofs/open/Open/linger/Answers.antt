@@ -5,12 +5,12 @@ use Rattle.open_connections.proofs.open.Open.linger.Goals as goal
 
 pub returns : goal.returns
 returns g c = record {
-  lanes = at_most_then (LetGo c.args.key) _ _ _ c.end-claim.ensures.lanes (stays_then _ _ _ c.give_up.ensures.lanes c.schedule.ensures.lanes);
+  lanes = at_most_then g.C.LoopCore.steps (LetGo c.args.key) _ _ _ c.end-claim.ensures.lanes (stays_then _ _ _ c.give_up.ensures.lanes c.schedule.ensures.lanes);
   share = λ h. given_same _ _ _ (given_alike _ _ _ c.give_up.ensures.given (c.end-claim.ensures.claim h)) c.schedule.ensures.budgets;
 }
 
 pub returns-in_err-give_up : goal.returns-in_err-give_up
 returns-in_err-give_up g c = record {
-  lanes = at_most_then (LetGo c.args.key) _ _ _ c.end-claim.ensures.lanes c.give_up.ensures.lanes;
+  lanes = at_most_then g.C.LoopCore.steps (LetGo c.args.key) _ _ _ c.end-claim.ensures.lanes c.give_up.ensures.lanes;
   share = λ h. given_alike _ _ _ c.give_up.ensures.given (c.end-claim.ensures.claim h);
 }

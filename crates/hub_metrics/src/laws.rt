@@ -1,5 +1,5 @@
-//! What the steps of a loop amount to. The function does nothing, and its contract is the law.
-ghost use Rattle.open_connections.specs.Looping.{LoopIsServed};
+//! What the steps of a loop over one hub amount to. The function does nothing, and its contract is the law.
+ghost use Rattle.hub_metrics.specs.Looping.{LoopIsServed};
 
 use path_listen::turns_are_served;
 

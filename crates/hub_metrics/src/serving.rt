@@ -1,0 +1,27 @@
+//! A server of many connections over a hub.
+ghost use Rattle.std.specs.Prelude.{◌≡◌, OnOk};
+ghost use Rattle.event_loop.specs.Servers.{IsOver, lanes_in};
+ghost use Rattle.hub_metrics.specs.Looping.{AreServed};
+ghost use Rattle.open_connections.specs.Shares.{limits_in, IsWithin};
+
+use crate::laws::loop_is_served;
+use crate::measured_hub::MeasuredHub;
+use event_loop::{Journal, LoopFault, Server, System, Time};
+
+/// Serves as [`Server::serve`] does. Whatever is sent and however connections come and go, each tenant's replies are those of its own requests alone.
+///
+/// # Errors
+///
+/// Those of [`Server::serve`].
+pub fn serve<S: System + Drop, T: Time + Drop, J: Journal>(
+    server: &mut Server<S, MeasuredHub<T>, T>,
+    journal: &mut J,
+) -> Result<(), LoopFault>
+    ensures over { OnOk result (IsOver server.new) }
+    ensures served { AreServed (lanes_in server.old) (lanes_in server.new) }
+    ensures limits { limits_in server.new.budgets ≡ limits_in server.old.budgets }
+    ensures within { IsWithin server.new.budgets }
+{
+    loop_is_served();
+    server.serve(journal)
+}

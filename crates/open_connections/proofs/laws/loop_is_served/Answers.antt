@@ -1,5 +1,0 @@
-use Rattle.open_connections.proofs.Looping.{loop_served}
-use Rattle.open_connections.proofs.laws.loop_is_served.Goals as goal
-
-pub returns : goal.returns
-returns c = loop_served c.turns_are_served.ensures
