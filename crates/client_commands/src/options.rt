@@ -217,38 +217,46 @@ fn arg<'a>(alloc: Global, word: Word) -> Arg<'a> {
     }
 }
 
-fn with_words<'a>(
-    alloc: Global,
-    command: Command<'a>,
-    words: &[Word],
-) -> Result<Command<'a>, AllocError> {
-    let mut command = command;
+fn args<'a>(alloc: Global, words: &[Word]) -> Result<Vec<Arg<'a>>, AllocError> {
+    let mut args = Vec::new(alloc);
     for word in words {
-        command = command.arg(arg(alloc, *word))?;
+        args.push(arg(alloc, *word))?;
     }
-    Ok(command)
+    Ok(args)
 }
 
-fn with_verbs<'a>(alloc: Global, command: Command<'a>) -> Result<Command<'a>, AllocError> {
-    let mut command = command;
+fn subcommand<'a>(
+    alloc: Global,
+    name: &'a str,
+    about: &'a str,
+    words: &[Word],
+) -> Result<Command<'a>, AllocError> {
+    let args = args(alloc, words)?;
+    Command::new(alloc, name).about(about).args(args)
+}
+
+fn subcommands<'a>(alloc: Global) -> Result<Vec<Command<'a>>, AllocError> {
+    let mut verbs = Vec::new(alloc);
     for row in &VERBS {
         let (name, _, about, words) = *row;
-        let verb = Command::new(alloc, name).about(about);
-        command = command.subcommand(with_words(alloc, verb, words)?)?;
+        verbs.push(subcommand(alloc, name, about, words)?)?;
     }
-    Ok(command)
+    Ok(verbs)
 }
 
 fn command<'a>(alloc: Global) -> Result<Command<'a>, AllocError> {
-    let command = Command::new(alloc, "path_client")
+    let options = args(alloc, &OPTIONS)?;
+    let verbs = subcommands(alloc)?;
+    Command::new(alloc, "path_client")
         .version(VERSION)
         .about("Stores, reads and queries documents on a path_server")
         .after_help(
             "Exit status: 0 done, 1 refused by the server, 2 invalid or costly query, 3 invalid command line or key file, 4 no answer",
         )
         .subcommand_required(true)
-        .disable_help_subcommand(true);
-    with_verbs(alloc, with_words(alloc, command, &OPTIONS)?)
+        .disable_help_subcommand(true)
+        .args(options)?
+        .subcommands(verbs)
 }
 
 fn parsed<'a>(alloc: Global, words: &'a [String]) -> Result<ArgMatches<'a>, Error> {
