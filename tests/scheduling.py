@@ -1,19 +1,20 @@
 #!/usr/bin/env python3
-"""Tests in which order bin/build proves crates, on made tasks: each is done once, behind those that it waits for; the one with the longest way before it
-goes first, with several jobs, though others run, and with more where none do; what waits for one that did not go well stays undone."""
+"""Tests in which order bin/build proves crates, on made tasks: each is done once, behind those that it waits for; those with the longest ways before them
+go first, with several jobs, though others run; what waits for one that did not go well stays undone."""
 import sys
 import threading
 import time
 from pathlib import Path
 
 sys.path.insert(0, str(Path(__file__).resolve().parent.parent / "bin/tools"))
-from proving import JOBS, JOBS_ALONE, Task, run_all, ways
+from proving import JOBS, Task, run_all, ways
 
 MANY = 4
-# a chain of large tasks, and tasks that nothing waits for, of which one can be done beside the second of the chain and none beside the third: the name,
-# what it waits for, its length
+# a chain of large tasks, one of nearly its length, a large one that is far from it, and small ones that nothing waits for: the name, what it waits for, its
+# length
 CHAIN = [("low", [], 400), ("middle", ["low"], 400), ("high", ["middle", "low"], 400)]
-OTHERS = [*((f"other{at}", [], 10) for at in range(8)), ("beside", ["low"], 10)]
+NEAR = [("near", [], 1000)]
+OTHERS = [*((f"other{at}", [], 10) for at in range(8)), ("far", [], 300), ("beside", ["low"], 10)]
 failures = []
 
 
@@ -45,19 +46,20 @@ def ran(named, failing=()):
 
 
 def main():
-    named = [*OTHERS, *CHAIN]
+    named = [*OTHERS, *NEAR, *CHAIN]
     check("ways", ways([Task(*it[:2], None, it[2]) for it in CHAIN]) == {"low": 1200, "middle": 800, "high": 400})
     begun, told = ran(named)
     check("each is done once", told == {name: True for name, _, _ in named} and len(begun) == len(named))
     for name, waits, _ in named:
         check(f"{name} is behind those that it waits for", begun[name][3].issuperset(waits))
-    check("the longest way goes first", begun["low"][0] == 0)
-    for name, jobs in [("low", JOBS), ("middle", JOBS), ("high", JOBS_ALONE)]:
-        check(f"{name} has its jobs", begun[name][1:3] == (jobs, False))
+    check("the longest ways go first", {begun["low"][0], begun["near"][0]} == {0, 1})
+    for name, _, _ in [*NEAR, *CHAIN]:
+        check(f"{name} has its jobs", begun[name][1:3] == (JOBS, False))
     for name, _, _ in OTHERS:
         check(f"{name} is behind, with one job", begun[name][1:3] == (1, True))
+    check("others are done meanwhile", begun["high"][3] & {name for name, _, _ in OTHERS})
     begun, told = ran(named, ["middle"])
-    check("what waits for a failed one stays undone", told == {**{name: True for name, _, _ in [*OTHERS, CHAIN[0]]}, "middle": False} and "high" not in begun)
+    check("what waits for a failed one stays undone", told == {**{name: True for name, _, _ in [*OTHERS, *NEAR, CHAIN[0]]}, "middle": False} and "high" not in begun)
     print(f"{0 if failures else 1} passed, {len(failures)} failed")
     sys.exit(1 if failures else 0)
 

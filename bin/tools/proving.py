@@ -14,11 +14,11 @@ from pathlib import Path
 QUICK_RT = Path(__file__).resolve().parent.parent / "quick-rt"
 PARTS = ("src", "specs", "proofs", "c")
 BYTES_EACH = 2_500_000_000
-# lines of source from which several jobs make a check shorter. Each job reads all that lies below anew, so there are more than two only where nothing
-# else can be done meanwhile
+# lines of source from which two jobs make a check shorter. Each job reads all that lies below anew
 LARGE = 300
 JOBS = 2
-JOBS_ALONE = 4
+# the part of the longest way from which on a large crate goes ahead of others
+NEAR = 3 / 4
 
 
 def rooms_in_memory():
@@ -96,14 +96,11 @@ class Room:
 
 
 class Task:
-    """Something to do once others are done: a function of how many jobs it may use, and of whether it is behind another one, whose answer says
-    whether it went well. What it takes grows with its length; one of at least `LARGE` lines takes less time with several jobs."""
+    """Something to do once others are done: a function of how many jobs it may use, and of whether it is behind others, whose answer says whether it
+    went well. What it takes grows with its length; one of at least `LARGE` lines takes less time with several jobs."""
 
     def __init__(self, name, waits, work, length=0):
         self.name, self.waits, self.work, self.length = name, waits, work, length
-
-    def jobs(self, idle, is_alone=False):
-        return max(min(idle, JOBS_ALONE if is_alone else JOBS), 1) if self.length >= LARGE else 1
 
 
 def ways(tasks):
@@ -118,36 +115,34 @@ def ways(tasks):
 
 def run_all(tasks, many, tell, silence):
     """Does the tasks, many at a time, those with the longest way before them first; one whose work did not go well, and all that wait for it, stay
-    undone. The end comes no sooner than that of the longest way: so where its next task is large, that one gets its jobs beside the lanes of the
-    others, which are behind it, if there is memory for both; and where nothing else can be done meanwhile, the lanes of these too. Other large tasks
-    get the lanes that no one else can use. tell gets each task that is done, with whether it went well, and nothing but the names of those that run
-    where none was done for so many seconds."""
-    done, failed, running, runs, way, rooms = set(), set(), {}, {}, ways(tasks), rooms_in_memory()
-    front = None
+    undone. The end comes no sooner than that of the longest way: so large tasks whose way is near to it go ahead, with several jobs each, as far as
+    there are lanes. The others are behind them, with a job each, in the lanes that are left, and in one at least. tell gets each task that is done,
+    with whether it went well, and nothing but the names of those that run where none was done for so many seconds."""
+    done, failed, running, ahead, runs, way = set(), set(), set(), set(), {}, ways(tasks)
     with ThreadPoolExecutor(max(len(tasks), 1)) as pool:
 
         def begin(task, jobs, behind):
-            running[task.name] = jobs
+            running.add(task.name)
             runs[pool.submit(task.work, jobs, behind)] = task
 
         while True:
             left = [it for it in tasks if it.name not in {*done, *failed, *running}]
             ready = sorted((it for it in left if done.issuperset(it.waits)), key=lambda it: -way[it.name])
-            if ready and ready[0].length >= LARGE and all(way[it] <= way[ready[0].name] for it in running):
-                front = ready.pop(0)
-                begin(front, front.jobs(many, not ready and not running), False)
-            ahead = running.get(front.name, 0) if front else 0
-            for at, task in enumerate(ready):
-                idle = min(many, max(rooms, many) - ahead) - (sum(running.values()) - ahead)
-                if idle > 0:
-                    begin(task, task.jobs(idle // (len(ready) - at)), True)
+            longest = max((way[it] for it in [*running, *(it.name for it in ready)]), default=0)
+            for task in ready:
+                if task.length >= LARGE and way[task.name] >= NEAR * longest and JOBS * (len(ahead) + 1) <= many:
+                    ahead.add(task.name)
+                    begin(task, JOBS, False)
+                elif len(running) - len(ahead) < max(many - JOBS * len(ahead), 1):
+                    begin(task, 1, True)
             if not runs:
                 return
             ended = wait(runs, timeout=silence, return_when=FIRST_COMPLETED).done
             for it in ended:
                 task = runs.pop(it)
-                del running[task.name]
+                running.discard(task.name)
+                ahead.discard(task.name)
                 (done if it.result() else failed).add(task.name)
                 tell(task, it.result())
             if not ended:
-                tell(None, list(running))
+                tell(None, sorted(running))
