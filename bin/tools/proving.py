@@ -115,9 +115,9 @@ def ways(tasks):
 
 def run_all(tasks, many, tell, silence):
     """Does the tasks, many at a time, those with the longest way before them first; one whose work did not go well, and all that wait for it, stay
-    undone. The end comes no sooner than that of the longest way: so large tasks whose way is near to it go ahead, with several jobs each, as far as
-    there are lanes. The others are behind them, with a job each, in the lanes that are left, and in one at least. tell gets each task that is done,
-    with whether it went well, and nothing but the names of those that run where none was done for so many seconds."""
+    undone. The end comes no sooner than that of the longest way: so large tasks whose way is near to it have several jobs each, as far as there are
+    lanes, and a lane less is left to others for each. All others have a job each, and those whose way is not near are behind. tell gets each task that
+    is done, with whether it went well, and nothing but the names of those that run where none was done for so many seconds."""
     done, failed, running, ahead, runs, way = set(), set(), set(), set(), {}, ways(tasks)
     with ThreadPoolExecutor(max(len(tasks), 1)) as pool:
 
@@ -130,11 +130,12 @@ def run_all(tasks, many, tell, silence):
             ready = sorted((it for it in left if done.issuperset(it.waits)), key=lambda it: -way[it.name])
             longest = max((way[it] for it in [*running, *(it.name for it in ready)]), default=0)
             for task in ready:
-                if task.length >= LARGE and way[task.name] >= NEAR * longest and JOBS * (len(ahead) + 1) <= many:
+                is_near = way[task.name] >= NEAR * longest
+                if is_near and task.length >= LARGE and JOBS * (len(ahead) + 1) <= many:
                     ahead.add(task.name)
                     begin(task, JOBS, False)
-                elif len(running) - len(ahead) < max(many - JOBS * len(ahead), 1):
-                    begin(task, 1, True)
+                elif len(running) < many:
+                    begin(task, 1, not is_near)
             if not runs:
                 return
             ended = wait(runs, timeout=silence, return_when=FIRST_COMPLETED).done
