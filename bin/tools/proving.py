@@ -17,7 +17,7 @@ BYTES_EACH = 2_500_000_000
 # lines of source from which two jobs make a check shorter. Each job reads all that lies below anew
 LARGE = 300
 JOBS = 2
-# the part of the longest way from which on a large crate goes ahead of others
+# the part of the longest way from which on a crate is not behind others
 NEAR = 3 / 4
 
 
@@ -116,9 +116,9 @@ def ways(tasks):
 def run_all(tasks, many, tell, silence):
     """Does the tasks, many at a time, those with the longest way before them first; one whose work did not go well, and all that wait for it, stay
     undone. The end comes no sooner than that of the longest way: so large tasks whose way is near to it have several jobs each, as far as there are
-    lanes, and a lane less is left to others for each. All others have a job each, and those whose way is not near are behind. tell gets each task that
+    lanes and memory, and a lane less is left to others for each. All others have a job each, and those whose way is not near are behind. tell gets each task that
     is done, with whether it went well, and nothing but the names of those that run where none was done for so many seconds."""
-    done, failed, running, ahead, runs, way = set(), set(), set(), set(), {}, ways(tasks)
+    done, failed, running, ahead, runs, way, rooms = set(), set(), set(), set(), {}, ways(tasks), max(rooms_in_memory(), many)
     with ThreadPoolExecutor(max(len(tasks), 1)) as pool:
 
         def begin(task, jobs, behind):
@@ -130,8 +130,8 @@ def run_all(tasks, many, tell, silence):
             ready = sorted((it for it in left if done.issuperset(it.waits)), key=lambda it: -way[it.name])
             longest = max((way[it] for it in [*running, *(it.name for it in ready)]), default=0)
             for task in ready:
-                is_near = way[task.name] >= NEAR * longest
-                if is_near and task.length >= LARGE and JOBS * (len(ahead) + 1) <= many:
+                is_near, jobs = way[task.name] >= NEAR * longest, len(running) + (JOBS - 1) * len(ahead)
+                if is_near and task.length >= LARGE and JOBS * (len(ahead) + 1) <= many and jobs + JOBS <= rooms:
                     ahead.add(task.name)
                     begin(task, JOBS, False)
                 elif len(running) < many:
