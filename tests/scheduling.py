@@ -1,12 +1,13 @@
 #!/usr/bin/env python3
 """Tests in which order bin/build proves crates, on made tasks: each is done once, behind those that it waits for; those with the longest ways before them
-go first, with several jobs, though others run; what waits for one that did not go well stays undone."""
+go first, with several jobs, though others run, as far as there is memory; what waits for one that did not go well stays undone."""
 import sys
 import threading
 import time
 from pathlib import Path
 
 sys.path.insert(0, str(Path(__file__).resolve().parent.parent / "bin/tools"))
+import proving
 from proving import JOBS, Task, run_all, ways
 
 MANY = 4
@@ -24,15 +25,21 @@ def check(name, holds):
         print(f"FAILED: {name}")
 
 
-def ran(named, failing=()):
-    """What was told of each task, and how each was begun: when, with how many jobs, and whether behind another one."""
-    begun, told, lock = {}, {}, threading.Lock()
+def ran(named, failing=(), rooms=2 * MANY):
+    """What was told of each task, and how each was begun: when, with how many jobs, and whether behind another one. There is memory for so many jobs,
+    of which there are never more."""
+    begun, told, lock, at_once = {}, {}, threading.Lock(), [0]
+    proving.rooms_in_memory = lambda: rooms
 
     def work_of(name, length):
         def work(jobs, behind):
             with lock:
                 begun[name] = (len(begun), jobs, behind, set(told))
+                at_once[0] += jobs
+                check(f"there is memory for {name}", at_once[0] <= rooms)
             time.sleep(0.02 if length < 100 else 0.1)
+            with lock:
+                at_once[0] -= jobs
             return name not in failing
 
         return work
@@ -60,6 +67,8 @@ def main():
     check("others are done meanwhile", begun["high"][3] & {name for name, _, _ in OTHERS})
     begun, told = ran(named, ["middle"])
     check("what waits for a failed one stays undone", told == {**{name: True for name, _, _ in [*OTHERS, *NEAR, CHAIN[0]]}, "middle": False} and "high" not in begun)
+    begun, told = ran(named, rooms=MANY)
+    check("each is done in little memory", told == {name: True for name, _, _ in named})
     print(f"{0 if failures else 1} passed, {len(failures)} failed")
     sys.exit(1 if failures else 0)
 

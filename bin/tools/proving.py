@@ -116,8 +116,8 @@ def ways(tasks):
 def run_all(tasks, many, tell, silence):
     """Does the tasks, many at a time, those with the longest way before them first; one whose work did not go well, and all that wait for it, stay
     undone. The end comes no sooner than that of the longest way: so large tasks whose way is near to it have several jobs each, as far as there are
-    lanes and memory, and a lane less is left to others for each. All others have a job each, and those whose way is not near are behind. tell gets each task that
-    is done, with whether it went well, and nothing but the names of those that run where none was done for so many seconds."""
+    lanes and memory, and a lane less is left to others for each. All others have a job each, and those whose way is not near are behind. tell gets
+    each task that is done, with whether it went well, and nothing but the names of those that run where none was done for so many seconds."""
     done, failed, running, ahead, runs, way, rooms = set(), set(), set(), set(), {}, ways(tasks), max(rooms_in_memory(), many)
     with ThreadPoolExecutor(max(len(tasks), 1)) as pool:
 
@@ -134,7 +134,7 @@ def run_all(tasks, many, tell, silence):
                 if is_near and task.length >= LARGE and JOBS * (len(ahead) + 1) <= many and jobs + JOBS <= rooms:
                     ahead.add(task.name)
                     begin(task, JOBS, False)
-                elif len(running) < many:
+                elif len(running) < many and jobs < rooms:
                     begin(task, 1, not is_near)
             if not runs:
                 return
