@@ -139,7 +139,8 @@ def beside(it):
 
 # ---- building and checking
 
-TOOLS = ("tests/fitting.py", "tests/trying.py", "tests/definitions.py", "bin/edits fit", "bin/check-layout", "bin/definitions")
+TOOLS = ("tests/fitting.py", "tests/trying.py", "tests/quick_rt.py", "tests/scheduling.py", "tests/building.py", "tests/definitions.py", "tests/recorded_times.py",
+         "bin/edits fit", "bin/check-layout", "bin/definitions")
 OF_GATE = {"rt ci": "`rt ci`: proofs from nothing, two compilers, tests of the crates", "bin/edits try must-fail": "`bin/edits try must-fail`, beside it: wrong bodies are refused"}
 
 
@@ -151,15 +152,24 @@ def building(figures):
     """What the first calls and the gate take. It has three parts, which are recorded apart."""
     first, built, gate = (of(figures, name) for name in ("unproved", "build", "gate"))
     crates = f"{built['crates']} crates" if built else "all crates"
-    rows = [("both programs without a proof, as the first call makes them", first), (f"`bin/build`: {crates} proved, both programs compiled", built),
-            ("`bin/check`: the whole gate", gate and {"wall": gate["wall"], "processor": sum(it[2] for it in gate["parts"])})]
+    rows = [("both programs without a proof, as the first call makes them", first),
+            (f"`bin/build`{on_processors(figures, 'build')}: {crates} proved, both programs compiled", built),
+            (f"`bin/check`{on_processors(figures, 'gate')}: the whole gate", gate and {"wall": gate["wall"], "processor": sum(it[2] for it in gate["parts"])})]
     yield filled("How long a first call takes, the proof that goes on after it, and the gate. All start from nothing. Processor minutes are those of all processors together.")
     yield table(["what", "minutes", "processor minutes"], [[what, *((minutes(it["wall"]), minutes(it["processor"])) if it else (NONE, NONE))] for what, it in rows])
+    for command, name in (("bin/build", "build"), ("bin/check", "gate")):
+        if name in figures["parts"]:
+            yield filled("`{0}` was measured apart from the rest: of commit {commit} on {machine}.".format(command, **figures["parts"][name]))
     if gate:
         yield "The parts of the gate:"
         yield table(["part", "minutes", "processor minutes", "passed", "failed"], list(of_gate(gate["parts"])))
         if gate["kept"]:
             yield f"The proofs of {gate['kept']} crates were kept from an earlier run."
+
+
+def on_processors(figures, name):
+    it = figures["parts"].get(name, {})
+    return f" on {it['processors']} processors" if "processors" in it else ""
 
 
 def of_gate(parts):
@@ -289,11 +299,12 @@ def of(figures, name):
 
 
 def with_times(text, figures):
-    """Text with the minutes of a first answer, a build and a gate between their marks, as far as they are recorded."""
+    """Text with the minutes of a first answer, a build and a gate between their marks, and on how many processors, as far as they are recorded."""
     for name in ("unproved", "build", "gate"):
         it = of(figures, name)
         if it:
-            text = re.sub(rf"(<!-- {name} -->).*?(<!-- -->)", rf"\g<1>{max(round(it['wall'] / 60), 2)} minutes\2", text, flags=re.S)
+            told = f"{max(round(it['wall'] / 60), 2)} minutes{on_processors(figures, name)}"
+            text = re.sub(rf"(<!-- {name} -->).*?(<!-- -->)", rf"\g<1>{told}\2", text, flags=re.S)
     return text
 
 

@@ -8,7 +8,8 @@ measures the program beside the peers that are installed, and writes docs/BENCHM
   --into FOLDER    writes the page, the plots and README's part there, and not into the repository
   --draw           measures nothing, and writes page and plots of what is recorded
   --build FILE     records the times of a first build, of which FILE is what bin/build printed (build/log), and draws
-  --gate FILE      records the times of a gate, of which FILE is what bin/check printed, and draws
+  --gate FILE      records the times of a gate, of which FILE is what bin/check printed, and draws; both as run on the processors that
+                   the report may run on (`taskset`)
   --check          measures and writes nothing: status 1 if the page or README is not what the recorded figures give
 
 What was measured is recorded in docs/plots/figures.json. A part that fails or takes more than {most} minutes is recorded as not measured, and
@@ -131,11 +132,12 @@ def make_library():
 
 
 def read_times(name, reader, file):
-    """What a log says of times, as a part of the report."""
+    """What a log says of times, as a part of the report: of this commit, on this machine and on the processors that this process may run on."""
     try:
-        return {"date": now(), "commit": commit(), "result": reader(file.read_text(encoding="utf-8", errors="replace"))}
+        result = reader(file.read_text(encoding="utf-8", errors="replace"))
     except (OSError, logs.NoTimes) as error:
         sys.exit(f"bench/report.py: --{name} {file}: {error}")
+    return {"date": now(), "commit": commit(), "machine": machine(), "processors": len(os.sched_getaffinity(0)), "result": result}
 
 
 def draw(figures_file, folder):
