@@ -1,13 +1,15 @@
 #!/usr/bin/env python3
 """Tests bin/build on a made tree of three crates with a made toolchain: each crate is proved once, over the libraries of those below it; libraries stand
 in build/proved and programs where their crates have them, or all in the crates' folders with --keep; a second run proves nothing, and one after an edit what
-changed and all above it; what a killed run left is put back; and a crate that is not proved keeps those above it from being tried."""
+changed and all above it; what a killed run left is put back; a crate that is not proved keeps those above it from being tried; and what goes on in the
+background has the least share of a processor that others want."""
 import os
 import re
 import shutil
 import subprocess
 import sys
 import tempfile
+import time
 from pathlib import Path
 
 BIN = Path(__file__).resolve().parent.parent / "bin"
@@ -21,6 +23,7 @@ if [ "$1" = lib ]; then
     mkdir -p out/rlib
     echo "$name" >out/rlib/made
     echo "$text" >out/rlib/stamp
+    cat /proc/self/autogroup >out/rlib/group 2>/dev/null
 else
     mkdir -p out
     printf '#!/bin/sh\\necho made of %s, over %s\\n' "$text" "$over" >out/$name
@@ -63,6 +66,14 @@ class Tree:
         ended = subprocess.run([self.at / "bin/build", *flags, "top"], **how)
         return [sorted(re.findall(rf"^bin/build: {one} (\w+), ", ended.stderr, re.M)) for one in ("proved", "kept")], ended.returncode
 
+    def goes_on_behind(self):
+        """Whether a run in the background came to its end."""
+        self.build("--behind")
+        log, until = self.at / "build/log", time.monotonic() + 60
+        while time.monotonic() < until and not (log.exists() and "crates are there" in log.read_text()):
+            time.sleep(0.05)
+        return time.monotonic() < until
+
     def says(self):
         return subprocess.run([self.at / "crates/top/out/top"], stdout=subprocess.PIPE, encoding="utf-8").stdout
 
@@ -99,8 +110,13 @@ def main():
         check("what rt finds current with --keep", tree.build("--keep")[0][1][:1], ["middle"])
         tree.write("top", "unhelpful")
         check("a program that refuses --help", tree.build(), ([["low", "middle", "top"], []], 0))
+        tree.write("low", "low five")
+        check("--behind", tree.goes_on_behind(), True)
+        # of the session's group, as Linux tells it where it has such groups
+        group = (tree.at / proved[0] / "rlib/group").read_text()
+        check("its share", group.split()[1:], ["nice", "19"] if group else [])
         check("rooms are put away", [it.name for it in (tree.at / "build/rooms").rglob("*") if it.name in CRATES], [])
-    print(f"14 cases, {len(failures)} differ")
+    print(f"16 cases, {len(failures)} differ")
     sys.exit(1 if failures else 0)
 
 
