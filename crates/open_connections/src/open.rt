@@ -428,7 +428,7 @@ impl<S: Peer, C: LoopCore, T: Time + Drop> Open<S, C, T> {
         }
     }
 
-    // Notes what the hub tells of a turn.
+    // Notes what the core tells of a turn.
     fn note_turn(&mut self, key: usize, now: u64)
         ensures { Stays (lanes_of self.old) (lanes_of self.new) }
     {
@@ -741,7 +741,7 @@ impl<S: Peer, C: LoopCore, T: Time + Drop> Open<S, C, T> {
     }
 }
 
-// The number that the hub knows a connection by.
+// The number that the core knows a connection by.
 fn conn_of(key: usize) -> Option<u32>
     ensures { MatchOption result (2 ^ 32 ≤ key) (λ conn. conn ≡ key) }
 {
