@@ -1,13 +1,19 @@
 -- The connections of the administration address: this project's own.
-use Rattle.std.specs.Prelude.{◌≡◌, ◌⊎◌, ℕ, ◌+◌, ◌-◌, ◌^◌, ◌<◌, ◌&&◌, Bool, nat_le, nat_lt, Option, Some, None}
-use Rattle.admin_pages.specs.declared.routes.Asked.{Asked}
+use Rattle.std.specs.Prelude.{◌≡◌, ◌⊎◌, ℕ, ◌+◌, ◌-◌, ◌^◌, ◌<◌, ◌&&◌, List, ◌++◌, Bool, nat_le, nat_lt, Option, Some, None}
+use Rattle.outbox.specs.Told.{Told, with_read}
 use Rattle.admin_pages.specs.declared.standing.Standing.{Standing}
-use Rattle.admin_pages.specs.Standings.{after_asked}
+use Rattle.admin_desk.specs.Visits.{AtMostSays}
 use Rattle.admin_desk.specs.declared.desk.Caller.{Caller}
 
--- nothing is said, or one thing that was asked
-abbrev pub SaysAtMost : Standing → Standing → Type 0
-SaysAtMost old new = (new ≡ old) ⊎ ((it : Asked) × (new ≡ after_asked old it))
+-- nothing is said, or what is asked by the bytes that came on a connection before, and a piece that was read of its stream now
+abbrev pub SaysBy : (wire wire' : Option Told) → (came : List ℕ) → Standing → Standing → Type 0
+SaysBy wire wire' came old new = (new ≡ old) ⊎ ((piece : List ℕ) × (wire' ≡ with_read piece wire) × AtMostSays (came ++ piece) old new)
+
+-- the same at a place: where the connection is closed behind it, its stream is gone
+abbrev pub SaysAt : {S : Type 0} → (S → Option Told) → Option (Caller S) → Option (Caller S) → Standing → Standing → Type 0
+SaysAt told None caller' old new = new ≡ old
+SaysAt told (Some caller) None old new = (wire' : Option Told) × SaysBy (told caller.stream) wire' caller.visit.head.items old new
+SaysAt told (Some caller) (Some caller') old new = SaysBy (told caller.stream) (told caller'.stream) caller.visit.head.items old new
 
 -- the keys of these connections: eight below the greatest ones, which the system's own have
 abbrev pub is_own : ℕ → Bool

@@ -2,14 +2,14 @@
 ghost use Rattle.std.specs.Prelude.{◌≡◌, ◌≤◌, None, false, nat_lt};
 ghost use Rattle.slab.specs.Slab.{get, slab_len};
 ghost use Rattle.admin_pages.specs.Standings.{at_start};
-ghost use Rattle.admin_desk.specs.Desks.{IsLate, SaysAtMost, is_own};
+ghost use Rattle.admin_desk.specs.Desks.{IsLate, SaysAt, SaysBy, is_own};
 
 use crate::visit::{PIECE, Stage, Visit};
 use admin_pages::{Gauges, Metrics, Standing};
+use outbox::{Given, Taken, Wire};
 use slab::Slab;
 use socket_poll::{Peer, Report};
 use std::alloc::Global;
-use std::io::ErrorKind;
 
 /// The most connections that are open at once; further ones wait to be accepted.
 pub const PLACES: usize = 8;
@@ -150,7 +150,7 @@ impl<S: Peer> Desk<S> {
 
     /// One step of a connection. It is closed if its time is up, or it is done with.
     pub fn step(&mut self, place: usize, now: u64)
-        ensures said { SaysAtMost self.old.standing self.new.standing }
+        ensures said { SaysAt S.told (get self.old.callers place) (get self.new.callers place) self.old.standing self.new.standing }
         ensures late { IsLate (get self.old.callers place) now → get self.new.callers place ≡ None }
     {
         if !self.go_on(place, now) {
@@ -160,7 +160,7 @@ impl<S: Peer> Desk<S> {
 
     // One step of a connection, and whether it stays open.
     fn go_on(&mut self, place: usize, now: u64) -> bool
-        ensures said { SaysAtMost self.old.standing self.new.standing }
+        ensures said { SaysAt S.told (get self.old.callers place) (get self.new.callers place) self.old.standing self.new.standing }
         ensures late { IsLate (get self.old.callers place) now → result ≡ false }
     {
         match self.callers.get_mut(place) {
@@ -189,7 +189,7 @@ impl<S: Peer> Caller<S> {
 
     // One step, and whether it stays open.
     fn step(&mut self, standing: &mut Standing, now: u64) -> bool
-        ensures { SaysAtMost standing.old standing.new }
+        ensures { SaysBy (S.told self.old.stream) (S.told self.new.stream) self.old.visit.head.items standing.old standing.new }
     {
         if !self.can_go_on() {
             return true;
@@ -204,20 +204,19 @@ impl<S: Peer> Caller<S> {
 
     // Reads a piece. What comes behind the request is thrown away.
     fn read(&mut self, standing: &mut Standing, now: u64) -> bool
-        ensures { SaysAtMost standing.old standing.new }
+        ensures { SaysBy (S.told self.old.stream) (S.told self.new.stream) self.old.visit.head.items standing.old standing.new }
     {
         let mut buffer = [0u8; PIECE];
         match self.stream.read(&mut buffer) {
-            Ok(0) => false,
-            Ok(count) => {
+            Given::Bytes(count) => {
                 let piece = buffer.get(..count).unwrap_or_default();
                 self.visit.hear(piece, standing, now).is_ok()
             }
-            Err(error) if error.kind() == ErrorKind::WouldBlock => {
+            Given::Blocked => {
                 self.is_readable = false;
                 true
             }
-            Err(_) => false,
+            Given::Ended | Given::Failed => false,
         }
     }
 
@@ -225,19 +224,18 @@ impl<S: Peer> Caller<S> {
     fn write(&mut self) -> bool {
         let owed = self.visit.owed();
         match self.stream.write(owed.get(..MOST_WRITTEN).unwrap_or(owed)) {
-            Ok(0) => false,
-            Ok(count) => {
+            Taken::Bytes(0) | Taken::Failed => false,
+            Taken::Bytes(count) => {
                 self.visit.took(count);
                 if self.visit.stage == Stage::Done {
                     self.stream.end_writing();
                 }
                 true
             }
-            Err(error) if error.kind() == ErrorKind::WouldBlock => {
+            Taken::Blocked => {
                 self.is_writable = false;
                 true
             }
-            Err(_) => false,
         }
     }
 }

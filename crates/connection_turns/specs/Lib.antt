@@ -1,5 +1,5 @@
 pub mod Counting
 pub mod Turning
-pub mod Sockets
 pub mod Owed
 pub mod Held
+pub mod Planning

@@ -1,6 +1,7 @@
--- What a connection of the loop is owed: this project's own.
+-- What a connection of the loop is owed, and the bytes that moved on its stream: this project's own.
 use Rattle.std.specs.Prelude.{Bool, false, Option, Some, None}
 use Rattle.outbox.specs.Lines.{Line}
+use Rattle.outbox.specs.Told.{Told}
 use Rattle.connection_turns.specs.declared.connection.Phase.{Phase}
 use Rattle.connection_turns.specs.declared.connection.Phase.TheVariants.{Served, Lingering}
 use Rattle.connection_turns.specs.declared.connection.Connection.{Connection}
@@ -12,6 +13,10 @@ line_in Lingering line = None
 
 abbrev pub line_of : {S : Type 0} → Connection S → Option Line
 line_of c = line_in c.phase c.outbox
+
+-- what its stream shows
+abbrev pub wire_of : {S : Type 0} → (S → Option Told) → Connection S → Option Told
+wire_of told c = told c.socket.stream
 
 -- one is lost that is served although its peer is gone
 abbrev pub lost_in : Phase → Bool → Bool

@@ -1,8 +1,13 @@
 //! One connection and what is known of it.
-ghost use Rattle.std.specs.Prelude.{◌≡◌, ◌<◌, ◌≤◌, ◌||◌, length, Some, None, IsTrue};
-ghost use Rattle.outbox.specs.Lines.{fresh};
+ghost use Rattle.std.specs.Prelude.{◌≡◌, ℕ, List, ◌<◌, ◌≤◌, ◌||◌, length, is_some, Some, None, false};
+ghost use Rattle.outbox.specs.Lines.{fresh, is_over};
+ghost use Rattle.outbox.specs.Told.{IsReadOn};
+ghost use Rattle.outbox.specs.Turns as turns;
+ghost use Rattle.outbox.specs.Turns.{Flushes};
 ghost use Rattle.connection_turns.specs.Held.{renewed};
-ghost use Rattle.connection_turns.specs.Owed.{line_of, is_lost};
+ghost use Rattle.connection_turns.specs.Owed.{line_of, wire_of, is_lost};
+ghost use Rattle.connection_turns.specs.Planning as planning;
+ghost use Rattle.connection_turns.specs.Planning.{raised, ends, plan_of, next_of, plan_in};
 ghost use Rattle.connection_turns.specs.Turning.{TakesTurn};
 
 use crate::claim::{Claim, Pool, Purpose};
@@ -10,10 +15,9 @@ use crate::counted::Counted;
 use crate::ending::End;
 use crate::limits::Limits;
 use crate::socket::{Fate, Socket};
-use outbox::{Core, Outbox, Readiness, feed, turn};
+use outbox::{Core, Given, Outbox, Readiness, Wire, feed, flush, turn};
 use socket_poll::{Peer, Report, Time};
 use std::alloc::Global;
-use std::io::{ErrorKind, Read};
 use std::net::SocketAddr;
 
 /// The longest frame and the longest reply of a connection without a share of the budget. Such a connection also reads at most as many bytes at a
@@ -97,7 +101,8 @@ pub struct Connection<S: Peer> {
 impl<S: Peer> Connection<S> {
     /// One that was just taken in.
     pub fn new(alloc: Global, number: u64, peer: SocketAddr, stream: S, now: u64) -> Connection<S>
-        ensures { line_of result ≡ Some fresh }
+        ensures line { line_of result ≡ Some fresh }
+        ensures wire { wire_of S.told result ≡ S.told stream }
     {
         Connection {
             number,
@@ -127,7 +132,9 @@ impl<S: Peer> Connection<S> {
     /// Notes what was reported. It stays known until a call says that it would wait.
     pub fn note(&mut self, report: Report)
         ensures line { line_of self.new ≡ line_of self.old }
+        ensures wire { wire_of S.told self.new ≡ wire_of S.told self.old }
         ensures gone { self.new.is_gone ≡ (self.old.is_gone || report.is_gone) }
+        ensures ready { self.new.ready ≡ raised report self.old.ready }
     {
         self.is_gone = self.is_gone || report.is_gone;
         self.socket.report(report.is_ending);
@@ -137,7 +144,9 @@ impl<S: Peer> Connection<S> {
 
     /// The share with this ticket is granted.
     pub fn hold(&mut self, ticket: u64, now: u64)
-        ensures { line_of self.new ≡ line_of self.old }
+        ensures line { line_of self.new ≡ line_of self.old }
+        ensures wire { wire_of S.told self.new ≡ wire_of S.told self.old }
+        ensures claim { self.new.claim ≡ planning.granted ticket now self.old.claim }
     {
         self.moved = now;
         self.claim = granted(self.claim, ticket, now);
@@ -146,6 +155,7 @@ impl<S: Peer> Connection<S> {
     /// Its query went on in this second: the time for which it may hold its share begins anew.
     pub fn renew(&mut self, now: u64)
         ensures line { line_of self.new ≡ line_of self.old }
+        ensures wire { wire_of S.told self.new ≡ wire_of S.told self.old }
         ensures claim { self.new.claim ≡ renewed now self.old.claim }
     {
         self.claim = renewed(self.claim, now);
@@ -153,7 +163,9 @@ impl<S: Peer> Connection<S> {
 
     /// What its next turn does: all where there is room for any reply and its peer takes what it is owed, and else one thing after the other.
     /// While a query of it is under way, it goes on with a share of memory only.
-    pub fn plan(&self, has_room: bool) -> Plan {
+    pub fn plan(&self, has_room: bool) -> Plan
+        ensures { result ≡ plan_of has_room self.now }
+    {
         match &self.claim {
             Some(claim) => self.plan_with(claim),
             None => {
@@ -166,7 +178,9 @@ impl<S: Peer> Connection<S> {
         }
     }
 
-    fn plan_with(&self, claim: &Claim) -> Plan {
+    fn plan_with(&self, claim: &Claim) -> Plan
+        ensures { result ≡ plan_in false false (Some claim.now) self.now.ready self.now.outbox }
+    {
         if !claim.is_granted || self.can_write() {
             return Plan::Write;
         }
@@ -177,7 +191,9 @@ impl<S: Peer> Connection<S> {
         }
     }
 
-    fn plan_without(&self) -> Plan {
+    fn plan_without(&self) -> Plan
+        ensures { result ≡ plan_in false false None self.now.ready self.now.outbox }
+    {
         if self.can_write() || self.outbox.owed().len() >= ALLOWANCE {
             Plan::Write
         } else {
@@ -185,7 +201,9 @@ impl<S: Peer> Connection<S> {
         }
     }
 
-    fn read_or_answer(&self) -> Plan {
+    fn read_or_answer(&self) -> Plan
+        ensures { result ≡ next_of self.now.ready }
+    {
         if self.ready.waiting {
             Plan::Answer
         } else {
@@ -194,6 +212,7 @@ impl<S: Peer> Connection<S> {
     }
 
     /// One turn by this plan, which reads so many bytes at most, and how many bytes were read and written.
+    #[tactic(auto, using(crate::proofs::Writing::only_written))]
     pub fn turn<C: Core, T: Time + Drop>(
         &mut self,
         core: &mut Counted<C, T>,
@@ -204,14 +223,15 @@ impl<S: Peer> Connection<S> {
     ) -> (u64, u64)
         requires some { 0 < most }
         requires within { most ≤ length buffer.old }
-        ensures turn { TakesTurn (C.takes conn) (C.answers conn) self.old.outbox core.old self.new.outbox core.new }
+        ensures turn { TakesTurn (C.takes conn) (C.answers conn) self.old.outbox (wire_of S.told self.old) core.old self.new.outbox (wire_of S.told self.new) core.new }
+        ensures writes { plan ≡ Plan.Write → core.new ≡ core.old }
         ensures phase { self.new.phase ≡ self.old.phase }
     {
         self.socket.begin();
         core.begin(plan == Plan::Answer);
         match plan {
             Plan::Read => self.read(core, conn, &mut buffer[..most]),
-            Plan::Write => self.write(core, conn, &mut buffer[..most]),
+            Plan::Write => self.write(),
             Plan::Answer | Plan::All => self.serve(core, conn, &mut buffer[..most]),
         }
         self.has_faulted = self.has_faulted || core.has_faulted();
@@ -230,7 +250,7 @@ impl<S: Peer> Connection<S> {
         buffer: &mut [u8],
     )
         requires { 0 < length buffer.old }
-        ensures turn { TakesTurn (C.takes conn) (C.answers conn) self.old.outbox core.old self.new.outbox core.new }
+        ensures turn { TakesTurn (C.takes conn) (C.answers conn) self.old.outbox (wire_of S.told self.old) core.old self.new.outbox (wire_of S.told self.new) core.new }
         ensures phase { self.new.phase ≡ self.old.phase }
     {
         turn(
@@ -251,7 +271,7 @@ impl<S: Peer> Connection<S> {
         buffer: &mut [u8],
     )
         requires { 0 < length buffer.old }
-        ensures turn { TakesTurn (C.takes conn) (C.answers conn) self.old.outbox core.old self.new.outbox core.new }
+        ensures turn { TakesTurn (C.takes conn) (C.answers conn) self.old.outbox (wire_of S.told self.old) core.old self.new.outbox (wire_of S.told self.new) core.new }
         ensures phase { self.new.phase ≡ self.old.phase }
     {
         feed(
@@ -264,30 +284,12 @@ impl<S: Peer> Connection<S> {
         );
     }
 
-    // Writes, as a turn in which nothing may be read or answered.
-    fn write<C: Core, T: Time + Drop>(
-        &mut self,
-        core: &mut Counted<C, T>,
-        conn: u32,
-        buffer: &mut [u8],
-    )
-        requires { 0 < length buffer.old }
-        ensures turn { TakesTurn (C.takes conn) (C.answers conn) self.old.outbox core.old self.new.outbox core.new }
+    // Writes.
+    fn write(&mut self)
+        ensures turn { Flushes self.old.outbox (wire_of S.told self.old) self.old.ready self.new.outbox (wire_of S.told self.new) self.new.ready }
         ensures phase { self.new.phase ≡ self.old.phase }
     {
-        let (readable, waiting) = (self.ready.readable, self.ready.waiting);
-        self.ready.readable = false;
-        self.ready.waiting = false;
-        turn(
-            &mut self.outbox,
-            &mut self.socket,
-            core,
-            conn,
-            buffer,
-            &mut self.ready,
-        );
-        self.ready.readable = readable;
-        self.ready.waiting = waiting;
+        flush(&mut self.outbox, &mut self.socket, &mut self.ready);
     }
 
     /// Whether it is served although its peer is gone. Its next turn ends it.
@@ -301,13 +303,15 @@ impl<S: Peer> Connection<S> {
     }
 
     // Whether there is something to write, and room for it.
-    fn can_write(&self) -> bool {
+    fn can_write(&self) -> bool
+        ensures { result ≡ turns.can_write self.now.ready self.now.outbox }
+    {
         self.ready.writable && self.outbox.owes()
     }
 
     /// Whether a turn does something.
     pub fn can_go_on(&self, has_room: bool) -> bool
-        ensures { IsTrue (is_lost self.now) → IsTrue result }
+        ensures { result ≡ planning.can_go_on has_room self.now }
     {
         if self.is_lost() {
             return true;
@@ -324,7 +328,9 @@ impl<S: Peer> Connection<S> {
     }
 
     // How it ended, where it is over.
-    fn end(&self) -> Option<End> {
+    fn end(&self) -> Option<End>
+        ensures { is_some result ≡ is_over self.now.outbox }
+    {
         if !self.outbox.is_over() {
             return None;
         }
@@ -338,7 +344,9 @@ impl<S: Peer> Connection<S> {
     }
 
     /// What comes of a turn at it.
-    pub fn outcome(&self) -> Outcome {
+    pub fn outcome(&self) -> Outcome
+        ensures { ends result ≡ is_over self.now.outbox }
+    {
         match self.end() {
             Some(how) => Outcome::Over(how),
             None => Outcome::Open,
@@ -347,7 +355,8 @@ impl<S: Peer> Connection<S> {
 
     /// Serves it no further. The writing side ends, so that what was written arrives although bytes are unread.
     pub fn linger(&mut self, now: u64)
-        ensures { line_of self.new ≡ None }
+        ensures line { line_of self.new ≡ None }
+        ensures wire { wire_of S.told self.new ≡ wire_of S.told self.old }
     {
         self.socket.stream.end_writing();
         self.claim = None;
@@ -363,16 +372,16 @@ impl<S: Peer> Connection<S> {
 
     /// Reads once and throws away what comes. Whether more may come.
     pub fn drain(&mut self, buffer: &mut [u8]) -> bool
-        ensures { line_of self.new ≡ line_of self.old }
+        ensures line { line_of self.new ≡ line_of self.old }
+        ensures wire { IsReadOn (wire_of S.told self.old) (wire_of S.told self.new) }
     {
         match self.socket.stream.read(buffer) {
-            Ok(0) => false,
-            Ok(_) => true,
-            Err(error) if error.kind() == ErrorKind::WouldBlock => {
+            Given::Bytes(_) => true,
+            Given::Blocked => {
                 self.ready.readable = false;
                 true
             }
-            Err(_) => false,
+            Given::Ended | Given::Failed => false,
         }
     }
 
@@ -442,7 +451,9 @@ impl<S: Peer> Connection<S> {
 }
 
 // A share that is granted, where it has this ticket.
-fn granted(claim: Option<Claim>, ticket: u64, now: u64) -> Option<Claim> {
+fn granted(claim: Option<Claim>, ticket: u64, now: u64) -> Option<Claim>
+    ensures { result ≡ planning.granted ticket now claim }
+{
     match claim {
         Some(claim) if claim.ticket == ticket => Some(Claim {
             is_granted: true,

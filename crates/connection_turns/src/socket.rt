@@ -1,10 +1,7 @@
-//! A wire over a stream that never waits.
-ghost use Rattle.std.specs.Prelude.{None};
-ghost use Rattle.outbox.specs.Moves.{Gives, Takes};
-ghost use Rattle.connection_turns.specs.Sockets.{GivesFrom, TakesTo};
+//! A connection's stream, and what its turns are told of it.
+ghost use Rattle.std.specs.Prelude.{◌≡◌};
 
 use outbox::{Given, Taken, Wire};
-use std::io::{ErrorKind, Read, Write};
 
 /// How a stream came to its end.
 #[derive(Clone, Copy)]
@@ -19,7 +16,7 @@ pub(crate) enum Fate {
     Unwritten,
 }
 
-/// A wire over a stream that never waits, as a socket that was told so.
+/// A wire over a stream, which shows what the stream shows.
 #[derive(Drop)]
 pub(crate) struct Socket<S> {
     pub(crate) stream: S,
@@ -33,9 +30,11 @@ pub(crate) struct Socket<S> {
     is_ending: bool,
 }
 
-impl<S: Read + Write> Socket<S> {
+impl<S: Wire> Socket<S> {
     /// A wire over this stream.
-    pub fn new(stream: S) -> Socket<S> {
+    pub fn new(stream: S) -> Socket<S>
+        ensures { result.stream ≡ stream }
+    {
         Socket {
             stream,
             read: 0,
@@ -47,7 +46,9 @@ impl<S: Read + Write> Socket<S> {
     }
 
     /// A turn begins.
-    pub fn begin(&mut self) {
+    pub fn begin(&mut self)
+        ensures { self.new.stream ≡ self.old.stream }
+    {
         self.read = 0;
         self.written = 0;
     }
@@ -63,55 +64,42 @@ impl<S: Read + Write> Socket<S> {
     }
 
     /// The stream was reported ready, or its input as ended.
-    pub fn report(&mut self, is_ending: bool) {
+    pub fn report(&mut self, is_ending: bool)
+        ensures { self.new.stream ≡ self.old.stream }
+    {
         self.is_drained = false;
         self.is_ending = self.is_ending || is_ending;
     }
 }
 
-impl<S: Read + Write> Wire for Socket<S> {
-    ghost told = { λ _. None };
+impl<S: Wire> Wire for Socket<S> {
+    ghost told = { λ s. S.told s.stream };
 
-    fn read(&mut self, buffer: &mut [u8]) -> Given
-        ensures gives { Gives None result buffer.new None }
-        ensures stream { GivesFrom (S.remaining self.old.stream) (S.remaining self.new.stream) result buffer.new }
-    {
+    fn read(&mut self, buffer: &mut [u8]) -> Given {
         if self.is_drained {
             return Given::Blocked;
         }
-        match self.stream.read(buffer) {
-            Ok(0) => {
-                self.fate = Fate::Ended;
-                Given::Ended
-            }
-            Ok(count) => {
+        let given = self.stream.read(buffer);
+        match given {
+            Given::Bytes(count) => {
                 self.is_drained = count < buffer.len() && !self.is_ending;
                 self.read = sum(self.read, count);
-                Given::Bytes(count)
             }
-            Err(error) if error.kind() == ErrorKind::WouldBlock => Given::Blocked,
-            Err(_) => {
-                self.fate = Fate::Unread;
-                Given::Failed
-            }
+            Given::Ended => self.fate = Fate::Ended,
+            Given::Blocked => {}
+            Given::Failed => self.fate = Fate::Unread,
         }
+        given
     }
 
-    fn write(&mut self, bytes: &[u8]) -> Taken
-        ensures takes { Takes None bytes.now result None }
-        ensures stream { TakesTo (S.contents self.old.stream) (S.contents self.new.stream) result bytes.now }
-    {
-        match self.stream.write(bytes) {
-            Ok(count) if count > 0 || bytes.is_empty() => {
-                self.written = sum(self.written, count);
-                Taken::Bytes(count)
-            }
-            Err(error) if error.kind() == ErrorKind::WouldBlock => Taken::Blocked,
-            _ => {
-                self.fate = Fate::Unwritten;
-                Taken::Failed
-            }
+    fn write(&mut self, bytes: &[u8]) -> Taken {
+        let taken = self.stream.write(bytes);
+        match taken {
+            Taken::Bytes(count) => self.written = sum(self.written, count),
+            Taken::Blocked => {}
+            Taken::Failed => self.fate = Fate::Unwritten,
         }
+        taken
     }
 }
 

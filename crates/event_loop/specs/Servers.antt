@@ -1,12 +1,13 @@
 -- A server of many connections, as its clauses see it: this project's own.
 use Rattle.std.specs.Prelude.{◌≡◌, ℕ, Bool, IsFalse, List, Option, None, slice_index_or}
 use Rattle.outbox.specs.Lines.{Line}
+use Rattle.outbox.specs.Told.{Told}
 use Rattle.connection_turns.specs.declared.limits.Limits.{Limits}
 use Rattle.open_connections.specs.declared.budgets.Budgets.{Budgets}
 use Rattle.open_connections.specs.Looping.{Lanes}
 use Rattle.open_connections.specs.Shares.{limits_in}
 
--- whether it takes in connections, how many are open and were taken in, the bytes read and written, its limits, the budgets of memory, the core that answers, and by key what each connection that is served is owed
+-- whether it takes in connections, how many are open and were taken in, the bytes read and written, its limits, the budgets of memory, the core that answers, and by key what each connection that is served is owed, and what the stream of each that is open shows
 pub record Serving (C : Type 0) : Type 0 where
   pub listens : Bool
   pub connected : ℕ
@@ -17,10 +18,11 @@ pub record Serving (C : Type 0) : Type 0 where
   pub budgets : Budgets
   pub core : C
   pub lines : List (Option Line)
+  pub wires : List (Option Told)
 
 -- as the steps of the loop see it
 abbrev pub lanes_in : {C : Type 0} → Serving C → Lanes C
-lanes_in server = record { core = server.core; lines = λ q. slice_index_or server.lines q None; limits = limits_in server.budgets; bytes = (server.read, server.written) }
+lanes_in server = record { core = server.core; lines = λ q. slice_index_or server.lines q None; wires = λ q. slice_index_or server.wires q None; limits = limits_in server.budgets; bytes = (server.read, server.written) }
 
 -- it takes in no connection any more, and none is open
 pub record IsOver {C : Type 0} (server : Serving C) : Type 0 where

@@ -25,7 +25,7 @@ struct Held {
 impl<S: System + Drop, C: LoopCore, T: Time + Drop> Rounds<S, C, T> {
     /// Does a step of each connection of the address, accepts new ones, and begins a drain that was asked for.
     pub fn administer<J: Journal>(&mut self, journal: &J)
-        ensures { Stays (lanes_of self.old.opened) (lanes_of self.new.opened) }
+        ensures { Stays (lanes_of S.Stream.told self.old.opened) (lanes_of S.Stream.told self.new.opened) }
     {
         'places: for place in 0..PLACES {
             self.serve_caller(place, journal);
@@ -36,7 +36,7 @@ impl<S: System + Drop, C: LoopCore, T: Time + Drop> Rounds<S, C, T> {
 
     // One step of a connection. A page tells what is so as it begins.
     fn serve_caller<J: Journal>(&mut self, place: usize, journal: &J)
-        ensures { Stays (lanes_of self.old.opened) (lanes_of self.new.opened) }
+        ensures { Stays (lanes_of S.Stream.told self.old.opened) (lanes_of S.Stream.told self.new.opened) }
     {
         if self.desk.wants_page(place) {
             self.begin_page(place, journal.dropped());
@@ -45,7 +45,7 @@ impl<S: System + Drop, C: LoopCore, T: Time + Drop> Rounds<S, C, T> {
     }
 
     fn begin_page(&mut self, place: usize, dropped: u64)
-        ensures { Stays (lanes_of self.old.opened) (lanes_of self.new.opened) }
+        ensures { Stays (lanes_of S.Stream.told self.old.opened) (lanes_of S.Stream.told self.new.opened) }
     {
         let gauges = self.gauges(dropped);
         self.desk.begin_page(place, self.opened.metrics(), &gauges);
@@ -53,7 +53,7 @@ impl<S: System + Drop, C: LoopCore, T: Time + Drop> Rounds<S, C, T> {
 
     // Accepts connections of the address, as long as there is room.
     fn receive(&mut self)
-        ensures { Stays (lanes_of self.old.opened) (lanes_of self.new.opened) }
+        ensures { Stays (lanes_of S.Stream.told self.old.opened) (lanes_of S.Stream.told self.new.opened) }
     {
         'callers: for _ in 0..PLACES {
             if !self.receive_one() {
@@ -64,7 +64,7 @@ impl<S: System + Drop, C: LoopCore, T: Time + Drop> Rounds<S, C, T> {
 
     // Accepts one, and tells whether another one may wait. Once the server has nothing more to do, it accepts none.
     fn receive_one(&mut self) -> bool
-        ensures { Stays (lanes_of self.old.opened) (lanes_of self.new.opened) }
+        ensures { Stays (lanes_of S.Stream.told self.old.opened) (lanes_of S.Stream.told self.new.opened) }
     {
         if !self.acceptor.listens && self.opened.count() == 0 {
             return false;
@@ -83,7 +83,7 @@ impl<S: System + Drop, C: LoopCore, T: Time + Drop> Rounds<S, C, T> {
     }
 
     fn take_caller(&mut self, key: usize, mut stream: S::Stream)
-        ensures { Stays (lanes_of self.old.opened) (lanes_of self.new.opened) }
+        ensures { Stays (lanes_of S.Stream.told self.old.opened) (lanes_of S.Stream.told self.new.opened) }
     {
         if self.system.watch(&mut stream, key) {
             self.desk.take_in(stream, self.seconds.last());
@@ -151,7 +151,7 @@ impl<S: System + Drop, C: LoopCore, T: Time + Drop> Rounds<S, C, T> {
 
     // If a drain was asked for, the server accepts no connection from now on.
     fn heed_drain(&mut self)
-        ensures { Stays (lanes_of self.old.opened) (lanes_of self.new.opened) }
+        ensures { Stays (lanes_of S.Stream.told self.old.opened) (lanes_of S.Stream.told self.new.opened) }
     {
         if self.drained.is_some() || self.desk.standing().grace.is_none() {
             return;
@@ -163,8 +163,8 @@ impl<S: System + Drop, C: LoopCore, T: Time + Drop> Rounds<S, C, T> {
 
     /// Ends a connection that is served, once the server has drained for as long as was asked.
     pub fn drain<J: Journal>(&mut self, key: usize, journal: &mut J) -> Result<(), LoopFault>
-        ensures lanes { DoesAtMost C.steps (LetGo key) (lanes_of self.old.opened) (lanes_of self.new.opened) }
-        ensures graced { IsNotOut self.old.drained self.old.desk.standing.grace self.old.seconds.last → Stays (lanes_of self.old.opened) (lanes_of self.new.opened) }
+        ensures lanes { DoesAtMost C.steps (LetGo key) (lanes_of S.Stream.told self.old.opened) (lanes_of S.Stream.told self.new.opened) }
+        ensures graced { IsNotOut self.old.drained self.old.desk.standing.grace self.old.seconds.last → Stays (lanes_of S.Stream.told self.old.opened) (lanes_of S.Stream.told self.new.opened) }
     {
         if !self.is_drained() {
             return Ok(());
@@ -173,7 +173,7 @@ impl<S: System + Drop, C: LoopCore, T: Time + Drop> Rounds<S, C, T> {
     }
 
     fn cut<J: Journal>(&mut self, key: usize, journal: &mut J) -> Result<(), LoopFault>
-        ensures { DoesAtMost C.steps (LetGo key) (lanes_of self.old.opened) (lanes_of self.new.opened) }
+        ensures { DoesAtMost C.steps (LetGo key) (lanes_of S.Stream.told self.old.opened) (lanes_of S.Stream.told self.new.opened) }
     {
         if !self.opened.is_served(key) {
             return Ok(());

@@ -1,6 +1,7 @@
 //! The rounds of a loop: each waits for what is ready, takes connections in, and gives turns.
 ghost use Rattle.std.specs.Prelude.{◌≡◌, ℕ, None, IfOk, OnOk, IsFalse, IsTrue};
-ghost use Rattle.open_connections.specs.Looping.{Stays, DoesSome, DoesAtMost, HasTurn, LetGo};
+ghost use Rattle.outbox.specs.Told.{IsUnused};
+ghost use Rattle.open_connections.specs.Looping.{Stays, DoesSome, DoesAtMost, TurnsAtMost, LetGo};
 ghost use Rattle.open_connections.specs.Opened.{lanes_of, connected_in, has_time, IsPutOff};
 ghost use Rattle.open_connections.specs.Shares.{fresh_budgets};
 ghost use Rattle.event_loop.specs.Clocked.{IsNoted, NotesMoved};
@@ -87,8 +88,8 @@ impl<S: System + Drop, C: LoopCore, T: Time + Drop> Rounds<S, C, T> {
         ensures unconnected { IfOk result (λ rounds. connected_in rounds.opened ≡ 0) }
         ensures none_taken { IfOk result (λ rounds. rounds.acceptor.taken ≡ 0) }
         ensures limits { IfOk result (λ rounds. rounds.limits ≡ limits) }
-        ensures core { IfOk result (λ rounds. (lanes_of rounds.opened).core ≡ core) }
-        ensures none { IfOk result (λ rounds. (q : ℕ) → (lanes_of rounds.opened).lines q ≡ None) }
+        ensures core { IfOk result (λ rounds. (lanes_of S.Stream.told rounds.opened).core ≡ core) }
+        ensures none { IfOk result (λ rounds. (q : ℕ) → (lanes_of S.Stream.told rounds.opened).lines q ≡ None) }
         ensures budgets { IfOk result (λ rounds. rounds.opened.budgets ≡ fresh_budgets limits.memory) }
     {
         let opened = Open::new(alloc, turns, core, limits.memory)?;
@@ -133,7 +134,7 @@ impl<S: System + Drop, C: LoopCore, T: Time + Drop> Rounds<S, C, T> {
     ///
     /// `Net` where the system does not say what is ready, `Memory` where a growth was refused that no connection asked for.
     pub fn step<J: Journal>(&mut self, journal: &mut J) -> Result<(), LoopFault>
-        ensures { DoesSome C.steps (lanes_of self.old.opened) (lanes_of self.new.opened) }
+        ensures { DoesSome C.steps (lanes_of S.Stream.told self.old.opened) (lanes_of S.Stream.told self.new.opened) }
     {
         // the clock is read before the wait: what it says of idle connections is so only if nothing was reported since
         let is_later = self.is_later();
@@ -147,14 +148,14 @@ impl<S: System + Drop, C: LoopCore, T: Time + Drop> Rounds<S, C, T> {
 
     // Reads the clock, and tells whether a second passed since that was last told.
     fn is_later(&mut self) -> bool
-        ensures { Stays (lanes_of self.old.opened) (lanes_of self.new.opened) }
+        ensures { Stays (lanes_of S.Stream.told self.old.opened) (lanes_of S.Stream.told self.new.opened) }
     {
         self.seconds.is_later()
     }
 
     // Notes what is ready. Where a second passed, that is all that is ready by now; else it is waited for.
     fn wait(&mut self, is_later: bool) -> Result<(), LoopFault>
-        ensures { Stays (lanes_of self.old.opened) (lanes_of self.new.opened) }
+        ensures { Stays (lanes_of S.Stream.told self.old.opened) (lanes_of S.Stream.told self.new.opened) }
     {
         if is_later {
             return self.catch_up();
@@ -164,7 +165,7 @@ impl<S: System + Drop, C: LoopCore, T: Time + Drop> Rounds<S, C, T> {
 
     // Notes what is ready by now, a wait's reports at a time.
     fn catch_up(&mut self) -> Result<(), LoopFault>
-        ensures { Stays (lanes_of self.old.opened) (lanes_of self.new.opened) }
+        ensures { Stays (lanes_of S.Stream.told self.old.opened) (lanes_of S.Stream.told self.new.opened) }
     {
         'waits: for _ in 0..=self.opened.count() / REPORTS {
             self.wait_once(Duration::from_millis(0))?;
@@ -174,7 +175,7 @@ impl<S: System + Drop, C: LoopCore, T: Time + Drop> Rounds<S, C, T> {
 
     // Waits for what is ready, so long at most, and notes it.
     fn wait_once(&mut self, most: Duration) -> Result<(), LoopFault>
-        ensures { Stays (lanes_of self.old.opened) (lanes_of self.new.opened) }
+        ensures { Stays (lanes_of S.Stream.told self.old.opened) (lanes_of S.Stream.told self.new.opened) }
     {
         let woken = self.system.wait(most)?;
         self.heed(woken);
@@ -199,7 +200,7 @@ impl<S: System + Drop, C: LoopCore, T: Time + Drop> Rounds<S, C, T> {
 
     // Notes what came of a wait beside the reports.
     fn heed(&mut self, woken: Woken)
-        ensures { Stays (lanes_of self.old.opened) (lanes_of self.new.opened) }
+        ensures { Stays (lanes_of S.Stream.told self.old.opened) (lanes_of S.Stream.told self.new.opened) }
     {
         self.acceptor.is_asked = self.acceptor.is_asked || woken.is_asked;
         if !woken.is_closed {
@@ -211,7 +212,7 @@ impl<S: System + Drop, C: LoopCore, T: Time + Drop> Rounds<S, C, T> {
 
     // Notes what was reported.
     fn note(&mut self) -> Result<(), LoopFault>
-        ensures { Stays (lanes_of self.old.opened) (lanes_of self.new.opened) }
+        ensures { Stays (lanes_of S.Stream.told self.old.opened) (lanes_of S.Stream.told self.new.opened) }
     {
         'reports: for number in 0..usize::MAX {
             let Some(report) = self.system.report(number) else {
@@ -226,8 +227,8 @@ impl<S: System + Drop, C: LoopCore, T: Time + Drop> Rounds<S, C, T> {
 
     // Takes in connections that wait, as long as the limits allow. A server that does not listen takes in none.
     fn accept<J: Journal>(&mut self, journal: &mut J) -> Result<(), LoopFault>
-        ensures lanes { DoesSome C.steps (lanes_of self.old.opened) (lanes_of self.new.opened) }
-        ensures deaf { IsFalse self.old.acceptor.listens → Stays (lanes_of self.old.opened) (lanes_of self.new.opened) }
+        ensures lanes { DoesSome C.steps (lanes_of S.Stream.told self.old.opened) (lanes_of S.Stream.told self.new.opened) }
+        ensures deaf { IsFalse self.old.acceptor.listens → Stays (lanes_of S.Stream.told self.old.opened) (lanes_of S.Stream.told self.new.opened) }
     {
         self.acceptor.is_refused = false;
         if !self.acceptor.listens {
@@ -237,7 +238,7 @@ impl<S: System + Drop, C: LoopCore, T: Time + Drop> Rounds<S, C, T> {
     }
 
     fn accept_some<J: Journal>(&mut self, journal: &mut J) -> Result<(), LoopFault>
-        ensures { DoesSome C.steps (lanes_of self.old.opened) (lanes_of self.new.opened) }
+        ensures { DoesSome C.steps (lanes_of S.Stream.told self.old.opened) (lanes_of S.Stream.told self.new.opened) }
     {
         'accepts: for _ in 0..ACCEPTS {
             if !self.may_accept() {
@@ -258,7 +259,7 @@ impl<S: System + Drop, C: LoopCore, T: Time + Drop> Rounds<S, C, T> {
 
     // Where there is room for one more.
     fn place(&mut self) -> Place
-        ensures { Stays (lanes_of self.old.opened) (lanes_of self.new.opened) }
+        ensures { Stays (lanes_of S.Stream.told self.old.opened) (lanes_of S.Stream.told self.new.opened) }
     {
         if self.is_full() {
             self.spare()
@@ -269,7 +270,7 @@ impl<S: System + Drop, C: LoopCore, T: Time + Drop> Rounds<S, C, T> {
 
     // That of the one that has been idle longest.
     fn spare(&mut self) -> Place
-        ensures { Stays (lanes_of self.old.opened) (lanes_of self.new.opened) }
+        ensures { Stays (lanes_of S.Stream.told self.old.opened) (lanes_of S.Stream.told self.new.opened) }
     {
         match self.opened.spare(self.seconds.last(), &self.limits) {
             Some(key) => Place::Idle(key),
@@ -279,7 +280,7 @@ impl<S: System + Drop, C: LoopCore, T: Time + Drop> Rounds<S, C, T> {
 
     // Accepts one, in this place.
     fn accept_one<J: Journal>(&mut self, place: Place, journal: &mut J) -> Result<(), LoopFault>
-        ensures { DoesSome C.steps (lanes_of self.old.opened) (lanes_of self.new.opened) }
+        ensures { DoesSome C.steps (lanes_of S.Stream.told self.old.opened) (lanes_of S.Stream.told self.new.opened) }
     {
         match self.system.accept() {
             Accepted::Stream(stream, peer) => self.admit(place, stream, peer, journal),
@@ -294,7 +295,7 @@ impl<S: System + Drop, C: LoopCore, T: Time + Drop> Rounds<S, C, T> {
 
     // No descriptor or no memory is left: one that is idle makes room, and where none is, it is tried again after a wait.
     fn make_room<J: Journal>(&mut self, place: Place, journal: &mut J) -> Result<(), LoopFault>
-        ensures { DoesSome C.steps (lanes_of self.old.opened) (lanes_of self.new.opened) }
+        ensures { DoesSome C.steps (lanes_of S.Stream.told self.old.opened) (lanes_of S.Stream.told self.new.opened) }
     {
         let place = self.instead_of(place);
         self.acceptor.is_refused = !matches!(place, Place::Idle(_));
@@ -303,7 +304,7 @@ impl<S: System + Drop, C: LoopCore, T: Time + Drop> Rounds<S, C, T> {
 
     // A place that is not beside those that are open.
     fn instead_of(&mut self, place: Place) -> Place
-        ensures { Stays (lanes_of self.old.opened) (lanes_of self.new.opened) }
+        ensures { Stays (lanes_of S.Stream.told self.old.opened) (lanes_of S.Stream.told self.new.opened) }
     {
         match place {
             Place::Free => self.spare(),
@@ -319,7 +320,8 @@ impl<S: System + Drop, C: LoopCore, T: Time + Drop> Rounds<S, C, T> {
         peer: SocketAddr,
         journal: &mut J,
     ) -> Result<(), LoopFault>
-        ensures { DoesSome C.steps (lanes_of self.old.opened) (lanes_of self.new.opened) }
+        requires { IsUnused (S.Stream.told stream) }
+        ensures { DoesSome C.steps (lanes_of S.Stream.told self.old.opened) (lanes_of S.Stream.told self.new.opened) }
     {
         self.displace(place, journal)?;
         self.take_in(stream, peer);
@@ -328,7 +330,7 @@ impl<S: System + Drop, C: LoopCore, T: Time + Drop> Rounds<S, C, T> {
 
     // Closes one that makes room.
     fn displace<J: Journal>(&mut self, place: Place, journal: &mut J) -> Result<(), LoopFault>
-        ensures { DoesSome C.steps (lanes_of self.old.opened) (lanes_of self.new.opened) }
+        ensures { DoesSome C.steps (lanes_of S.Stream.told self.old.opened) (lanes_of S.Stream.told self.new.opened) }
     {
         match place {
             Place::Idle(key) => self.finish(key, End::Displaced, journal),
@@ -338,7 +340,8 @@ impl<S: System + Drop, C: LoopCore, T: Time + Drop> Rounds<S, C, T> {
 
     // Takes a connection in. Where memory is refused, or it can't be waited for, it is closed.
     fn take_in(&mut self, mut stream: S::Stream, peer: SocketAddr)
-        ensures { DoesSome C.steps (lanes_of self.old.opened) (lanes_of self.new.opened) }
+        requires { IsUnused (S.Stream.told stream) }
+        ensures { DoesSome C.steps (lanes_of S.Stream.told self.old.opened) (lanes_of S.Stream.told self.new.opened) }
     {
         let Some(key) = self.opened.vacant() else {
             return;
@@ -351,7 +354,8 @@ impl<S: System + Drop, C: LoopCore, T: Time + Drop> Rounds<S, C, T> {
 
     // Opens a connection under a key, and counts it.
     fn open(&mut self, key: usize, stream: S::Stream, peer: SocketAddr)
-        ensures { DoesSome C.steps (lanes_of self.old.opened) (lanes_of self.new.opened) }
+        requires { IsUnused (S.Stream.told stream) }
+        ensures { DoesSome C.steps (lanes_of S.Stream.told self.old.opened) (lanes_of S.Stream.told self.new.opened) }
     {
         let number = self.acceptor.taken;
         let is_taken = self
@@ -362,7 +366,7 @@ impl<S: System + Drop, C: LoopCore, T: Time + Drop> Rounds<S, C, T> {
 
     // One turn for each connection that is due.
     fn take_turns<J: Journal>(&mut self, journal: &mut J) -> Result<(), LoopFault>
-        ensures { DoesSome C.steps (lanes_of self.old.opened) (lanes_of self.new.opened) }
+        ensures { DoesSome C.steps (lanes_of S.Stream.told self.old.opened) (lanes_of S.Stream.told self.new.opened) }
     {
         let list = self.opened.take_due()?;
         'turns: for due in &list {
@@ -374,7 +378,7 @@ impl<S: System + Drop, C: LoopCore, T: Time + Drop> Rounds<S, C, T> {
 
     // One turn for a connection that is due, where there is time for it in this round.
     fn serve<J: Journal>(&mut self, due: Due, journal: &mut J) -> Result<(), LoopFault>
-        ensures lanes { DoesSome C.steps (lanes_of self.old.opened) (lanes_of self.new.opened) }
+        ensures lanes { DoesSome C.steps (lanes_of S.Stream.told self.old.opened) (lanes_of S.Stream.told self.new.opened) }
         ensures kept { IsFalse (has_time due self.old.opened) → OnOk result (IsPutOff due self.old.opened self.new.opened) }
     {
         if self.opened.has_time(due) {
@@ -386,7 +390,7 @@ impl<S: System + Drop, C: LoopCore, T: Time + Drop> Rounds<S, C, T> {
 
     // Its turn comes in the next round.
     fn put_off(&mut self, due: Due) -> Result<(), LoopFault>
-        ensures lanes { Stays (lanes_of self.old.opened) (lanes_of self.new.opened) }
+        ensures lanes { Stays (lanes_of S.Stream.told self.old.opened) (lanes_of S.Stream.told self.new.opened) }
         ensures kept { OnOk result (IsPutOff due self.old.opened self.new.opened) }
     {
         Ok(self.opened.put_off(due)?)
@@ -394,7 +398,7 @@ impl<S: System + Drop, C: LoopCore, T: Time + Drop> Rounds<S, C, T> {
 
     // One turn for a connection, and what follows from it.
     fn take_turn<J: Journal>(&mut self, key: usize, journal: &mut J) -> Result<(), LoopFault>
-        ensures { DoesSome C.steps (lanes_of self.old.opened) (lanes_of self.new.opened) }
+        ensures { DoesSome C.steps (lanes_of S.Stream.told self.old.opened) (lanes_of S.Stream.told self.new.opened) }
     {
         let outcome = self.turn(key);
         self.follow(key, outcome, journal)
@@ -402,7 +406,7 @@ impl<S: System + Drop, C: LoopCore, T: Time + Drop> Rounds<S, C, T> {
 
     // One turn for a connection. If bytes moved, the second that the clock tells behind it is noted.
     fn turn(&mut self, key: usize) -> Outcome
-        ensures lanes { DoesAtMost C.steps (HasTurn key) (lanes_of self.old.opened) (lanes_of self.new.opened) }
+        ensures lanes { TurnsAtMost C.steps key (lanes_of S.Stream.told self.old.opened) (lanes_of S.Stream.told self.new.opened) }
         ensures clock { NotesMoved key self.old.opened self.new.opened self.new.seconds.counted self.new.seconds.last }
     {
         let (outcome, has_moved) = self.opened.turn(key, self.seconds.last());
@@ -412,7 +416,7 @@ impl<S: System + Drop, C: LoopCore, T: Time + Drop> Rounds<S, C, T> {
 
     // If bytes moved on a connection, notes when.
     fn mark(&mut self, key: usize, has_moved: bool)
-        ensures lanes { Stays (lanes_of self.old.opened) (lanes_of self.new.opened) }
+        ensures lanes { Stays (lanes_of S.Stream.told self.old.opened) (lanes_of S.Stream.told self.new.opened) }
         ensures clock { IsTrue has_moved → IsNoted key self.new.opened self.new.seconds.counted self.new.seconds.last }
     {
         if !has_moved {
@@ -429,7 +433,7 @@ impl<S: System + Drop, C: LoopCore, T: Time + Drop> Rounds<S, C, T> {
         outcome: Outcome,
         journal: &mut J,
     ) -> Result<(), LoopFault>
-        ensures { DoesAtMost C.steps (LetGo key) (lanes_of self.old.opened) (lanes_of self.new.opened) }
+        ensures { DoesAtMost C.steps (LetGo key) (lanes_of S.Stream.told self.old.opened) (lanes_of S.Stream.told self.new.opened) }
     {
         match outcome {
             Outcome::Over(how) => self.finish(key, how, journal),
@@ -440,7 +444,7 @@ impl<S: System + Drop, C: LoopCore, T: Time + Drop> Rounds<S, C, T> {
 
     // After a turn at a connection that is open.
     fn go_on<J: Journal>(&mut self, key: usize, journal: &mut J) -> Result<(), LoopFault>
-        ensures { DoesAtMost C.steps (LetGo key) (lanes_of self.old.opened) (lanes_of self.new.opened) }
+        ensures { DoesAtMost C.steps (LetGo key) (lanes_of S.Stream.told self.old.opened) (lanes_of S.Stream.told self.new.opened) }
     {
         self.tell_slow(journal);
         match self.opened.settle(key, self.seconds.last()) {
@@ -451,7 +455,7 @@ impl<S: System + Drop, C: LoopCore, T: Time + Drop> Rounds<S, C, T> {
 
     // Tells the journal of a slow query.
     fn tell_slow<J: Journal>(&mut self, journal: &mut J)
-        ensures { Stays (lanes_of self.old.opened) (lanes_of self.new.opened) }
+        ensures { Stays (lanes_of S.Stream.told self.old.opened) (lanes_of S.Stream.told self.new.opened) }
     {
         if let Some(slow) = self.opened.take_slow() {
             journal.slow(&slow);
@@ -466,7 +470,7 @@ impl<S: System + Drop, C: LoopCore, T: Time + Drop> Rounds<S, C, T> {
         how: End,
         journal: &mut J,
     ) -> Result<(), LoopFault>
-        ensures { DoesAtMost C.steps (LetGo key) (lanes_of self.old.opened) (lanes_of self.new.opened) }
+        ensures { DoesAtMost C.steps (LetGo key) (lanes_of S.Stream.told self.old.opened) (lanes_of S.Stream.told self.new.opened) }
     {
         if let Some(ending) = self.opened.ending(key, how) {
             journal.ended(&ending);
@@ -478,20 +482,20 @@ impl<S: System + Drop, C: LoopCore, T: Time + Drop> Rounds<S, C, T> {
     }
 
     fn linger(&mut self, key: usize) -> Result<(), LoopFault>
-        ensures { DoesAtMost C.steps (LetGo key) (lanes_of self.old.opened) (lanes_of self.new.opened) }
+        ensures { DoesAtMost C.steps (LetGo key) (lanes_of S.Stream.told self.old.opened) (lanes_of S.Stream.told self.new.opened) }
     {
         Ok(self.opened.linger(key, self.seconds.last())?)
     }
 
     fn close(&mut self, key: usize) -> Result<(), LoopFault>
-        ensures { DoesAtMost C.steps (LetGo key) (lanes_of self.old.opened) (lanes_of self.new.opened) }
+        ensures { DoesAtMost C.steps (LetGo key) (lanes_of S.Stream.told self.old.opened) (lanes_of S.Stream.told self.new.opened) }
     {
         Ok(self.opened.close(key, self.seconds.last())?)
     }
 
     // Where a second passed, connections whose time is up are closed, and the journal is told what there is to tell.
     fn look<J: Journal>(&mut self, is_later: bool, journal: &mut J) -> Result<(), LoopFault>
-        ensures { DoesSome C.steps (lanes_of self.old.opened) (lanes_of self.new.opened) }
+        ensures { DoesSome C.steps (lanes_of S.Stream.told self.old.opened) (lanes_of S.Stream.told self.new.opened) }
     {
         if !is_later {
             return Ok(());
@@ -503,7 +507,7 @@ impl<S: System + Drop, C: LoopCore, T: Time + Drop> Rounds<S, C, T> {
 
     // Closes the connections whose time is up.
     fn tick<J: Journal>(&mut self, journal: &mut J) -> Result<(), LoopFault>
-        ensures { DoesSome C.steps (lanes_of self.old.opened) (lanes_of self.new.opened) }
+        ensures { DoesSome C.steps (lanes_of S.Stream.told self.old.opened) (lanes_of S.Stream.told self.new.opened) }
     {
         'keys: for key in 0..self.opened.bound() {
             self.expire(key, journal)?;
@@ -513,7 +517,7 @@ impl<S: System + Drop, C: LoopCore, T: Time + Drop> Rounds<S, C, T> {
 
     // Closes a connection whose time is up.
     fn expire<J: Journal>(&mut self, key: usize, journal: &mut J) -> Result<(), LoopFault>
-        ensures { DoesAtMost C.steps (LetGo key) (lanes_of self.old.opened) (lanes_of self.new.opened) }
+        ensures { DoesAtMost C.steps (LetGo key) (lanes_of S.Stream.told self.old.opened) (lanes_of S.Stream.told self.new.opened) }
     {
         match self.opened.expiry(key, self.seconds.last(), &self.limits) {
             Outcome::Over(how) => self.finish(key, how, journal),
@@ -524,7 +528,7 @@ impl<S: System + Drop, C: LoopCore, T: Time + Drop> Rounds<S, C, T> {
 
     // Tells the journal what there is to tell.
     fn tell<J: Journal>(&mut self, journal: &mut J)
-        ensures { Stays (lanes_of self.old.opened) (lanes_of self.new.opened) }
+        ensures { Stays (lanes_of S.Stream.told self.old.opened) (lanes_of S.Stream.told self.new.opened) }
     {
         let holding = Holding {
             connections: self.acceptor.listens && self.acceptor.is_asked && self.is_full(),

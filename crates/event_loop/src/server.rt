@@ -16,7 +16,7 @@ use std::net::{Net, SocketAddr};
 use std::time::Clock;
 
 /// A server of many connections. Its value has whether it listens, its limits, the budgets of memory, and the core with the bytes that each served
-/// connection is owed. It also has how many connections are open and were accepted, and how many bytes were read and written.
+/// connection is owed, and those that moved on each stream, as far as it shows them. It also has how many connections are open and were accepted, and how many bytes were read and written.
 #[derive(Drop)]
 pub struct Server<S: System + Drop, C: LoopCore, T: Time + Drop> {
     rounds: Rounds<S, C, T>,
@@ -24,11 +24,11 @@ pub struct Server<S: System + Drop, C: LoopCore, T: Time + Drop> {
 
 impl<S: System + Drop, C: LoopCore, T: Time + Drop> Model for Server<S, C, T> {
     ghost use Rattle.event_loop.specs.Servers.{Serving};
-    ghost use Rattle.open_connections.specs.Opened.{listed, connected_in};
+    ghost use Rattle.open_connections.specs.Opened.{listed, shown, connected_in};
 
     ghost Value = { Serving C };
 
-    ghost view = { λ s. record { listens = s.rounds.acceptor.listens; connected = connected_in s.rounds.opened; taken = s.rounds.acceptor.taken; read = s.rounds.opened.read; written = s.rounds.opened.written; limits = s.rounds.limits; budgets = s.rounds.opened.budgets; core = s.rounds.opened.core; lines = listed s.rounds.opened.connections } };
+    ghost view = { λ s. record { listens = s.rounds.acceptor.listens; connected = connected_in s.rounds.opened; taken = s.rounds.acceptor.taken; read = s.rounds.opened.read; written = s.rounds.opened.written; limits = s.rounds.limits; budgets = s.rounds.opened.budgets; core = s.rounds.opened.core; lines = listed s.rounds.opened.connections; wires = shown S.Stream.told s.rounds.opened.connections } };
 }
 
 impl<'r, R: Net + Clock + AllocGlobal, C: LoopCore> Server<Sockets, C, Since<'r, R>> {

@@ -2,39 +2,104 @@
 use Rattle.std.proofs.Common.{◌≡◌, ℕ, Bool, true, false, List, [], ◌∷◌, ◌++◌, Option, sym, ◌∙◌, subst, refl, inl, inr}
 use Rattle.std.specs.Prelude.{MatchBool}
 use Rattle.outbox.specs.Lines.{Line}
+use Rattle.outbox.specs.Told.{Told, IsUnused, IsReadOn}
 use Rattle.connection_turns.specs.Turning.{TakesTurn}
-use Rattle.open_connections.specs.Looping.{CoreSteps, Lanes, Step, TakenIn, HasTurn, LetGo, Does, DoesEach, DoesSome, DoesAtMost, Stays}
+use Rattle.open_connections.specs.Looping.{CoreSteps, Lanes, Step, TakenIn, HasTurn, LetGo, Drained, OthersStay, Does, DoesEach, DoesSome, DoesAtMost, TurnsAtMost, Stays}
 
 pub stays : {C : Type 0} (a : Lanes C) → Stays a a
-stays a = record { core_stays = refl; lines_stay = λ q. refl; limits_stay = refl; bytes_stay = refl }
+stays a = record { core_stays = refl; lines_stay = λ q. refl; wires_stay = λ q. refl; limits_stay = refl; bytes_stay = refl }
 
-pub stays_in : {C : Type 0} (core : C) (lines : ℕ → Option Line) (limits limits' bytes : ℕ × ℕ) → limits' ≡ limits
-    → Stays (record { core = core; lines = lines; limits = limits; bytes = bytes }) (record { core = core; lines = lines; limits = limits'; bytes = bytes })
-stays_in core lines limits limits' bytes e = record { core_stays = refl; lines_stay = λ q. refl; limits_stay = e; bytes_stay = refl }
+pub stays_in : {C : Type 0} (core : C) (lines : ℕ → Option Line) (wires : ℕ → Option Told) (limits limits' bytes : ℕ × ℕ) → limits' ≡ limits
+    → Stays (record { core = core; lines = lines; wires = wires; limits = limits; bytes = bytes }) (record { core = core; lines = lines; wires = wires; limits = limits'; bytes = bytes })
+stays_in core lines wires limits limits' bytes e = record { core_stays = refl; lines_stay = λ q. refl; wires_stay = λ q. refl; limits_stay = e; bytes_stay = refl }
 
 pub stays_then : {C : Type 0} (a b c : Lanes C) → Stays a b → Stays b c → Stays a c
-stays_then a b c h k = record { core_stays = k.core_stays ∙ h.core_stays; lines_stay = λ q. k.lines_stay q ∙ h.lines_stay q; limits_stay = k.limits_stay ∙ h.limits_stay; bytes_stay = k.bytes_stay ∙ h.bytes_stay }
+stays_then a b c h k = record {
+  core_stays = k.core_stays ∙ h.core_stays;
+  lines_stay = λ q. k.lines_stay q ∙ h.lines_stay q;
+  wires_stay = λ q. k.wires_stay q ∙ h.wires_stay q;
+  limits_stay = k.limits_stay ∙ h.limits_stay;
+  bytes_stay = k.bytes_stay ∙ h.bytes_stay;
+}
 
 -- a step from where nothing changed, and one behind which nothing changes
+before_others : {C : Type 0} (conn : ℕ) (a b c : Lanes C) → Stays a b → OthersStay conn b c → OthersStay conn a c
+before_others conn a b c h k = record { lines_stay = λ q e. k.lines_stay q e ∙ h.lines_stay q; wires_stay = λ q e. k.wires_stay q e ∙ h.wires_stay q; limits_stay = k.limits_stay ∙ h.limits_stay }
+
+others_then : {C : Type 0} (conn : ℕ) (a b c : Lanes C) → OthersStay conn a b → Stays b c → OthersStay conn a c
+others_then conn a b c k h = record { lines_stay = λ q e. h.lines_stay q ∙ k.lines_stay q e; wires_stay = λ q e. h.wires_stay q ∙ k.wires_stay q e; limits_stay = h.limits_stay ∙ k.limits_stay }
+
 before_step : {C : Type 0} (s : CoreSteps C) (step : Step) (a b c : Lanes C) → Stays a b → Does s step b c → Does s step a c
-before_step {C} s (TakenIn conn) a b c h d = (subst (λ (x : C). s.opens conn x c.core) h.core_stays d.0, d.1, λ q e. d.2 q e ∙ h.lines_stay q, d.3 ∙ h.limits_stay, d.4 ∙ h.bytes_stay)
+before_step {C} s (TakenIn conn) a b c h d = record {
+  opens = subst (λ (x : C). s.opens conn x c.core) h.core_stays d.opens;
+  was_free = sym (h.lines_stay conn) ∙ d.was_free;
+  is_fresh = d.is_fresh;
+  is_unused = d.is_unused;
+  others = before_others conn a b c h d.others;
+  bytes_stay = d.bytes_stay ∙ h.bytes_stay;
+}
 before_step {C} s (HasTurn conn) a b c h d =
-    let t : TakesTurn (s.takes conn) (s.answers conn) d.line a.core d.line' c.core = subst (λ (x : C). TakesTurn (s.takes conn) (s.answers conn) d.line x d.line' c.core) h.core_stays d.takes_turn in
-    record { line = d.line; line' = d.line'; was = sym (h.lines_stay conn) ∙ d.was; is = d.is; takes_turn = t; others = λ q e. d.others q e ∙ h.lines_stay q; limits_stay = d.limits_stay ∙ h.limits_stay }
-before_step {C} s (LetGo conn) a b c h d = (subst (λ (x : C). s.closes conn x c.core) h.core_stays d.0, d.1, λ q e. d.2 q e ∙ h.lines_stay q, d.3 ∙ h.limits_stay, d.4 ∙ h.bytes_stay)
+    let w : Option Told = c.wires conn in
+    let t : TakesTurn (s.takes conn) (s.answers conn) d.line (b.wires conn) a.core d.line' w c.core = subst (λ (x : C). TakesTurn (s.takes conn) (s.answers conn) d.line (b.wires conn) x d.line' w c.core) h.core_stays d.takes_turn in
+    let u : TakesTurn (s.takes conn) (s.answers conn) d.line (a.wires conn) a.core d.line' w c.core = subst (λ (x : Option Told). TakesTurn (s.takes conn) (s.answers conn) d.line x a.core d.line' w c.core) (h.wires_stay conn) t in
+    record { line = d.line; line' = d.line'; was = sym (h.lines_stay conn) ∙ d.was; is = d.is; takes_turn = u; others = before_others conn a b c h d.others }
+before_step {C} s (LetGo conn) a b c h d = record {
+  closes = subst (λ (x : C). s.closes conn x c.core) h.core_stays d.closes;
+  is_gone = d.is_gone;
+  wire_stays = elim d.wire_stays [ inl e ↦ inl e | inr e ↦ inr (e ∙ h.wires_stay conn) ];
+  others = before_others conn a b c h d.others;
+  bytes_stay = d.bytes_stay ∙ h.bytes_stay;
+}
+before_step {C} s (Drained conn) a b c h d = record {
+  core_stays = d.core_stays ∙ h.core_stays;
+  was_gone = sym (h.lines_stay conn) ∙ d.was_gone;
+  is_gone = d.is_gone;
+  reads_on = subst (λ (x : Option Told). IsReadOn x (c.wires conn)) (h.wires_stay conn) d.reads_on;
+  others = before_others conn a b c h d.others;
+  bytes_stay = d.bytes_stay ∙ h.bytes_stay;
+}
 
 step_then : {C : Type 0} (s : CoreSteps C) (step : Step) (a b c : Lanes C) → Does s step a b → Stays b c → Does s step a c
-step_then {C} s (TakenIn conn) a b c d h = (subst (λ (x : C). s.opens conn a.core x) (sym h.core_stays) d.0, h.lines_stay conn ∙ d.1, λ q e. h.lines_stay q ∙ d.2 q e, h.limits_stay ∙ d.3, h.bytes_stay ∙ d.4)
+step_then {C} s (TakenIn conn) a b c d h = record {
+  opens = subst (λ (x : C). s.opens conn a.core x) (sym h.core_stays) d.opens;
+  was_free = d.was_free;
+  is_fresh = h.lines_stay conn ∙ d.is_fresh;
+  is_unused = subst (λ (x : Option Told). IsUnused x) (sym (h.wires_stay conn)) d.is_unused;
+  others = others_then conn a b c d.others h;
+  bytes_stay = h.bytes_stay ∙ d.bytes_stay;
+}
 step_then {C} s (HasTurn conn) a b c d h =
-    let t : TakesTurn (s.takes conn) (s.answers conn) d.line a.core d.line' c.core = subst (λ (x : C). TakesTurn (s.takes conn) (s.answers conn) d.line a.core d.line' x) (sym h.core_stays) d.takes_turn in
-    record { line = d.line; line' = d.line'; was = d.was; is = h.lines_stay conn ∙ d.is; takes_turn = t; others = λ q e. h.lines_stay q ∙ d.others q e; limits_stay = h.limits_stay ∙ d.limits_stay }
-step_then {C} s (LetGo conn) a b c d h = (subst (λ (x : C). s.closes conn a.core x) (sym h.core_stays) d.0, h.lines_stay conn ∙ d.1, λ q e. h.lines_stay q ∙ d.2 q e, h.limits_stay ∙ d.3, h.bytes_stay ∙ d.4)
+    let w : Option Told = a.wires conn in
+    let t : TakesTurn (s.takes conn) (s.answers conn) d.line w a.core d.line' (b.wires conn) c.core = subst (λ (x : C). TakesTurn (s.takes conn) (s.answers conn) d.line w a.core d.line' (b.wires conn) x) (sym h.core_stays) d.takes_turn in
+    let u : TakesTurn (s.takes conn) (s.answers conn) d.line w a.core d.line' (c.wires conn) c.core = subst (λ (x : Option Told). TakesTurn (s.takes conn) (s.answers conn) d.line w a.core d.line' x c.core) (sym (h.wires_stay conn)) t in
+    record { line = d.line; line' = d.line'; was = d.was; is = h.lines_stay conn ∙ d.is; takes_turn = u; others = others_then conn a b c d.others h }
+step_then {C} s (LetGo conn) a b c d h = record {
+  closes = subst (λ (x : C). s.closes conn a.core x) (sym h.core_stays) d.closes;
+  is_gone = h.lines_stay conn ∙ d.is_gone;
+  wire_stays = elim d.wire_stays [ inl e ↦ inl (h.wires_stay conn ∙ e) | inr e ↦ inr (h.wires_stay conn ∙ e) ];
+  others = others_then conn a b c d.others h;
+  bytes_stay = h.bytes_stay ∙ d.bytes_stay;
+}
+step_then {C} s (Drained conn) a b c d h = record {
+  core_stays = h.core_stays ∙ d.core_stays;
+  was_gone = d.was_gone;
+  is_gone = h.lines_stay conn ∙ d.is_gone;
+  reads_on = subst (λ (x : Option Told). IsReadOn (a.wires conn) x) (sym (h.wires_stay conn)) d.reads_on;
+  others = others_then conn a b c d.others h;
+  bytes_stay = h.bytes_stay ∙ d.bytes_stay;
+}
 
 pub then_at_most : {C : Type 0} (s : CoreSteps C) (step : Step) (a b c : Lanes C) → Stays a b → DoesAtMost s step b c → DoesAtMost s step a c
 then_at_most s step a b c h d = elim d [ inl x ↦ inl (before_step s step a b c h x) | inr k ↦ inr (stays_then a b c h k) ]
 
 pub at_most_then : {C : Type 0} (s : CoreSteps C) (step : Step) (a b c : Lanes C) → DoesAtMost s step a b → Stays b c → DoesAtMost s step a c
 at_most_then s step a b c d h = elim d [ inl x ↦ inl (step_then s step a b c x h) | inr k ↦ inr (stays_then a b c k h) ]
+
+pub then_turn : {C : Type 0} (s : CoreSteps C) (conn : ℕ) (a b c : Lanes C) → Stays a b → TurnsAtMost s conn b c → TurnsAtMost s conn a c
+then_turn s conn a b c h d = elim d [ inl x ↦ inl (before_step s (HasTurn conn) a b c h x) | inr k ↦ inr (then_at_most s (Drained conn) a b c h k) ]
+
+pub turn_then : {C : Type 0} (s : CoreSteps C) (conn : ℕ) (a b c : Lanes C) → TurnsAtMost s conn a b → Stays b c → TurnsAtMost s conn a c
+turn_then s conn a b c d h = elim d [ inl x ↦ inl (step_then s (HasTurn conn) a b c x h) | inr k ↦ inr (at_most_then s (Drained conn) a b c k h) ]
 
 before_each : {C : Type 0} (s : CoreSteps C) (steps : List Step) (a b c : Lanes C) → Stays a b → DoesEach s steps b c → DoesEach s steps a c
 before_each s [] a b c h d = stays_then a b c h d
@@ -53,14 +118,18 @@ no_step s a b h = ([], h)
 pub at_most_some : {C : Type 0} (s : CoreSteps C) (step : Step) (a b : Lanes C) → DoesAtMost s step a b → DoesSome s a b
 at_most_some s step a b d = elim d [ inl x ↦ (step ∷ [], (b, x, stays b)) | inr k ↦ no_step s a b k ]
 
+pub turn_some : {C : Type 0} (s : CoreSteps C) (conn : ℕ) (a b : Lanes C) → TurnsAtMost s conn a b → DoesSome s a b
+turn_some s conn a b d = elim d [ inl x ↦ at_most_some s (HasTurn conn) a b (inl x) | inr k ↦ at_most_some s (Drained conn) a b k ]
+
 pub taken_some : {C : Type 0} (s : CoreSteps C) (conn : ℕ) (taken : Bool) (a b : Lanes C) → MatchBool taken (Does s (TakenIn conn) a b) (Stays a b) → DoesSome s a b
 taken_some s conn true a b d = at_most_some s (TakenIn conn) a b (inl d)
 taken_some s conn false a b d = no_step s a b d
 
 limits_at : {C : Type 0} (s : CoreSteps C) (step : Step) (a b : Lanes C) → Does s step a b → b.limits ≡ a.limits
-limits_at s (TakenIn conn) a b d = d.3
-limits_at s (HasTurn conn) a b d = d.limits_stay
-limits_at s (LetGo conn) a b d = d.3
+limits_at s (TakenIn conn) a b d = d.others.limits_stay
+limits_at s (HasTurn conn) a b d = d.others.limits_stay
+limits_at s (LetGo conn) a b d = d.others.limits_stay
+limits_at s (Drained conn) a b d = d.others.limits_stay
 
 limits_after : {C : Type 0} (s : CoreSteps C) (steps : List Step) (a b : Lanes C) → DoesEach s steps a b → b.limits ≡ a.limits
 limits_after s [] a b d = d.limits_stay

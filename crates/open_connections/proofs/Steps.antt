@@ -1,5 +1,5 @@
 -- What a change of one connection comes to.
-use Rattle.std.proofs.Common.{◌≡◌, ℕ, List, [], ◌∷◌, Option, Some, None, sym, ap, ◌∙◌, refl, subst, inl, inr}
+use Rattle.std.proofs.Common.{◌≡◌, ◌≢◌, ◌⊎◌, ℕ, List, [], ◌∷◌, Option, Some, None, sym, ap, ◌∙◌, refl, subst, inl, inr}
 use Rattle.std.specs.Prelude.{◌==◌, is_some, slice_index_or}
 use Rattle.std.specs.Option.{option_and_then}
 use Rattle.std.proofs.lemmas.Bool.{cases_Bool, eqb-true, eqb-false}
@@ -7,38 +7,72 @@ use Rattle.slab.specs.Slab.{Slab, get, with_value, Updates}
 use Rattle.slab.proofs.SlabLemmas.{Updates-with_value}
 use Rattle.std.proofs.Math.ListN.{get_or-map}
 use Rattle.connection_turns.specs.declared.connection.Phase.{Phase}
-use Rattle.connection_turns.specs.declared.connection.Phase.TheVariants.{Served}
+use Rattle.connection_turns.specs.declared.connection.Phase.TheVariants.{Served, Lingering}
 use Rattle.connection_turns.specs.declared.connection.Connection.{Connection}
 use Rattle.connection_turns.specs.Turning.{TakesTurn}
 use Rattle.outbox.specs.Lines.{Line, Event, Readable, Declined, Answered, Writable, Ends, Fails, Worked, after}
+use Rattle.outbox.specs.Told.{Told, IsReadOn}
 use Rattle.outbox.specs.Turns.{DoesAll}
-use Rattle.open_connections.specs.Looping.{CoreSteps, Lanes, HasTurn, LetGo, DoesAtMost, Stays}
-use Rattle.connection_turns.specs.Owed.{line_in, line_of}
-use Rattle.open_connections.specs.Opened.{lines_in, listed}
+use Rattle.open_connections.specs.Looping.{CoreSteps, Lanes, LetGo, DoesAtMost, TurnsAtMost, OthersStay, Stays}
+use Rattle.connection_turns.specs.Owed.{line_in, line_of, wire_of}
+use Rattle.open_connections.specs.Opened.{lines_in, wires_in, listed, shown}
 
-abbrev pub lanes : {S C : Type 0} → (limits bytes : ℕ × ℕ) → C → Slab (Connection S) → Lanes C
-lanes limits bytes core slab = record { core = core; lines = lines_in slab; limits = limits; bytes = bytes }
+abbrev pub lanes : {S C : Type 0} → (S → Option Told) → (limits bytes : ℕ × ℕ) → C → Slab (Connection S) → Lanes C
+lanes told limits bytes core slab = record { core = core; lines = lines_in slab; wires = wires_in told slab; limits = limits; bytes = bytes }
 
 line_at : {S : Type 0} (x y : Option (Connection S)) → x ≡ y → option_and_then (λ c. line_of c) x ≡ option_and_then (λ c. line_of c) y
 line_at {S} x y e = ap (λ (z : Option (Connection S)). option_and_then (λ c. line_of c) z) e
+
+pub wire_at : {S : Type 0} (told : S → Option Told) (x y : Option (Connection S)) → x ≡ y → option_and_then (λ c. wire_of told c) x ≡ option_and_then (λ c. wire_of told c) y
+wire_at {S} told x y e = ap (λ (z : Option (Connection S)). option_and_then (λ c. wire_of told c) z) e
 
 -- a write to one that is there
 pub written : {S : Type 0} (slab : Slab (Connection S)) (key : ℕ) (c c' : Connection S) → get slab key ≡ Some c → Updates slab (with_value slab key c') key (Some c')
 written {S} slab key c c' h = Updates-with_value slab key c' (ap (λ (x : Option (Connection S)). is_some x) h)
 
-pub stays_at : {S C : Type 0} (limits bytes : ℕ × ℕ) (core : C) (slab : Slab (Connection S)) (key : ℕ) (c c' : Connection S) → get slab key ≡ Some c → line_of c' ≡ line_of c
-    → Stays (lanes limits bytes core slab) (lanes limits bytes core (with_value slab key c'))
-stays_at {S} {C} limits bytes core slab key c c' h l =
-    let u : Updates slab (with_value slab key c') key (Some c') = written slab key c c' h in record {
+-- what is so at all others is so at all, if it is at this one
+everywhere : {A : Type 0} (key : ℕ) (f g : ℕ → A) → f key ≡ g key → ((q : ℕ) → q ≢ key → f q ≡ g q) → (q : ℕ) → f q ≡ g q
+everywhere {A} key f g here there q = elim (cases_Bool (q == key)) [
+  | inl e ↦ let k : q ≡ key = eqb-true q key e in ap f k ∙ here ∙ sym (ap g k)
+  | inr e ↦ there q (eqb-false q key e)
+]
+
+others_stay : {S C : Type 0} (told : S → Option Told) (limits bytes bytes' : ℕ × ℕ) (core core' : C) (slab slab' : Slab (Connection S)) (key : ℕ) (slot : Option (Connection S)) → Updates slab slab' key slot
+    → OthersStay key (lanes told limits bytes core slab) (lanes told limits bytes' core' slab')
+others_stay told limits bytes bytes' core core' slab slab' key slot u = record {
+  lines_stay = λ q e. line_at (get slab' q) (get slab q) (u.others q e);
+  wires_stay = λ q e. wire_at told (get slab' q) (get slab q) (u.others q e);
+  limits_stay = refl;
+}
+
+pub stays_at : {S C : Type 0} (told : S → Option Told) (limits bytes : ℕ × ℕ) (core : C) (slab : Slab (Connection S)) (key : ℕ) (c c' : Connection S) → get slab key ≡ Some c → line_of c' ≡ line_of c → wire_of told c' ≡ wire_of told c
+    → Stays (lanes told limits bytes core slab) (lanes told limits bytes core (with_value slab key c'))
+stays_at {S} {C} told limits bytes core slab key c c' h l w =
+    let slab' : Slab (Connection S) = with_value slab key c' in
+    let u : Updates slab slab' key (Some c') = written slab key c c' h in
+    let o = others_stay told limits bytes bytes core core slab slab' key (Some c') u in record {
       core_stays = refl;
       limits_stay = refl;
       bytes_stay = refl;
-      lines_stay = λ q. elim (cases_Bool (q == key)) [
-        | inl e ↦ let k : q ≡ key = eqb-true q key e in
-            ap (lines_in (with_value slab key c')) k ∙ line_at (get (with_value slab key c') key) (Some c') u.changed ∙ l ∙ sym (line_at (get slab key) (Some c) h) ∙ sym (ap (lines_in slab) k)
-        | inr e ↦ line_at (get (with_value slab key c') q) (get slab q) (u.others q (eqb-false q key e))
-      ];
+      lines_stay = everywhere key (lines_in slab') (lines_in slab) (line_at (get slab' key) (Some c') u.changed ∙ l ∙ sym (line_at (get slab key) (Some c) h)) o.lines_stay;
+      wires_stay = everywhere key (wires_in told slab') (wires_in told slab) (wire_at told (get slab' key) (Some c') u.changed ∙ w ∙ sym (wire_at told (get slab key) (Some c) h)) o.wires_stay;
     }
+
+-- one that is not served is read
+pub drained_at : {S C : Type 0} (s : CoreSteps C) (told : S → Option Told) (limits bytes : ℕ × ℕ) (core : C) (slab : Slab (Connection S)) (key : ℕ) (c c' : Connection S) → get slab key ≡ Some c → c.phase ≡ Lingering → line_of c' ≡ line_of c
+    → IsReadOn (wire_of told c) (wire_of told c') → TurnsAtMost s key (lanes told limits bytes core slab) (lanes told limits bytes core (with_value slab key c'))
+drained_at {S} {C} s told limits bytes core slab key c c' h p l r =
+    let slab' : Slab (Connection S) = with_value slab key c' in
+    let u : Updates slab slab' key (Some c') = written slab key c c' h in
+    let none : line_of c ≡ None = ap (λ (x : Phase). line_in x c.outbox) p in
+    inr (inl (record {
+      core_stays = refl;
+      was_gone = line_at (get slab key) (Some c) h ∙ none;
+      is_gone = line_at (get slab' key) (Some c') u.changed ∙ l ∙ none;
+      reads_on = subst (λ (x : Option Told). IsReadOn x (wires_in told slab' key)) (sym (wire_at told (get slab key) (Some c) h)) (subst (λ (x : Option Told). IsReadOn (wire_of told c) x) (sym (wire_at told (get slab' key) (Some c') u.changed)) r);
+      others = others_stay told limits bytes bytes core core slab slab' key (Some c') u;
+      bytes_stay = refl;
+    }))
 
 -- what a core that is counted has done, as a step has it
 does_all : {C : Type 0} (s : CoreSteps C) (conn : ℕ) (takes answers : C → List ℕ → C → Type 0) → ((old : C) (piece : List ℕ) (new : C) → takes old piece new → s.takes conn old piece new)
@@ -55,38 +89,53 @@ does_all s conn takes answers t a line (Worked ∷ es) old new d = (d.0, d.1, do
 
 pub takes_turn : {C : Type 0} (s : CoreSteps C) (conn : ℕ) (takes answers : C → List ℕ → C → Type 0) → ((old : C) (piece : List ℕ) (new : C) → takes old piece new → s.takes conn old piece new)
     → ((old : C) (reply : List ℕ) (new : C) → answers old reply new → s.answers conn old reply new)
-    → (line line' : Line) (old new : C) → TakesTurn takes answers line old line' new → TakesTurn (s.takes conn) (s.answers conn) line old line' new
-takes_turn s conn takes answers t a line line' old new d = record { events = d.events; line_is = d.line_is; core_is = does_all s conn takes answers t a line d.events old new d.core_is }
+    → (line line' : Line) (wire wire' : Option Told) (old new : C) → TakesTurn takes answers line wire old line' wire' new → TakesTurn (s.takes conn) (s.answers conn) line wire old line' wire' new
+takes_turn s conn takes answers t a line line' wire wire' old new d = record { events = d.events; line_is = d.line_is; wire_is = d.wire_is; core_is = does_all s conn takes answers t a line d.events old new d.core_is }
 
-pub turn_steps : {S C : Type 0} (s : CoreSteps C) (limits bytes bytes' : ℕ × ℕ) (core core' : C) (slab : Slab (Connection S)) (key conn : ℕ) (c c' : Connection S) → conn ≡ key → get slab key ≡ Some c → c.phase ≡ Served → c'.phase ≡ c.phase →
-    TakesTurn (s.takes conn) (s.answers conn) c.outbox core c'.outbox core' → DoesAtMost s (HasTurn key) (lanes limits bytes core slab) (lanes limits bytes' core' (with_value slab key c'))
-turn_steps {S} {C} s limits bytes bytes' core core' slab key conn c c' n h p k t =
-    let u : Updates slab (with_value slab key c') key (Some c') = written slab key c c' h in
+pub turn_steps : {S C : Type 0} (s : CoreSteps C) (told : S → Option Told) (limits bytes bytes' : ℕ × ℕ) (core core' : C) (slab : Slab (Connection S)) (key conn : ℕ) (c c' : Connection S) → conn ≡ key → get slab key ≡ Some c → c.phase ≡ Served → c'.phase ≡ c.phase →
+    TakesTurn (s.takes conn) (s.answers conn) c.outbox (wire_of told c) core c'.outbox (wire_of told c') core' → TurnsAtMost s key (lanes told limits bytes core slab) (lanes told limits bytes' core' (with_value slab key c'))
+turn_steps {S} {C} s told limits bytes bytes' core core' slab key conn c c' n h p k t =
+    let slab' : Slab (Connection S) = with_value slab key c' in
+    let u : Updates slab slab' key (Some c') = written slab key c c' h in
     let was : line_of c ≡ Some c.outbox = ap (λ (x : Phase). line_in x c.outbox) p in
     let is : line_of c' ≡ Some c'.outbox = ap (λ (x : Phase). line_in x c'.outbox) (k ∙ p) in
+    let here : TakesTurn (s.takes key) (s.answers key) c.outbox (wire_of told c) core c'.outbox (wire_of told c') core' = subst (λ (m : ℕ). TakesTurn (s.takes m) (s.answers m) c.outbox (wire_of told c) core c'.outbox (wire_of told c') core') n t in
+    let from : TakesTurn (s.takes key) (s.answers key) c.outbox (wires_in told slab key) core c'.outbox (wire_of told c') core' = subst (λ (x : Option Told). TakesTurn (s.takes key) (s.answers key) c.outbox x core c'.outbox (wire_of told c') core') (sym (wire_at told (get slab key) (Some c) h)) here in
+    let to : TakesTurn (s.takes key) (s.answers key) c.outbox (wires_in told slab key) core c'.outbox (wires_in told slab' key) core' = subst (λ (x : Option Told). TakesTurn (s.takes key) (s.answers key) c.outbox (wires_in told slab key) core c'.outbox x core') (sym (wire_at told (get slab' key) (Some c') u.changed)) from in
     inl (record {
       line = c.outbox;
       line' = c'.outbox;
       was = line_at (get slab key) (Some c) h ∙ was;
-      is = line_at (get (with_value slab key c') key) (Some c') u.changed ∙ is;
-      takes_turn = subst (λ (m : ℕ). TakesTurn (s.takes m) (s.answers m) c.outbox core c'.outbox core') n t;
-      others = λ q e. line_at (get (with_value slab key c') q) (get slab q) (u.others q e);
-      limits_stay = refl;
+      is = line_at (get slab' key) (Some c') u.changed ∙ is;
+      takes_turn = to;
+      others = others_stay told limits bytes bytes' core core' slab slab' key (Some c') u;
     })
 
--- one that is served no further, and still there or gone
-pub gone_steps : {S C : Type 0} (s : CoreSteps C) (limits bytes : ℕ × ℕ) (core core' : C) (slab slab' : Slab (Connection S)) (key conn : ℕ) (slot : Option (Connection S)) → conn ≡ key → Updates slab slab' key slot → option_and_then (λ c. line_of c) slot ≡ None → s.closes conn core core' → DoesAtMost s (LetGo key) (lanes limits bytes core slab) (lanes limits bytes core' slab')
-gone_steps {S} {C} s limits bytes core core' slab slab' key conn slot n u h k =
-    inl (subst (λ (m : ℕ). s.closes m core core') n k, line_at (get slab' key) slot u.changed ∙ h, λ q e. line_at (get slab' q) (get slab q) (u.others q e), refl, refl)
+-- one that is served no further: still there, with what moved so far, or gone
+pub gone_steps : {S C : Type 0} (s : CoreSteps C) (told : S → Option Told) (limits bytes : ℕ × ℕ) (core core' : C) (slab slab' : Slab (Connection S)) (key conn : ℕ) (slot : Option (Connection S)) → conn ≡ key → Updates slab slab' key slot
+    → option_and_then (λ c. line_of c) slot ≡ None → (option_and_then (λ c. wire_of told c) slot ≡ None) ⊎ (option_and_then (λ c. wire_of told c) slot ≡ wires_in told slab key) → s.closes conn core core' → DoesAtMost s (LetGo key) (lanes told limits bytes core slab) (lanes told limits bytes core' slab')
+gone_steps {S} {C} s told limits bytes core core' slab slab' key conn slot n u h w k =
+    let at : wires_in told slab' key ≡ option_and_then (λ c. wire_of told c) slot = wire_at told (get slab' key) slot u.changed in
+    inl (record {
+      closes = subst (λ (m : ℕ). s.closes m core core') n k;
+      is_gone = line_at (get slab' key) slot u.changed ∙ h;
+      wire_stays = elim w [ inl e ↦ inl (at ∙ e) | inr e ↦ inr (at ∙ e) ];
+      others = others_stay told limits bytes bytes core core' slab slab' key slot u;
+      bytes_stay = refl;
+    })
 
--- a list of the lines has those of the connections
+-- lists of the lines and of what the streams show have those of the connections
 pub listed_at : {S : Type 0} (slab : Slab (Connection S)) (q : ℕ) → slice_index_or (listed slab) q None ≡ lines_in slab q
 listed_at {S} slab q = get_or-map (λ (slot : Option (Connection S)). option_and_then (λ c. line_of c) slot) slab.slots q None
 
-pub seen : {S C : Type 0} (limits bytes : ℕ × ℕ) (core : C) (slab : Slab (Connection S))
-    → Stays (record { core = core; lines = λ q. slice_index_or (listed slab) q None; limits = limits; bytes = bytes }) (lanes limits bytes core slab)
-seen limits bytes core slab = record { core_stays = refl; lines_stay = λ q. sym (listed_at slab q); limits_stay = refl; bytes_stay = refl }
+pub shown_at : {S : Type 0} (told : S → Option Told) (slab : Slab (Connection S)) (q : ℕ) → slice_index_or (shown told slab) q None ≡ wires_in told slab q
+shown_at {S} told slab q = get_or-map (λ (slot : Option (Connection S)). option_and_then (λ c. wire_of told c) slot) slab.slots q None
 
-pub shown : {S C : Type 0} (limits bytes : ℕ × ℕ) (core : C) (slab : Slab (Connection S))
-    → Stays (lanes limits bytes core slab) (record { core = core; lines = λ q. slice_index_or (listed slab) q None; limits = limits; bytes = bytes })
-shown limits bytes core slab = record { core_stays = refl; lines_stay = λ q. listed_at slab q; limits_stay = refl; bytes_stay = refl }
+abbrev pub listed_lanes : {S C : Type 0} → (S → Option Told) → (limits bytes : ℕ × ℕ) → C → Slab (Connection S) → Lanes C
+listed_lanes told limits bytes core slab = record { core = core; lines = λ q. slice_index_or (listed slab) q None; wires = λ q. slice_index_or (shown told slab) q None; limits = limits; bytes = bytes }
+
+pub from_lists : {S C : Type 0} (told : S → Option Told) (limits bytes : ℕ × ℕ) (core : C) (slab : Slab (Connection S)) → Stays (listed_lanes told limits bytes core slab) (lanes told limits bytes core slab)
+from_lists told limits bytes core slab = record { core_stays = refl; lines_stay = λ q. sym (listed_at slab q); wires_stay = λ q. sym (shown_at told slab q); limits_stay = refl; bytes_stay = refl }
+
+pub to_lists : {S C : Type 0} (told : S → Option Told) (limits bytes : ℕ × ℕ) (core : C) (slab : Slab (Connection S)) → Stays (lanes told limits bytes core slab) (listed_lanes told limits bytes core slab)
+to_lists told limits bytes core slab = record { core_stays = refl; lines_stay = λ q. listed_at slab q; wires_stay = λ q. shown_at told slab q; limits_stay = refl; bytes_stay = refl }

@@ -1,6 +1,7 @@
 -- What a loop over one core does, a step at a time: this project's own.
 use Rattle.std.specs.Prelude.{◌≡◌, ◌≢◌, ◌⊎◌, ℕ, List, [], ◌∷◌, Option, Some, None}
 use Rattle.outbox.specs.Lines.{Line, fresh}
+use Rattle.outbox.specs.Told.{Told, IsUnused, IsReadOn}
 use Rattle.connection_turns.specs.Turning.{TakesTurn}
 
 -- what a core does at a connection: its session is opened or ended, a piece of its stream is taken, a request of it is answered
@@ -10,42 +11,73 @@ pub record CoreSteps (C : Type 0) : Type 1 where
   pub takes : ℕ → C → List ℕ → C → Type 0
   pub answers : ℕ → C → List ℕ → C → Type 0
 
--- the core, what each connection that is served is owed, the limits of the two budgets of memory, and how many bytes were read and written
+-- the core, what each connection that is served is owed, the bytes that moved on the streams of those that are open, as far as they are shown, the limits of the two budgets of memory, and how many bytes were read and written
 pub record Lanes (C : Type 0) : Type 0 where
   pub core : C
   pub lines : ℕ → Option Line
+  pub wires : ℕ → Option Told
   pub limits : ℕ × ℕ
   pub bytes : ℕ × ℕ
 
--- a connection is taken in, one has a turn, one is served no further
+-- a connection is taken in, one has a turn, one is served no further, what still comes on one that is not served is thrown away
 pub data Step : Type 0 where
   TakenIn : (conn : ℕ) → Step
   HasTurn : (conn : ℕ) → Step
   LetGo : (conn : ℕ) → Step
+  Drained : (conn : ℕ) → Step
 
-abbrev pub OthersStay : {C : Type 0} → ℕ → Lanes C → Lanes C → Type 0
-OthersStay conn old new = (q : ℕ) → q ≢ conn → new.lines q ≡ old.lines q
+-- nothing changes for other connections, and no limit does
+pub record OthersStay {C : Type 0} (conn : ℕ) (old new : Lanes C) : Type 0 where
+  pub lines_stay : (q : ℕ) → q ≢ conn → new.lines q ≡ old.lines q
+  pub wires_stay : (q : ℕ) → q ≢ conn → new.wires q ≡ old.wires q
+  pub limits_stay : new.limits ≡ old.limits
 
--- one that is served has a turn
+-- a connection is taken in that was not open, and nothing moved on its stream
+pub record TakesIn {C : Type 0} (s : CoreSteps C) (conn : ℕ) (old new : Lanes C) : Type 0 where
+  pub opens : s.opens conn old.core new.core
+  pub was_free : old.lines conn ≡ None
+  pub is_fresh : new.lines conn ≡ Some fresh
+  pub is_unused : IsUnused (new.wires conn)
+  pub others : OthersStay conn old new
+  pub bytes_stay : new.bytes ≡ old.bytes
+
+-- one that is served has a turn: the bytes of its events are those that moved on its own stream
 pub record TurnAt {C : Type 0} (s : CoreSteps C) (conn : ℕ) (old new : Lanes C) : Type 0 where
   pub line : Line
   pub line' : Line
   pub was : old.lines conn ≡ Some line
   pub is : new.lines conn ≡ Some line'
-  pub takes_turn : TakesTurn (s.takes conn) (s.answers conn) line old.core line' new.core
+  pub takes_turn : TakesTurn (s.takes conn) (s.answers conn) line (old.wires conn) old.core line' (new.wires conn) new.core
   pub others : OthersStay conn old new
-  pub limits_stay : new.limits ≡ old.limits
 
--- what a step does to each connection's line, and to the core; no limit changes, and bytes move in turns alone
+-- one is served no further, and closed, or open without a byte more
+pub record LetsGo {C : Type 0} (s : CoreSteps C) (conn : ℕ) (old new : Lanes C) : Type 0 where
+  pub closes : s.closes conn old.core new.core
+  pub is_gone : new.lines conn ≡ None
+  pub wire_stays : (new.wires conn ≡ None) ⊎ (new.wires conn ≡ old.wires conn)
+  pub others : OthersStay conn old new
+  pub bytes_stay : new.bytes ≡ old.bytes
+
+-- on one that is served no further a piece is read and thrown away, and nothing is written
+pub record Drains {C : Type 0} (conn : ℕ) (old new : Lanes C) : Type 0 where
+  pub core_stays : new.core ≡ old.core
+  pub was_gone : old.lines conn ≡ None
+  pub is_gone : new.lines conn ≡ None
+  pub reads_on : IsReadOn (old.wires conn) (new.wires conn)
+  pub others : OthersStay conn old new
+  pub bytes_stay : new.bytes ≡ old.bytes
+
 abbrev pub Does : {C : Type 0} → CoreSteps C → Step → Lanes C → Lanes C → Type 0
-Does s (TakenIn conn) old new = s.opens conn old.core new.core × (new.lines conn ≡ Some fresh) × OthersStay conn old new × (new.limits ≡ old.limits) × (new.bytes ≡ old.bytes)
+Does s (TakenIn conn) old new = TakesIn s conn old new
 Does s (HasTurn conn) old new = TurnAt s conn old new
-Does s (LetGo conn) old new = s.closes conn old.core new.core × (new.lines conn ≡ None) × OthersStay conn old new × (new.limits ≡ old.limits) × (new.bytes ≡ old.bytes)
+Does s (LetGo conn) old new = LetsGo s conn old new
+Does s (Drained conn) old new = Drains conn old new
 
 -- nothing of that changes
 pub record Stays {C : Type 0} (old new : Lanes C) : Type 0 where
   pub core_stays : new.core ≡ old.core
   pub lines_stay : (q : ℕ) → new.lines q ≡ old.lines q
+  pub wires_stay : (q : ℕ) → new.wires q ≡ old.wires q
   pub limits_stay : new.limits ≡ old.limits
   pub bytes_stay : new.bytes ≡ old.bytes
 
@@ -53,9 +85,12 @@ abbrev pub DoesEach : {C : Type 0} → CoreSteps C → List Step → Lanes C →
 DoesEach s [] old new = Stays old new
 DoesEach {C} s (step ∷ steps) old new = (mid : Lanes C) × Does s step old mid × DoesEach s steps mid new
 
--- some steps; this step, or none
+-- some steps; this step, or none; a turn, what is done in the place of one, or none
 abbrev pub DoesSome : {C : Type 0} → CoreSteps C → Lanes C → Lanes C → Type 0
 DoesSome s old new = (steps : List Step) × DoesEach s steps old new
 
 abbrev pub DoesAtMost : {C : Type 0} → CoreSteps C → Step → Lanes C → Lanes C → Type 0
 DoesAtMost s step old new = Does s step old new ⊎ Stays old new
+
+abbrev pub TurnsAtMost : {C : Type 0} → CoreSteps C → ℕ → Lanes C → Lanes C → Type 0
+TurnsAtMost s conn old new = Does s (HasTurn conn) old new ⊎ DoesAtMost s (Drained conn) old new

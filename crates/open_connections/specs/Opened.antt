@@ -3,10 +3,11 @@ use Rattle.std.specs.Prelude.{◌≡◌, ℕ, List, [], ◌∷◌, ◌++◌, map
 use Rattle.std.specs.Option.{option_and_then, option_map_or}
 use Rattle.slab.specs.Slab.{Slab, get, slab_len}
 use Rattle.outbox.specs.Lines.{Line}
+use Rattle.outbox.specs.Told.{Told}
 use Rattle.connection_turns.specs.declared.connection.Connection.{Connection}
 use Rattle.open_connections.specs.declared.open.Open.{Open}
 use Rattle.open_connections.specs.declared.due.Due.{Due}
-use Rattle.connection_turns.specs.Owed.{line_of, is_lost}
+use Rattle.connection_turns.specs.Owed.{line_of, wire_of, is_lost}
 use Rattle.open_connections.specs.Looping.{Lanes}
 use Rattle.open_connections.specs.Rounds.{IsLast, due_at}
 use Rattle.open_connections.specs.Shares.{limits_in}
@@ -14,12 +15,15 @@ use Rattle.open_connections.specs.Shares.{limits_in}
 abbrev pub lines_in : {S : Type 0} → Slab (Connection S) → ℕ → Option Line
 lines_in slab q = option_and_then (λ c. line_of c) (get slab q)
 
+abbrev pub wires_in : {S : Type 0} → (S → Option Told) → Slab (Connection S) → ℕ → Option Told
+wires_in told slab q = option_and_then (λ c. wire_of told c) (get slab q)
+
 -- how many bytes were read and written
 abbrev pub bytes_of : {S C T : Type 0} → Open S C T → ℕ × ℕ
 bytes_of o = (o.read, o.written)
 
-abbrev pub lanes_of : {S C T : Type 0} → Open S C T → Lanes C
-lanes_of o = record { core = o.core; lines = lines_in o.connections; limits = limits_in o.budgets; bytes = bytes_of o }
+abbrev pub lanes_of : {S C T : Type 0} → (S → Option Told) → Open S C T → Lanes C
+lanes_of told o = record { core = o.core; lines = lines_in o.connections; wires = wires_in told o.connections; limits = limits_in o.budgets; bytes = bytes_of o }
 
 -- whether the turns of the connection's tenant took less than a span in this round
 abbrev pub has_time : {S C T : Type 0} → Due → Open S C T → Bool
@@ -37,9 +41,12 @@ lost_at key o = option_map_or (λ c. is_lost c) (get o.connections key) false
 abbrev pub connected_in : {S C T : Type 0} → Open S C T → ℕ
 connected_in o = slab_len o.connections
 
--- what each is owed, in a list by key
+-- what each is owed, and what their streams show, in lists by key
 abbrev pub listed : {S : Type 0} → Slab (Connection S) → List (Option Line)
 listed slab = map (λ slot. option_and_then (λ c. line_of c) slot) slab.slots
+
+abbrev pub shown : {S : Type 0} → (S → Option Told) → Slab (Connection S) → List (Option Told)
+shown told slab = map (λ slot. option_and_then (λ c. wire_of told c) slot) slab.slots
 
 -- the second by which the connection with this key is idle is this one, if it is there
 abbrev pub IsMarked : {S C T : Type 0} → Open S C T → (key second : ℕ) → Type 0

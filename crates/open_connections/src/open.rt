@@ -1,9 +1,10 @@
 //! The connections that are open, the core that answers them, and the memory that they share.
 ghost use Rattle.std.specs.Prelude.{◌≡◌, ◌<◌, ◌≤◌, ◌^◌, ◌++◌, ℕ, None, IfOk, OnOk, IfSome, IsTrue, IsFalse, MatchOption};
 ghost use Rattle.slab.specs.Slab.{get, slab_len};
-ghost use Rattle.open_connections.specs.Looping.{Stays, Does, DoesAtMost, TakenIn, HasTurn, LetGo};
+ghost use Rattle.open_connections.specs.Looping.{Stays, Does, DoesAtMost, TurnsAtMost, TakenIn, LetGo};
 ghost use Rattle.std.specs.Bool.{MatchBool};
-ghost use Rattle.connection_turns.specs.Owed.{line_of};
+ghost use Rattle.outbox.specs.Told.{IsReadOn, IsUnused};
+ghost use Rattle.connection_turns.specs.Owed.{line_of, wire_of};
 ghost use Rattle.open_connections.specs.Opened.{lanes_of, bytes_of, has_time, IsMarked, IsPutOff, IsStanding, IsListed, IsAsDue, lost_at};
 ghost use Rattle.open_connections.specs.Shares.{fresh_budgets, IsWithin, StayFree, IsGivenBack, claim_at};
 
@@ -59,8 +60,8 @@ impl<S: Peer, C: LoopCore, T: Time + Drop> Open<S, C, T> {
         ensures empty { IfOk result (λ opened. slab_len opened.connections ≡ 0) }
         ensures unread { IfOk result (λ opened. opened.read ≡ 0) }
         ensures unwritten { IfOk result (λ opened. opened.written ≡ 0) }
-        ensures core { IfOk result (λ opened. (lanes_of opened).core ≡ core) }
-        ensures none { IfOk result (λ opened. (q : ℕ) → (lanes_of opened).lines q ≡ None) }
+        ensures core { IfOk result (λ opened. (lanes_of S.told opened).core ≡ core) }
+        ensures none { IfOk result (λ opened. (q : ℕ) → (lanes_of S.told opened).lines q ≡ None) }
         ensures budgets { IfOk result (λ opened. opened.budgets ≡ fresh_budgets memory) }
     {
         let buffer = match Box::new(alloc, [0; PIECE]) {
@@ -108,7 +109,7 @@ impl<S: Peer, C: LoopCore, T: Time + Drop> Open<S, C, T> {
 
     /// The last slow query, which is told once.
     pub fn take_slow(&mut self) -> Option<Slow>
-        ensures { Stays (lanes_of self.old) (lanes_of self.new) }
+        ensures { Stays (lanes_of S.told self.old) (lanes_of S.told self.new) }
     {
         take_slow(&mut self.core)
     }
@@ -162,7 +163,7 @@ impl<S: Peer, C: LoopCore, T: Time + Drop> Open<S, C, T> {
 
     /// The key that the next connection gets, and whether there is room for it.
     pub fn vacant(&mut self) -> Option<usize>
-        ensures { Stays (lanes_of self.old) (lanes_of self.new) }
+        ensures { Stays (lanes_of S.told self.old) (lanes_of S.told self.new) }
     {
         let room = self.count().saturating_add(1);
         let has_room = self.due.reserve(room) && self.connections.reserve(1).is_ok();
@@ -182,7 +183,8 @@ impl<S: Peer, C: LoopCore, T: Time + Drop> Open<S, C, T> {
         stream: S,
         now: u64,
     ) -> bool
-        ensures lanes { MatchBool result (Does C.steps (TakenIn key) (lanes_of self.old) (lanes_of self.new)) (Stays (lanes_of self.old) (lanes_of self.new)) }
+        requires { IsUnused (S.told stream) }
+        ensures lanes { MatchBool result (Does C.steps (TakenIn key) (lanes_of S.told self.old) (lanes_of S.told self.new)) (Stays (lanes_of S.told self.old) (lanes_of S.told self.new)) }
         ensures budgets { self.new.budgets ≡ self.old.budgets }
     {
         let Some(conn) = conn_of(key) else {
@@ -202,17 +204,24 @@ impl<S: Peer, C: LoopCore, T: Time + Drop> Open<S, C, T> {
 
     /// Notes a report, and that the connection gets a turn.
     pub fn note(&mut self, report: Report) -> Result<(), AllocError>
-        ensures { Stays (lanes_of self.old) (lanes_of self.new) }
+        ensures { Stays (lanes_of S.told self.old) (lanes_of S.told self.new) }
+    {
+        self.hear(report);
+        self.schedule(report.key)
+    }
+
+    // Notes a report.
+    fn hear(&mut self, report: Report)
+        ensures { Stays (lanes_of S.told self.old) (lanes_of S.told self.new) }
     {
         if let Some(connection) = self.connections.get_mut(report.key) {
             connection.note(report);
         }
-        self.schedule(report.key)
     }
 
     /// Begins a round, and hands out those that get a turn in it, in order. The list comes back by [`Open::give_back`].
     pub fn take_due(&mut self) -> Result<Vec<Due>, AllocError>
-        ensures lanes { Stays (lanes_of self.old) (lanes_of self.new) }
+        ensures lanes { Stays (lanes_of S.told self.old) (lanes_of S.told self.new) }
         ensures all { IfOk result (λ list. list.items ≡ self.old.due.first.items ++ self.old.due.rest.items) }
     {
         self.due.take()
@@ -227,7 +236,7 @@ impl<S: Peer, C: LoopCore, T: Time + Drop> Open<S, C, T> {
 
     /// Has a turn come in the next round, before the turns of those that had one in this round.
     pub fn put_off(&mut self, due: Due) -> Result<(), AllocError>
-        ensures lanes { Stays (lanes_of self.old) (lanes_of self.new) }
+        ensures lanes { Stays (lanes_of S.told self.old) (lanes_of S.told self.new) }
         ensures kept { OnOk result (IsPutOff due self.old self.new) }
     {
         self.due.put_off(due)
@@ -235,7 +244,7 @@ impl<S: Peer, C: LoopCore, T: Time + Drop> Open<S, C, T> {
 
     /// The list of a round.
     pub fn give_back(&mut self, list: Vec<Due>)
-        ensures { Stays (lanes_of self.old) (lanes_of self.new) }
+        ensures { Stays (lanes_of S.told self.old) (lanes_of S.told self.new) }
     {
         self.due.give_back(list);
     }
@@ -243,7 +252,7 @@ impl<S: Peer, C: LoopCore, T: Time + Drop> Open<S, C, T> {
     // Whether there is room for the reply to the first request that waits; where it takes a share, that is asked for. The reply's length is
     // looked at right before it is given, since other requests may change it.
     fn may_answer(&mut self, key: usize, now: u64) -> Result<bool, AllocError>
-        ensures { Stays (lanes_of self.old) (lanes_of self.new) }
+        ensures { Stays (lanes_of S.told self.old) (lanes_of S.told self.new) }
     {
         let Some(conn) = conn_of(key) else {
             return Ok(false);
@@ -273,10 +282,10 @@ impl<S: Peer, C: LoopCore, T: Time + Drop> Open<S, C, T> {
 
     /// One turn for a connection, and whether bytes moved. Where the peer is gone, nothing is done any more.
     pub fn turn(&mut self, key: usize, now: u64) -> (Outcome, bool)
-        ensures lanes { DoesAtMost C.steps (HasTurn key) (lanes_of self.old) (lanes_of self.new) }
+        ensures lanes { TurnsAtMost C.steps key (lanes_of S.told self.old) (lanes_of S.told self.new) }
         ensures bytes { IsFalse result.1 → bytes_of self.new ≡ bytes_of self.old }
         ensures lost { IsTrue (lost_at key self.old) → result.0 ≡ Outcome.Over End.ReadFault }
-        ensures idle { IsTrue (lost_at key self.old) → Stays (lanes_of self.old) (lanes_of self.new) }
+        ensures idle { IsTrue (lost_at key self.old) → Stays (lanes_of S.told self.old) (lanes_of S.told self.new) }
     {
         if self.is_lost(key) {
             return (Outcome::Over(End::ReadFault), false);
@@ -289,7 +298,7 @@ impl<S: Peer, C: LoopCore, T: Time + Drop> Open<S, C, T> {
 
     // What the turn of a connection does, which is due no more; an error is what comes of one that does nothing.
     fn prepare(&mut self, key: usize, now: u64) -> Result<Plan, Outcome>
-        ensures { Stays (lanes_of self.old) (lanes_of self.new) }
+        ensures { Stays (lanes_of S.told self.old) (lanes_of S.told self.new) }
     {
         let Some(plan) = self.plan(key) else {
             return Err(Outcome::Closed);
@@ -312,7 +321,7 @@ impl<S: Peer, C: LoopCore, T: Time + Drop> Open<S, C, T> {
 
     // What a connection's turn would do, which begins. It is due no more.
     fn plan(&mut self, key: usize) -> Option<Plan>
-        ensures { Stays (lanes_of self.old) (lanes_of self.new) }
+        ensures { Stays (lanes_of S.told self.old) (lanes_of S.told self.new) }
     {
         let has_room = self.budgets.has_room(ROOM);
         let connection = self.connections.get_mut(key)?;
@@ -334,7 +343,7 @@ impl<S: Peer, C: LoopCore, T: Time + Drop> Open<S, C, T> {
 
     // Gives up a share for a reply: a connection that waits for a query holds none.
     fn yield_reply(&mut self, key: usize, now: u64) -> Result<(), AllocError>
-        ensures { Stays (lanes_of self.old) (lanes_of self.new) }
+        ensures { Stays (lanes_of S.told self.old) (lanes_of S.told self.new) }
     {
         let Some(connection) = self.connections.get_mut(key) else {
             return Ok(());
@@ -349,7 +358,7 @@ impl<S: Peer, C: LoopCore, T: Time + Drop> Open<S, C, T> {
 
     // One turn by a plan.
     fn work(&mut self, key: usize, plan: Plan) -> (Outcome, bool)
-        ensures lanes { DoesAtMost C.steps (HasTurn key) (lanes_of self.old) (lanes_of self.new) }
+        ensures lanes { TurnsAtMost C.steps key (lanes_of S.told self.old) (lanes_of S.told self.new) }
         ensures bytes { IsFalse result.1 → bytes_of self.new ≡ bytes_of self.old }
     {
         let Some(conn) = conn_of(key) else {
@@ -378,7 +387,7 @@ impl<S: Peer, C: LoopCore, T: Time + Drop> Open<S, C, T> {
 
     /// Notes the second in which bytes moved.
     pub fn mark(&mut self, key: usize, now: u64)
-        ensures lanes { Stays (lanes_of self.old) (lanes_of self.new) }
+        ensures lanes { Stays (lanes_of S.told self.old) (lanes_of S.told self.new) }
         ensures marked { IsMarked self.new key now }
     {
         let Some(connection) = self.connections.get_mut(key) else {
@@ -390,7 +399,7 @@ impl<S: Peer, C: LoopCore, T: Time + Drop> Open<S, C, T> {
     /// After a turn: what is done with is given back, and what the next step needs is asked for. If the connection can go on, it gets a further
     /// turn; if not, it has no query under way.
     pub fn settle(&mut self, key: usize, now: u64) -> Result<(), AllocError>
-        ensures lanes { Stays (lanes_of self.old) (lanes_of self.new) }
+        ensures lanes { Stays (lanes_of S.told self.old) (lanes_of S.told self.new) }
         ensures standing { OnOk result (IsStanding key self.new) }
     {
         self.settle_memory(key, now)?;
@@ -399,29 +408,40 @@ impl<S: Peer, C: LoopCore, T: Time + Drop> Open<S, C, T> {
 
     // What is done with is given back, and what the next step needs is asked for.
     fn settle_memory(&mut self, key: usize, now: u64) -> Result<(), AllocError>
-        ensures { Stays (lanes_of self.old) (lanes_of self.new) }
+        ensures { Stays (lanes_of S.told self.old) (lanes_of S.told self.new) }
     {
         let Some(conn) = conn_of(key) else {
             return Ok(());
         };
         self.count_turn(key, now);
-        let waiting = self.core.inner().waiting(conn);
-        let Some(connection) = self.connections.get_mut(key) else {
-            return Ok(());
-        };
-        connection.has_part = waiting > 0;
-        match connection.claim {
+        self.note_part(key, conn);
+        match self.claim_of(key) {
             Some(claim) => self.settle_claim(key, &claim, now),
             None => self.ask(key, conn, now),
         }
     }
 
+    // Notes whether a frame came in part, or is not answered.
+    fn note_part(&mut self, key: usize, conn: u32)
+        ensures { Stays (lanes_of S.told self.old) (lanes_of S.told self.new) }
+    {
+        let waiting = self.core.inner().waiting(conn);
+        if let Some(connection) = self.connections.get_mut(key) {
+            connection.has_part = waiting > 0;
+        }
+    }
+
+    fn claim_of(&self, key: usize) -> Option<Claim> {
+        self.connections.get(key)?.claim
+    }
+
     // Counts the time that a turn took.
     fn count_turn(&mut self, key: usize, now: u64)
-        ensures { Stays (lanes_of self.old) (lanes_of self.new) }
+        ensures { Stays (lanes_of S.told self.old) (lanes_of S.told self.new) }
     {
         let micros = take_micros(&mut self.core);
-        self.note_turn(key, now);
+        self.note_turn(key);
+        self.renew(key, now);
         if let Some(connection) = self.connections.get(key) {
             self.due
                 .count(connection.tenant, micros, connection.is_working);
@@ -429,8 +449,8 @@ impl<S: Peer, C: LoopCore, T: Time + Drop> Open<S, C, T> {
     }
 
     // Notes what the core tells of a turn.
-    fn note_turn(&mut self, key: usize, now: u64)
-        ensures { Stays (lanes_of self.old) (lanes_of self.new) }
+    fn note_turn(&mut self, key: usize)
+        ensures { Stays (lanes_of S.told self.old) (lanes_of S.told self.new) }
     {
         let core = self.core.inner();
         let Some(connection) = self.connections.get_mut(key) else {
@@ -439,14 +459,23 @@ impl<S: Peer, C: LoopCore, T: Time + Drop> Open<S, C, T> {
         connection.worked = core.worked();
         connection.tenant = core.heard(connection.tenant);
         connection.is_working = core.is_working();
-        if connection.is_working && self.core.has_worked() {
-            connection.renew(now);
+    }
+
+    // While a query goes on, the time for which its connection may hold a share begins anew.
+    fn renew(&mut self, key: usize, now: u64)
+        ensures { Stays (lanes_of S.told self.old) (lanes_of S.told self.new) }
+    {
+        let has_worked = self.core.has_worked();
+        if let Some(connection) = self.connections.get_mut(key) {
+            if has_worked && connection.is_working {
+                connection.renew(now);
+            }
         }
     }
 
     // Gives back what is done with of a share.
     fn settle_claim(&mut self, key: usize, claim: &Claim, now: u64) -> Result<(), AllocError>
-        ensures { Stays (lanes_of self.old) (lanes_of self.new) }
+        ensures { Stays (lanes_of S.told self.old) (lanes_of S.told self.new) }
     {
         let Some(connection) = self.connections.get_mut(key) else {
             return Ok(());
@@ -473,7 +502,7 @@ impl<S: Peer, C: LoopCore, T: Time + Drop> Open<S, C, T> {
 
     // Asks for what the next step needs, where that is above what each may have.
     fn ask(&mut self, key: usize, conn: u32, now: u64) -> Result<(), AllocError>
-        ensures { Stays (lanes_of self.old) (lanes_of self.new) }
+        ensures { Stays (lanes_of S.told self.old) (lanes_of S.told self.new) }
     {
         let Some(connection) = self.connections.get(key) else {
             return Ok(());
@@ -496,7 +525,7 @@ impl<S: Peer, C: LoopCore, T: Time + Drop> Open<S, C, T> {
         bytes: usize,
         now: u64,
     ) -> Result<bool, AllocError>
-        ensures { Stays (lanes_of self.old) (lanes_of self.new) }
+        ensures { Stays (lanes_of S.told self.old) (lanes_of S.told self.new) }
     {
         let (ticket, is_granted) = match self.budgets.ask(pool, key, bytes)? {
             Answer::Granted(ticket) => (ticket, true),
@@ -517,7 +546,7 @@ impl<S: Peer, C: LoopCore, T: Time + Drop> Open<S, C, T> {
 
     // Grants what there is room for, in order.
     fn grant(&mut self, now: u64) -> Result<(), AllocError>
-        ensures lanes { Stays (lanes_of self.old) (lanes_of self.new) }
+        ensures lanes { Stays (lanes_of S.told self.old) (lanes_of S.told self.new) }
         ensures free { StayFree self.old.budgets self.new.budgets }
     {
         'shares: for _ in 0..u64::MAX {
@@ -531,18 +560,26 @@ impl<S: Peer, C: LoopCore, T: Time + Drop> Open<S, C, T> {
 
     // A connection holds its share now.
     fn wake(&mut self, key: usize, ticket: u64, now: u64) -> Result<(), AllocError>
-        ensures lanes { Stays (lanes_of self.old) (lanes_of self.new) }
+        ensures lanes { Stays (lanes_of S.told self.old) (lanes_of S.told self.new) }
+        ensures budgets { self.new.budgets ≡ self.old.budgets }
+    {
+        self.hold(key, ticket, now);
+        self.schedule(key)
+    }
+
+    // Notes that a connection holds its share.
+    fn hold(&mut self, key: usize, ticket: u64, now: u64)
+        ensures lanes { Stays (lanes_of S.told self.old) (lanes_of S.told self.new) }
         ensures budgets { self.new.budgets ≡ self.old.budgets }
     {
         if let Some(connection) = self.connections.get_mut(key) {
             connection.hold(ticket, now);
         }
-        self.schedule(key)
     }
 
     // What [`Open::give_turn`] does, of which no more is said here than that nothing else changes.
     fn schedule(&mut self, key: usize) -> Result<(), AllocError>
-        ensures lanes { Stays (lanes_of self.old) (lanes_of self.new) }
+        ensures lanes { Stays (lanes_of S.told self.old) (lanes_of S.told self.new) }
         ensures budgets { self.new.budgets ≡ self.old.budgets }
     {
         self.give_turn(key)
@@ -550,7 +587,7 @@ impl<S: Peer, C: LoopCore, T: Time + Drop> Open<S, C, T> {
 
     // A connection that can go on gets a further turn. One that can't has no query under way: so nobody waits for one that waits.
     fn give_turn(&mut self, key: usize) -> Result<(), AllocError>
-        ensures lanes { Stays (lanes_of self.old) (lanes_of self.new) }
+        ensures lanes { Stays (lanes_of S.told self.old) (lanes_of S.told self.new) }
         ensures budgets { self.new.budgets ≡ self.old.budgets }
         ensures standing { OnOk result (IsStanding key self.new) }
         ensures listed { OnOk result (IsListed key self.old self.new) }
@@ -573,7 +610,7 @@ impl<S: Peer, C: LoopCore, T: Time + Drop> Open<S, C, T> {
 
     // A connection that gets no turn has no query under way.
     fn give_up_query(&mut self, key: usize)
-        ensures lanes { Stays (lanes_of self.old) (lanes_of self.new) }
+        ensures lanes { Stays (lanes_of S.told self.old) (lanes_of S.told self.new) }
         ensures budgets { self.new.budgets ≡ self.old.budgets }
         ensures due { IsAsDue key self.old self.new }
         ensures given_up { IfSome (get self.new.connections key) (λ c. IsFalse c.is_working) }
@@ -599,7 +636,7 @@ impl<S: Peer, C: LoopCore, T: Time + Drop> Open<S, C, T> {
 
     /// Ends a connection's session, and reads what still comes for a little while.
     pub fn linger(&mut self, key: usize, now: u64) -> Result<(), AllocError>
-        ensures lanes { DoesAtMost C.steps (LetGo key) (lanes_of self.old) (lanes_of self.new) }
+        ensures lanes { DoesAtMost C.steps (LetGo key) (lanes_of S.told self.old) (lanes_of S.told self.new) }
         ensures share { key < 2 ^ 32 → IsGivenBack (claim_at self.old.connections key) self.new.budgets }
     {
         let claim = self.end(key, now);
@@ -609,7 +646,7 @@ impl<S: Peer, C: LoopCore, T: Time + Drop> Open<S, C, T> {
 
     // Ends a connection's session, and hands out its share.
     fn end(&mut self, key: usize, now: u64) -> Option<Claim>
-        ensures lanes { DoesAtMost C.steps (LetGo key) (lanes_of self.old) (lanes_of self.new) }
+        ensures lanes { DoesAtMost C.steps (LetGo key) (lanes_of S.told self.old) (lanes_of S.told self.new) }
         ensures claim { key < 2 ^ 32 → result ≡ claim_at self.old.connections key }
     {
         let conn = conn_of(key)?;
@@ -622,7 +659,7 @@ impl<S: Peer, C: LoopCore, T: Time + Drop> Open<S, C, T> {
 
     /// Closes a connection.
     pub fn close(&mut self, key: usize, now: u64) -> Result<(), AllocError>
-        ensures lanes { DoesAtMost C.steps (LetGo key) (lanes_of self.old) (lanes_of self.new) }
+        ensures lanes { DoesAtMost C.steps (LetGo key) (lanes_of S.told self.old) (lanes_of S.told self.new) }
         ensures share { key < 2 ^ 32 → IsGivenBack (claim_at self.old.connections key) self.new.budgets }
     {
         let claim = self.let_go(key);
@@ -631,7 +668,7 @@ impl<S: Peer, C: LoopCore, T: Time + Drop> Open<S, C, T> {
 
     // Takes a connection off, and hands out its share.
     fn let_go(&mut self, key: usize) -> Option<Claim>
-        ensures lanes { DoesAtMost C.steps (LetGo key) (lanes_of self.old) (lanes_of self.new) }
+        ensures lanes { DoesAtMost C.steps (LetGo key) (lanes_of S.told self.old) (lanes_of S.told self.new) }
         ensures claim { key < 2 ^ 32 → result ≡ claim_at self.old.connections key }
     {
         let conn = conn_of(key)?;
@@ -642,7 +679,7 @@ impl<S: Peer, C: LoopCore, T: Time + Drop> Open<S, C, T> {
 
     // Gives a share back that a connection had.
     fn give_up(&mut self, claim: Option<Claim>, now: u64) -> Result<(), AllocError>
-        ensures lanes { Stays (lanes_of self.old) (lanes_of self.new) }
+        ensures lanes { Stays (lanes_of S.told self.old) (lanes_of S.told self.new) }
         ensures given { IsGivenBack claim self.new.budgets }
     {
         match claim {
@@ -690,7 +727,7 @@ impl<S: Peer, C: LoopCore, T: Time + Drop> Open<S, C, T> {
 
     /// The connection that has been idle longest, for so many seconds at least. They are looked for once a second.
     pub fn spare(&mut self, now: u64, limits: &Limits) -> Option<usize>
-        ensures { Stays (lanes_of self.old) (lanes_of self.new) }
+        ensures { Stays (lanes_of S.told self.old) (lanes_of S.told self.new) }
     {
         match self.next_spare(now, limits) {
             Some(key) => Some(key),
@@ -707,7 +744,7 @@ impl<S: Peer, C: LoopCore, T: Time + Drop> Open<S, C, T> {
 
     // The next of those that were found and are still idle.
     fn next_spare(&mut self, now: u64, limits: &Limits) -> Option<usize>
-        ensures { Stays (lanes_of self.old) (lanes_of self.new) }
+        ensures { Stays (lanes_of S.told self.old) (lanes_of S.told self.new) }
     {
         'found: for _ in 0..self.idle.len() {
             let (since, key) = self.idle.pop()?;
@@ -722,7 +759,7 @@ impl<S: Peer, C: LoopCore, T: Time + Drop> Open<S, C, T> {
 
     // Finds those that are idle. Where there is no memory for the list, there is none.
     fn look_for_spare(&mut self, now: u64, limits: &Limits)
-        ensures { Stays (lanes_of self.old) (lanes_of self.new) }
+        ensures { Stays (lanes_of S.told self.old) (lanes_of S.told self.new) }
     {
         self.idle.clear();
         let count = self.count();
@@ -764,7 +801,8 @@ fn added(count: u64, more: u64) -> u64
 
 // Reads once what still comes on a connection that is served no further.
 fn drained<S: Peer>(connection: &mut Connection<S>, buffer: &mut [u8]) -> Outcome
-    ensures { line_of connection.new ≡ line_of connection.old }
+    ensures line { line_of connection.new ≡ line_of connection.old }
+    ensures wire { IsReadOn (wire_of S.told connection.old) (wire_of S.told connection.new) }
 {
     if connection.drain(buffer) {
         Outcome::Open

@@ -1,5 +1,5 @@
 -- The bytes that a wire moved, where it tells them: this project's own.
-use Rattle.std.specs.Prelude.{ℕ, List, ◌++◌, Option}
+use Rattle.std.specs.Prelude.{◌≡◌, ℕ, List, [], ◌++◌, Option, Some, None}
 use Rattle.std.specs.Option.{option_map}
 
 pub record Told : Type 0 where
@@ -17,3 +17,12 @@ with_written bytes o = option_map (λ t. record { read = t.read; written = t.wri
 -- after both
 abbrev pub moved : List ℕ → List ℕ → Option Told → Option Told
 moved piece bytes o = option_map (λ t. record { read = t.read ++ piece; written = t.written ++ bytes }) o
+
+-- nothing moved yet, as far as it is told
+abbrev pub IsUnused : Option Told → Type 0
+IsUnused None = Unit {0}
+IsUnused (Some t) = (t.read ≡ []) × (t.written ≡ [])
+
+-- nothing was written; a piece may have been read
+abbrev pub IsReadOn : Option Told → Option Told → Type 0
+IsReadOn old new = (piece : List ℕ) × (new ≡ with_read piece old)

@@ -115,7 +115,7 @@ pub record Turned {C : Type 0} (most_pieces most_answers : ℕ) (takes answers :
   pub told : IsTold idle old → IsTold idle new
   pub ended : IsEnded over old → IsEnded over new
 
--- One write, in the contract of a private function: some bytes went out, or there is no room, or a fault came.
+-- One write: some bytes went out, or there is no room, or a fault came.
 abbrev pub WritesOnce : Line → Option Told → Readiness → Line → Option Told → Readiness → Type 0
 WritesOnce line wire ready line' wire' ready' =
     ((n : ℕ) × (0 < n) × (line' ≡ after line (Writable n)) × (wire' ≡ with_written (take n line.owed) wire) × (ready' ≡ ready))

@@ -34,8 +34,10 @@ pub fn turn<W: Wire, C: Core>(
     flush(outbox, wire, ready);
 }
 
-// Writes once.
-fn flush<W: Wire>(outbox: &mut Outbox, wire: &mut W, ready: &mut Readiness)
+/// Writes once, if something is owed and there may be room for it. It neither reads nor answers.
+///
+/// A fault of the wire has the same effect as in a [`turn`].
+pub fn flush<W: Wire>(outbox: &mut Outbox, wire: &mut W, ready: &mut Readiness)
     ensures { Flushes outbox.old (W.told wire.old) ready.old outbox.new (W.told wire.new) ready.new }
 {
     if !ready.can_write(outbox) {

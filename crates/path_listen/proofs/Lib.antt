@@ -1,3 +1,4 @@
 pub mod Serving
 pub mod Bounds
 pub mod Waiting
+pub mod Wires

@@ -1,5 +1,5 @@
 -- What the events of a turn do to the hub, and then acts one after another.
-use Rattle.std.proofs.Common.{◌≡◌, ◌≢◌, ℕ, Bool, true, false, List, [], ◌∷◌, ◌++◌, map, sym, ap, ◌∙◌, subst, refl, Option, Some, None, cond, eqb, inl, inr, arith, append_assoc}
+use Rattle.std.proofs.Common.{◌≡◌, ◌≢◌, ℕ, suc, Bool, true, false, List, [], ◌∷◌, ◌++◌, map, length, sym, ap, ◌∙◌, subst, refl, Option, Some, None, cond, eqb, inl, inr, arith, append_assoc}
 use Rattle.std.specs.Prelude.{◌==◌, if◌then◌else◌}
 use Rattle.std.specs.Ordering.{nat_cmp}
 use Rattle.std.specs.BTreeMap.{is_at}
@@ -20,10 +20,10 @@ use Rattle.path_hub.specs.Serving.{items_in}
 use Rattle.path_hub.specs.Laws.{RunsApart}
 use Rattle.path_hub.specs.Standing.{StandsAt, Standing}
 use Rattle.path_listen.specs.Answering.{takes, Answers}
-use Rattle.path_listen.specs.Acts.{Act, Opened, Turned, Closed, changed, lines_after, AllHappen, replies_in, told_in, events_of, bodies_of, frames_of, IsKept}
-use Rattle.path_listen.specs.Served.{IsServed, Serves}
+use Rattle.path_listen.specs.Acts.{Act, Opened, Turned, Closed, Drained, changed, lines_after, all_lines_after, AllHappen, replies_in, told_in, events_of, bodies_of, frames_of, IsKept}
+use Rattle.path_listen.specs.Served.{IsServed, SessionIn, Serves}
 
-picked : {A : Type 0} (b : Bool) (x y : A) → b ≡ true → (if b then x else y) ≡ x
+pub picked : {A : Type 0} (b : Bool) (x y : A) → b ≡ true → (if b then x else y) ≡ x
 picked true x y h = refl
 picked false x y h = absurd cc
 
@@ -165,7 +165,7 @@ frames_other q conn [] ts e = refl
 frames_other q conn (f ∷ fs) ts e = passed (q == conn) (f ∷ frames_of q (map (sent conn) fs ++ ts)) (frames_of q (map (sent conn) fs ++ ts)) e ∙ frames_other q conn fs ts e
 
 -- what a connection's events gather from a turn on, at it and at another one
-gathered_own : (at : Line → Event → List ℕ) (lines : ℕ → Line) (q conn : ℕ) (es fs : List Event) → (q == conn) ≡ true
+pub gathered_own : (at : Line → Event → List ℕ) (lines : ℕ → Line) (q conn : ℕ) (es fs : List Event) → (q == conn) ≡ true
     → gathered at (lines q) ((if q == conn then es else []) ++ fs) ≡ gathered at (lines conn) es ++ gathered at (changed lines conn (run (lines conn) es) q) fs
 gathered_own at lines q conn es fs e =
     ap (λ (xs : List Event). gathered at (lines q) (xs ++ fs)) (picked (q == conn) es [] e)
@@ -173,13 +173,13 @@ gathered_own at lines q conn es fs e =
     ∙ gathered-append at (lines conn) es fs
     ∙ ap (λ (l : Line). gathered at (lines conn) es ++ gathered at l fs) (sym (picked (q == conn) (run (lines conn) es) (lines q) e))
 
-gathered_other : (at : Line → Event → List ℕ) (lines : ℕ → Line) (q conn : ℕ) (es fs : List Event) → (q == conn) ≡ false
+pub gathered_other : (at : Line → Event → List ℕ) (lines : ℕ → Line) (q conn : ℕ) (es fs : List Event) → (q == conn) ≡ false
     → gathered at (lines q) ((if q == conn then es else []) ++ fs) ≡ gathered at (changed lines conn (run (lines conn) es) q) fs
 gathered_other at lines q conn es fs e =
     ap (λ (xs : List Event). gathered at (lines q) (xs ++ fs)) (passed (q == conn) es [] e)
     ∙ ap (λ (l : Line). gathered at l fs) (sym (passed (q == conn) (run (lines conn) es) (lines q) e))
 
-line_kept : (lines : ℕ → Line) (conn : ℕ) (line : Line) (q : ℕ) → q ≢ conn → changed lines conn line q ≡ lines q
+pub line_kept : (lines : ℕ → Line) (conn : ℕ) (line : Line) (q : ℕ) → q ≢ conn → changed lines conn line q ≡ lines q
 line_kept lines conn line q n = passed (q == conn) line (lines q) (not_there q conn n)
 
 pub record Serving (lines : ℕ → Line) (acts : List Act) (h h' : HubState) : Type 0 where
@@ -258,6 +258,50 @@ serving w lines (Closed conn ∷ acts) h h' d =
       own = λ q k s ds x. r.own q k.1 s ds (kept_at q s ds h d.0 (sets_others conn None h.sessions d.0.sessions d.1.sets q k.0) x);
       replied_is = λ q k. r.replied_is q k.1;
     }
+serving w lines (Drained conn ∷ acts) h h' d =
+    let r : Serving lines acts d.0 h' = serving w lines acts d.0 h' d.2 in
+    record {
+      items = r.items;
+      runs = subst (λ (x : HubState). Run x.tenants r.items (told_in acts) h'.tenants) d.1 r.runs;
+      own = λ q k s ds x. r.own q k.1 s ds (kept_at q s ds h d.0 (ap (λ (y : HubState). session q y.sessions) d.1) x);
+      replied_is = λ q k. r.replied_is q k.1;
+    }
+
+-- ---- Acts before and behind
+
+pub record Parted (w : Standing) (lines : ℕ → Line) (xs ys : List Act) (h h' : HubState) (d : AllHappen lines (xs ++ ys) h h') : Type 0 where
+  pub mid : HubState
+  pub first : AllHappen lines xs h mid
+  pub last : AllHappen (all_lines_after lines xs) ys mid h'
+  pub items_are : (serving w lines (xs ++ ys) h h' d).items ≡ (serving w lines xs h mid first).items ++ (serving w (all_lines_after lines xs) ys mid h' last).items
+
+pub parted : (w : Standing) (lines : ℕ → Line) (xs ys : List Act) (h h' : HubState) (d : AllHappen lines (xs ++ ys) h h') → Parted w lines xs ys h h' d
+unfolding serving
+parted w lines [] ys h h' d = record { mid = h; first = refl; last = d; items_are = refl }
+parted w lines (Opened conn ∷ xs) ys h h' d =
+    let p : Parted w (lines_after lines (Opened conn)) xs ys d.0 h' d.2 = parted w (lines_after lines (Opened conn)) xs ys d.0 h' d.2 in
+    record { mid = p.mid; first = (d.0, d.1, p.first); last = p.last; items_are = p.items_are }
+parted w lines (Turned conn es ∷ xs) ys h h' d =
+    let p : Parted w (lines_after lines (Turned conn es)) xs ys d.0 h' d.2 = parted w (lines_after lines (Turned conn es)) xs ys d.0 h' d.2 in
+    let is : List Item = map (item conn) (answering w conn (lines conn) es h d.0 d.1).bodies in
+    record {
+      mid = p.mid;
+      first = (d.0, d.1, p.first);
+      last = p.last;
+      items_are = ap (λ (js : List Item). is ++ js) p.items_are ∙ sym (append_assoc is (serving w (lines_after lines (Turned conn es)) xs d.0 p.mid p.first).items (serving w (all_lines_after (lines_after lines (Turned conn es)) xs) ys p.mid h' p.last).items);
+    }
+parted w lines (Closed conn ∷ xs) ys h h' d =
+    let p : Parted w lines xs ys d.0 h' d.2 = parted w lines xs ys d.0 h' d.2 in
+    record { mid = p.mid; first = (d.0, d.1, p.first); last = p.last; items_are = p.items_are }
+parted w lines (Drained conn ∷ xs) ys h h' d =
+    let p : Parted w lines xs ys d.0 h' d.2 = parted w lines xs ys d.0 h' d.2 in
+    record { mid = p.mid; first = (d.0, d.1, p.first); last = p.last; items_are = p.items_are }
+
+run-length : (is : List Item) (ts : List Told) (old new : Tenancy) → Run old is ts new → length is ≡ length ts
+run-length [] [] old new r = refl
+run-length [] (t ∷ ts) old new r = absurd r
+run-length (i ∷ is) [] old new r = absurd r
+run-length (i ∷ is) (t ∷ ts) old new r = ap suc (run-length is ts r.0 new r.3)
 
 -- ---- The law
 
@@ -280,6 +324,31 @@ one_served w lines acts h h' r q line was k =
       bytes = w.order es ∙ ap (λ (l : Line). replied l es) (sym line) ∙ r.replied_is q k;
     }
 
+-- what was served of a connection from where it is opened on
+in_session : (w : Lower) (lines : ℕ → Line) (q : ℕ) (before mid behind : List Act) (h h' : HubState) (d : AllHappen lines (before ++ (Opened q ∷ mid ++ behind)) h h') → IsKept q mid → SessionIn q (serving w.standing lines (before ++ (Opened q ∷ mid ++ behind)) h h' d).items before mid
+unfolding serving
+in_session w lines q before mid behind h h' d k =
+    let p : Parted w.standing lines before (Opened q ∷ mid ++ behind) h h' d = parted w.standing lines before (Opened q ∷ mid ++ behind) h h' d in
+    let opened : ℕ → Line = lines_after (all_lines_after lines before) (Opened q) in
+    let start : HubState = p.last.0 in
+    let r : Parted w.standing opened mid behind start h' p.last.2 = parted w.standing opened mid behind start h' p.last.2 in
+    let first : Serving lines before h p.mid = serving w.standing lines before h p.mid p.first in
+    let while : Serving opened mid start r.mid = serving w.standing opened mid start r.mid r.first in
+    let late : Serving (all_lines_after opened mid) behind r.mid h' = serving w.standing (all_lines_after opened mid) behind r.mid h' r.last in
+    record {
+      ahead = first.items;
+      own = while.items;
+      rest = late.items;
+      items_are = p.items_are ∙ ap (λ (js : List Item). first.items ++ js) r.items_are ∙ sym (append_assoc first.items while.items late.items);
+      ahead_told = run-length first.items (told_in before) h.tenants p.mid.tenants first.runs;
+      own_told = run-length while.items (told_in mid) start.tenants r.mid.tenants while.runs;
+      served = one_served w opened mid start r.mid while q (picked (q == q) fresh (all_lines_after lines before q) ((Decides-eqb q q).1 refl)) (sets_here q (Some fresh_framing) p.mid.sessions start.sessions p.last.1.sets) k;
+    }
+
+session_in : (w : Lower) (lines : ℕ → Line) (acts : List Act) (h h' : HubState) (d : AllHappen lines acts h h') (q : ℕ) (before mid behind : List Act) → acts ≡ before ++ (Opened q ∷ mid ++ behind) → IsKept q mid → SessionIn q (serving w.standing lines acts h h' d).items before mid
+session_in w lines acts h h' d q before mid behind e k =
+    subst (λ (xs : List Act). (x : AllHappen lines xs h h') → SessionIn q (serving w.standing lines xs h h' x).items before mid) (sym e) (λ x. in_session w lines q before mid behind h h' x k) d
+
 pub all_served : (w : Lower) (lines : ℕ → Line) (acts : List Act) (h h' : HubState) → AllHappen lines acts h h' → Serves lines h acts h'
 all_served w lines acts h h' d =
     let r : Serving lines acts h h' = serving w.standing lines acts h h' d in
@@ -287,5 +356,6 @@ all_served w lines acts h h' d =
       items = r.items;
       runs = r.runs;
       each = one_served w lines acts h h' r;
+      sessions = session_in w lines acts h h' d;
       apart = λ key m e. w.apart r.items (told_in acts) h.tenants h'.tenants key m r.runs e;
     }

@@ -1,5 +1,6 @@
 pub mod Answering
 pub mod Acts
+pub mod Wires
 pub mod Served
 pub mod Needs
 pub mod Replies

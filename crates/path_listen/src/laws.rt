@@ -1,5 +1,6 @@
 //! What any order of turns of any connections amounts to. The function does nothing, and its contract is the law.
 ghost use Rattle.path_listen.specs.Served.{TurnsAreServed};
+ghost use Rattle.path_listen.specs.Wires.{WiresShow};
 
 use outbox::in_order;
 use path_hub::{runs_apart, sessions_stand_in_streams};
@@ -17,3 +18,9 @@ pub fn turns_are_served()
     runs_apart();
     sessions_stand_in_streams();
 }
+
+/// If each turn moves the bytes of its events on the stream of its own connection, and nothing else moves there, then all that moved on a stream
+/// since its connection was opened is what the events of that connection read and sent.
+pub fn wires_show_their_events()
+    ensures { WiresShow }
+{}

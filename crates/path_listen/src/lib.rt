@@ -11,4 +11,4 @@ mod needs;
 
 pub use asked::Asked;
 pub use hub_core::HubCore;
-pub use laws::turns_are_served;
+pub use laws::{turns_are_served, wires_show_their_events};

@@ -6,8 +6,10 @@
 
 mod gate;
 mod sockets;
+mod stream;
 mod system;
 
 pub use gate::Gate;
 pub use sockets::{BindFault, Since, Sockets};
+pub use stream::Stream;
 pub use system::{Accepted, Peer, Report, System, Time, Woken};

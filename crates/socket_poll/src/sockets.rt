@@ -1,5 +1,6 @@
 //! The system of TCP sockets and `epoll`.
 
+use crate::stream::Stream;
 use crate::system::{Accepted, Peer, Report, System, Time, Woken};
 use mio::event::Event;
 use mio::net::{TcpListener, TcpStream};
@@ -19,9 +20,9 @@ const INPUT: Token = Token(usize::MAX - 1);
 
 const ADMINISTRATION: Token = Token(usize::MAX - 2);
 
-impl Peer for TcpStream {
+impl Peer for Stream<TcpStream> {
     fn end_writing(&mut self) {
-        let _ = self.shutdown(Shutdown::Write);
+        let _ = self.inner.shutdown(Shutdown::Write);
     }
 }
 
@@ -108,7 +109,7 @@ fn listen<R: Net>(rt: &R, addr: SocketAddr) -> io::Result<(Poll, TcpListener)> {
 }
 
 impl System for Sockets {
-    type Stream = TcpStream;
+    type Stream = Stream<TcpStream>;
 
     fn wait(&mut self, most: Duration) -> Result<Woken, ErrorKind> {
         if let Err(error) = self.poll.poll(&mut self.events, Some(most)) {
@@ -139,11 +140,11 @@ impl System for Sockets {
         self.reports.get(number).copied()
     }
 
-    fn accept(&mut self) -> Accepted<TcpStream> {
+    fn accept(&mut self) -> Accepted<Stream<TcpStream>> {
         accept_at(&self.listener)
     }
 
-    fn accept_caller(&mut self) -> Accepted<TcpStream> {
+    fn accept_caller(&mut self) -> Accepted<Stream<TcpStream>> {
         if !self.is_called {
             return Accepted::Blocked;
         }
@@ -154,11 +155,11 @@ impl System for Sockets {
         accepted
     }
 
-    fn watch(&mut self, stream: &mut TcpStream, key: usize) -> bool {
+    fn watch(&mut self, stream: &mut Stream<TcpStream>, key: usize) -> bool {
         let interests = Interest::READABLE | Interest::WRITABLE;
         self.poll
             .registry()
-            .register(stream, Token(key), interests)
+            .register(&mut stream.inner, Token(key), interests)
             .is_ok()
     }
 
@@ -178,7 +179,7 @@ impl System for Sockets {
 }
 
 // Accepts a connection, which never waits.
-fn accept_at(listener: &Option<TcpListener>) -> Accepted<TcpStream> {
+fn accept_at(listener: &Option<TcpListener>) -> Accepted<Stream<TcpStream>> {
     let Some(listener) = listener else {
         return Accepted::Blocked;
     };
@@ -186,7 +187,7 @@ fn accept_at(listener: &Option<TcpListener>) -> Accepted<TcpStream> {
         Ok((stream, peer)) => {
             // without it no reply is wrong, and some come later
             let _ = stream.set_nodelay(true);
-            Accepted::Stream(stream, peer)
+            Accepted::Stream(Stream { inner: stream }, peer)
         }
         Err(error) => match error.kind() {
             ErrorKind::WouldBlock => Accepted::Blocked,

@@ -1,13 +1,17 @@
 //! What a loop needs of the operating system: what is ready, who connects, and the time.
+ghost use Rattle.std.specs.Prelude.{◌≡◌};
+ghost use Rattle.socket_poll.specs.Streams.{IsNew};
 
-use std::io::{ErrorKind, Read, Write};
+use outbox::Wire;
+use std::io::ErrorKind;
 use std::net::SocketAddr;
 use std::time::Duration;
 
-/// A stream that never waits.
-pub trait Peer: Read + Write + Drop {
+/// A connection's stream: a wire, whose reads and writes return at once, with a writing side that can be ended.
+pub trait Peer: Wire + Drop {
     /// Ends the writing side, so that the bytes written arrive although some are unread.
-    fn end_writing(&mut self);
+    fn end_writing(&mut self)
+        ensures { Self.told self.new ≡ Self.told self.old };
 }
 
 /// A report on a connection.
@@ -37,7 +41,7 @@ pub struct Woken {
 /// The result of an accept.
 #[derive(Drop)]
 pub enum Accepted<S: Drop> {
-    /// A stream that never waits, and the address of its peer.
+    /// A stream on which nothing moved yet, and the address of its peer.
     Stream(S, SocketAddr),
     /// None waits.
     Blocked,
@@ -59,15 +63,19 @@ pub trait System {
     fn report(&self, number: usize) -> Option<Report>;
 
     /// Accepts a connection.
-    fn accept(&mut self) -> Accepted<Self::Stream>;
+    fn accept(&mut self) -> Accepted<Self::Stream>
+        ensures { IsNew Self.Stream.told result };
 
     /// Accepts a connection of the administration address. None waits if there is no such address.
-    fn accept_caller(&mut self) -> Accepted<Self::Stream> {
+    fn accept_caller(&mut self) -> Accepted<Self::Stream>
+        ensures { IsNew Self.Stream.told result }
+    {
         Accepted::Blocked
     }
 
     /// Has a stream reported under this key when it is ready. `false` if the system refuses.
-    fn watch(&mut self, stream: &mut Self::Stream, key: usize) -> bool;
+    fn watch(&mut self, stream: &mut Self::Stream, key: usize) -> bool
+        ensures { Self.Stream.told stream.new ≡ Self.Stream.told stream.old };
 
     /// Stops listening.
     fn close(&mut self);

@@ -4,4 +4,4 @@ use Rattle.event_loop.proofs.rounds.Rounds.accept_some.Given as goal
 
 -- what was done so far
 abbrev pub invariant-accepts : goal.invariant-accepts
-invariant-accepts g l = DoesSome g.C.LoopCore.steps (lanes_of l.initial.self.opened) (lanes_of l.self.opened)
+invariant-accepts g l = DoesSome g.C.LoopCore.steps (lanes_of g.S.Stream.Wire.told l.initial.self.opened) (lanes_of g.S.Stream.Wire.told l.self.opened)

@@ -4,4 +4,4 @@ use Rattle.event_loop.proofs.rounds.Rounds.administer.Given as goal
 
 -- nothing that is served has changed so far
 abbrev pub invariant-places : goal.invariant-places
-invariant-places g l = Stays (lanes_of l.initial.self.opened) (lanes_of l.self.opened)
+invariant-places g l = Stays (lanes_of g.S.Stream.Wire.told l.initial.self.opened) (lanes_of g.S.Stream.Wire.told l.self.opened)

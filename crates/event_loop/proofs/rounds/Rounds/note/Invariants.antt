@@ -4,4 +4,4 @@ use Rattle.event_loop.proofs.rounds.Rounds.note.Given as goal
 
 -- what was done so far
 abbrev pub invariant-reports : goal.invariant-reports
-invariant-reports g l = Stays (lanes_of l.initial.self.opened) (lanes_of l.self.opened)
+invariant-reports g l = Stays (lanes_of g.S.Stream.Wire.told l.initial.self.opened) (lanes_of g.S.Stream.Wire.told l.self.opened)

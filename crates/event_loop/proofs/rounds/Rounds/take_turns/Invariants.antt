@@ -4,4 +4,4 @@ use Rattle.event_loop.proofs.rounds.Rounds.take_turns.Given as goal
 
 -- what was done so far
 abbrev pub invariant-turns : goal.invariant-turns
-invariant-turns g l = DoesSome g.C.LoopCore.steps (lanes_of l.initial.self.opened) (lanes_of l.self.opened)
+invariant-turns g l = DoesSome g.C.LoopCore.steps (lanes_of g.S.Stream.Wire.told l.initial.self.opened) (lanes_of g.S.Stream.Wire.told l.self.opened)

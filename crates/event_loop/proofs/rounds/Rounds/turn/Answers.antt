@@ -1,19 +1,20 @@
 use Rattle.std.proofs.Common.{◌≡◌, ℕ, Bool, true, false, ◌∙◌, refl, inl, inr}
-use Rattle.std.specs.Prelude.{IsTrue, IsFalse}
+use Rattle.std.specs.Prelude.{IsTrue, IsFalse, Option}
+use Rattle.outbox.specs.Told.{Told}
 use Rattle.open_connections.specs.declared.open.Open.{Open}
-use Rattle.open_connections.specs.Looping.{HasTurn, Stays}
+use Rattle.open_connections.specs.Looping.{Stays}
 use Rattle.open_connections.specs.Opened.{bytes_of, lanes_of}
-use Rattle.open_connections.proofs.Looping.{at_most_then}
+use Rattle.open_connections.proofs.Looping.{turn_then}
 use Rattle.event_loop.specs.Clocked.{IsNoted, NotesMoved}
 use Rattle.event_loop.proofs.rounds.Rounds.turn.Goals as goal
 
-noted : {S C T : Type 0} (moved : Bool) (key : ℕ) (a b c : Open S C T) (counted : ℕ × ℕ) (second : ℕ)
-    → (IsFalse moved → bytes_of b ≡ bytes_of a) → Stays (lanes_of b) (lanes_of c) → (IsTrue moved → IsNoted key c counted second) → NotesMoved key a c counted second
-noted {S} {C} {T} true key a b c counted second h k n = inr (n refl)
-noted {S} {C} {T} false key a b c counted second h k n = inl (k.bytes_stay ∙ h refl)
+noted : {S C T : Type 0} (told : S → Option Told) (moved : Bool) (key : ℕ) (a b c : Open S C T) (counted : ℕ × ℕ) (second : ℕ)
+    → (IsFalse moved → bytes_of b ≡ bytes_of a) → Stays (lanes_of told b) (lanes_of told c) → (IsTrue moved → IsNoted key c counted second) → NotesMoved key a c counted second
+noted {S} {C} {T} told true key a b c counted second h k n = inr (n refl)
+noted {S} {C} {T} told false key a b c counted second h k n = inl (k.bytes_stay ∙ h refl)
 
 pub returns-clause-lanes : goal.returns-clause-lanes
-returns-clause-lanes g c = at_most_then g.C.LoopCore.steps (HasTurn c.args.key) _ _ _ c.turn-outcome.ensures.lanes c.mark.ensures.lanes
+returns-clause-lanes g c = turn_then g.C.LoopCore.steps c.args.key _ _ _ c.turn-outcome.ensures.lanes c.mark.ensures.lanes
 
 pub returns-clause-clock : goal.returns-clause-clock
-returns-clause-clock g c = noted c.turn-outcome.result.1 c.args.key c.args.self.now.opened c.turn-outcome.new.self c.mark.new.self.opened _ _ c.turn-outcome.ensures.bytes c.mark.ensures.lanes c.mark.ensures.clock
+returns-clause-clock g c = noted _ c.turn-outcome.result.1 c.args.key c.args.self.now.opened c.turn-outcome.new.self c.mark.new.self.opened _ _ c.turn-outcome.ensures.bytes c.mark.ensures.lanes c.mark.ensures.clock

@@ -6,6 +6,6 @@ use Rattle.open_connections.proofs.open.Open.grant.Given as goal
 -- nothing that is served has changed so far, and no ticket came
 abbrev pub invariant-shares : goal.invariant-shares
 invariant-shares g l = record {
-  lanes : Stays (lanes_of l.initial.self) (lanes_of l.self);
+  lanes : Stays (lanes_of g.S.Wire.told l.initial.self) (lanes_of g.S.Wire.told l.self);
   free : StayFree l.initial.self.budgets l.self.budgets;
 }

@@ -1,8 +1,9 @@
-use Rattle.std.proofs.Common.{refl}
+use Rattle.std.proofs.Common.{refl, inl}
 use Rattle.open_connections.specs.Shares.{limits_in}
 use Rattle.open_connections.specs.Opened.{bytes_of}
 use Rattle.open_connections.proofs.Steps.{gone_steps}
 use Rattle.open_connections.proofs.open.Open.let_go.Goals as goal
 
 pub returns-clause-lanes : goal.returns-clause-lanes
-returns-clause-lanes g c = gone_steps g.C.LoopCore.steps (limits_in c.args.self.now.budgets) (bytes_of c.args.self.now) _ _ _ _ c.args.key c.in_ok-conn.conn _ c.in_ok-conn.ensures c.in_ok-connection.ensures.updates refl c.disconnect.ensures
+returns-clause-lanes g c =
+    gone_steps g.C.LoopCore.steps g.S.Wire.told (limits_in c.args.self.now.budgets) (bytes_of c.args.self.now) _ _ _ _ c.args.key c.in_ok-conn.conn _ c.in_ok-conn.ensures c.in_ok-connection.ensures.updates refl (inl refl) c.disconnect.ensures

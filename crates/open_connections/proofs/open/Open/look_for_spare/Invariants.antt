@@ -4,4 +4,4 @@ use Rattle.open_connections.proofs.open.Open.look_for_spare.Given as goal
 
 -- nothing that is served has changed so far
 abbrev pub invariant-keys : goal.invariant-keys
-invariant-keys g l = Stays (lanes_of l.initial.self) (lanes_of l.self)
+invariant-keys g l = Stays (lanes_of g.S.Wire.told l.initial.self) (lanes_of g.S.Wire.told l.self)

@@ -4,4 +4,4 @@ use Rattle.open_connections.proofs.open.Open.next_spare.Given as goal
 
 -- nothing that is served has changed so far
 abbrev pub invariant-found : goal.invariant-found
-invariant-found g l = Stays (lanes_of l.initial.self) (lanes_of l.self)
+invariant-found g l = Stays (lanes_of g.S.Wire.told l.initial.self) (lanes_of g.S.Wire.told l.self)

@@ -1,4 +1,4 @@
--- What a socket does to the bytes that its stream has left and holds, where the stream tells them: this project's own.
+-- What a wire over a stream does to the bytes that the stream has left and holds, where it tells them: this project's own.
 use Rattle.std.specs.Prelude.{ℕ, ◌<◌, List, [], length, take, Option}
 use Rattle.std.specs.Io.KnownBytes.{Keeps, Appends, Consumes, IsAtEnd}
 use Rattle.outbox.specs.declared.wire.Given.{Given}
