@@ -2,7 +2,7 @@
 use Rattle.std.proofs.Common.{◌≡◌, ℕ, List, [], ◌++◌, Bool, Option, Some, None, sym, ap, ◌∙◌, subst, drop, length}
 use Rattle.std.proofs.Math.Seq.{drop-append_seam}
 use Rattle.std.specs.Option.{option_map_or}
-use Rattle.wire_frames.specs.Frames.{Front, front}
+use Rattle.wire_frames.specs.Frames.{front}
 use Rattle.wire_frames.specs.Framing.{Framing}
 use Rattle.outbox.specs.Appends.{RepliesTo}
 use Rattle.path_hub.specs.HubState.{HubState}

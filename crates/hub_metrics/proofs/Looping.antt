@@ -18,7 +18,7 @@ use Rattle.path_hub.specs.Serving.{items_in}
 use Rattle.connection_turns.specs.Turning.{TakesTurn}
 use Rattle.open_connections.specs.Looping as loop
 use Rattle.open_connections.specs.Looping.{Lanes, Step, TakenIn, HasTurn, LetGo, TurnAt, OthersStay, DoesEach, DoesSome}
-use Rattle.hub_metrics.specs.Looping.{Extends, ActsOf, AllHappen, IsAnswered, Session, Sessions, AreServed, LoopIsServed}
+use Rattle.hub_metrics.specs.Looping.{Extends, ActsOf, AllHappen, IsAnswered, Sessions, AreServed, LoopIsServed}
 
 picked : (b : Bool) (x y : Line) → b ≡ true → (if b then x else y) ≡ x
 picked true x y e = refl

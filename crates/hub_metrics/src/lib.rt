@@ -3,7 +3,7 @@
 //! [`MeasuredHub`] is a core of turns, as `path_listen::HubCore` is. What it answers is what the hub answers, and it counts each answer once. It also tells
 //! queries that took long.
 //!
-//! A loop over it is served by [`serve`]. What the loop's steps come to, in any order, is a law ([`loop_is_served`]).
+//! A loop over it is served by [`serve`], or a round at a time by [`step`]. What the loop's steps come to, in any order, is a law ([`loop_is_served`]).
 #![tactic(auto)]
 
 mod laws;
@@ -12,4 +12,4 @@ mod serving;
 
 pub use laws::loop_is_served;
 pub use measured_hub::MeasuredHub;
-pub use serving::serve;
+pub use serving::{serve, step};

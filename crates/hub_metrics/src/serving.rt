@@ -8,7 +8,8 @@ use crate::laws::loop_is_served;
 use crate::measured_hub::MeasuredHub;
 use event_loop::{Journal, LoopFault, Server, System, Time};
 
-/// Serves as [`Server::serve`] does. Whatever is sent and however connections come and go, each tenant's replies are those of its own requests alone.
+/// Serves as [`Server::serve`] does. Whatever peers send and however connections come and go, each tenant's replies are those of its own requests alone,
+/// and the bytes written to a peer are a prefix of the replies to the first requests in the bytes read of it.
 ///
 /// # Errors
 ///
@@ -24,4 +25,21 @@ pub fn serve<S: System + Drop, T: Time + Drop, J: Journal>(
 {
     loop_is_served();
     server.serve(journal)
+}
+
+/// Goes one round as [`Server::step`] does. What [`serve`] promises holds of it.
+///
+/// # Errors
+///
+/// Those of [`Server::step`].
+pub fn step<S: System + Drop, T: Time + Drop, J: Journal>(
+    server: &mut Server<S, MeasuredHub<T>, T>,
+    journal: &mut J,
+) -> Result<(), LoopFault>
+    ensures served { AreServed (lanes_in server.old) (lanes_in server.new) }
+    ensures limits { limits_in server.new.budgets ≡ limits_in server.old.budgets }
+    ensures within { IsWithin server.new.budgets }
+{
+    loop_is_served();
+    server.step(journal)
 }

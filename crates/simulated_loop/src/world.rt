@@ -4,7 +4,7 @@ use event_loop::{
     Accepted, Ending, Held, Journal, LEAST_MEMORY, Limits, Report, Server, System, Time, Totals,
     Woken,
 };
-use hub_metrics::MeasuredHub;
+use hub_metrics::{MeasuredHub, step};
 use path_hub::Hub;
 use path_listen::HubCore;
 use simulated_peers::{Chance, End, Peer, Pipe, Shared, TENANTS, Tally, Times, key_of};
@@ -106,6 +106,7 @@ impl Time for Watch<'_> {
 /// A system of pipes.
 #[derive(Drop)]
 struct Pipes<'w> {
+    alloc: Global,
     pipes: &'w [RefCell<Pipe>],
     chance: Chance,
     millis: &'w Cell<u64>,
@@ -191,10 +192,7 @@ impl<'w> System for Pipes<'w> {
         if let Ok(mut pipe) = pipe.try_borrow_mut() {
             pipe.is_asking = false;
         }
-        let end = End {
-            pipe,
-            millis: self.millis,
-        };
+        let end = End::new(self.alloc, pipe, self.millis);
         if self.chance.once_in(50) {
             return Accepted::Aborted;
         }
@@ -207,10 +205,9 @@ impl<'w> System for Pipes<'w> {
         if self.chance.once_in(50) {
             return false;
         }
-        let Ok(mut pipe) = stream.pipe.try_borrow_mut() else {
+        if !stream.watch(key, self.watched) {
             return false;
-        };
-        pipe.watch(key, self.watched, self.millis.get());
+        }
         self.watched = self.watched.saturating_add(1);
         true
     }
@@ -412,7 +409,7 @@ impl<'w> Stage<'w> {
     fn step(&mut self) -> Result<(), AllocError> {
         let millis = self.room.millis;
         millis.set(millis.get().saturating_add(ROUND));
-        match self.server.step(&mut self.ends) {
+        match step(&mut self.server, &mut self.ends) {
             Ok(()) => Ok(()),
             Err(_) => Err(AllocError),
         }
@@ -544,6 +541,7 @@ fn server<'w>(
     let mut reports = Vec::new(alloc);
     reports.reserve(REPORTS).ok()?;
     let system = Pipes {
+        alloc,
         pipes: room.pipes,
         chance: Chance(seed.wrapping_add(1)),
         millis: room.millis,

@@ -1,10 +1,14 @@
 //! One connection: what its peer sent and takes, and what the system reports of it.
+ghost use Rattle.std.specs.Prelude.{◌≡◌};
+ghost use Rattle.outbox.specs.Told.{IsUnused};
+ghost use Rattle.simulated_peers.specs.Pieces.{HasGiven, HasTaken};
 
 use event_loop::{End as How, Peer, Report};
+use outbox::{Given, Taken, Wire};
 use std::alloc::Global;
 use std::cell::{Cell, RefCell};
 use std::collections::VecDeque;
-use std::io::{self, Error, ErrorKind, Read, Write};
+use std::io::{Read, Write};
 
 /// The bytes that a peer's side has room for.
 const ROOM: usize = 50_000;
@@ -150,12 +154,93 @@ impl Pipe {
     }
 }
 
-/// The server's end of a connection.
+/// The server's end of a connection. It keeps a record of all that the server reads and writes.
 pub struct End<'w> {
-    /// What it reads and writes.
-    pub pipe: &'w RefCell<Pipe>,
-    /// The clock, in milliseconds.
-    pub millis: &'w Cell<u64>,
+    // What it reads and writes.
+    pipe: &'w RefCell<Pipe>,
+    // The clock, in milliseconds.
+    millis: &'w Cell<u64>,
+    read: Vec<u8>,
+    written: Vec<u8>,
+}
+
+impl<'w> End<'w> {
+    ghost use Rattle.simulated_peers.specs.Records.{record_of};
+
+    /// The end of this pipe, on which nothing was read or written.
+    pub fn new(alloc: Global, pipe: &'w RefCell<Pipe>, millis: &'w Cell<u64>) -> End<'w>
+        ensures { IsUnused (record_of result) }
+    {
+        End {
+            pipe,
+            millis,
+            read: Vec::new(alloc),
+            written: Vec::new(alloc),
+        }
+    }
+
+    /// It is watched under this key, after so many others. `false` if the pipe is lent.
+    pub fn watch(&mut self, key: usize, number: u64) -> bool
+        ensures { record_of self.new ≡ record_of self.old }
+    {
+        match self.pipe.try_borrow_mut() {
+            Ok(mut pipe) => {
+                pipe.watch(key, number, self.millis.get());
+                true
+            }
+            Err(_) => false,
+        }
+    }
+
+    // Takes all that is there and fits off the pipe: a read that is shorter than its buffer tells that no more is there.
+    fn take(&self, buffer: &mut [u8]) -> Given
+        ensures { HasGiven result buffer.new }
+    {
+        let Ok(mut pipe) = self.pipe.try_borrow_mut() else {
+            return Given::Blocked;
+        };
+        pipe.calls = pipe.calls.saturating_add(1);
+        if pipe.is_reset {
+            return Given::Failed;
+        }
+        let _ = pipe.to_server.make_contiguous();
+        let Ok(count) = pipe.to_server.read(buffer) else {
+            return Given::Failed;
+        };
+        if count > 0 {
+            pipe.moved = self.millis.get();
+            Given::Bytes(count)
+        } else if pipe.is_ended {
+            pipe.moved = self.millis.get();
+            Given::Ended
+        } else {
+            Given::Blocked
+        }
+    }
+
+    // Puts as many bytes as there is room for into the pipe.
+    fn put(&self, bytes: &[u8]) -> Taken
+        ensures { HasTaken result bytes.now }
+    {
+        let Ok(mut pipe) = self.pipe.try_borrow_mut() else {
+            return Taken::Blocked;
+        };
+        pipe.calls = pipe.calls.saturating_add(1);
+        if pipe.is_reset {
+            return Taken::Failed;
+        }
+        let most = pipe.room.min(bytes.len());
+        let Ok(count) = pipe.to_peer.write(bytes.get(..most).unwrap_or_default()) else {
+            return Taken::Failed;
+        };
+        pipe.room = pipe.room.saturating_sub(count);
+        if count == 0 {
+            pipe.is_blocked = true;
+            return Taken::Blocked;
+        }
+        pipe.moved = self.millis.get();
+        Taken::Bytes(count.min(bytes.len()))
+    }
 }
 
 impl Drop for End<'_> {
@@ -164,52 +249,46 @@ impl Drop for End<'_> {
             pipe.is_closed = true;
             pipe.closed = self.millis.get();
         }
-        let End { pipe: _, millis: _ } = self;
+        let End {
+            pipe: _,
+            millis: _,
+            read: _,
+            written: _,
+        } = self;
     }
 }
 
-impl Read for End<'_> {
-    fn read(&mut self, buffer: &mut [u8]) -> io::Result<usize> {
-        let Ok(mut pipe) = self.pipe.try_borrow_mut() else {
-            return Err(Error::from(ErrorKind::WouldBlock));
-        };
-        pipe.calls = pipe.calls.saturating_add(1);
-        if pipe.is_reset {
-            return Err(Error::from(ErrorKind::ConnectionReset));
-        }
-        // all that is there and fits: a read that is shorter than its buffer tells that no more is there
-        let _ = pipe.to_server.make_contiguous();
-        let count = pipe.to_server.read(buffer)?;
-        if count == 0 && !pipe.is_ended {
-            return Err(Error::from(ErrorKind::WouldBlock));
-        }
-        pipe.moved = self.millis.get();
-        Ok(count)
-    }
-}
+impl Wire for End<'_> {
+    ghost use Rattle.simulated_peers.specs.Records.{record_of};
 
-impl Write for End<'_> {
-    fn write(&mut self, bytes: &[u8]) -> io::Result<usize> {
-        let Ok(mut pipe) = self.pipe.try_borrow_mut() else {
-            return Err(Error::from(ErrorKind::WouldBlock));
-        };
-        pipe.calls = pipe.calls.saturating_add(1);
-        if pipe.is_reset {
-            return Err(Error::from(ErrorKind::BrokenPipe));
+    ghost told = { record_of };
+
+    fn read(&mut self, buffer: &mut [u8]) -> Given {
+        if self.read.reserve(buffer.len()).is_err() {
+            return Given::Failed;
         }
-        let most = pipe.room.min(bytes.len());
-        let count = pipe.to_peer.write(bytes.get(..most).unwrap_or_default())?;
-        pipe.room = pipe.room.saturating_sub(count);
-        if count == 0 {
-            pipe.is_blocked = true;
-            return Err(Error::from(ErrorKind::WouldBlock));
+        let given = self.take(&mut *buffer);
+        if let Given::Bytes(count) = given {
+            let piece = buffer.get(..count).unwrap_or_default();
+            if self.read.extend_from_slice(piece).is_err() {
+                return Given::Failed;
+            }
         }
-        pipe.moved = self.millis.get();
-        Ok(count.min(bytes.len()))
+        given
     }
 
-    fn flush(&mut self) -> io::Result<()> {
-        Ok(())
+    fn write(&mut self, bytes: &[u8]) -> Taken {
+        if self.written.reserve(bytes.len()).is_err() {
+            return Taken::Failed;
+        }
+        let taken = self.put(bytes);
+        if let Taken::Bytes(count) = taken {
+            let piece = bytes.get(..count).unwrap_or_default();
+            if self.written.extend_from_slice(piece).is_err() {
+                return Taken::Failed;
+            }
+        }
+        taken
     }
 }
 
