@@ -38,6 +38,7 @@ def analyzed(report, folder):
 
 def started(report, folder):
     key, (port,) = os.urandom(16), free_ports(1)
+    (folder / "keys").touch(0o600)
     (folder / "keys").write_text(key.hex() + "\n")
     lines = [line.split("=", 1) for line in UNIT.read_text().splitlines() if re.match(r"\w+=", line)]
     settings = dict(lines)
@@ -55,6 +56,7 @@ def started(report, folder):
         finally:
             process.kill()
     report.case("who gets SIGTERM", "", "mixed", settings.get("KillMode"))
+    report.case("what an end with status 0 brings", "", "on-failure", settings.get("Restart"))
 
 
 def main():
