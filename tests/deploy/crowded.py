@@ -42,7 +42,7 @@ def main():
     _, most = resource.getrlimit(resource.RLIMIT_NOFILE)
     resource.setrlimit(resource.RLIMIT_NOFILE, (most, most))
     report = Report()
-    with Deployment(TENANTS // SHARDS, SHARDS, words=[f"--source={count + 1_000}"]) as it:
+    with Deployment(TENANTS // SHARDS, SHARDS, options=f"--source={count + 1_000}") as it:
         began = time.monotonic()
         keys = [key for keys in it.keys.values() for key in keys]
         crowd = FirstIsOurs(report, Front("%s:%d" % it.plain), keys, random.Random(seed), count)
