@@ -10,7 +10,6 @@ import os
 import random
 import re
 import resource
-import shutil
 import socket
 import subprocess
 import sys
@@ -23,7 +22,7 @@ from pathlib import Path
 from admin_replies import ALLOWED, HOST, TOO_LONG, WHOLE, read
 from administration import STATUSES, Administered, is_refused, read_all
 from lib.plain_model import Server, number
-from lib.running_server import GIVE_BACK, PATIENCE, PROGRAM, Report, frames_of, open_connection, talk
+from lib.running_server import GIVE_BACK, PATIENCE, PROGRAM, Report, frames_of, has, open_connection, talk
 from lib.traffic import KEYS, Traffic
 from many_connections import KEY, LARGE, MEBIBYTE, PUT_LARGE, fill, greedy
 from path_client import REQUEST_LIMIT, connect, parse_address
@@ -260,11 +259,9 @@ def agrees(report, seed):
         for status, number in re.findall(r'^path_server_requests_total\{command="\w+",status="(\w+)"\} ([1-9]\d*)$', page.decode(), re.M):
             counted[status] += int(number)
         report.case("replies that came, by status", "", dict(replies), dict(counted))
-        if shutil.which("promtool"):
+        if has("promtool check metrics", "promtool"):
             ran = subprocess.run(["promtool", "check", "metrics"], input=page, capture_output=True)
             report.case("promtool check metrics", "", (0, b"", b""), (ran.returncode, ran.stdout, ran.stderr))
-        else:
-            print("not run, since there is no promtool here: promtool check metrics", flush=True)
 
 
 def taken_ports(report):
@@ -334,8 +331,7 @@ def few_descriptors(report):
 
 def refused_memory(report):
     """Each call for memory fails, alone or with all behind it: a reply is whole, or the connection is closed; the server goes on, or ends with status 4."""
-    if not shutil.which("cc"):
-        print("not run, since there is no cc here: calls for memory that fail", flush=True)
+    if not has("calls for memory that fail", "cc"):
         return
     asked = [HEALTH, METRICS, b"POST /ready HTTP/1.1\r\n" + HOST + b"\r\n", METRICS]
     with tempfile.TemporaryDirectory() as folder:

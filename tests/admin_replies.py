@@ -9,10 +9,9 @@ import io
 import os
 import random
 import re
-import shutil
 import subprocess
 
-from lib.running_server import PATIENCE, TOP, Report
+from lib.running_server import PATIENCE, TOP, Report, has
 
 PROGRAM = os.environ.get("ADMIN_REPLIES") or str(TOP / "crates/admin_replies/out/admin_replies")
 HOST = b"Host: a\r\n"
@@ -165,11 +164,9 @@ def metrics(report):
                "connections_limit": "10000", "accept_refused": "0", "connections_waiting": "0", "dropped_lines_total": "3", "buffered_bytes": "65536", "buffered_limit_bytes": "1073741824",
                "charged_units_total": "700", "slow_queries_total": "1"}
     report.case("the others", "", singles, {name: numbers.get(f"path_server_{name}") for name in singles})
-    if shutil.which("promtool"):
+    if has("promtool check metrics", "promtool"):
         ran = subprocess.run(["promtool", "check", "metrics"], input=body, capture_output=True)
         report.case("promtool check metrics", "", (0, b"", b""), (ran.returncode, ran.stdout, ran.stderr))
-    else:
-        print("not run, since there is no promtool here: promtool check metrics", flush=True)
 
 
 def main():

@@ -17,7 +17,7 @@ import tempfile
 import time
 from pathlib import Path
 
-from lib.running_server import PATIENCE, PROGRAM, TOP, Report, Running, open_connection
+from lib.running_server import PATIENCE, PROGRAM, TOP, Report, Running, not_run, open_connection
 from lib.traffic import KEYS
 from path_client import connect
 
@@ -183,7 +183,7 @@ def main():
     if shutil.which("unshare") and subprocess.run([*ALONE, "true"], stderr=subprocess.DEVNULL).returncode == 0:
         serves_to_the_end(report, "SIGTERM as process 1", signal.SIGTERM, ALONE)
     else:
-        print("not run, since processes can't have a space of their own here (unshare): 5 cases as process 1", flush=True)
+        not_run("SIGTERM as process 1", "unshare makes no space of processes here")
     report.close("graceful end")
 
 

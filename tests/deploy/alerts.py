@@ -9,7 +9,7 @@ from pathlib import Path
 
 from deployment import TOP
 from administration import Administered
-from lib.running_server import Report
+from lib.running_server import Report, want
 
 RULES = TOP / "deploy/alerts.yaml"
 SAMPLE = re.compile(r"(?:up|path_server_\w+)(?:\{[^}]*\})?")
@@ -84,6 +84,7 @@ def tested(report, rules):
 
 
 def main():
+    want("promtool")
     report = Report()
     tested(report, named(report))
     report.close("alerts")

@@ -18,7 +18,7 @@ import time
 import urllib.request
 
 from deployment import CLIENT, ENDED, FRAME_FAULT, GET, NO_TENANT, NOT_FOUND, OK, PUT, SHORT, TOP, USAGE, Deployment, Shard, ask, frame, free_ports, read_reply, wait_until
-from lib.running_server import PATIENCE, PROGRAM, Report, open_connection
+from lib.running_server import PATIENCE, PROGRAM, Report, open_connection, want
 from path_client import BrokenConnection, connect
 
 TEXT = b'{"a":1}'
@@ -331,6 +331,7 @@ def limited():
 
 
 def main():
+    want("haproxy", "openssl")
     if not os.access(CLIENT, os.X_OK):
         sys.exit(f"no program {CLIENT}: bin/build makes it")
     with Deployment(4) as it:

@@ -10,7 +10,7 @@ import sys
 import time
 
 from deployment import USAGE, Deployment, frame, read_reply
-from lib.running_server import Report, open_connection
+from lib.running_server import Report, open_connection, want
 from many_connections import Crowd
 
 TENANTS, SHARDS = 64, 4
@@ -38,6 +38,7 @@ class FirstIsOurs(Crowd):
 
 
 def main():
+    want("haproxy", "openssl")
     count, requests, seed = [int(word) for word in sys.argv[1:4]] + [2_000, 20_000, 1][len(sys.argv) - 1:]
     _, most = resource.getrlimit(resource.RLIMIT_NOFILE)
     resource.setrlimit(resource.RLIMIT_NOFILE, (most, most))

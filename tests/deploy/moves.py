@@ -14,7 +14,7 @@ import time
 from pathlib import Path
 
 from deployment import TOP, Deployment, wait_until
-from lib.running_server import Report
+from lib.running_server import Report, want
 from path_client import BrokenConnection, Client, Refused, connect
 
 sys.path.insert(0, str(TOP / "deploy"))
@@ -309,6 +309,7 @@ def dumped(it):
 
 
 def main():
+    want("haproxy", "openssl")
     for is_apart in (False, True):
         with Deployment(5, is_apart=is_apart, collections=",".join(COLLECTIONS)) as it:
             began, kept = time.monotonic(), it.keys["1"][0]

@@ -1,13 +1,12 @@
 #!/usr/bin/env python3
 """What deploy/shards.py makes of tables, good and bad: tests/deploy/tables.py. Where there is HAProxy, it reads each configuration."""
 import hashlib
-import shutil
 import subprocess
 import tempfile
 from pathlib import Path
 
 from deployment import TOP
-from lib.running_server import Report
+from lib.running_server import Report, has
 
 KEYS = [f"{place:032x}" for place in range(600)]
 FORM = "a line is `shard NAME ADDRESS [ADMIN]`, `reception ADDRESS [ADMIN]`, `probe KEY`, `tenant KEY SHARD[,SHARD..] [WORD..]` or a setting"
@@ -91,7 +90,7 @@ def good(report, folder):
     text = "".join(it.read_text() for it in made.iterdir() if it.suffix in (".cfg", ".map"))
     report.case("no tenant's key is in a file for HAProxy", "", [], [key for key in (KEYS[1], KEYS[10]) if key in text.lower()])
     report.case("the reception's key is nobody's", "", False, (made / "reception.keys").read_text().strip() in KEYS)
-    if shutil.which("haproxy"):
+    if has("HAProxy reads it", "haproxy"):
         for words in ("--plain=127.0.0.1:7000", "--plain=:7000 --all=100 --tenant=5 --source=7 --shard=50", "--user root"):
             run(folder, [f"options {words}", *GOOD])
             report.case("HAProxy reads it", words, 0, subprocess.run(["haproxy", "-c", "-f", made / "haproxy.cfg"], capture_output=True).returncode)

@@ -14,7 +14,7 @@ import tempfile
 from pathlib import Path
 
 from deployment import TOP, free_ports
-from lib.running_server import PATIENCE, PROGRAM, Report
+from lib.running_server import PATIENCE, PROGRAM, Report, want
 from path_client import connect
 
 UNIT = TOP / "deploy/path_server@.service"
@@ -60,6 +60,7 @@ def started(report, folder):
 
 
 def main():
+    want("systemd-analyze")
     report = Report()
     with tempfile.TemporaryDirectory() as at:
         analyzed(report, Path(at))
