@@ -38,6 +38,8 @@ class Upgrade(Fleet):
                 with self.client(shard, self.table.probe) as client:
                     client.put("ready", "ready", b"1")
                 self.ask_admin(shard, "/ready")
+                # it has no texts, so that nobody else says it
+                self.ask_admin("reception", "/ready")
             except (Refused, OSError) as why:
                 raise Stopped(f"shard {shard} is not marked ready: {told(why)}") from why
             self.tell(f"shard {shard} is ready")
@@ -60,6 +62,13 @@ class Upgrade(Fleet):
             if is_there:
                 it.reload({f"shard-{name}" for name in self.table.shards})
                 self.tell(f"HAProxy at {it.at} is reloaded")
+
+    def read_anew(self):
+        """Has each HAProxy read its files and certificates anew."""
+        with locked(self.path):
+            self.read()
+            shard_files.write(self.table)
+            self.reload([True] * len(self.balancers))
 
     def upgrade(self, old, new, *addresses):
         with locked(self.path):

@@ -2,6 +2,7 @@
 """Runs shards of path_server and the HAProxy in front of them, from one table: deploy/shards.py TABLE COMMAND ..
 
   write                            writes the files that follow from the table, and has HAProxy read them
+  reload                           has HAProxy read them and the certificates anew
   ready SHARD..                    marks shards ready, once they are loaded
   move TENANT SHARD                moves a tenant's texts and connections to another shard
   undo TENANT                      takes a move back that was interrupted
@@ -27,7 +28,7 @@ from pathlib import Path
 
 HERE = Path(__file__).resolve().parent
 sys.dont_write_bytecode = True
-sys.path[:0] = [str(HERE), str(HERE.parent / "clients/python")]
+sys.path[:0] = [str(HERE), str(HERE / "python"), str(HERE.parent / "clients/python")]
 import shard_table
 from shard_moves import Stopped
 from shard_upgrades import Upgrade
@@ -40,6 +41,7 @@ def parsed():
     parser.add_argument("table")
     verbs = parser.add_subparsers(dest="verb", required=True, metavar="COMMAND")
     verbs.add_parser("write")
+    verbs.add_parser("reload")
     verbs.add_parser("show")
     verbs.add_parser("ready").add_argument("shards", nargs="+")
     move, undo, upgrade = verbs.add_parser("move"), verbs.add_parser("undo"), verbs.add_parser("upgrade")
@@ -75,7 +77,7 @@ def main():
     given = parsed()
     os.umask(0o077)
     fleet = Upgrade(given.table, lambda line: print(line, flush=True), getattr(given, "wait", 0), given.patience)
-    calls = {"write": fleet.write, "show": lambda: show(fleet), "ready": lambda: fleet.ready(given.shards),
+    calls = {"write": fleet.write, "reload": fleet.read_anew, "show": lambda: show(fleet), "ready": lambda: fleet.ready(given.shards),
              "move": lambda: fleet.move(given.tenant, given.shard, given.replace), "undo": lambda: fleet.undo(given.tenant, given.old_copy),
              "upgrade": lambda: fleet.upgrade(given.shard, given.new, *given.address),
              "dump": lambda: fleet.dump(given.folder, given.tenants, given.shard),

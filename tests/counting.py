@@ -32,7 +32,8 @@ SCRIPTS = {
 }
 # scripts, and the commands without which they have nothing to run
 TAKEN = {"against_jq.py": "jq", "refused_growths.py": "cc", "refused_listening.py": "cc", "refused_client.py": "cc", "refused_calls.py": "cc", "deploy/alerts.py": "promtool",
-         "deploy/unit.py": "systemd-analyze", "deploy/balanced.py": "haproxy", "deploy/moves.py": "haproxy", "deploy/crowded.py": "haproxy"}
+         "deploy/unit.py": "systemd-analyze", "deploy/balanced.py": "haproxy", "deploy/moves.py": "haproxy", "deploy/crowded.py": "haproxy",
+         "deploy/packaged.py": "haproxy"}
 
 
 def counted(report):
@@ -61,7 +62,7 @@ def left_out(report, room):
                         (thin / it.name).symlink_to(it)
         ran = subprocess.run([sys.executable, TOP / "tests" / script], env={**os.environ, "PATH": str(thin)}, stdin=subprocess.DEVNULL, capture_output=True, encoding="utf-8", timeout=60)
         # another command may be missing here
-        missing = [it for it in ("haproxy", "openssl") if it == tool or script.startswith("deploy/") and not shutil.which(it)] if tool == "haproxy" else [tool]
+        missing = [it for it in ("dpkg-deb", "dpkg", "haproxy", "openssl", "socat")[0 if "packaged" in script else 2:5 if "packaged" in script else 4] if it == tool or script.startswith("deploy/") and not shutil.which(it)] if tool == "haproxy" else [tool]
         wanted = f"not run: {Path(script).name}: no {' and no '.join(missing)} here\n"
         report.case("a script without its command", script, (77, wanted), (ran.returncode, ran.stdout + ran.stderr))
 

@@ -118,10 +118,15 @@ def fits(wanted, got):
     return re.fullmatch(pattern, "".join(line + "\n" for line in got)) is not None
 
 
-def free_port():
+def free_port(taken=set()):
+    """One that was not given before."""
     with socket.socket() as one:
         one.bind(("127.0.0.1", 0))
-        return str(one.getsockname()[1])
+        port = str(one.getsockname()[1])
+    if port in taken:
+        return free_port()
+    taken.add(port)
+    return port
 
 
 class Shell:

@@ -304,8 +304,40 @@ def certified(it):
     except ssl.SSLError:
         what = ENDED
     report.case("no certificate", "", ENDED, what)
+    renewed(it, hers)
     with socket.create_connection(it.tls, PATIENCE) as connection:
         report.case("no TLS", "", ENDED, ask(connection, frame(USAGE, hers)))
+
+
+def renewed(it, hers):
+    """A certificate that another authority made is refused, one that was renewed is taken, and one that was revoked is refused."""
+    def answer():
+        try:
+            with it.open_secure("alice") as connection:
+                return ask(connection, frame(USAGE, hers))
+        except ssl.SSLError:
+            return ENDED
+
+    tls, other, kept = it.folder / "tls", it.folder / "other", {}
+    subprocess.run([TOP / "deploy/certificates.sh", other, "127.0.0.1", "alice"], check=True)
+    for name in ("alice.crt", "alice.key"):
+        kept[name] = (tls / name).read_bytes()
+        (tls / name).write_bytes((other / name).read_bytes())
+    report.case("a certificate of another authority", "", ENDED, answer())
+    before = (tls / "server.pem").read_bytes()
+    subprocess.run([TOP / "deploy/certificates.sh", tls, "127.0.0.1", "alice"], check=True)
+    report.case("renewed", "", True, before != (tls / "server.pem").read_bytes())
+    it.shards("reload")
+    report.case("a certificate that was renewed", "", OK, answer())
+    now = {name: (tls / name).read_bytes() for name in kept}
+    subprocess.run([TOP / "deploy/certificates.sh", "--revoke", tls, "alice"], check=True)
+    for name, data in now.items():
+        (tls / name).write_bytes(data)
+    it.shards("reload")
+    report.case("a certificate that was revoked", "", ENDED, answer())
+    for name, data in kept.items():
+        (tls / name).write_bytes(data)
+    report.case("another one of her name", "", OK, answer())
 
 
 def limited():
