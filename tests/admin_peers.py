@@ -110,17 +110,17 @@ def malformed(report):
         report.case("a request in part, and the end", "", ("end", False), told(server.admin, HEALTH, [HEALTH[:-1]]))
         report.case("nothing, and the end", "", ("end", False), told(server.admin, b"", []))
         for grace, wanted in GRACES.items():
-            sent = f"POST /drain?grace={grace} HTTP/1.1\r\nHost: a\r\n\r\n".encode()
+            sent = f"POST /drain?grace={grace} HTTP/1.1\r\nHost: localhost\r\n\r\n".encode()
             report.case("a grace that is none", sent, (wanted, True), told(server.admin, sent, [sent]))
         for place in PLACES:
-            sent = f"POST /drain{place} HTTP/1.1\r\nHost: a\r\n\r\n".encode() if not place.startswith("//") else f"POST {place} HTTP/1.1\r\nHost: a\r\n\r\n".encode()
+            sent = f"POST /drain{place} HTTP/1.1\r\nHost: localhost\r\n\r\n".encode() if not place.startswith("//") else f"POST {place} HTTP/1.1\r\nHost: localhost\r\n\r\n".encode()
             report.case("no place of a drain", sent, True, told(server.admin, sent, [sent]) in [(404, True), (400, True)])
         for _ in range(300):
             damaged = bytearray(chance.choice([HEALTH, METRICS, b"POST /drain?grace=xyz HTTP/1.1\r\n" + HOST + b"Content-Length: 4\r\n\r\nabcd"]))
             for _ in range(chance.randint(1, 3)):
                 damaged[chance.randrange(len(damaged))] = chance.choice([0, 9, 10, 13, 32, 58, 127, 128, 255, chance.randrange(256)])
             status, is_whole = told(server.admin, damaged, [bytes(damaged)])
-            report.case("damaged bytes", damaged, True, status == "end" or is_whole and status in (200, 400, 404, 405, 413, 431) or (status, is_whole))
+            report.case("damaged bytes", damaged, True, status == "end" or is_whole and status in (200, 400, 403, 404, 405, 413, 431) or (status, is_whole))
         report.case("nothing refused was done", "", False, has_changed(server))
         server.finish(report)
 

@@ -14,14 +14,14 @@ import subprocess
 from lib.running_server import PATIENCE, TOP, Report, has
 
 PROGRAM = os.environ.get("ADMIN_REPLIES") or str(TOP / "crates/admin_replies/out/admin_replies")
-HOST = b"Host: a\r\n"
+HOST = b"Host: localhost:9001\r\n"
 FIELD = b"A: b\r\n"
 WHOLE = {
     b"GET /health HTTP/1.1\r\n" + HOST + b"\r\n": 200,
     b"GET /health HTTP/1.0\r\n\r\n": 200,
     b"GET /health HTTP/1.0\r\n" + HOST + b"\r\n": 200,
-    b"GET /health HTTP/1.1\nhost: a\n\n": 200,
-    b"\r\n\r\nGET /health HTTP/1.1\r\nHOST:a\r\n\r\n": 200,
+    b"GET /health HTTP/1.1\nhost: localhost\n\n": 200,
+    b"\r\n\r\nGET /health HTTP/1.1\r\nHOST:127.0.0.1\r\n\r\n": 200,
     b"GET /ready HTTP/1.1\r\n" + HOST + b"\r\n": 503,
     b"POST /ready HTTP/1.1\r\n" + HOST + b"\r\n": 200,
     b"POST /ready HTTP/1.1\r\n" + HOST + b"Content-Length: 0\r\n\r\n": 200,
@@ -40,6 +40,22 @@ WHOLE = {
     b"GET /health HTTP/1.1\r\n\r\n": 400,
     b"GET /health HTTP/1.1\r\n" + HOST + HOST + b"\r\n": 400,
     b"GET /health HTTP/1.0\r\n" + HOST + HOST + b"\r\n": 400,
+    # who asks: a browser says where a page comes from (Fetch Metadata Request Headers, section 2.1; RFC 6454, section 7.3)
+    b"POST /drain HTTP/1.1\r\n" + HOST + b"Origin: http://example.org\r\n\r\n": 403,
+    b"POST /drain HTTP/1.1\r\n" + HOST + b"ORIGIN: null\r\n\r\n": 403,
+    b"POST /ready HTTP/1.1\r\n" + HOST + b"Sec-Fetch-Site: cross-site\r\n\r\n": 403,
+    b"GET /metrics HTTP/1.1\r\n" + HOST + b"sec-fetch-site: same-site\r\n\r\n": 403,
+    b"GET /metrics HTTP/1.1\r\n" + HOST + b"Sec-Fetch-Site:\r\n\r\n": 403,
+    b"GET /metrics HTTP/1.1\r\n" + HOST + b"Sec-Fetch-Site: none\r\n\r\n": 200,
+    b"GET /metrics HTTP/1.1\r\n" + HOST + b"Sec-Fetch-Site: same-origin\r\n\r\n": 200,
+    b"POST /drain HTTP/1.0\r\nOrigin: http://localhost\r\n\r\n": 403,
+    b"POST /drain HTTP/1.1\r\n" + HOST + b"Origin: http://example.org\r\nContent-Type: text/plain\r\nContent-Length: 3\r\n\r\na=b": 403,
+    b"PUT /drain HTTP/1.1\r\n" + HOST + b"Origin: http://example.org\r\n\r\n": 403,
+    b"OPTIONS /drain HTTP/1.1\r\n" + HOST + b"Origin: http://example.org\r\nAccess-Control-Request-Method: POST\r\n\r\n": 403,
+    **{b"GET /health HTTP/1.1\r\nHost: " + host + b"\r\n\r\n": 403
+       for host in (b"example.org", b"example.org:9001", b"localhost.example.org", b"localhostile:1", b"127.0.0.1.example.org", b"1.2.3.4a", b"admin.example.org", b"a", b"")},
+    **{b"GET /health HTTP/1.1\r\nHost: " + host + b"\r\n\r\n": 200
+       for host in (b"127.0.0.1", b"10.0.0.7:9001", b"[::1]", b"[fe80::1]:9001", b"LocalHost", b"localhost:1")},
     # bodies
     b"POST /ready HTTP/1.1\r\n" + HOST + b"Content-Length: 3\r\n\r\nabc": 413,
     b"POST /ready HTTP/1.1\r\n" + HOST + b"content-length: 00\r\n\r\n": 413,
@@ -75,6 +91,8 @@ WHOLE = {
     b"\x16\x03\x01\x02\x00\x01\x00\x01\xfc\x03\x03": 400,
     b"\x00\x00\x00\x15\x07": 400,
 }
+# of a server that was given this name
+NAMED = {b"GET /health HTTP/1.1\r\nHost: " + host + b"\r\n\r\n": 200 for host in (b"admin.example", b"Admin.Example:9001")}
 ALLOWED = {b"/health": "GET", b"/metrics": "GET", b"/ready": "GET, POST", b"/drain": "POST", b"/drain?grace=1": "POST", b"/drain?grace=x": "POST"}
 IN_PART = [b"", b"\r\n", b"G", b"GET /health HTTP/1.1\r\n", b"GET /health HTTP/1.1\r\n" + HOST, b"GET /health HTTP/1.1\r\n" + HOST + b"\r", 8_000 * b"a"]
 TOO_LONG = [8_192 * b"a", b"GET /" + 8_187 * b"a", b"GET /health HTTP/1.1\r\nA: " + 8_192 * b"a"]
@@ -103,7 +121,7 @@ def read(data):
 
 
 def requests(report):
-    for sent, wanted in WHOLE.items():
+    for sent, wanted in {**WHOLE, **NAMED}.items():
         status, fields, body, is_whole = read(answer(sent))
         report.case("a request", sent, (wanted, "close", True), (status, fields.get("Connection"), is_whole))
     for target, allowed in ALLOWED.items():

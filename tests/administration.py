@@ -22,7 +22,7 @@ from path_client import connect, parse_address
 NAMES = {0: "none", 1: "put", 2: "get", 3: "remove", 4: "list", 5: "query", 6: "drop", 7: "usage", 8: "put_new"}
 STATUSES = {place: name for name, place in STATUS.items()}
 MOST_OPEN, TIME_LIMIT = 8, 5.0
-REQUEST = b"GET /health HTTP/1.1\r\nHost: a\r\n\r\n"
+REQUEST = b"GET /health HTTP/1.1\r\nHost: localhost\r\n\r\n"
 
 
 class Administered(Listening):
@@ -195,12 +195,12 @@ def keeps_nobody_waiting(report):
             report.case("a request byte by byte", "", True, read_all(slow).startswith(b"HTTP/1.1 200 OK\r\n"))
             came, _ = ends_of(server.admin, 1_000_000 * b"a")
             report.case("a head without an end", "", b"HTTP/1.1 431 ", came[:13])
-            came, _ = ends_of(server.admin, REQUEST + b"POST /drain HTTP/1.1\r\nHost: a\r\n\r\n")
+            came, _ = ends_of(server.admin, REQUEST + b"POST /drain HTTP/1.1\r\nHost: localhost\r\n\r\n")
             report.case("a request behind another is none", "", 1, came.count(b"HTTP/1.1 "))
             deaf = [socket.create_connection(parse_address(server.admin), PATIENCE) for _ in range(MOST_OPEN)]
             for connection in deaf:
                 connection.setsockopt(socket.SOL_SOCKET, socket.SO_RCVBUF, 4096)
-                connection.sendall(b"GET /metrics HTTP/1.1\r\nHost: a\r\n\r\n")
+                connection.sendall(b"GET /metrics HTTP/1.1\r\nHost: localhost\r\n\r\n")
             report.case("a get beside peers that read nothing", "", b"[1,2]", client.get(b"c", b"d"))
             before = server.resident()
             for connection in deaf:
