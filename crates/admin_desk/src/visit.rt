@@ -170,7 +170,7 @@ impl Visit {
     }
 }
 
-fn is_head(stage: Stage) -> bool
+pub(crate) fn is_head(stage: Stage) -> bool
     ensures { result ≡ is_head stage }
 {
     matches!(stage, Stage::Head)
