@@ -197,6 +197,13 @@ class Deployment:
             return {}
         return {row[0]: row[17].split()[0] for row in rows if len(row) > 36 and row[1] == "path_server" and row[36]}
 
+    def states_of(self, socket_name):
+        """What a HAProxy says by its master socket; nothing while it starts."""
+        try:
+            return self.say("@1 show stat", socket_name)
+        except OSError:
+            return ""
+
     def is_state(self, shard, state):
         return wait_until(lambda: self.states().get(f"shard-{shard}") == state)
 

@@ -5,7 +5,9 @@ Each reply to the tenant that is moved, and to others, is one that a single serv
 no NotFound. A connection may end while its tenant is paused, and then what was on its way is carried out or not. It takes HAProxy and openssl.
 """
 import contextlib
+import os
 import random
+import signal
 import socket
 import subprocess
 import sys
@@ -13,7 +15,7 @@ import threading
 import time
 from pathlib import Path
 
-from deployment import TOP, Deployment, wait_until
+from deployment import TOP, Deployment, children, wait_until
 from lib.running_server import Report, want
 from path_client import BrokenConnection, Client, Refused, connect
 
@@ -285,6 +287,29 @@ def lost(it, key, shard):
     it.is_state("2", "UP")
 
 
+def by_two(it, key):
+    """Two HAProxys take the connections of one address in turn. Each has to know before a tenant is served."""
+    lines, sockets = it.table.read_text(), [it.folder / "master.sock", it.folder / "other.sock"]
+    it.table.write_text(lines + "".join(f"haproxy {at}\n" for at in sockets))
+    words = ["haproxy", "-W", "-db", "-S", sockets[1], "-f", it.folder / "haproxy.cfg"]
+    with subprocess.Popen(words, stdin=subprocess.DEVNULL, stdout=subprocess.DEVNULL, stderr=subprocess.DEVNULL) as second:
+        try:
+            report.case("a second HAProxy", "", True, wait_until(lambda: "shard-2,path_server" in it.states_of("other.sock")))
+            traffic = Traffic(it, [key] * 6, True)
+            for new in ("2", "1", "2", "1"):
+                it.shards("move", name_of(key), new)
+                got = {it.say(f"@1 get map {it.folder}/tenants.map {digest_of(key.hex())}", at.name).partition('value="')[2].partition('"')[0] for at in sockets}
+                report.case("what both know", new, {f"shard-{new}"}, got)
+                is_left_nowhere(it, key, "moved by two")
+                time.sleep(0.3)
+            print(f"behind two HAProxys: {traffic.finish('two')} replies and ended connections", flush=True)
+        finally:
+            for worker in children(second.pid):
+                os.kill(worker, signal.SIGKILL)
+            second.kill()
+    it.table.write_text(lines)
+
+
 def dumped(it):
     """A dump of all, and a shard that is loaded from it again."""
     key, shard, folder = it.keys["2"][3], it.running["2"], Path(it.room.name) / "dumps"
@@ -319,6 +344,7 @@ def main():
             each_undone(it, kept)
             if is_apart:
                 killed_at_random(it, kept, 8)
+                by_two(it, it.keys["1"][4])
             print(f"other tenants: {others.finish('others')[0]} replies, none ended", flush=True)
             others = Traffic(it, [it.keys["1"][2], it.keys["2"][2]], True)
             each_step(it, kept, True)

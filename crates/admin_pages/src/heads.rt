@@ -30,8 +30,8 @@ const FIELDS: usize = 64;
 
 /// Reads the first request of a connection from the bytes that have come so far (RFC 9112). A head may have 64 fields, and 8,192 bytes that do
 /// not make it whole; one that can still come to be whole within these bounds is waited for. A request has exactly one Host (section 3.2), where it is of HTTP/1.0 at most one, and no body.
-/// It is forbidden if a browser sends it for a web page of elsewhere: it has an Origin, a Sec-Fetch-Site that is neither `none` nor `same-origin`, or a
-/// Host that is no address, `localhost` or `own`, the name that the server was given.
+/// It is forbidden if a browser sends it for a web page of elsewhere. Then it has an Origin, a Sec-Fetch-Site that is neither `none` nor `same-origin`, or
+/// another Host. Its own are addresses, `localhost` and `own`, the name that the server was given.
 pub fn read_request(own: &[u8], bytes: &[u8]) -> Reading
     ensures whole { (h : RequestHead) (rest : List ℕ) → ReadsRequest bytes.now h rest → length h.fields ≤ 64 → result ≡ judged own.now h }
     ensures waits { (more : List ℕ) (h : RequestHead) (rest : List ℕ) → ReadsRequest (bytes.now ++ more) h rest → length h.fields ≤ 64 → length bytes.now < 8192 → HasNoRequest bytes.now → result ≡ Part }
