@@ -140,9 +140,10 @@ def tells_of_keys(report):
             # no key, so that it ends at once
             keys.write_text("none")
             keys.chmod(mode)
-            ran = subprocess.run([RUN, "listen", "127.0.0.1:0", "--keys", keys], stdin=subprocess.DEVNULL, capture_output=True, encoding="utf-8",
-                                 env={**os.environ, "PATH_SERVER": str(PROGRAM)}, timeout=PATIENCE)
-            report.case(f"a key file of mode {mode:o}", "", (3, told), (ran.returncode, "".join(ran.stderr.splitlines(True)[:-2])))
+            for words in (["--keys", keys], [f"--keys={keys}", "--log"]):
+                ran = subprocess.run([RUN, "listen", "127.0.0.1:0", *words], stdin=subprocess.DEVNULL, capture_output=True, encoding="utf-8",
+                                     env={**os.environ, "PATH_SERVER": str(PROGRAM)}, timeout=PATIENCE)
+                report.case(f"a key file of mode {mode:o}", words, (3, told), (ran.returncode, "".join(ran.stderr.splitlines(True)[:-2])))
 
 
 def at_every_moment(report, count=40):

@@ -360,6 +360,13 @@ def limited():
         report.case("five more of an address that may have six", "", [OK] * 3 + [ENDED] * 2, statuses)
         for connection in held:
             connection.close()
+    with Deployment(2, options="--shard=3") as it:
+        held = [it.open() for _ in range(6)]
+        statuses = [ask(connection, frame(USAGE, it.keys["1"][place % 2])) for place, connection in enumerate(held[:5])]
+        report.case("five connections of a shard that may have three", "", [OK] * 3 + [ENDED] * 2, statuses)
+        report.case("and one of another shard", "", OK, ask(held[5], frame(USAGE, it.keys["2"][0])))
+        for connection in held:
+            connection.close()
 
 
 def main():

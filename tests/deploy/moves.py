@@ -1,5 +1,5 @@
 #!/usr/bin/env python3
-"""Moves of tenants under traffic, stopped at each step, with HAProxy killed there: tests/deploy/moves.py
+"""Moves of tenants under traffic, stopped at each step, with HAProxy killed or reloaded there: tests/deploy/moves.py
 
 Each reply to the tenant that is moved, and to others, is one that a single server could have given: no text from before an acknowledged put, none lost,
 no NotFound. A connection may end while its tenant is paused, and then what was on its way is carried out or not. It takes HAProxy and openssl.
@@ -145,14 +145,25 @@ def is_left_nowhere(it, key, name):
             report.case(f"{name}: what shard {shard} has", "", (0, 0, 0), tuple(client.usage()))
 
 
-def each_step(it, key, kills):
-    """Stopped at each step, HAProxy killed there or not, and begun again."""
+def killed(it):
+    it.kill_balancer()
+    it.balance()
+
+
+def reloaded(it):
+    """HAProxy is reloaded: its old process goes on with the connections that are open."""
+    before = set(it.workers())
+    it.say("reload", "master.sock")
+    report.case("a new process", "", True, wait_until(lambda: set(it.workers()) - before))
+
+
+def each_step(it, key, then=lambda _: None):
+    """Stopped at each step, something done to HAProxy there, and begun again."""
     step, stops = 1, 0
     while True:
         old = place_of(it, key)
         new = "2" if old == "1" else "1"
-        kill = (lambda: (it.kill_balancer(), it.balance())) if kills else lambda: None
-        if not stopped_at(it, step, lambda one: one.move(name_of(key), new), kill):
+        if not stopped_at(it, step, lambda one: one.move(name_of(key), new), lambda: then(it)):
             break
         stops += 1
         fleet(it).move(name_of(key), new)
@@ -340,14 +351,15 @@ def main():
             began, kept = time.monotonic(), it.keys["1"][0]
             moved = Traffic(it, [kept, kept], True)
             others = Traffic(it, [it.keys["1"][1], it.keys["2"][1]], False)
-            each_step(it, kept, False)
+            each_step(it, kept)
             each_undone(it, kept)
             if is_apart:
+                each_step(it, kept, reloaded)
                 killed_at_random(it, kept, 8)
                 by_two(it, it.keys["1"][4])
             print(f"other tenants: {others.finish('others')[0]} replies, none ended", flush=True)
             others = Traffic(it, [it.keys["1"][2], it.keys["2"][2]], True)
-            each_step(it, kept, True)
+            each_step(it, kept, killed)
             counts = [one.finish(name) for one, name in ((moved, "the moved tenant"), (others, "others"))]
             print(f"replies and ended connections: the moved tenant {counts[0]}, others {counts[1]}, {time.monotonic() - began:.0f} s", flush=True)
             if is_apart:

@@ -94,6 +94,8 @@ class Root:
 
 
 def installed(root, file):
+    before = Path(file).read_bytes()
+    report.case("the same package again", "", True, Path(root.package("1")).read_bytes() == before)
     report.case("installed", "", 0, root.dpkg("--install", file).returncode)
     modes = {name: (root.at / name).stat().st_mode & 0o777 for name in ("etc/path_server", "usr/lib/path_server/path_server", "usr/share/path_server/alerts.yaml")}
     report.case("modes", "", {"etc/path_server": 0o700, "usr/lib/path_server/path_server": 0o755, "usr/share/path_server/alerts.yaml": 0o644}, modes)
