@@ -175,8 +175,8 @@ def metrics(report):
     times = [1e-6, 1e-4, 1.01e-4, 2.0, 60.0]
     report.case("requests up to each bound", "", [sum(time <= float(bound) for time in times) for bound, _ in buckets], [number for _, number in buckets])
     report.case("the sum and the count", "", (62.000202, "5"), (float(numbers["path_server_request_seconds_sum"]), numbers["path_server_request_seconds_count"]))
-    tenants = {name: [numbers[f'path_server_tenant_{name}{{tenant="{place}"}}'] for place in (0, 1)] for name in ("requests_total", "collections", "documents", "text_bytes", "memory_bytes", "connections_waiting")}
-    wanted = {"requests_total": ["1", "3"], "collections": ["0", "2"], "documents": ["0", "3"], "text_bytes": ["0", "4"], "memory_bytes": ["0", "6"], "connections_waiting": ["0", "5"]}
+    tenants = {name: [numbers[f'path_server_tenant_{name}{{tenant="{place}"}}'] for place in (0, 1)] for name in ("requests_total", "charged_units_total", "collections", "documents", "text_bytes", "memory_bytes", "connections_waiting")}
+    wanted = {"requests_total": ["1", "3"], "charged_units_total": ["0", "700"], "collections": ["0", "2"], "documents": ["0", "3"], "text_bytes": ["0", "4"], "memory_bytes": ["0", "6"], "connections_waiting": ["0", "5"]}
     report.case("by tenant", "", wanted, tenants)
     singles = {"uptime_seconds": "17", "ready": "1", "connections_open": "5", "connections_total": "1", "read_bytes_total": "1000", "written_bytes_total": "2000",
                "connections_limit": "10000", "accept_refused": "0", "connections_waiting": "0", "dropped_lines_total": "3", "buffered_bytes": "65536", "buffered_limit_bytes": "1073741824",
