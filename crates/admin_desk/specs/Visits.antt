@@ -52,28 +52,28 @@ replied s reading.Part = None
 replied s (reading.Asked it) = Some (reply_to s it)
 replied s (reading.Refused why) = Some (reply.Refused why)
 
--- bytes that begin with a request are read as what it asks of a server with this name
-abbrev pub IsReadAs : (own bytes : List ℕ) → Reading → Type 0
-IsReadAs own bytes r = (h : RequestHead) (rest : List ℕ) → ReadsRequest bytes h rest → length h.fields ≤ 64 → r ≡ judged own h
+-- bytes that begin with a request are read as what it asks of a server that was given no name
+abbrev pub IsReadAs : List ℕ → Reading → Type 0
+IsReadAs bytes r = (h : RequestHead) (rest : List ℕ) → ReadsRequest bytes h rest → length h.fields ≤ 64 → r ≡ judged [] h
 
 -- a whole reply is owed, or the page is to be begun
 abbrev pub Owes : (uptime : ℕ) → Reply → Visit → Visit → Type 0
 Owes uptime r old new = MatchBool (is_page r) (new.stage ≡ stage.Figures) ((new.stage ≡ stage.Reply) × (new.reply.items ≡ old.reply.items ++ reply_text r (body_of r uptime)))
 
 -- the bytes so far are read, and answered as they are meant
-pub record Reads (own : List ℕ) (uptime : ℕ) (bytes : List ℕ) (old : Visit) (standing : Standing) (new : Visit) (standing' : Standing) : Type 0 where
+pub record Reads (uptime : ℕ) (bytes : List ℕ) (old : Visit) (standing : Standing) (new : Visit) (standing' : Standing) : Type 0 where
   pub is : Reading
-  pub read_as : IsReadAs own bytes is
+  pub read_as : IsReadAs bytes is
   pub said : standing' ≡ after_reading standing is
   pub owed : MatchOption (replied standing is) (new.stage ≡ stage.Head) (λ r. Owes uptime r old new)
 
 -- a piece counts only while the request is not whole
-abbrev pub Hears : (own : List ℕ) → (uptime : ℕ) → Visit → Standing → (piece : List ℕ) → Visit → Standing → Type 0
-Hears own uptime old standing piece new standing' = MatchBool (is_head old.stage) (Reads own uptime (old.head.items ++ piece) old standing new standing') ((new ≡ old) × (standing' ≡ standing))
+abbrev pub Hears : (uptime : ℕ) → Visit → Standing → (piece : List ℕ) → Visit → Standing → Type 0
+Hears uptime old standing piece new standing' = MatchBool (is_head old.stage) (Reads uptime (old.head.items ++ piece) old standing new standing') ((new ≡ old) × (standing' ≡ standing))
 
 -- nothing is said, or what the bytes ask
-abbrev pub AtMostSays : (own bytes : List ℕ) → Standing → Standing → Type 0
-AtMostSays own bytes old new = (new ≡ old) ⊎ ((it : Asked) × IsReadAs own bytes (reading.Asked it) × (new ≡ after_asked old it))
+abbrev pub AtMostSays : List ℕ → Standing → Standing → Type 0
+AtMostSays bytes old new = (new ≡ old) ⊎ ((it : Asked) × IsReadAs bytes (reading.Asked it) × (new ≡ after_asked old it))
 
 -- what is not written of a page
 abbrev pub page_left : {A : Type 0} → Option (Box Page A) → List ℕ

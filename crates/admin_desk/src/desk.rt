@@ -40,8 +40,6 @@ pub struct Desk<S: Peer> {
     alloc: Global,
     callers: Slab<Caller<S>>,
     standing: Standing,
-    // The name by which it may be asked, beside addresses and `localhost`.
-    own: Vec<u8>,
 }
 
 impl<S: Peer> Desk<S> {
@@ -54,15 +52,7 @@ impl<S: Peer> Desk<S> {
             alloc,
             callers: Slab::new(alloc),
             standing: Standing::new(),
-            own: Vec::new(alloc),
         }
-    }
-
-    /// Has this name be one by which it may be asked.
-    pub fn name(&mut self, own: Vec<u8>)
-        ensures { self.new.standing ≡ self.old.standing }
-    {
-        self.own = own;
     }
 
     /// What was said.
@@ -211,7 +201,7 @@ impl<S: Peer> Desk<S> {
     {
         match self.callers.get_mut(place) {
             Some(caller) if now.saturating_sub(caller.since) > PATIENCE => false,
-            Some(caller) => caller.step(self.own.as_slice(), &mut self.standing, now),
+            Some(caller) => caller.step(&mut self.standing, now),
             None => true,
         }
     }
@@ -236,14 +226,14 @@ impl<S: Peer> Caller<S> {
     }
 
     // One step, and whether it stays open.
-    fn step(&mut self, own: &[u8], standing: &mut Standing, now: u64) -> bool
+    fn step(&mut self, standing: &mut Standing, now: u64) -> bool
         ensures { SaysAtMost standing.old standing.new }
     {
         if !self.can_go_on() {
             return true;
         }
         match self.visit.stage {
-            Stage::Head | Stage::Done => self.read(own, standing, now),
+            Stage::Head | Stage::Done => self.read(standing, now),
             Stage::Figures => true,
             Stage::Lines => self.visit.go_on().is_ok(),
             Stage::Reply => self.write(),
@@ -251,7 +241,7 @@ impl<S: Peer> Caller<S> {
     }
 
     // Reads a piece. What comes behind the request is thrown away.
-    fn read(&mut self, own: &[u8], standing: &mut Standing, now: u64) -> bool
+    fn read(&mut self, standing: &mut Standing, now: u64) -> bool
         ensures { SaysAtMost standing.old standing.new }
     {
         let mut buffer = [0u8; PIECE];
@@ -259,7 +249,7 @@ impl<S: Peer> Caller<S> {
             Ok(0) => false,
             Ok(count) => {
                 let piece = buffer.get(..count).unwrap_or_default();
-                self.visit.hear(own, piece, standing, now).is_ok()
+                self.visit.hear(piece, standing, now).is_ok()
             }
             Err(error) if error.kind() == ErrorKind::WouldBlock => {
                 self.is_readable = false;

@@ -63,7 +63,7 @@ impl Visit {
         }
     }
 
-    /// Takes a piece of the request to a server that was given the name `own`, so many seconds after the start. If the request is whole, or cannot become so, it is answered; what follows
+    /// Takes a piece of the request, so many seconds after the start. If the request is whole, or cannot become so, it is answered; what follows
     /// is ignored.
     ///
     /// # Errors
@@ -71,20 +71,19 @@ impl Visit {
     /// If an allocation failed. The connection is to be closed.
     pub fn hear(
         &mut self,
-        own: &[u8],
         piece: &[u8],
         standing: &mut Standing,
         uptime: u64,
     ) -> Result<(), AllocError>
-        ensures heard { OnOk result (Hears own.now uptime self.old standing.old piece.now self.new standing.new) }
-        ensures said { AtMostSays own.now (self.old.head.items ++ piece.now) standing.old standing.new }
+        ensures heard { OnOk result (Hears uptime self.old standing.old piece.now self.new standing.new) }
+        ensures said { AtMostSays (self.old.head.items ++ piece.now) standing.old standing.new }
         ensures bounded { length self.old.head.items < 8192 → length self.new.head.items < 8192 }
     {
         if !is_head(self.stage) {
             return Ok(());
         }
         self.head.extend_from_slice(piece)?;
-        let reading = read_request(own, self.head.as_slice());
+        let reading = read_request(&[], self.head.as_slice());
         match reply_to(standing, reading) {
             Some(reply) => self.answer(reply, uptime),
             None => Ok(()),
