@@ -60,8 +60,8 @@ class Upgrade(Fleet):
             raise Stopped(f"HAProxy refuses {self.table.folder}/haproxy.cfg: {wrong}")
         for it, is_there in zip(self.balancers, which):
             if is_there:
+                self.tell(f"reload HAProxy at {it.at}")
                 it.reload({f"shard-{name}" for name in self.table.shards})
-                self.tell(f"HAProxy at {it.at} is reloaded")
 
     def read_anew(self):
         """Has each HAProxy read its files and certificates anew."""
@@ -74,7 +74,7 @@ class Upgrade(Fleet):
         with locked(self.path):
             self.read()
             if old not in self.table.shards:
-                raise Stopped(f"there is no shard {old}")
+                return self.take_out(old, new)
             if new not in self.table.shards:
                 if not addresses:
                     raise Stopped(f"there is no shard {new}: its address is wanted")
@@ -106,9 +106,17 @@ class Upgrade(Fleet):
                 raise Stopped(f"shard {old} does not end: {why}") from why
         with locked(self.path):
             self.read()
+            self.tell(f"take shard {old} out of the table")
             self.table = self.table.without_shard(old)
-            shard_files.write(self.table)
-            self.reload([True] * len(self.balancers))
+            self.take_out(old, new)
+
+    def take_out(self, old, new):
+        """Has HAProxy forget a shard that the table no longer has."""
+        shard_files.write(self.table)
+        having = [f"shard-{old}," in it.ask(f"@!{it.current()} show stat") for it in self.balancers]
+        if not any(having) or new not in self.table.shards:
+            raise Stopped(f"there is no shard {old}; the table and HAProxy do without it")
+        self.reload(having)
         self.tell(f"shard {new} is in the place of shard {old}")
 
     def await_answer(self, shard):

@@ -165,13 +165,13 @@ class Deployment:
             self.balancer.wait()
             self.balancer = None
 
-    def balance(self):
-        """Starts HAProxy, and waits until it sees all shards."""
+    def balance(self, states=None):
+        """Starts HAProxy, and waits until it sees all shards, or those of these states."""
         log = open(self.folder / "haproxy.log", "ab")
         words = ["haproxy", "-W", "-db", "-S", self.folder / "master.sock", "-f", self.folder / "haproxy.cfg"]
         self.balancer = subprocess.Popen(words, stdin=subprocess.DEVNULL, stdout=log, stderr=log)
-        wanted = {**{f"shard-{name}": "UP" for name in self.keys}, "reception": "UP"}
-        if not wait_until(lambda: self.states() == wanted):
+        wanted = states or {**{f"shard-{name}": "UP" for name in self.keys}, "reception": "UP"}
+        if not wait_until(lambda: wanted.items() <= self.states().items()):
             sys.exit(f"HAProxy doesn't see the shards: {self.states()} {(self.folder / 'haproxy.log').read_text()[-2000:]}")
 
     def say(self, command, socket_name="haproxy.sock"):

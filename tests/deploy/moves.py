@@ -15,8 +15,8 @@ import threading
 import time
 from pathlib import Path
 
-from deployment import TOP, Deployment, children, wait_until
-from lib.running_server import Report, want
+from deployment import TOP, Deployment, children, free_ports, wait_until
+from lib.running_server import PROGRAM, Report, want
 from path_client import BrokenConnection, Client, Refused, connect
 
 sys.path.insert(0, str(TOP / "deploy"))
@@ -145,9 +145,9 @@ def is_left_nowhere(it, key, name):
             report.case(f"{name}: what shard {shard} has", "", (0, 0, 0), tuple(client.usage()))
 
 
-def killed(it):
+def killed(it, states=None):
     it.kill_balancer()
-    it.balance()
+    it.balance(states)
 
 
 def reloaded(it):
@@ -248,8 +248,14 @@ def bad(it):
         with connect(it.running["2"].address, one) as there:
             there.put("c", "left", b"[3]")
         refuses(it, "texts at the new shard", lambda fleet: fleet.move(name_of(one), "2"), "--replace drops them")
-        with connect(it.running["2"].address, one) as there:
-            there.drop("c")
+        fleet(it).move(name_of(one), "2", True)
+    with connect("%s:%d" % it.plain, one) as client:
+        report.case("moved in the place of what was there", "", b"[1]", client.get("c", "kept"))
+        stopped_at(it, 2, lambda fleet: fleet.move(name_of(one), "1"))
+        shown = [line for line in it.shards("show").splitlines() if name_of(one) in line]
+        report.case("show", "", [f"{name_of(one)} {name_of(one).lower()} shard 2 to 1, paused"], shown)
+        fleet(it).move(name_of(one), "1")
+    with connect("%s:%d" % it.plain, one) as client:
         refuses(it, "an upgrade to a shard without an address", lambda fleet: fleet.upgrade("2", "9"), "its address is wanted")
         refuses(it, "an upgrade to an address that is taken", lambda fleet: fleet.upgrade("2", "9", it.running["1"].address), "stands twice")
         refuses(it, "an upgrade to a name that is none", lambda fleet: fleet.upgrade("2", "a/b", "127.0.0.1:9"), "is no name of a shard")
@@ -321,6 +327,54 @@ def by_two(it, key):
     it.table.write_text(lines)
 
 
+def upgraded(it):
+    """Another shard takes the place of the second, again and again: stopped at each step of its own, HAProxy killed there, and begun again."""
+    run = f"{TOP}/bin/path_server_run listen $ADDRESS --keys {it.folder}/$SHARD.keys --connections 9000 $OPTIONS"
+    start = f"start . {it.folder}/$SHARD.env; PATH_SERVER={PROGRAM} {run} </dev/null >/dev/null 2>&1 & echo $! >{it.folder}/$SHARD.pid"
+    it.table.write_text(it.table.read_text() + start + "\n")
+    key, old, told, step = it.keys["2"][0], "2", [], 1
+    traffic, others = Traffic(it, [key], True), Traffic(it, [it.keys["1"][0]], True)
+    try:
+        while True:
+            new, count = f"n{step}", [0]
+            words = (old, new, *(f"127.0.0.1:{port}" for port in free_ports(2)))
+
+            def tell(line):
+                # the steps of a move are stopped elsewhere
+                count[0] += not line.startswith(name_of(key).upper())
+                if count[0] == step and not line.startswith(name_of(key).upper()):
+                    told.append(line)
+                    raise Interrupted
+
+            try:
+                fleet(it, tell).upgrade(*words)
+                is_stopped = False
+            except Interrupted:
+                is_stopped = True
+                if step % 2:
+                    killed(it, {"shard-1": "UP"})
+                try:
+                    fleet(it).upgrade(*words)
+                except Stopped as why:
+                    # all was done but the last word, or HAProxy has read the files as it was started
+                    is_last = told[-1].endswith(f"in the place of shard {old}") or told[-1].startswith("reload ") and step % 2 == 1
+                    report.case("begun again", told[-1], (True, True), (is_last, "the table and HAProxy do without it" in str(why)))
+            table = Table(it.table)
+            report.case("what the table has", step, (False, [new, "1"]), (old in table.shards, table.tenants[key.hex()].places))
+            report.case("files of the old shard", step, [], [name for name in (f"{old}.env", f"{old}.keys") if (it.folder / name).exists()])
+            old, step = new, step + 1
+            if not is_stopped:
+                break
+        report.case("steps at which it was stopped", told, True, step >= 8)
+        refuses(it, "an upgrade of a shard that is none", lambda one: one.upgrade("2", old), "there is no shard 2")
+        counts = [one.finish(name) for one, name in ((traffic, "the tenant of a shard that is upgraded"), (others, "others"))]
+        print(f"upgrades, stopped at {step - 2} steps: {counts[0]} replies and ended connections, others {counts[1]}", flush=True)
+    finally:
+        for file in it.folder.glob("n*.pid"):
+            with contextlib.suppress(ProcessLookupError):
+                os.kill(int(file.read_text()), signal.SIGKILL)
+
+
 def dumped(it):
     """A dump of all, and a shard that is loaded from it again."""
     key, shard, folder = it.keys["2"][3], it.running["2"], Path(it.room.name) / "dumps"
@@ -365,6 +419,8 @@ def main():
             if is_apart:
                 bad(it)
                 dumped(it)
+    with Deployment(1, collections=",".join(COLLECTIONS)) as it:
+        upgraded(it)
     report.close("moves")
 
 
