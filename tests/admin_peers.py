@@ -189,7 +189,7 @@ def holds(report):
         silent = [socket.create_connection(parse_address(server.admin), PATIENCE) for _ in range(8)]
         time.sleep(0.3)
         began = time.monotonic()
-        report.case("health beside eight that say nothing", "", (200, True), (server.ask("GET", "/health")[0], time.monotonic() - began < 0.5))
+        report.case("health beside eight that say nothing", "", (200, True), (server.ask("GET", "/health")[0], time.monotonic() - began < 3))
         # all are of one second
         report.case("one of them made room", "", 1, [talk_until(it, 0.2) for it in silent].count("end"))
         for connection in silent:

@@ -2,7 +2,6 @@
 import hashlib
 import shutil
 import subprocess
-from pathlib import Path
 
 from proving import PARTS
 

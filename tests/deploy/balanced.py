@@ -17,7 +17,7 @@ import threading
 import time
 import urllib.request
 
-from deployment import CLIENT, ENDED, FRAME_FAULT, GET, NO_TENANT, NOT_FOUND, OK, PUT, SHORT, TOP, USAGE, Deployment, Shard, ask, frame, free_ports, read_reply, wait_until
+from deployment import CLIENT, ENDED, FRAME_FAULT, GET, NO_TENANT, NOT_FOUND, OK, PUT, SHORT, TOP, USAGE, Deployment, ask, frame, free_ports, read_reply, wait_until
 from lib.running_server import PATIENCE, PROGRAM, Report, open_connection, want
 from path_client import BrokenConnection, connect
 

@@ -5,14 +5,15 @@ Commands of the page run as they stand, but that the root's folder is in front o
 script that starts what the unit says. Then a shard fails and is loaded again, the package is upgraded below running shards, and removed.
 """
 import os
+import pwd
 import re
+import shutil
 import signal
 import subprocess
-import sys
 import tempfile
 from pathlib import Path
 
-from deployment import CLIENT, TOP, wait_until
+from deployment import CLIENT, TOP, children, wait_until
 from lib.running_server import PATIENCE, PROGRAM, Report, has, not_run, want
 import pages
 from pages import ADDRESS, Shell, fits, free_port, sessions
@@ -120,6 +121,23 @@ def installed(root, file):
         report.case("systemd-analyze verify", "", [], [line for line in ran.stdout.splitlines() if "path_server" in line])
 
 
+def refused(root, at):
+    """A program that is not as its manifest says is put into no package."""
+    copy = at / "copy"
+    for name in ("bin", "deploy"):
+        shutil.copytree(TOP / name, copy / name, ignore=shutil.ignore_patterns("__pycache__"))
+    for name in ("crates.txt", "CHANGELOG.md"):
+        shutil.copy(TOP / name, copy / name)
+    program = copy / "crates/path_program/out/path_program"
+    program.parent.mkdir(parents=True)
+    shutil.copy(PROGRAM, program)
+    for manifest, wanted in (("", "there is no"), ("program path_program\nsha256 0\n", "the program has the SHA-256")):
+        if manifest:
+            program.with_name("path_program.manifest").write_text(manifest)
+        ran = root.run(copy / "deploy/package", at / "none")
+        report.case("a program that was not proved", manifest, (1, True, False), (ran.returncode, wanted in ran.stdout, (at / "none").exists()))
+
+
 def tried(root, room, file):
     """The commands of the page, with the table in the root."""
     ports = {}
@@ -129,7 +147,6 @@ def tried(root, room, file):
         text = re.sub(r"(?<![\w/])/(etc/path_server|etc/haproxy|run/haproxy)", rf"{root.at}/\1", text)
         text = text.replace("etc/haproxy.sock", f"{root.at}/etc/path_server/haproxy.sock").replace("etc/master.sock", "run/haproxy-master.sock").replace("bin/path_client", "path_client")
         text = re.sub(r"deploy/shards\.py table (?!write)", f"path_shards {root.at}/etc/path_server/table ", text)
-        text = text if os.geteuid() == 0 else text.replace(" --user haproxy", "")
         return ADDRESS.sub(lambda it: it[1] + (ports.get(it[2]) or ports.setdefault(it[2], free_port())), text)
 
     os.environ.update(root.env)
@@ -155,6 +172,8 @@ def failed_and_removed(root, room, table, plain):
 
     before = root.processes()
     report.case("who runs", "", {"1", "3", "reception", "haproxy"}, set(before))
+    users = {pwd.getpwuid(os.stat(f"/proc/{worker}").st_uid).pw_name for worker in children(before["haproxy"])}
+    report.case("the user of HAProxy's workers", "", {"haproxy"}, users)
     root.run("path_shards", table, "dump", room / "dumps")
     # the package is upgraded below the shards
     ran = root.dpkg("--install", root.package("2"))
@@ -187,6 +206,7 @@ def main():
                 not_run("the package in a root of its own", "this user is not root")
                 report.close("the package")
             installed(root, file)
+            refused(root, Path(at))
             room = Path(at) / "room"
             room.mkdir()
             tried(root, room, file)
