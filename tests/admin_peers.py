@@ -10,7 +10,6 @@ import os
 import random
 import re
 import resource
-import shutil
 import socket
 import subprocess
 import sys
@@ -23,7 +22,7 @@ from pathlib import Path
 from admin_replies import ALLOWED, HOST, TOO_LONG, WHOLE, read
 from administration import STATUSES, Administered, is_refused, read_all
 from lib.plain_model import Server, number
-from lib.running_server import GIVE_BACK, PATIENCE, PROGRAM, Report, frames_of, open_connection, talk
+from lib.running_server import GIVE_BACK, PATIENCE, PROGRAM, Report, frames_of, has, open_connection, talk
 from lib.traffic import KEYS, Traffic
 from many_connections import KEY, LARGE, MEBIBYTE, PUT_LARGE, fill, greedy
 from path_client import REQUEST_LIMIT, connect, parse_address
@@ -111,17 +110,17 @@ def malformed(report):
         report.case("a request in part, and the end", "", ("end", False), told(server.admin, HEALTH, [HEALTH[:-1]]))
         report.case("nothing, and the end", "", ("end", False), told(server.admin, b"", []))
         for grace, wanted in GRACES.items():
-            sent = f"POST /drain?grace={grace} HTTP/1.1\r\nHost: a\r\n\r\n".encode()
+            sent = f"POST /drain?grace={grace} HTTP/1.1\r\nHost: localhost\r\n\r\n".encode()
             report.case("a grace that is none", sent, (wanted, True), told(server.admin, sent, [sent]))
         for place in PLACES:
-            sent = f"POST /drain{place} HTTP/1.1\r\nHost: a\r\n\r\n".encode() if not place.startswith("//") else f"POST {place} HTTP/1.1\r\nHost: a\r\n\r\n".encode()
+            sent = f"POST /drain{place} HTTP/1.1\r\nHost: localhost\r\n\r\n".encode() if not place.startswith("//") else f"POST {place} HTTP/1.1\r\nHost: localhost\r\n\r\n".encode()
             report.case("no place of a drain", sent, True, told(server.admin, sent, [sent]) in [(404, True), (400, True)])
         for _ in range(300):
             damaged = bytearray(chance.choice([HEALTH, METRICS, b"POST /drain?grace=xyz HTTP/1.1\r\n" + HOST + b"Content-Length: 4\r\n\r\nabcd"]))
             for _ in range(chance.randint(1, 3)):
                 damaged[chance.randrange(len(damaged))] = chance.choice([0, 9, 10, 13, 32, 58, 127, 128, 255, chance.randrange(256)])
             status, is_whole = told(server.admin, damaged, [bytes(damaged)])
-            report.case("damaged bytes", damaged, True, status == "end" or is_whole and status in (200, 400, 404, 405, 413, 431) or (status, is_whole))
+            report.case("damaged bytes", damaged, True, status == "end" or is_whole and status in (200, 400, 403, 404, 405, 413, 431) or (status, is_whole))
         report.case("nothing refused was done", "", False, has_changed(server))
         server.finish(report)
 
@@ -187,6 +186,14 @@ def holds(report):
             connection.close()
         began = time.monotonic()
         report.case("health behind them", "", (200, True), (server.ask("GET", "/health")[0], time.monotonic() - began < 2))
+        silent = [socket.create_connection(parse_address(server.admin), PATIENCE) for _ in range(8)]
+        time.sleep(0.3)
+        began = time.monotonic()
+        report.case("health beside eight that say nothing", "", (200, True), (server.ask("GET", "/health")[0], time.monotonic() - began < 3))
+        # all are of one second
+        report.case("one of them made room", "", 1, [talk_until(it, 0.2) for it in silent].count("end"))
+        for connection in silent:
+            connection.close()
         goes = [True]
         threads = [threading.Thread(target=flood, args=(server.admin, goes)) for _ in range(12)]
         for it in threads:
@@ -260,11 +267,9 @@ def agrees(report, seed):
         for status, number in re.findall(r'^path_server_requests_total\{command="\w+",status="(\w+)"\} ([1-9]\d*)$', page.decode(), re.M):
             counted[status] += int(number)
         report.case("replies that came, by status", "", dict(replies), dict(counted))
-        if shutil.which("promtool"):
+        if has("promtool check metrics", "promtool"):
             ran = subprocess.run(["promtool", "check", "metrics"], input=page, capture_output=True)
             report.case("promtool check metrics", "", (0, b"", b""), (ran.returncode, ran.stdout, ran.stderr))
-        else:
-            print("not run, since there is no promtool here: promtool check metrics", flush=True)
 
 
 def taken_ports(report):
@@ -334,8 +339,7 @@ def few_descriptors(report):
 
 def refused_memory(report):
     """Each call for memory fails, alone or with all behind it: a reply is whole, or the connection is closed; the server goes on, or ends with status 4."""
-    if not shutil.which("cc"):
-        print("not run, since there is no cc here: calls for memory that fail", flush=True)
+    if not has("calls for memory that fail", "cc"):
         return
     asked = [HEALTH, METRICS, b"POST /ready HTTP/1.1\r\n" + HOST + b"\r\n", METRICS]
     with tempfile.TemporaryDirectory() as folder:

@@ -9,20 +9,19 @@ import io
 import os
 import random
 import re
-import shutil
 import subprocess
 
-from lib.running_server import PATIENCE, TOP, Report
+from lib.running_server import PATIENCE, TOP, Report, has
 
 PROGRAM = os.environ.get("ADMIN_REPLIES") or str(TOP / "crates/admin_replies/out/admin_replies")
-HOST = b"Host: a\r\n"
+HOST = b"Host: localhost:9001\r\n"
 FIELD = b"A: b\r\n"
 WHOLE = {
     b"GET /health HTTP/1.1\r\n" + HOST + b"\r\n": 200,
     b"GET /health HTTP/1.0\r\n\r\n": 200,
     b"GET /health HTTP/1.0\r\n" + HOST + b"\r\n": 200,
-    b"GET /health HTTP/1.1\nhost: a\n\n": 200,
-    b"\r\n\r\nGET /health HTTP/1.1\r\nHOST:a\r\n\r\n": 200,
+    b"GET /health HTTP/1.1\nhost: localhost\n\n": 200,
+    b"\r\n\r\nGET /health HTTP/1.1\r\nHOST:127.0.0.1\r\n\r\n": 200,
     b"GET /ready HTTP/1.1\r\n" + HOST + b"\r\n": 503,
     b"POST /ready HTTP/1.1\r\n" + HOST + b"\r\n": 200,
     b"POST /ready HTTP/1.1\r\n" + HOST + b"Content-Length: 0\r\n\r\n": 200,
@@ -41,6 +40,22 @@ WHOLE = {
     b"GET /health HTTP/1.1\r\n\r\n": 400,
     b"GET /health HTTP/1.1\r\n" + HOST + HOST + b"\r\n": 400,
     b"GET /health HTTP/1.0\r\n" + HOST + HOST + b"\r\n": 400,
+    # who asks: a browser says where a page comes from (Fetch Metadata Request Headers, section 2.1; RFC 6454, section 7.3)
+    b"POST /drain HTTP/1.1\r\n" + HOST + b"Origin: http://example.org\r\n\r\n": 403,
+    b"POST /drain HTTP/1.1\r\n" + HOST + b"ORIGIN: null\r\n\r\n": 403,
+    b"POST /ready HTTP/1.1\r\n" + HOST + b"Sec-Fetch-Site: cross-site\r\n\r\n": 403,
+    b"GET /metrics HTTP/1.1\r\n" + HOST + b"sec-fetch-site: same-site\r\n\r\n": 403,
+    b"GET /metrics HTTP/1.1\r\n" + HOST + b"Sec-Fetch-Site:\r\n\r\n": 403,
+    b"GET /metrics HTTP/1.1\r\n" + HOST + b"Sec-Fetch-Site: none\r\n\r\n": 200,
+    b"GET /metrics HTTP/1.1\r\n" + HOST + b"Sec-Fetch-Site: same-origin\r\n\r\n": 200,
+    b"POST /drain HTTP/1.0\r\nOrigin: http://localhost\r\n\r\n": 403,
+    b"POST /drain HTTP/1.1\r\n" + HOST + b"Origin: http://example.org\r\nContent-Type: text/plain\r\nContent-Length: 3\r\n\r\na=b": 403,
+    b"PUT /drain HTTP/1.1\r\n" + HOST + b"Origin: http://example.org\r\n\r\n": 403,
+    b"OPTIONS /drain HTTP/1.1\r\n" + HOST + b"Origin: http://example.org\r\nAccess-Control-Request-Method: POST\r\n\r\n": 403,
+    **{b"GET /health HTTP/1.1\r\nHost: " + host + b"\r\n\r\n": 403
+       for host in (b"example.org", b"example.org:9001", b"localhost.example.org", b"localhostile:1", b"127.0.0.1.example.org", b"1.2.3.4a", b"admin.example.org", b"a", b"")},
+    **{b"GET /health HTTP/1.1\r\nHost: " + host + b"\r\n\r\n": 200
+       for host in (b"127.0.0.1", b"10.0.0.7:9001", b"[::1]", b"[fe80::1]:9001", b"LocalHost", b"localhost:1")},
     # bodies
     b"POST /ready HTTP/1.1\r\n" + HOST + b"Content-Length: 3\r\n\r\nabc": 413,
     b"POST /ready HTTP/1.1\r\n" + HOST + b"content-length: 00\r\n\r\n": 413,
@@ -76,6 +91,8 @@ WHOLE = {
     b"\x16\x03\x01\x02\x00\x01\x00\x01\xfc\x03\x03": 400,
     b"\x00\x00\x00\x15\x07": 400,
 }
+# of a server that was given this name
+NAMED = {b"GET /health HTTP/1.1\r\nHost: " + host + b"\r\n\r\n": 200 for host in (b"admin.example", b"Admin.Example:9001")}
 ALLOWED = {b"/health": "GET", b"/metrics": "GET", b"/ready": "GET, POST", b"/drain": "POST", b"/drain?grace=1": "POST", b"/drain?grace=x": "POST"}
 IN_PART = [b"", b"\r\n", b"G", b"GET /health HTTP/1.1\r\n", b"GET /health HTTP/1.1\r\n" + HOST, b"GET /health HTTP/1.1\r\n" + HOST + b"\r", 8_000 * b"a"]
 TOO_LONG = [8_192 * b"a", b"GET /" + 8_187 * b"a", b"GET /health HTTP/1.1\r\nA: " + 8_192 * b"a"]
@@ -104,7 +121,7 @@ def read(data):
 
 
 def requests(report):
-    for sent, wanted in WHOLE.items():
+    for sent, wanted in {**WHOLE, **NAMED}.items():
         status, fields, body, is_whole = read(answer(sent))
         report.case("a request", sent, (wanted, "close", True), (status, fields.get("Connection"), is_whole))
     for target, allowed in ALLOWED.items():
@@ -158,18 +175,16 @@ def metrics(report):
     times = [1e-6, 1e-4, 1.01e-4, 2.0, 60.0]
     report.case("requests up to each bound", "", [sum(time <= float(bound) for time in times) for bound, _ in buckets], [number for _, number in buckets])
     report.case("the sum and the count", "", (62.000202, "5"), (float(numbers["path_server_request_seconds_sum"]), numbers["path_server_request_seconds_count"]))
-    tenants = {name: [numbers[f'path_server_tenant_{name}{{tenant="{place}"}}'] for place in (0, 1)] for name in ("requests_total", "collections", "documents", "text_bytes", "memory_bytes", "connections_waiting")}
-    wanted = {"requests_total": ["1", "3"], "collections": ["0", "2"], "documents": ["0", "3"], "text_bytes": ["0", "4"], "memory_bytes": ["0", "6"], "connections_waiting": ["0", "5"]}
+    tenants = {name: [numbers[f'path_server_tenant_{name}{{tenant="{place}"}}'] for place in (0, 1)] for name in ("requests_total", "charged_units_total", "collections", "documents", "text_bytes", "memory_bytes", "connections_waiting")}
+    wanted = {"requests_total": ["1", "3"], "charged_units_total": ["0", "700"], "collections": ["0", "2"], "documents": ["0", "3"], "text_bytes": ["0", "4"], "memory_bytes": ["0", "6"], "connections_waiting": ["0", "5"]}
     report.case("by tenant", "", wanted, tenants)
     singles = {"uptime_seconds": "17", "ready": "1", "connections_open": "5", "connections_total": "1", "read_bytes_total": "1000", "written_bytes_total": "2000",
                "connections_limit": "10000", "accept_refused": "0", "connections_waiting": "0", "dropped_lines_total": "3", "buffered_bytes": "65536", "buffered_limit_bytes": "1073741824",
                "charged_units_total": "700", "slow_queries_total": "1"}
     report.case("the others", "", singles, {name: numbers.get(f"path_server_{name}") for name in singles})
-    if shutil.which("promtool"):
+    if has("promtool check metrics", "promtool"):
         ran = subprocess.run(["promtool", "check", "metrics"], input=body, capture_output=True)
         report.case("promtool check metrics", "", (0, b"", b""), (ran.returncode, ran.stdout, ran.stderr))
-    else:
-        print("not run, since there is no promtool here: promtool check metrics", flush=True)
 
 
 def main():

@@ -22,7 +22,7 @@ from path_client import connect, parse_address
 NAMES = {0: "none", 1: "put", 2: "get", 3: "remove", 4: "list", 5: "query", 6: "drop", 7: "usage", 8: "put_new"}
 STATUSES = {place: name for name, place in STATUS.items()}
 MOST_OPEN, TIME_LIMIT = 8, 5.0
-REQUEST = b"GET /health HTTP/1.1\r\nHost: a\r\n\r\n"
+REQUEST = b"GET /health HTTP/1.1\r\nHost: localhost\r\n\r\n"
 
 
 class Administered(Listening):
@@ -63,8 +63,8 @@ class Administered(Listening):
 
 
 def wanted_cells(model, streams):
-    """Requests by command and status, by tenant, the bytes, and the units of queries that are answered by hits, as the model has them."""
-    cells, tenants, read, written, units = Counter(), Counter(), 0, 0, 0
+    """Requests by command and status, by tenant, the bytes, and the units of queries that are answered by hits, by tenant, as the model has them."""
+    cells, tenants, read, written, units = Counter(), Counter(), 0, 0, Counter()
     for conn, stream in enumerate(streams):
         model.open(conn)
         for frame in frames_of(stream):
@@ -76,7 +76,7 @@ def wanted_cells(model, streams):
                 if not is_fault and body[5:21] in KEYS:
                     tenants[KEYS.index(body[5:21])] += 1
                 if status == "Ok" and body[0] == 5:
-                    units += charged(model, body)
+                    units[KEYS.index(body[5:21])] += charged(model, body)
                 written += len(reply)
         read += len(stream)
     return cells, tenants, read, written, units
@@ -119,10 +119,11 @@ def tells_what_was_done(report, count, seed):
             report.case(f"what tenant {place} holds", seed, tuple(map(float, counts(model.tenants[key]))), held)
             least, documents = least_memory(model.tenants[key]), held[1]
             report.case(f"memory of tenant {place}", least, True, least <= numbers[f'tenant_memory_bytes{{tenant="{place}"}}'] <= 2 * least + 512 * documents)
+            report.case(f"units of tenant {place}", seed, units[place], numbers[f'tenant_charged_units_total{{tenant="{place}"}}'])
             report.case(f"requests of tenant {place}", seed, tenants[place], numbers[f'tenant_requests_total{{tenant="{place}"}}'])
         faults = any(status == "FrameFault" for _, status in cells)
         report.case("connections", seed, (count, 0.0), (numbers["connections_total"], 0.0))
-        report.case("units", seed, units, numbers["charged_units_total"])
+        report.case("units", seed, sum(units.values()), numbers["charged_units_total"])
         report.case("bytes written", seed, written, numbers["written_bytes_total"])
         if not faults:
             report.case("bytes read", seed, read, numbers["read_bytes_total"])
@@ -195,12 +196,12 @@ def keeps_nobody_waiting(report):
             report.case("a request byte by byte", "", True, read_all(slow).startswith(b"HTTP/1.1 200 OK\r\n"))
             came, _ = ends_of(server.admin, 1_000_000 * b"a")
             report.case("a head without an end", "", b"HTTP/1.1 431 ", came[:13])
-            came, _ = ends_of(server.admin, REQUEST + b"POST /drain HTTP/1.1\r\nHost: a\r\n\r\n")
+            came, _ = ends_of(server.admin, REQUEST + b"POST /drain HTTP/1.1\r\nHost: localhost\r\n\r\n")
             report.case("a request behind another is none", "", 1, came.count(b"HTTP/1.1 "))
             deaf = [socket.create_connection(parse_address(server.admin), PATIENCE) for _ in range(MOST_OPEN)]
             for connection in deaf:
                 connection.setsockopt(socket.SOL_SOCKET, socket.SO_RCVBUF, 4096)
-                connection.sendall(b"GET /metrics HTTP/1.1\r\nHost: a\r\n\r\n")
+                connection.sendall(b"GET /metrics HTTP/1.1\r\nHost: localhost\r\n\r\n")
             report.case("a get beside peers that read nothing", "", b"[1,2]", client.get(b"c", b"d"))
             before = server.resident()
             for connection in deaf:

@@ -13,6 +13,7 @@ import sys
 from pathlib import Path
 
 from lib.random_queries import Queries, document, quoted
+from lib.running_server import want
 
 TOP = Path(__file__).resolve().parent.parent
 PROGRAM = os.environ.get("PATH_SERVER") or TOP / "crates/path_program/out/path_program"
@@ -62,6 +63,7 @@ def of_program(text, query):
 
 
 def main():
+    want("jq")
     if "PATH_SERVER" not in os.environ:
         subprocess.run([TOP / "bin/path_server", "--proved", "--help"], stdout=subprocess.DEVNULL, check=True)
     rounds = int(sys.argv[1]) if len(sys.argv) > 1 else 50

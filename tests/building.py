@@ -15,6 +15,7 @@ from pathlib import Path
 BIN = Path(__file__).resolve().parent.parent / "bin"
 # proves a crate, but one whose text says that it is wrong, where the library that is there is not of this text, and tells over which libraries
 RT = """#!/bin/sh
+[ "$1" = --version ] && echo "made kit $(cat "$(dirname "$0")/number" 2>/dev/null)" && exit
 name=$(basename "$PWD") text=$(cat src/*.rt)
 echo "$text" | grep -q wrong && echo "not proved" && exit 1
 over=$(cat ../*/out/rlib/made 2>/dev/null | tr '\\n' ' ')
@@ -34,10 +35,12 @@ echo "logic=proved functions=1"
 case $text in *unhelpful*) exit 3 ;; esac
 """
 CRATES = {"low": ("", "lib"), "middle": (" low", "lib"), "top": (" middle low", "main")}
-failures = []
+failures, cases = [], 0
 
 
 def check(name, found, wanted):
+    global cases
+    cases += 1
     if found != wanted:
         failures.append(name)
         print(f"FAILED: {name}: {found!r} in the place of {wanted!r}")
@@ -74,12 +77,57 @@ class Tree:
             time.sleep(0.05)
         return time.monotonic() < until
 
+    def verified(self):
+        """What bin/build --verify says of the program, and its status."""
+        ended = subprocess.run([self.at / "bin/build", "--verify", "crates/top/out/top"], cwd=self.at, env=self.env, stdout=subprocess.PIPE, encoding="utf-8", timeout=60)
+        return ended.stdout.replace("crates/top/out/top: ", ""), ended.returncode
+
+    def version(self):
+        return subprocess.run([self.at / "bin/version", self.at / "crates/top/out/top"], stdout=subprocess.PIPE, encoding="utf-8").stdout.splitlines()[1:]
+
     def says(self):
         return subprocess.run([self.at / "crates/top/out/top"], stdout=subprocess.PIPE, encoding="utf-8").stdout
 
     def libraries(self):
         """Where libraries stand."""
         return sorted(str(it.relative_to(self.at).parent) for it in self.at.rglob("rlib"))
+
+
+def manifested(tree):
+    """The manifest says of which program, commit, toolchain and crates it is, and each difference is told."""
+    program = tree.at / "crates/top/out/top"
+    file, whole = program.with_name("top.manifest"), program.read_bytes()
+    check("no commit", tree.verified(), ("proved of 3 crates, commit unknown, kit made kit \n", 0))
+    check("its version", tree.version(), ["commit unknown", "kit made kit ", "proved: 3 crates"])
+    git = ["git", "-C", tree.at, "-c", "user.name=one", "-c", "user.email=one@example.org"]
+    for words in (["init", "-q"], ["add", "crates/*/src/*", "crates.txt", "HANDLES"], ["commit", "-q", "-m", "one"]):
+        subprocess.run([*git, *words], check=True)
+    commit = subprocess.run([*git, "rev-parse", "HEAD"], stdout=subprocess.PIPE, encoding="utf-8").stdout.strip()
+    (tree.at / ".git/info/exclude").write_text("out/\n")
+    tree.build()
+    check("a commit", tree.verified(), (f"proved of 3 crates, commit {commit}, kit made kit \n", 0))
+    program.write_bytes(whole + b"\n")
+    check("another program", [tree.verified()[0].startswith("the program has the SHA-256 "), tree.verified()[1]], [True, 1])
+    check("its version", tree.version(), ["not proved: its manifest is that of another program"])
+    program.write_bytes(whole)
+    tree.write("middle", "middle three")
+    check("another crate", tree.verified(), ("the crate middle is another than was proved\n", 1))
+    tree.build()
+    check("a commit with changes", tree.verified(), (f"proved of 3 crates, commit {commit} with changes, kit made kit \n", 0))
+    (tree.at / "crates/low/specs").mkdir()
+    (tree.at / "crates/low/specs/Lib.antt").write_text("")
+    check("a file more", tree.verified(), ("the crate low is another than was proved\n", 1))
+    shutil.rmtree(tree.at / "crates/low/specs")
+    lines = (tree.at / "crates.txt").read_text()
+    (tree.at / "crates.txt").write_text(lines.replace("top: middle low", "top: middle"))
+    check("another line of crates.txt", tree.verified(), ("the crate top is another than was proved\n", 1))
+    (tree.at / "crates.txt").write_text(lines)
+    (tree.at.parent / "number").write_text("two")
+    check("another toolchain", tree.verified(), ("the toolchain here is made kit two, and was made kit \n", 1))
+    (tree.at.parent / "number").unlink()
+    file.unlink()
+    check("no manifest", tree.verified(), ("there is no crates/top/out/top.manifest\n", 1))
+    check("its version", tree.version(), ["not proved: it has no manifest"])
 
 
 def main():
@@ -115,8 +163,9 @@ def main():
         # of the session's group, as Linux tells it where it has such groups
         group = (tree.at / proved[0] / "rlib/group").read_text()
         check("its share", group.split()[1:], ["nice", "19"] if group else [])
+        manifested(tree)
         check("rooms are put away", [it.name for it in (tree.at / "build/rooms").rglob("*") if it.name in CRATES], [])
-    print(f"16 cases, {len(failures)} differ")
+    print(f"{cases} cases, {len(failures)} differ")
     sys.exit(1 if failures else 0)
 
 

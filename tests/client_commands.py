@@ -26,7 +26,7 @@ from pathlib import Path
 
 from client_itself import Answering
 from path_client import Request, connect
-from lib.running_server import TOP, Listening, Report, open_connection, talk
+from lib.running_server import TOP, Listening, Report, has, open_connection, talk
 
 PROGRAM = os.environ.get("PATH_CLIENT") or str(TOP / "crates/path_client/out/path_client")
 KEY, STRANGER = bytes.fromhex("00112233445566778899aabbccddeeff"), bytes(16)
@@ -257,7 +257,7 @@ def check_three_clients(report, room):
     with connect(room.address, KEY) as client:
         client.put("c", "python", "[1]")
         room.case(["put", "c", "shell"], 0, text=b"[2]")
-        if shutil.which("node"):
+        if has("what the client for Node put", "node"):
             script = """import { connect } from '%s';
                 const client = await connect({ at: process.argv[1], key: '%s' });
                 await client.put('c', 'node', '[3]');
@@ -304,7 +304,7 @@ def check_page(report, room):
                 with redirect_stdout(io.StringIO()) as printed:
                     exec(block, names)
                 report.case("lines of Python of docs/CLIENTS.md", block, (wanted, [None] * block.startswith("from ")), (printed.getvalue(), names.get("results", [])))
-            elif block.startswith("const ") and shutil.which("node"):
+            elif block.startswith("const ") and has("lines of Node of docs/CLIENTS.md", "node"):
                 orders = "import { connect, request } from 'path-client'; const client = await connect({ at: '127.0.0.1:7000', key: '%s' }); const orders = [['b', '[1]']];"
                 report.case("lines of Node of docs/CLIENTS.md", block, (0, "1\n", ""), run_node(room, f"{orders % KEY.hex()}\n{block}\nconsole.log(results.length); client.close();"))
         client.pipeline(Request.drop(name) for name in ("copy", "shop", "things"))
@@ -325,7 +325,7 @@ def check_examples(report, room):
         example, _, behind = page[page.index(start):].partition("\nprints `")
         example, wanted = re.sub("(?m)^    ", "", example), behind[:behind.index("`.\n")] + "\n"
         if name == "node":
-            if shutil.which("node"):
+            if has("the example of clients/node/README.md", "node"):
                 report.case("the example of clients/node/README.md", example, (0, wanted, ""), run_node(room, example))
             continue
         with redirect_stdout(io.StringIO()) as printed:

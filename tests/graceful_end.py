@@ -1,5 +1,6 @@
 #!/usr/bin/env python3
-"""How bin/path_server_run ends `path_server listen`: the first SIGTERM or SIGINT lets the open connections go on to their ends, a second ends it at once.
+"""How bin/path_server_run ends `path_server listen`: the first SIGTERM or SIGINT lets the open connections go on to their ends, a second ends it at once,
+and SIGHUP ends nothing.
 
 It does so below a shell and as process 1 of a container, whatever its own standard input is. Where the system doesn't let this user make a space of
 processes (unshare), the cases of process 1 are not run, and the script says so. The program is the one that bin/build makes, or the one that the
@@ -16,7 +17,7 @@ import tempfile
 import time
 from pathlib import Path
 
-from lib.running_server import PATIENCE, PROGRAM, TOP, Report, Running, open_connection
+from lib.running_server import PATIENCE, PROGRAM, TOP, Report, Running, not_run, open_connection
 from lib.traffic import KEYS
 from path_client import connect
 
@@ -119,6 +120,32 @@ def serves_on(report):
         report.case("then SIGTERM: status", "", 0, (server.ended() or (None,))[0])
 
 
+def outlives_its_terminal(report):
+    """SIGHUP, sent to all processes of a session as its terminal is closed, ends nothing."""
+    with Below([], subprocess.DEVNULL) as server:
+        with connect(server.address, KEYS[0]) as client:
+            client.put("c", "d", b"1")
+            os.killpg(server.process.pid, signal.SIGHUP)
+            time.sleep(0.3)
+            report.case("SIGHUP: it serves on", "", (b"1", None), (client.get("c", "d"), server.process.poll()))
+        os.kill(server.shell, signal.SIGTERM)
+        report.case("SIGHUP, then SIGTERM: status", "", 0, (server.ended() or (None,))[0])
+
+
+def tells_of_keys(report):
+    """A key file that every user may read is told, and one that only its owner may read is not."""
+    with tempfile.TemporaryDirectory() as at:
+        keys = Path(at) / "keys"
+        for mode, told in ((0o644, f"path_server_run: every user may read the keys in {keys}: chmod 600\n"), (0o600, ""), (0o640, "")):
+            # no key, so that it ends at once
+            keys.write_text("none")
+            keys.chmod(mode)
+            for words in (["--keys", keys], [f"--keys={keys}", "--log"]):
+                ran = subprocess.run([RUN, "listen", "127.0.0.1:0", *words], stdin=subprocess.DEVNULL, capture_output=True, encoding="utf-8",
+                                     env={**os.environ, "PATH_SERVER": str(PROGRAM)}, timeout=PATIENCE)
+                report.case(f"a key file of mode {mode:o}", words, (3, told), (ran.returncode, "".join(ran.stderr.splitlines(True)[:-2])))
+
+
 def at_every_moment(report, count=40):
     """A signal at any moment of the start is not lost: it ends, by the signal or with 0."""
     for place in range(count):
@@ -150,12 +177,14 @@ def main():
         serves_to_the_end(report, number.name, number)
         ends_at_the_second(report, number)
     serves_on(report)
+    outlives_its_terminal(report)
+    tells_of_keys(report)
     at_every_moment(report)
     passes_on(report)
     if shutil.which("unshare") and subprocess.run([*ALONE, "true"], stderr=subprocess.DEVNULL).returncode == 0:
         serves_to_the_end(report, "SIGTERM as process 1", signal.SIGTERM, ALONE)
     else:
-        print("not run, since processes can't have a space of their own here (unshare): 5 cases as process 1", flush=True)
+        not_run("SIGTERM as process 1", "unshare makes no space of processes here")
     report.close("graceful end")
 
 

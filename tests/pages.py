@@ -30,7 +30,7 @@ import tempfile
 import time
 from pathlib import Path
 
-from lib.running_server import PATIENCE, PROGRAM, TOP, Report
+from lib.running_server import PATIENCE, PROGRAM, TOP, Report, has, not_run
 
 LONG = re.compile(r"(?:\w+=\S* )*(?:nice )?(bin/(?:check\b(?!-)|build\b|edits try|check-layout|unproved|path_server --proved)\S*|tests/\S+|bench/\S+|rt\b|g\+\+|c\+\+|apt-get|"
                   r"git clone|pip|npm|install -|systemctl|docker|\./\w+$|\(cd )")
@@ -39,6 +39,8 @@ PATH = re.compile(rf"`((?:{FOLDERS})/[\w./@-]*\w/?)(?:[ `].*)?")
 IN_CRATE = re.compile(r"`(\w+/(?:src|specs|proofs)/[\w./+-]*\w)`")
 ADDRESS = re.compile(r"((?:127\.0\.0\.1|TCP-LISTEN)[: ])([1-9]\d{3,4})")
 SCRIPT = re.compile(r"(?:bin/|deploy/|printf |echo |cat |export |exec |for [^\n]*; do|haproxy -db |key=|socat |sed -i |curl |\(\. )")
+# what a command takes that does not name it
+TAKEN = {"openssl": re.compile(r"certificates\.sh|shards\.py|etc/\$it"), "haproxy": re.compile(r"shards\.py table (?:dump|move|upgrade)")}
 SERVES = re.compile(r"^bin/path_server(?:_run)? (?:listen|serve) [^&|]*\Z", re.M)
 TOOLS = re.compile(r"(?:\A|\| *|\n|\$\(|etc/)(jq|nc|xxd|curl|node|socat|haproxy|openssl)\b")
 COUNTED = re.compile(r"`bin/definitions (\w+::[\w:]+)`[^|]*\|(?:[^|]*\|)*? *(\d+ files?, [\d,]+ lines)")
@@ -116,10 +118,15 @@ def fits(wanted, got):
     return re.fullmatch(pattern, "".join(line + "\n" for line in got)) is not None
 
 
-def free_port():
+def free_port(taken=set()):
+    """One that was not given before."""
     with socket.socket() as one:
         one.bind(("127.0.0.1", 0))
-        return str(one.getsockname()[1])
+        port = str(one.getsockname()[1])
+    if port in taken:
+        return free_port()
+    taken.add(port)
+    return port
 
 
 class Shell:
@@ -182,8 +189,7 @@ def run_sessions(report, name, text):
                     there = re.search(r"(?<![\w/])(?:bin|tests|bench)/[\w./-]+", line.partition("#")[0])
                     report.case(f"{name}: what a command names", line, True, not there or (TOP / there[0]).exists())
                 continue
-            if not all(map(shutil.which, TOOLS.findall(command))):
-                print(f"{name}: not run, since a tool is not here: {command}", flush=True)
+            if not has(f"{name}: {command.splitlines()[0]}", *TOOLS.findall(command), *[tool for tool, it in TAKEN.items() if it.search(command)]):
                 continue
             command = SERVES.sub(lambda it: f"{it[0]} </dev/null &", command)
             lines = None if wanted is None else [exchanged(line) for line in wanted]
@@ -232,7 +238,7 @@ def try_examples(report, chosen):
     found = {page.parent.name: "\n".join(block) for page in chosen for language, block in parts(page.read_text(encoding="utf-8")) if language == "rust"}
     if not found or not shutil.which("rt"):
         if found:
-            print("not run, since there is no rt here: the examples in Rust", flush=True)
+            not_run("the examples in Rust", "no rt here")
         return
     with tempfile.TemporaryDirectory(prefix="path-server-examples-") as at:
         room = Path(at)

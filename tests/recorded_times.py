@@ -17,6 +17,8 @@ part                                  wall   processor  passed  failed
 tests/fitting.py                      0:01        0:01       1       0
 rt ci                                62:03      101:40      45       1
 tests/against_jq.py 100               0:20        0:07       1       0
+1 not run
+    tests/pages.py: README.md: xxd -r: no xxd here
 47 passed, 1 failed
 """
 SAID = "[0:00] == tests/fitting.py\n[0:01] rt: bit_words is kept: it passed before\n[62:04] rt: outbox proved\n[62:25] == tests/against_jq.py 100\n"

@@ -10,14 +10,13 @@ the rows too, written from the protocol and the grammars. The program is crates/
 environment's REFUSED_CALLS names.
 """
 import os
-import shutil
 import subprocess
 import sys
 import tempfile
 from pathlib import Path
 
 from lib.plain_model import named, number
-from lib.running_server import TOP, Report
+from lib.running_server import TOP, Report, want
 from lib.traffic import KEYS
 from refused_growths import Calls
 
@@ -162,9 +161,7 @@ class Refusals:
 
 
 def main():
-    if not shutil.which("cc"):
-        print("refused_calls: not run, since there is no cc here")
-        return
+    want("cc")
     if not os.access(PROGRAM, os.X_OK):
         sys.exit(f"no program {PROGRAM}: bin/build refused_calls makes it")
     report = Report()

@@ -8,7 +8,6 @@ there is no C compiler, nothing is run.
 import os
 import random
 import re
-import shutil
 import subprocess
 import sys
 import tempfile
@@ -16,7 +15,7 @@ from pathlib import Path
 
 from path_client import Request, connect
 from refused_growths import Calls, Refusals
-from lib.running_server import TOP, Listening, Report
+from lib.running_server import TOP, Listening, Report, want
 
 PROGRAM = os.environ.get("PATH_CLIENT") or str(TOP / "crates/path_client/out/path_client")
 KEY = bytes(range(16))
@@ -45,8 +44,7 @@ def fits(wanted, got):
 
 def main():
     share = int(sys.argv[1]) if len(sys.argv) > 1 else 100
-    if not shutil.which("cc"):
-        return print("0 runs: there is no C compiler here")
+    want("cc")
     report = Report()
     with tempfile.TemporaryDirectory() as made, Listening([KEY]) as server:
         room = Path(made)

@@ -11,7 +11,6 @@ is served and finds what the replies before said. No run takes more than 20 seco
 """
 import os
 import random
-import shutil
 import socket
 import subprocess
 import sys
@@ -19,7 +18,7 @@ import tempfile
 from pathlib import Path
 
 from lib.plain_model import STATUS, Server, named, number
-from lib.running_server import END_LINE, PROGRAM, TOP, Report, Running
+from lib.running_server import END_LINE, PROGRAM, TOP, Report, Running, want
 from lib.traffic import KEYS
 from path_client import Request, connect, parse_address
 
@@ -317,9 +316,7 @@ def received(connection):
 def main():
     share = int(sys.argv[1]) if len(sys.argv) > 1 else 100
     seed = int(sys.argv[2]) if len(sys.argv) > 2 else 1
-    if not shutil.which("cc"):
-        print("refused_growths: not run, since there is no cc here")
-        return
+    want("cc")
     report = Report()
     with tempfile.TemporaryDirectory() as folder:
         refusals = Refusals(report, Calls(Path(folder)), share, random.Random(seed))

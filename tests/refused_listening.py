@@ -11,7 +11,6 @@ not be waited for, goes on serving. No wait takes more than 20 seconds.
 """
 import random
 import re
-import shutil
 import socket
 import subprocess
 import sys
@@ -19,7 +18,7 @@ import tempfile
 from pathlib import Path
 
 from lib.plain_model import named, number
-from lib.running_server import END_LINE, PROGRAM, Report
+from lib.running_server import END_LINE, PROGRAM, Report, want
 from lib.traffic import KEYS
 from path_client import parse_address
 from refused_growths import NO_MEMORY, Calls, Judge, Refusals, body, received
@@ -173,9 +172,7 @@ class Listened:
 def main():
     share = int(sys.argv[1]) if len(sys.argv) > 1 else 100
     seed = int(sys.argv[2]) if len(sys.argv) > 2 else 1
-    if not shutil.which("cc"):
-        print("refused_listening: not run, since there is no cc here")
-        return
+    want("cc")
     report = Report()
     with tempfile.TemporaryDirectory() as folder:
         refusals = Refusals(report, Calls(Path(folder)), share, random.Random(seed))

@@ -7,12 +7,12 @@ Here it has from one peer to thousands. In the last runs a library (lib/failing_
 no cc, these are left out) refuses growths of the loop and the hub, and all goes on. long/long_simulation.py goes on for longer.
 """
 import os
-import shutil
 import subprocess
 import sys
 import tempfile
 from pathlib import Path
 
+from lib.running_server import has
 from refused_growths import Calls
 
 PROGRAM = os.environ.get("SIMULATED_LOOP") or str(Path(__file__).resolve().parent.parent / "crates/simulated_loop/out/simulated_loop")
@@ -34,7 +34,7 @@ def is_good(seed, peers, rounds, environment=None):
 def run(seed):
     """One run for each size, from this seed on: how many there were, and how many failed."""
     runs = [is_good(seed + place, *size) for place, size in enumerate(SIZES)]
-    if shutil.which("cc"):
+    if has("runs with calls for memory that fail", "cc"):
         with tempfile.TemporaryDirectory() as folder:
             calls = Calls(Path(folder))
             for place, (peers, rounds, each) in enumerate(SCARCE, len(SIZES)):

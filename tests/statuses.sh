@@ -118,7 +118,7 @@ expect 4 '' 'path_server: NetFault' '' serve '' "$key" 1
 expect 4 '' 'path_server: NetFault' '' call nowhere
 expect 4 '' 'path_server: NetFault' 'no frame' call 127.0.0.1:
 if [ "$(id -u)" = 0 ]; then
-    echo "a port that needs leave is not tried: root has it"
+    echo "not run: a port that needs leave: root has it"
 else
     expect 4 '' 'path_server: NetFault' '' serve 127.0.0.1:1 "$key" 1
 fi

@@ -8,16 +8,18 @@ HAProxy, openssl and path_client (the one that bin/build makes, or the one that 
 import hashlib
 import json
 import os
+import signal
 import socket
 import ssl
 import subprocess
 import sys
 import threading
 import time
+import urllib.request
 
-from deployment import CLIENT, ENDED, FRAME_FAULT, GET, NO_TENANT, NOT_FOUND, OK, PUT, SHORT, USAGE, Deployment, Shard, ask, frame, free_ports, read_reply, wait_until
-from lib.running_server import PATIENCE, Report, open_connection
-from path_client import connect
+from deployment import CLIENT, ENDED, FRAME_FAULT, GET, NO_TENANT, NOT_FOUND, OK, PUT, SHORT, TOP, USAGE, Deployment, ask, frame, free_ports, read_reply, wait_until
+from lib.running_server import PATIENCE, PROGRAM, Report, open_connection, want
+from path_client import BrokenConnection, connect
 
 TEXT = b'{"a":1}'
 PLACE = b"\x01c\x01d"
@@ -159,7 +161,7 @@ def drained(it):
     others = Others(it, it.keys["1"][:3])
     with it.open() as connection:
         report.case("before a drain", "", OK, ask(connection, frame(USAGE, key)))
-        it.say("set server shard-2/path_server state drain")
+        it.say("set server shard-2/path_server state maint")
         report.case("an open connection of a shard that is drained", "", OK, ask(connection, frame(USAGE, key)))
         with it.open() as another:
             report.case("a new connection to it", "", True, is_gone(ask(another, frame(USAGE, key))))
@@ -182,37 +184,59 @@ def drained(it):
     others.finish("drained")
 
 
+def ended(it):
+    """A shard ends while the table has it. Each of its open connections is served until its client closes it, longer than HAProxy's checks take."""
+    shard = it.running["2"]
+    for how in ("SIGTERM", "a drain"):
+        connections = [(it.open(), it.keys["2"][place % 4]) for place in range(50)]
+        statuses = [ask(connection, frame(USAGE, key)) for connection, key in connections]
+        if how == "SIGTERM":
+            shard.process.terminate()
+        else:
+            urllib.request.urlopen(urllib.request.Request(f"http://{shard.options[shard.options.index('--admin') + 1]}/drain?grace=30", method="POST")).close()
+        until = time.monotonic() + 5
+        while time.monotonic() < until and set(statuses) == {OK}:
+            statuses += [ask(connection, frame(USAGE, key)) for connection, key in connections]
+            time.sleep(0.02)
+        report.case(f"{how}: each reply on 50 connections", len(statuses), {OK}, set(statuses))
+        report.case(f"{how}: HAProxy sees it", "", "DOWN", it.states()["shard-2"])
+        for connection, _ in connections:
+            connection.close()
+        report.case(f"{how}: its end behind them", "", True, wait_until(lambda: shard.process.poll() == 0))
+        print(f"{how}: {len(statuses)} replies on 50 connections", flush=True)
+        shard.kill()
+        shard.start()
+        shard.say_ready()
+        report.case(f"{how}: it is up again", "", True, it.is_state("2", "UP"))
+
+
 def moved(it):
-    """A tenant goes from shard 1 to shard 2, which knows its key; then the table says so too, and a reload keeps it."""
+    """A tenant goes from shard 1 to shard 2, which knows its key, and a reload keeps it there."""
     key, other = it.keys["1"][1], it.running["2"]
     it.client("drop", key, "c")
     texts = documents(it, key)
-    digest = hashlib.sha256(key).hexdigest().upper()
-    with it.open() as connection:
-        report.case("before a move", "", OK, ask(connection, frame(USAGE, key)))
-        load(it, key, dump(it, key), other)
-        it.say(f"set map {it.folder}/tenants.map {digest} shard-2")
-        report.case("an open connection goes on to the old shard", "", OK, ask(connection, frame(USAGE, key)))
-        has(it, "moved", key, texts)
-        with connect(it.running["1"].address, key) as client:
-            client.drop("c")
-        has(it, "moved, and dropped at the old shard", key, texts)
-    it.table.write_text(it.table.read_text().replace(f"{key.hex()} 1,2", f"{key.hex()} 2,1"))
+    name = hashlib.sha256(key).hexdigest()[:8]
+    with it.open() as connection, it.open() as neighbour:
+        report.case("before a move", "", [OK, OK], [ask(connection, frame(USAGE, key)), ask(neighbour, frame(USAGE, it.keys["1"][0]))])
+        it.shards("move", name, "2")
+        report.case("an open connection of the tenant is shut", "", ENDED, ask(connection, frame(USAGE, key)))
+        report.case("and none of another", "", OK, ask(neighbour, frame(USAGE, it.keys["1"][0])))
+    has(it, "moved", key, texts)
+    with connect(it.running["1"].address, key) as client:
+        report.case("what the old shard has", "", (0, 0, 0), tuple(client.usage()))
     reloaded(it, key, texts)
 
 
 def reloaded(it, key, texts):
     """HAProxy is replaced by one that reads the files anew."""
-    old = it.balancer
-    it.write()
-    # the reception goes on with the key that it has
-    report.case("the new configuration", "", 0, subprocess.run(["haproxy", "-c", "-f", it.folder / "haproxy.cfg"], capture_output=True).returncode)
+    (old,) = it.workers()
     with it.open() as connection:
         report.case("before a reload", "", OK, ask(connection, frame(USAGE, key)))
-        it.balance("-x", it.folder / "haproxy.sock", "-sf", str(old.pid))
+        it.say("reload", "master.sock")
+        report.case("a new worker", "", True, wait_until(lambda: len(it.workers()) == 2))
         report.case("an open connection behind a reload", "", OK, ask(connection, frame(USAGE, key)))
-        report.case("the old HAProxy is there while it has connections", "", None, old.poll())
-    report.case("it ends with the last of them", "", True, wait_until(lambda: old.poll() is not None))
+        report.case("the old one is there while it has connections", "", True, old in it.workers())
+    report.case("it ends with the last of them", "", True, wait_until(lambda: old not in it.workers()))
     has(it, "behind a reload", key, texts)
 
 
@@ -221,7 +245,7 @@ class Visitors(threading.Thread):
 
     def __init__(self, it, texts):
         super().__init__(daemon=True)
-        self.address, self.texts, self.goes, self.wrong, self.count = "%s:%d" % it.plain, texts, True, [], 0
+        self.address, self.texts, self.goes, self.wrong, self.count, self.ended = "%s:%d" % it.plain, texts, True, [], 0, 0
         self.start()
 
     def run(self):
@@ -230,6 +254,10 @@ class Visitors(threading.Thread):
                 try:
                     with connect(self.address, key) as client:
                         got = {document: client.get("c", document) for document in texts}
+                except BrokenConnection:
+                    # while it is paused, and once before it
+                    self.ended += 1
+                    continue
                 except Exception as fault:
                     got = repr(fault)
                 self.count += len(texts)
@@ -237,40 +265,30 @@ class Visitors(threading.Thread):
                     self.wrong.append(got)
 
 
-def rewritten(it, change):
-    """The table is changed, the files are written anew, and HAProxy is replaced by one that reads them."""
-    old = it.balancer
-    it.table.write_text(change(it.table.read_text()))
-    it.write()
-    if "3" in it.keys and "3" not in it.running:
-        it.running["3"] = Shard(it.folder, "3")
-        it.running["3"].say_ready()
-    it.balance("-x", it.folder / "haproxy.sock", "-sf", str(old.pid))
-    report.case("the old HAProxy ends", "", True, wait_until(lambda: old.poll() is not None))
-
-
 def replaced(it):
-    """Another shard takes the place of the second: its tenants are moved there one by one, and no client misses a reply."""
-    (port,), keys = free_ports(1), [*it.keys["2"], it.keys["1"][1]]
+    """Another shard takes the place of the second: its tenants are moved there one by one, and what a client gets is right."""
+    keys = [*it.keys["2"], it.keys["1"][1]]
     texts = {key: documents(it, key) for key in keys}
-    visitors = Visitors(it, texts)
-    it.keys["3"] = []
-    rewritten(it, lambda table: table.replace(" 2,1", " 2,1,3") + f"shard 3 127.0.0.1:{port}\n")
-    for key in keys:
-        load(it, key, dump(it, key), it.running["3"])
-        it.say(f"set map {it.folder}/tenants.map {hashlib.sha256(key).hexdigest().upper()} shard-3")
-    old, it.keys["3"] = it.running.pop("2"), it.keys.pop("2")
-    rewritten(it, lambda table: "".join(line for line in table.replace(" 2,1,3", " 3,1").splitlines(True) if not line.startswith("shard 2 ") and " 1,2" not in line)
-              + "".join(f"tenant {key.hex()} 1\n" for key in it.keys["1"] if key not in keys))
-    old.process.terminate()
-    report.case("the old shard ends", "", 0, old.process.wait(PATIENCE))
-    old.kill()
-    visitors.goes = False
-    visitors.join()
-    report.case("what visitors missed", "", ([], True), (visitors.wrong, visitors.count > 0))
-    print(f"replaced: {visitors.count} replies to visitors", flush=True)
-    for key in keys:
-        has(it, "at the new shard", key, texts[key])
+    visitors, others = Visitors(it, texts), Others(it, [it.keys["1"][0], it.keys["1"][2]])
+    (port, admin), old = free_ports(2), it.running.pop("2")
+    run = f"{TOP}/bin/path_server_run listen $ADDRESS --keys {it.folder}/$SHARD.keys --connections 9000 $OPTIONS"
+    start = f"start . {it.folder}/$SHARD.env; export PATH_SERVER={PROGRAM}; {run} </dev/null >/dev/null 2>&1 & echo $! >{it.folder}/$SHARD.pid"
+    it.table.write_text(it.table.read_text() + start + "\n")
+    it.shards("upgrade", "2", "3", f"127.0.0.1:{port}", f"127.0.0.1:{admin}")
+    it.keys["3"] = it.keys.pop("2")
+    try:
+        report.case("the old shard ends", "", 0, old.process.wait(PATIENCE))
+        old.kill()
+        visitors.goes = False
+        visitors.join()
+        report.case("what visitors got wrong", "", ([], True), (visitors.wrong, visitors.count > 0))
+        print(f"replaced: {visitors.count} replies to visitors, {visitors.ended} connections ended", flush=True)
+        for key in keys:
+            has(it, "at the new shard", key, texts[key])
+        others.finish("replaced")
+        report.case("files of the old shard", "", [], [name for name in ("2.env", "2.keys") if (it.folder / name).exists()])
+    finally:
+        os.kill(int((it.folder / "3.pid").read_text()), signal.SIGTERM)
 
 
 def certified(it):
@@ -286,12 +304,44 @@ def certified(it):
     except ssl.SSLError:
         what = ENDED
     report.case("no certificate", "", ENDED, what)
+    renewed(it, hers)
     with socket.create_connection(it.tls, PATIENCE) as connection:
         report.case("no TLS", "", ENDED, ask(connection, frame(USAGE, hers)))
 
 
+def renewed(it, hers):
+    """A certificate that another authority made is refused, one that was renewed is taken, and one that was revoked is refused."""
+    def answer():
+        try:
+            with it.open_secure("alice") as connection:
+                return ask(connection, frame(USAGE, hers))
+        except ssl.SSLError:
+            return ENDED
+
+    tls, other, kept = it.folder / "tls", it.folder / "other", {}
+    subprocess.run([TOP / "deploy/certificates.sh", other, "127.0.0.1", "alice"], check=True)
+    for name in ("alice.crt", "alice.key"):
+        kept[name] = (tls / name).read_bytes()
+        (tls / name).write_bytes((other / name).read_bytes())
+    report.case("a certificate of another authority", "", ENDED, answer())
+    before = (tls / "server.pem").read_bytes()
+    subprocess.run([TOP / "deploy/certificates.sh", tls, "127.0.0.1", "alice"], check=True)
+    report.case("renewed", "", True, before != (tls / "server.pem").read_bytes())
+    it.shards("reload")
+    report.case("a certificate that was renewed", "", OK, answer())
+    now = {name: (tls / name).read_bytes() for name in kept}
+    subprocess.run([TOP / "deploy/certificates.sh", "--revoke", tls, "alice"], check=True)
+    for name, data in now.items():
+        (tls / name).write_bytes(data)
+    it.shards("reload")
+    report.case("a certificate that was revoked", "", ENDED, answer())
+    for name, data in kept.items():
+        (tls / name).write_bytes(data)
+    report.case("another one of her name", "", OK, answer())
+
+
 def limited():
-    with Deployment(2, words=["--tenant=3", "--source=6"]) as it:
+    with Deployment(2, options="--tenant=3 --source=6") as it:
         # those of the checks and of starting are gone
         held, statuses = [], []
         for place in range(5):
@@ -310,13 +360,21 @@ def limited():
         report.case("five more of an address that may have six", "", [OK] * 3 + [ENDED] * 2, statuses)
         for connection in held:
             connection.close()
+    with Deployment(2, options="--shard=3") as it:
+        held = [it.open() for _ in range(6)]
+        statuses = [ask(connection, frame(USAGE, it.keys["1"][place % 2])) for place, connection in enumerate(held[:5])]
+        report.case("five connections of a shard that may have three", "", [OK] * 3 + [ENDED] * 2, statuses)
+        report.case("and one of another shard", "", OK, ask(held[5], frame(USAGE, it.keys["2"][0])))
+        for connection in held:
+            connection.close()
 
 
 def main():
+    want("haproxy", "openssl")
     if not os.access(CLIENT, os.X_OK):
         sys.exit(f"no program {CLIENT}: bin/build makes it")
     with Deployment(4) as it:
-        for part in (routes, certified, killed, drained, moved, replaced):
+        for part in (routes, certified, killed, drained, ended, moved, replaced):
             part(it)
     limited()
     report.close("behind HAProxy")

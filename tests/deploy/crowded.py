@@ -10,7 +10,7 @@ import sys
 import time
 
 from deployment import USAGE, Deployment, frame, read_reply
-from lib.running_server import Report, open_connection
+from lib.running_server import Report, open_connection, want
 from many_connections import Crowd
 
 TENANTS, SHARDS = 64, 4
@@ -38,11 +38,12 @@ class FirstIsOurs(Crowd):
 
 
 def main():
+    want("haproxy", "openssl")
     count, requests, seed = [int(word) for word in sys.argv[1:4]] + [2_000, 20_000, 1][len(sys.argv) - 1:]
     _, most = resource.getrlimit(resource.RLIMIT_NOFILE)
     resource.setrlimit(resource.RLIMIT_NOFILE, (most, most))
     report = Report()
-    with Deployment(TENANTS // SHARDS, SHARDS, words=[f"--source={count + 1_000}"]) as it:
+    with Deployment(TENANTS // SHARDS, SHARDS, options=f"--source={count + 1_000}") as it:
         began = time.monotonic()
         keys = [key for keys in it.keys.values() for key in keys]
         crowd = FirstIsOurs(report, Front("%s:%d" % it.plain), keys, random.Random(seed), count)

@@ -1,5 +1,6 @@
 """Shards of path_server and the HAProxy in front of them, made from a table by deploy/shards.py, for the scripts of this folder."""
 import os
+import re
 import secrets
 import signal
 import socket
@@ -56,6 +57,10 @@ def free_ports(count):
     return ports
 
 
+def children(process):
+    return [int(it) for it in Path(f"/proc/{process}/task/{process}/children").read_text().split()]
+
+
 def wait_until(holds, seconds=PATIENCE):
     """Whether it comes to hold."""
     until = time.monotonic() + seconds
@@ -71,11 +76,14 @@ class Shard:
 
     def __init__(self, folder, name):
         self.folder, self.name = folder, name
-        self.address = (folder / f"{name}.env").read_text().splitlines()[0].partition("=")[2]
+        variables = dict(line.split("=", 1) for line in (folder / f"{name}.env").read_text().splitlines())
+        self.limit = None
+        self.address, self.options = variables["ADDRESS"], variables["OPTIONS"].strip('"').split()
         self.start()
 
     def start(self):
-        words = [TOP / "bin/path_server_run", "listen", self.address, "--keys", self.folder / f"{self.name}.keys", "--connections", "9000"]
+        limit = ["sh", "-c", 'ulimit -v $0; exec "$@"', str(self.limit)] if self.limit else []
+        words = [*limit, TOP / "bin/path_server_run", "listen", self.address, "--keys", self.folder / f"{self.name}.keys", "--connections", "9000", *self.options]
         self.errors = open(self.folder / f"{self.name}.err", "ab")
         self.process = subprocess.Popen(words, stdin=subprocess.DEVNULL, stdout=subprocess.PIPE, stderr=self.errors, start_new_session=True,
                                         env={**os.environ, "PATH_SERVER": str(PROGRAM)})
@@ -97,36 +105,42 @@ class Shard:
 
 
 class Deployment:
-    """So many tenants on each of two shards and more, all started, marked ready and reached through HAProxy. `keys[name]` are a shard's tenants."""
+    """So many tenants on each of two shards and more, all started, marked ready and reached through HAProxy. `keys[name]` are a shard's tenants.
 
-    def __init__(self, tenants, shards=2, lines=(), words=()):
+    The table stands outside of the folder that the shards and HAProxy read, as with systemd, or in it.
+    """
+
+    def __init__(self, tenants, shards=2, lines=(), options="", is_apart=False, collections="c"):
         signal.signal(signal.SIGTERM, lambda *_: sys.exit(143))
         self.room = tempfile.TemporaryDirectory(prefix="path-server-deploy-")
-        self.folder, names = Path(self.room.name), [str(it) for it in range(1, shards + 1)]
-        plain, tls, reception, *ports = free_ports(3 + shards)
+        self.folder, names = Path(self.room.name) / ("etc/path_server" if is_apart else ""), [str(it) for it in range(1, shards + 1)]
+        plain, tls, reception, *ports = free_ports(3 + 2 * shards)
         self.plain, self.tls, self.running, self.balancer = ("127.0.0.1", plain), ("127.0.0.1", tls), {}, None
         self.keys = {name: [secrets.token_bytes(16) for _ in range(tenants)] for name in names}
-        table = [f"reception 127.0.0.1:{reception}", f"probe {secrets.token_hex(16)}"]
-        table += [f"shard {name} 127.0.0.1:{port}" for name, port in zip(names, ports)]
+        table = [f"folder {self.folder}", f"options --plain 127.0.0.1:{plain} --tls 127.0.0.1:{tls} {options}",
+                 f"reception 127.0.0.1:{reception}", f"probe {secrets.token_hex(16)}"]
+        table += [f"shard {name} 127.0.0.1:{port} 127.0.0.1:{admin}" for name, port, admin in zip(names, ports[:shards], ports[shards:])]
         # each key is known to the next shard too, so that its tenant can be moved there; the first of each may be used by `alice`
         for place, name in enumerate(names):
             other = names[(place + 1) % shards]
-            table += [f"tenant {key.hex()} {name},{other}{' alice' if key == self.keys[name][0] else ''}" for key in self.keys[name]]
-        self.table = self.folder / "table"
-        self.table.write_text("".join(f"{line}\n" for line in table))
-        self.words = ["--plain", "%s:%d" % self.plain, "--tls", "%s:%d" % self.tls, *words]
+            table += [f"tenant {key.hex()} {name},{other} collections={collections}{' alice' if key == self.keys[name][0] else ''}" for key in self.keys[name]]
+        self.table = Path(self.room.name) / "table"
+        self.table.write_text("".join(f"{line}\n" for line in [*table, *lines]))
         subprocess.run([TOP / "deploy/certificates.sh", self.folder / "tls", "127.0.0.1", "alice", "mallory"], check=True)
-        self.write()
+        self.shards("write")
 
-    def write(self):
-        subprocess.run([TOP / "deploy/shards.py", self.table, self.folder, *self.words], check=True)
+    def shards(self, *words):
+        """What deploy/shards.py prints, which has to succeed."""
+        ran = subprocess.run([TOP / "deploy/shards.py", self.table, *words], capture_output=True, encoding="utf-8", timeout=PATIENCE)
+        if ran.returncode:
+            sys.exit(f"deploy/shards.py {' '.join(map(str, words))}: {ran.stdout}{ran.stderr}")
+        return ran.stdout
 
     def __enter__(self):
         try:
             for name in [*self.keys, "reception"]:
                 self.running[name] = Shard(self.folder, name)
-            for name in self.keys:
-                self.running[name].say_ready()
+            self.shards("ready", *self.keys)
             self.balance()
         except BaseException:
             self.stop()
@@ -139,25 +153,41 @@ class Deployment:
     def stop(self):
         for it in self.running.values():
             it.kill()
-        if self.balancer:
-            self.balancer.kill()
-            self.balancer.wait()
+        self.kill_balancer()
         self.room.cleanup()
 
-    def balance(self, *words):
-        """Starts HAProxy, and waits until it sees all shards."""
+    def kill_balancer(self):
+        """Ends HAProxy with all its workers, so that no connection goes on."""
+        if self.balancer:
+            for worker in children(self.balancer.pid):
+                os.kill(worker, signal.SIGKILL)
+            self.balancer.kill()
+            self.balancer.wait()
+            self.balancer = None
+
+    def balance(self, states=None):
+        """Starts HAProxy, and waits until it sees all shards, or those of these states."""
         log = open(self.folder / "haproxy.log", "ab")
-        self.balancer = subprocess.Popen(["haproxy", "-db", "-f", self.folder / "haproxy.cfg", *words], stdout=log, stderr=log)
-        wanted = {**{f"shard-{name}": "UP" for name in self.keys}, "reception": "UP"}
-        if not wait_until(lambda: self.states() == wanted):
+        words = ["haproxy", "-W", "-db", "-S", self.folder / "master.sock", "-f", self.folder / "haproxy.cfg"]
+        self.balancer = subprocess.Popen(words, stdin=subprocess.DEVNULL, stdout=log, stderr=log)
+        wanted = states or {**{f"shard-{name}": "UP" for name in self.keys}, "reception": "UP"}
+        if not wait_until(lambda: wanted.items() <= self.states().items()):
             sys.exit(f"HAProxy doesn't see the shards: {self.states()} {(self.folder / 'haproxy.log').read_text()[-2000:]}")
 
-    def say(self, command):
+    def say(self, command, socket_name="haproxy.sock"):
         """A command to HAProxy, and what it answers."""
         with socket.socket(socket.AF_UNIX) as connection:
-            connection.connect(str(self.folder / "haproxy.sock"))
+            connection.connect(str(self.folder / socket_name))
             connection.sendall(command.encode() + b"\n")
+            connection.shutdown(socket.SHUT_WR)
             return b"".join(iter(lambda: connection.recv(65_536), b"")).decode()
+
+    def workers(self):
+        """The processes of HAProxy that have connections; none while it starts anew."""
+        try:
+            return re.findall(r"^(\d+) +worker", self.say("show proc", "master.sock"), re.M)
+        except OSError:
+            return []
 
     def states(self):
         """The first word of each backend's state. It is UP once a check has passed."""
@@ -166,6 +196,13 @@ class Deployment:
         except OSError:
             return {}
         return {row[0]: row[17].split()[0] for row in rows if len(row) > 36 and row[1] == "path_server" and row[36]}
+
+    def states_of(self, socket_name):
+        """What a HAProxy says by its master socket; nothing while it starts."""
+        try:
+            return self.say("@1 show stat", socket_name)
+        except OSError:
+            return ""
 
     def is_state(self, shard, state):
         return wait_until(lambda: self.states().get(f"shard-{shard}") == state)

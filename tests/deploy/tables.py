@@ -1,57 +1,70 @@
 #!/usr/bin/env python3
 """What deploy/shards.py makes of tables, good and bad: tests/deploy/tables.py. Where there is HAProxy, it reads each configuration."""
 import hashlib
-import shutil
 import subprocess
 import tempfile
 from pathlib import Path
 
 from deployment import TOP
-from lib.running_server import Report
+from lib.running_server import Report, has
 
 KEYS = [f"{place:032x}" for place in range(600)]
-GOOD = ["reception 127.0.0.1:7100", f"probe {KEYS[0]}", "shard 1 127.0.0.1:7101", "shard 2 127.0.0.1:7102 127.0.0.1:9002", f"tenant {KEYS[1]} 1,2 alice bob",
+FORM = "a line is `shard NAME ADDRESS [ADMIN]`, `reception ADDRESS [ADMIN]`, `probe KEY`, `tenant KEY SHARD[,SHARD..] [WORD..]` or a setting"
+GOOD = ["folder made", 'options --words="--idle 600"', "reception 127.0.0.1:7100", f"probe {KEYS[0]}", "shard 1 127.0.0.1:7101", "shard 2 127.0.0.1:7102 127.0.0.1:9002", f"tenant {KEYS[1]} 1,2 alice bob",
         f"tenant {KEYS[10].upper()} 2"]
 # lines behind the good ones, and what is wrong with each
 BAD = {
-    f"tenant {KEYS[1]} 1": "7: the key stands twice, first in line 5",
-    f"tenant {KEYS[10]} 1": "7: the key stands twice, first in line 6",
-    "shard 3 127.0.0.1:7103": "7: the shard 3 has no tenants",
-    f"shard 3 127.0.0.1:7103 127.0.0.1:7101\ntenant {KEYS[2]} 1": "7: the address 127.0.0.1:7101 stands twice",
-    f"shard 3 127.0.0.1:9002\ntenant {KEYS[2]} 1": "7: the address 127.0.0.1:9002 stands twice",
-    f"shard 3 127.0.0.1:7103 9003\ntenant {KEYS[2]} 1": "7: 9003 is no address: a host, a colon and a port",
-    "shard 2 127.0.0.1:7103": "7: the shard 2 stands twice",
-    f"shard 3 127.0.0.1:7101\ntenant {KEYS[2]} 1": "7: the address 127.0.0.1:7101 stands twice",
-    f"tenant {KEYS[2]} 3": "7: there is no shard 3",
-    f"tenant {KEYS[2]} 1,": "7: there is no shard (none)",
-    f"tenant {KEYS[2]} 1,1": "7: a shard stands twice",
-    f"tenant {KEYS[2][1:]} 1": "7: a key has 32 hexadecimal digits",
-    f"tenant {KEYS[2][1:]}g 1": "7: a key has 32 hexadecimal digits",
-    f"tenant {KEYS[2]} 1 a,b": "7: a,b is no common name",
-    f"tenant {KEYS[0]} 1": "7: the probe's key is a tenant's",
-    f"tenant {KEYS[2]}": "7: a line is `shard NAME ADDRESS [ADMIN]`, `reception ADDRESS [ADMIN]`, `probe KEY` or `tenant KEY SHARD[,SHARD..] [NAME..]`",
-    "tenants": "7: a line is `shard NAME ADDRESS [ADMIN]`, `reception ADDRESS [ADMIN]`, `probe KEY` or `tenant KEY SHARD[,SHARD..] [NAME..]`",
-    f"probe {KEYS[2]}": "7: a second probe",
-    "reception 127.0.0.1:7103": "7: a second reception",
-    "shard 3 7103": "7: 7103 is no address: a host, a colon and a port",
-    "shard 3 127.0.0.1:0": "7: 127.0.0.1:0 is no address: a host, a colon and a port",
-    "shard 3 127.0.0.1:65536": "7: 127.0.0.1:65536 is no address: a host, a colon and a port",
-    "shard ../3 127.0.0.1:7103": "7: ../3 is no name of a shard",
-    "shard probe 127.0.0.1:7103": "7: probe is no name of a shard",
-    "\n".join(f"tenant {key} 1" for key in KEYS[20:275]): "3: the shard 1 has 257 keys with the probe's; a process has at most 256",
+    f"tenant {KEYS[1]} 1": "9: the key stands twice, first in line 7",
+    f"tenant {KEYS[10]} 1": "9: the key stands twice, first in line 8",
+    "shard 3 127.0.0.1:7103": "9: the shard 3 has no tenants",
+    f"shard 3 127.0.0.1:7103 127.0.0.1:7101\ntenant {KEYS[2]} 1": "9: the address 127.0.0.1:7101 stands twice",
+    f"shard 3 127.0.0.1:9002\ntenant {KEYS[2]} 1": "9: the address 127.0.0.1:9002 stands twice",
+    f"shard 3 127.0.0.1:7103 9003\ntenant {KEYS[2]} 1": "9: 9003 is no address: a host, a colon and a port",
+    "shard 2 127.0.0.1:7103": "9: the shard 2 stands twice",
+    f"shard 3 127.0.0.1:7101\ntenant {KEYS[2]} 1": "9: the address 127.0.0.1:7101 stands twice",
+    f"tenant {KEYS[2]} 3": "9: there is no shard 3",
+    f"tenant {KEYS[2]} 1,": "9: there is no shard (none)",
+    f"tenant {KEYS[2]} 1,1": "9: a shard stands twice",
+    f"tenant {KEYS[2][1:]} 1": "9: a key has 32 hexadecimal digits",
+    f"tenant {KEYS[2][1:]}g 1": "9: a key has 32 hexadecimal digits",
+    f"tenant {KEYS[2]} 1 a,b": "9: a,b is no common name",
+    f"tenant {KEYS[0]} 1": "9: the probe's key is a tenant's",
+    f"tenant {KEYS[2]}": f"9: {FORM}",
+    "tenants": f"9: {FORM}",
+    f"probe {KEYS[2]}": "9: a second probe",
+    "reception 127.0.0.1:7103": "9: a second reception",
+    "shard 3 7103": "9: 7103 is no address: a host, a colon and a port",
+    "shard 3 127.0.0.1:0": "9: 127.0.0.1:0 is no address: a host, a colon and a port",
+    "shard 3 127.0.0.1:65536": "9: 127.0.0.1:65536 is no address: a host, a colon and a port",
+    "shard ../3 127.0.0.1:7103": "9: ../3 is no name of a shard",
+    "shard probe 127.0.0.1:7103": "9: probe is no name of a shard",
+    f"tenant {KEYS[2]} 1 name=a/b": "9: a/b is no name of a tenant",
+    f"tenant {KEYS[2]} 1 name=acme\ntenant {KEYS[3]} 1 name=acme": "10: the name acme stands twice, first in line 9",
+    f"tenant {KEYS[2]} 1 collections=a/b": "9: a/b is no name of a collection",
+    f"tenant {KEYS[2]} 1 color=red": "9: a tenant has no word color=",
+    f"tenant {KEYS[2]} 1 moving=2": "9: moving=2 is none of its other shards",
+    f"tenant {KEYS[2]} 1,2 moving=1": "9: moving=1 is none of its other shards",
+    f"tenant {KEYS[2]} 1,2 leaving=3": "9: leaving=3 is none of its other shards",
+    "options --plain=": "9: options: --plain or --tls is wanted",
+    "options --color red": "9: options: unrecognized arguments: --color red",
+    "options --all many": "9: options: argument --all: invalid int value: 'many'",
+    'options --words="--idle': "9: options: No closing quotation",
+    "\n".join(f"tenant {key} 1" for key in KEYS[20:275]): "5: the shard 1 has 257 keys with the probe's; a process has at most 256",
 }
 
 
-def run(folder, lines, *words):
+def run(folder, lines):
     table = folder / "table"
     table.write_text("".join(f"{line}\n" for line in lines))
-    return subprocess.run([TOP / "deploy/shards.py", table, folder / "made", *words], capture_output=True, encoding="utf-8")
+    return subprocess.run([TOP / "deploy/shards.py", table, "write"], capture_output=True, encoding="utf-8")
 
 
 def good(report, folder):
-    ran = run(folder, ["# a table", "", *GOOD], "--words=--idle 600")
+    ran = run(folder, ["# a table", "", *GOOD])
     made = folder / "made"
+    written = {f"{name}.{kind}" for name in ("1", "2", "reception") for kind in ("keys", "env")} | {"probe.key", "tenants.map", "grants.map", "haproxy.cfg"}
     report.case("a good table", GOOD, (0, ""), (ran.returncode, ran.stderr))
+    report.case("what it says", "", {f"{it} is written" for it in written}, set(ran.stdout.splitlines()))
     report.case("keys of the first shard", "", [KEYS[0], KEYS[1]], (made / "1.keys").read_text().split())
     report.case("keys of the second shard", "", [KEYS[0], KEYS[1], KEYS[10]], (made / "2.keys").read_text().split())
     digests = [hashlib.sha256(bytes.fromhex(key)).hexdigest().upper() for key in (KEYS[1], KEYS[10])]
@@ -60,15 +73,26 @@ def good(report, folder):
     report.case("1.env", "", 'ADDRESS=127.0.0.1:7101\nOPTIONS="--idle 600"\n', (made / "1.env").read_text())
     report.case("2.env", "", 'ADDRESS=127.0.0.1:7102\nOPTIONS="--idle 600 --admin 127.0.0.1:9002"\n', (made / "2.env").read_text())
     report.case("who may read", "", {0o600}, {it.stat().st_mode & 0o777 for it in made.iterdir()})
+    reception = (made / "reception.keys").read_text()
+    (made / "1.keys").chmod(0o644)
+    report.case("the same table again", "", "1.keys is written\n", run(folder, ["# a table", "", *GOOD]).stdout)
+    report.case("the reception's key", "", reception, (made / "reception.keys").read_text())
     ran = run(folder, [*GOOD, "shard 3 127.0.0.1:7103", f"tenant {KEYS[2]} 1,3"])
     report.case("a shard that tenants are to be moved to", "", (0, [KEYS[0], KEYS[2]]), (ran.returncode, (made / "3.keys").read_text().split()))
-    run(folder, GOOD, "--words=--idle 600")
+    # what is another's is left
+    (made / "other.keys").write_text(KEYS[3])
+    ran = run(folder, GOOD)
+    report.case("files of a shard that is gone", "", (False, False, True), tuple((made / it).exists() for it in ("3.keys", "3.env", "other.keys")))
+    report.case("what it says of them", "", {"3.keys is removed", "3.env is removed"}, {it for it in ran.stdout.splitlines() if it.endswith("removed")})
+    run(folder, [*GOOD[:-1], f"{GOOD[-1]} name=acme moving=1".replace(" 2 ", " 2,1 ")])
+    report.case("a tenant that is being moved", "", [f"{digests[0]} shard-1", f"{digests[1]} paused"], (made / "tenants.map").read_text().splitlines())
+    run(folder, GOOD)
     text = "".join(it.read_text() for it in made.iterdir() if it.suffix in (".cfg", ".map"))
     report.case("no tenant's key is in a file for HAProxy", "", [], [key for key in (KEYS[1], KEYS[10]) if key in text.lower()])
     report.case("the reception's key is nobody's", "", False, (made / "reception.keys").read_text().strip() in KEYS)
-    if shutil.which("haproxy"):
-        for words in (["--plain=127.0.0.1:7000"], ["--plain=:7000", "--all=100", "--tenant=5", "--source=7", "--shard=50"]):
-            run(folder, GOOD, *words)
+    if has("HAProxy reads it", "haproxy"):
+        for words in ("--plain=127.0.0.1:7000", "--plain=:7000 --all=100 --tenant=5 --source=7 --shard=50", "--user root"):
+            run(folder, [f"options {words}", *GOOD])
             report.case("HAProxy reads it", words, 0, subprocess.run(["haproxy", "-c", "-f", made / "haproxy.cfg"], capture_output=True).returncode)
         run(folder, [line.replace("127.0.0.1", "localhost") for line in GOOD])
         report.case("HAProxy reads it with names of hosts", "", 0, subprocess.run(["haproxy", "-c", "-f", made / "haproxy.cfg"], capture_output=True).returncode)
@@ -78,15 +102,13 @@ def bad(report, folder):
     for lines, fault in BAD.items():
         ran = run(folder, [*GOOD, lines])
         report.case("a bad table", lines[:80], (1, "", f"{folder / 'table'}:{fault}\n"), (ran.returncode, ran.stdout, ran.stderr))
-    for place, what in ((0, "there is no reception"), (1, "there is no probe")):
+    for place, what in ((0, "there is no folder"), (2, "there is no reception"), (3, "there is no probe")):
         ran = run(folder, GOOD[:place] + GOOD[place + 1:])
         report.case("a table without a line", GOOD[place], (1, f"{folder / 'table'}: {what}\n"), (ran.returncode, ran.stderr))
-    ran = run(folder, GOOD[:2])
+    ran = run(folder, GOOD[:4])
     report.case("a table without shards", "", (1, f"{folder / 'table'}: there is no shard\n"), (ran.returncode, ran.stderr))
     ran = run(folder, [*GOOD, *list(BAD)[:3]])
     report.case("all faults are told", "", 3, len(ran.stderr.splitlines()))
-    ran = run(folder, GOOD, "--plain=")
-    report.case("nowhere to listen", "", (1, "shards.py: --plain or --tls is wanted\n"), (ran.returncode, ran.stderr))
     report.case("nothing was written", "", False, (folder / "made").exists())
 
 

@@ -9,12 +9,11 @@ import re
 import shlex
 import signal
 import subprocess
-import sys
 import tempfile
 from pathlib import Path
 
 from deployment import TOP, free_ports
-from lib.running_server import PATIENCE, PROGRAM, Report
+from lib.running_server import PATIENCE, PROGRAM, Report, want
 from path_client import connect
 
 UNIT = TOP / "deploy/path_server@.service"
@@ -38,6 +37,7 @@ def analyzed(report, folder):
 
 def started(report, folder):
     key, (port,) = os.urandom(16), free_ports(1)
+    (folder / "keys").touch(0o600)
     (folder / "keys").write_text(key.hex() + "\n")
     lines = [line.split("=", 1) for line in UNIT.read_text().splitlines() if re.match(r"\w+=", line)]
     settings = dict(lines)
@@ -55,9 +55,11 @@ def started(report, folder):
         finally:
             process.kill()
     report.case("who gets SIGTERM", "", "mixed", settings.get("KillMode"))
+    report.case("what an end with status 0 brings", "", "on-failure", settings.get("Restart"))
 
 
 def main():
+    want("systemd-analyze")
     report = Report()
     with tempfile.TemporaryDirectory() as at:
         analyzed(report, Path(at))

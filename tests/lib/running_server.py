@@ -6,6 +6,7 @@ Every process that was started has ended when a script ends, however that comes.
 import os
 import re
 import select
+import shutil
 import signal
 import socket
 import subprocess
@@ -22,6 +23,29 @@ GIVE_BACK = {"MALLOC_MMAP_THRESHOLD_": "65536", "MALLOC_TRIM_THRESHOLD_": "65536
 """Has glibc give back at once what is freed, so that a process has the memory that is in use and no more."""
 END_LINE = re.compile(r"(?:\d{4}-\d\d-\d\dT\d\d:\d\d:\d\dZ )?connection (\d+)(?: from \S+)?: (\w+)")
 """The line of an end: `serve` names the connection's number and the reason, `listen` the time and the peer's address too."""
+
+
+NOT_RUN = 77
+"""The status of a script that was not run, as of automake's tests."""
+
+
+def not_run(what, why):
+    """Tells what a script leaves out, and why, in a line that bin/check counts."""
+    print(f"not run: {what}: {why}", flush=True)
+
+
+def has(what, *tools):
+    """Whether these commands are here. What takes them is told as not run where one is missing."""
+    missing = [it for it in dict.fromkeys(tools) if not shutil.which(it)]
+    if missing:
+        not_run(what, f"no {' and no '.join(missing)} here")
+    return not missing
+
+
+def want(*tools):
+    """Ends a script as not run where one of these commands is missing."""
+    if not has(Path(sys.argv[0]).name, *tools):
+        sys.exit(NOT_RUN)
 
 
 class Report:

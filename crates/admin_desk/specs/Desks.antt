@@ -1,9 +1,10 @@
 -- The connections of the administration address: this project's own.
-use Rattle.std.specs.Prelude.{◌≡◌, ◌⊎◌, ℕ, ◌+◌, ◌-◌, ◌^◌, ◌<◌, ◌&&◌, List, ◌++◌, Bool, nat_le, nat_lt, Option, Some, None}
+use Rattle.std.specs.Prelude.{◌≡◌, ◌⊎◌, ℕ, ◌+◌, ◌-◌, ◌^◌, ◌<◌, ◌&&◌, List, ◌++◌, Bool, true, false, nat_le, nat_lt, Option, Some, None}
+use Rattle.slab.specs.Slab.{Slab, get}
 use Rattle.outbox.specs.Told.{Told, with_read}
 use Rattle.admin_pages.specs.declared.standing.Standing.{Standing}
-use Rattle.admin_desk.specs.Visits.{AtMostSays}
 use Rattle.admin_desk.specs.declared.desk.Caller.{Caller}
+use Rattle.admin_desk.specs.Visits.{AtMostSays, is_head}
 
 -- nothing is said, or what is asked by the bytes that came on a connection before, and a piece that was read of its stream now
 abbrev pub SaysBy : (wire wire' : Option Told) → (came : List ℕ) → Standing → Standing → Type 0
@@ -23,3 +24,17 @@ is_own key = nat_lt (2 ^ 64 - 25) key && nat_le key (2 ^ 64 - 17)
 abbrev pub IsLate : {S : Type 0} → Option (Caller S) → ℕ → Type 0
 IsLate None now = ⊥
 IsLate (Some c) now = c.since + 5 < now
+
+-- the request of a connection has not come whole
+abbrev pub IsSilent : {S : Type 0} → Option (Caller S) → Type 0
+IsSilent None = ⊥
+IsSilent (Some c) = is_head c.visit.stage ≡ true
+
+-- it has, so that the connection has a reply or gets one
+abbrev pub IsAnswered : {S : Type 0} → Option (Caller S) → Type 0
+IsAnswered None = ⊥
+IsAnswered (Some c) = is_head c.visit.stage ≡ false
+
+-- each connection that is answered is as it was
+abbrev pub KeepsAnswered : {S : Type 0} → Slab (Caller S) → Slab (Caller S) → Type 0
+KeepsAnswered old new = (place : ℕ) → IsAnswered (get old place) → get new place ≡ get old place

@@ -52,9 +52,9 @@ replied s reading.Part = None
 replied s (reading.Asked it) = Some (reply_to s it)
 replied s (reading.Refused why) = Some (reply.Refused why)
 
--- bytes that begin with a request are read as what it asks
+-- bytes that begin with a request are read as what it asks of a server that was given no name
 abbrev pub IsReadAs : List ℕ → Reading → Type 0
-IsReadAs bytes r = (h : RequestHead) (rest : List ℕ) → ReadsRequest bytes h rest → length h.fields ≤ 64 → r ≡ judged h
+IsReadAs bytes r = (h : RequestHead) (rest : List ℕ) → ReadsRequest bytes h rest → length h.fields ≤ 64 → r ≡ judged [] h
 
 -- a whole reply is owed, or the page is to be begun
 abbrev pub Owes : (uptime : ℕ) → Reply → Visit → Visit → Type 0

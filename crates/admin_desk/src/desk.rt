@@ -1,10 +1,10 @@
 //! The few connections of the administration address.
-ghost use Rattle.std.specs.Prelude.{◌≡◌, ◌≤◌, None, false, nat_lt};
-ghost use Rattle.slab.specs.Slab.{get, slab_len};
+ghost use Rattle.std.specs.Prelude.{◌≡◌, ◌≤◌, None, IfSome, false, nat_lt};
+ghost use Rattle.slab.specs.Slab.{get, slab_len, Updates};
 ghost use Rattle.admin_pages.specs.Standings.{at_start};
-ghost use Rattle.admin_desk.specs.Desks.{IsLate, SaysAt, SaysBy, is_own};
+ghost use Rattle.admin_desk.specs.Desks.{IsLate, IsSilent, KeepsAnswered, SaysAt, SaysBy, is_own};
 
-use crate::visit::{PIECE, Stage, Visit};
+use crate::visit::{PIECE, Stage, Visit, is_head};
 use admin_pages::{Gauges, Metrics, Standing};
 use outbox::{Given, Taken, Wire};
 use slab::Slab;
@@ -85,22 +85,27 @@ impl<S: Peer> Desk<S> {
         self.callers.len() < PLACES
     }
 
-    /// The key of the next connection, if there is room for one.
+    /// The key of the next connection, if there is room for one, or if one makes room: the oldest whose request has not come whole.
     pub fn vacant(&mut self) -> Option<usize>
         ensures { self.new.standing ≡ self.old.standing }
     {
-        if self.has_room() && self.callers.reserve(1).is_ok() {
+        if !self.has_room() {
+            return FIRST_KEY.checked_sub(self.oldest_silent()?);
+        }
+        if self.callers.reserve(1).is_ok() {
             FIRST_KEY.checked_sub(self.callers.vacant_key())
         } else {
             None
         }
     }
 
-    /// Takes one in under the key that is vacant, if there is room for it.
+    /// Takes one in under the key that is vacant. One that makes room is closed; those that are answered stay.
     pub fn take_in(&mut self, stream: S, now: u64)
         ensures standing { self.new.standing ≡ self.old.standing }
         ensures few { slab_len self.old.callers ≤ 8 → slab_len self.new.callers ≤ 8 }
+        ensures answered { KeepsAnswered self.old.callers self.new.callers }
     {
+        self.make_room();
         if !self.has_room() || self.callers.reserve(1).is_err() {
             return;
         }
@@ -111,6 +116,37 @@ impl<S: Peer> Desk<S> {
             is_readable: false,
             is_writable: false,
         });
+    }
+
+    // Closes the oldest connection whose request has not come whole, if there is no room.
+    fn make_room(&mut self)
+        ensures standing { self.new.standing ≡ self.old.standing }
+        ensures few { slab_len self.new.callers ≤ slab_len self.old.callers }
+        ensures answered { KeepsAnswered self.old.callers self.new.callers }
+    {
+        if self.has_room() {
+            return;
+        }
+        if let Some(place) = self.oldest_silent() {
+            self.close(place);
+        }
+    }
+
+    // The place of the oldest connection whose request has not come whole.
+    fn oldest_silent(&self) -> Option<usize>
+        ensures { IfSome result (λ place. IsSilent (get self.now.callers place)) }
+    {
+        let mut oldest = None;
+        let mut since = u64::MAX;
+        for place in 0..PLACES {
+            if let Some(caller) = self.callers.get(place) {
+                if is_head(caller.visit.stage) && caller.since < since {
+                    oldest = Some(place);
+                    since = caller.since;
+                }
+            }
+        }
+        oldest
     }
 
     /// Notes a report. `false` if its key is not one of these connections'.
@@ -172,6 +208,8 @@ impl<S: Peer> Desk<S> {
 
     fn close(&mut self, place: usize)
         ensures standing { self.new.standing ≡ self.old.standing }
+        ensures few { slab_len self.new.callers ≤ slab_len self.old.callers }
+        ensures others { Updates self.old.callers self.new.callers place None }
         ensures gone { get self.new.callers place ≡ None }
     {
         let _ = self.callers.try_remove(place);

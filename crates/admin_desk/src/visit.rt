@@ -83,7 +83,7 @@ impl Visit {
             return Ok(());
         }
         self.head.extend_from_slice(piece)?;
-        let reading = read_request(self.head.as_slice());
+        let reading = read_request(&[], self.head.as_slice());
         match reply_to(standing, reading) {
             Some(reply) => self.answer(reply, uptime),
             None => Ok(()),
@@ -169,7 +169,7 @@ impl Visit {
     }
 }
 
-fn is_head(stage: Stage) -> bool
+pub(crate) fn is_head(stage: Stage) -> bool
     ensures { result ≡ is_head stage }
 {
     matches!(stage, Stage::Head)

@@ -12,6 +12,10 @@ added n more = min (n + more) (2 ^ 64 - 1)
 abbrev pub raised : List ℕ → ℕ → List ℕ
 raised counts place = slice_set counts place (added (slice_index counts place) 1)
 
+-- so many more at this place
+abbrev pub grown : List ℕ → (place more : ℕ) → List ℕ
+grown counts place more = slice_set counts place (added (slice_index counts place) more)
+
 -- nothing was counted
 abbrev pub none : Metrics
 none = record {
@@ -20,6 +24,7 @@ none = record {
   times = replicate 17 0;
   micros = 0;
   units = 0;
+  tenant_units = replicate 256 0;
   slow = 0;
 }
 
@@ -38,6 +43,10 @@ abbrev pub raised_of : List ℕ → Option ℕ → List ℕ
 raised_of counts None = counts
 raised_of counts (Some place) = raised counts place
 
+abbrev pub grown_of : List ℕ → Option ℕ → (more : ℕ) → List ℕ
+grown_of counts None more = counts
+grown_of counts (Some place) more = grown counts place more
+
 abbrev pub bit : Bool → ℕ
 bit b = if b then 1 else 0
 
@@ -49,5 +58,6 @@ after_request m s = record m {
   times = raised m.times (time_place s.micros);
   micros = added m.micros s.micros;
   units = added m.units s.units;
+  tenant_units = grown_of m.tenant_units s.tenant s.units;
   slow = added m.slow (bit s.is_slow);
 }

@@ -3,7 +3,7 @@ use Rattle.std.specs.Prelude.{ℕ, ◌&&◌, not, Bool, true, List, [], ◌∷�
 use Rattle.std.specs.List.{list_any}
 use Rattle.std.specs.Str.{bytes_eq}
 use Rattle.admin_pages.specs.declared.families.Family.{Family}
-use Rattle.admin_pages.specs.declared.families.Family.TheVariants.{Uptime, Ready, Open, OpenLimit, Refused, Waiting, Buffered, Limit, Connections, Read, Written, Dropped, Requests, Times, Units, Slow, TenantRequests, TenantCollections, TenantDocuments, TenantTexts, TenantMemory, TenantWaiting}
+use Rattle.admin_pages.specs.declared.families.Family.TheVariants.{Uptime, Ready, Open, OpenLimit, Refused, Waiting, Buffered, Limit, Connections, Read, Written, Dropped, Requests, Times, Units, Slow, TenantRequests, TenantUnits, TenantCollections, TenantDocuments, TenantTexts, TenantMemory, TenantWaiting}
 use Rattle.admin_pages.specs.declared.families.Shape.{Shape}
 use Rattle.admin_pages.specs.declared.families.Shape.TheVariants as shape
 
@@ -25,6 +25,7 @@ name_of Times = codes "path_server_request_seconds"
 name_of Units = codes "path_server_charged_units_total"
 name_of Slow = codes "path_server_slow_queries_total"
 name_of TenantRequests = codes "path_server_tenant_requests_total"
+name_of TenantUnits = codes "path_server_tenant_charged_units_total"
 name_of TenantCollections = codes "path_server_tenant_collections"
 name_of TenantDocuments = codes "path_server_tenant_documents"
 name_of TenantTexts = codes "path_server_tenant_text_bytes"
@@ -49,6 +50,7 @@ help_of Times = codes "How long requests took."
 help_of Units = codes "Units that queries were charged."
 help_of Slow = codes "Queries that took longer than --slow."
 help_of TenantRequests = codes "Requests of a tenant, by its number in the list of keys."
+help_of TenantUnits = codes "Units that a tenant's queries were charged."
 help_of TenantCollections = codes "Collections of a tenant."
 help_of TenantDocuments = codes "Documents of a tenant."
 help_of TenantTexts = codes "Bytes of texts of a tenant."
@@ -73,6 +75,7 @@ kind_of Times = codes "histogram"
 kind_of Units = codes "counter"
 kind_of Slow = codes "counter"
 kind_of TenantRequests = codes "counter"
+kind_of TenantUnits = codes "counter"
 kind_of TenantCollections = codes "gauge"
 kind_of TenantDocuments = codes "gauge"
 kind_of TenantTexts = codes "gauge"
@@ -97,6 +100,7 @@ shape_of Times = shape.Times
 shape_of Units = shape.One
 shape_of Slow = shape.One
 shape_of TenantRequests = shape.Tenants
+shape_of TenantUnits = shape.Tenants
 shape_of TenantCollections = shape.Tenants
 shape_of TenantDocuments = shape.Tenants
 shape_of TenantTexts = shape.Tenants
@@ -105,7 +109,7 @@ shape_of TenantWaiting = shape.Tenants
 
 -- in the order in which they are told
 unfoldable pub families : List Family
-families = Uptime ∷ Ready ∷ Open ∷ OpenLimit ∷ Refused ∷ Waiting ∷ Buffered ∷ Limit ∷ Connections ∷ Read ∷ Written ∷ Dropped ∷ Requests ∷ Times ∷ Units ∷ Slow ∷ TenantRequests ∷ TenantCollections ∷ TenantDocuments ∷ TenantTexts ∷ TenantMemory ∷ TenantWaiting ∷ []
+families = Uptime ∷ Ready ∷ Open ∷ OpenLimit ∷ Refused ∷ Waiting ∷ Buffered ∷ Limit ∷ Connections ∷ Read ∷ Written ∷ Dropped ∷ Requests ∷ Times ∷ Units ∷ Slow ∷ TenantRequests ∷ TenantUnits ∷ TenantCollections ∷ TenantDocuments ∷ TenantTexts ∷ TenantMemory ∷ TenantWaiting ∷ []
 
 -- one sample, one for each command and status, one for each bound of the times and three more, one for each tenant
 abbrev pub rows_of : Shape → (tenants : ℕ) → ℕ

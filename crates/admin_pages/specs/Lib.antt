@@ -1,4 +1,5 @@
 pub mod Routes
+pub mod Hosts
 pub mod Heads
 pub mod Standings
 pub mod Replies

@@ -2,7 +2,7 @@
 use Rattle.std.specs.Prelude.{ℕ, zero, suc, ◌+◌, ◌-◌, ◌/◌, ◌%◌, ◌^◌, ◌==◌, Bool, List, [], ◌∷◌, ◌++◌, min, sum, take, drop, length, nat_lt, nat_le, if◌then◌else◌, codes, decimal, Option, Some, None, slice_get, slice_index}
 use Rattle.admin_pages.specs.declared.counted.Metrics.{Metrics}
 use Rattle.admin_pages.specs.declared.families.Family.{Family}
-use Rattle.admin_pages.specs.declared.families.Family.TheVariants.{Uptime, Ready, Open, OpenLimit, Refused, Waiting, Buffered, Limit, Connections, Read, Written, Dropped, Requests, Times, Units, Slow, TenantRequests, TenantCollections, TenantDocuments, TenantTexts, TenantMemory, TenantWaiting}
+use Rattle.admin_pages.specs.declared.families.Family.TheVariants.{Uptime, Ready, Open, OpenLimit, Refused, Waiting, Buffered, Limit, Connections, Read, Written, Dropped, Requests, Times, Units, Slow, TenantRequests, TenantUnits, TenantCollections, TenantDocuments, TenantTexts, TenantMemory, TenantWaiting}
 use Rattle.admin_pages.specs.declared.families.Shape.{Shape}
 use Rattle.admin_pages.specs.declared.families.Shape.TheVariants as shape
 use Rattle.admin_pages.specs.declared.page.Gauges.{Gauges}
@@ -64,6 +64,7 @@ value m g Times place = time_value m place
 value m g Units place = m.units
 value m g Slow place = m.slow
 value m g TenantRequests place = slice_index m.tenants place
+value m g TenantUnits place = slice_index m.tenant_units place
 value m g TenantCollections place = slice_index g.collections place
 value m g TenantDocuments place = slice_index g.documents place
 value m g TenantTexts place = slice_index g.texts place

@@ -3,7 +3,7 @@ use Rattle.std.specs.Prelude.{ℕ, List, [], ◌++◌, length, codes, decimal}
 use Rattle.admin_pages.specs.declared.replies.Reply.{Reply}
 use Rattle.admin_pages.specs.declared.replies.Reply.TheVariants.{Healthy, Ready, NotReady, Noted, Metrics, Draining, Refused}
 use Rattle.admin_pages.specs.declared.routes.Refusal.{Refusal}
-use Rattle.admin_pages.specs.declared.routes.Refusal.TheVariants.{BadRequest, NotFound, GetOnly, PostOnly, GetOrPostOnly, HasBody, HeadTooLarge}
+use Rattle.admin_pages.specs.declared.routes.Refusal.TheVariants.{BadRequest, Forbidden, NotFound, GetOnly, PostOnly, GetOrPostOnly, HasBody, HeadTooLarge}
 
 -- what is told so many seconds after the start, unless it is a page
 abbrev pub body_of : Reply → (uptime : ℕ) → List ℕ
@@ -18,6 +18,7 @@ body_of (Refused why) uptime = []
 -- the status and its reason, and behind 405 the methods that are allowed
 abbrev pub refusal_line : Refusal → List ℕ
 refusal_line BadRequest = codes "400 Bad Request\r\n"
+refusal_line Forbidden = codes "403 Forbidden\r\n"
 refusal_line NotFound = codes "404 Not Found\r\n"
 refusal_line GetOnly = codes "405 Method Not Allowed\r\nAllow: GET\r\n"
 refusal_line PostOnly = codes "405 Method Not Allowed\r\nAllow: POST\r\n"

@@ -1,7 +1,7 @@
 //! What is counted.
 ghost use Rattle.std.specs.Prelude.{◌≡◌, ◌<◌, ◌≤◌, length, nat_lt};
 ghost use Rattle.std.specs.List.{count_by};
-ghost use Rattle.admin_pages.specs.Counting.{after_request, cell, none, raised, time_place};
+ghost use Rattle.admin_pages.specs.Counting.{after_request, cell, grown, none, raised, time_place};
 
 /// The least place of a command of the protocol, and how many places they have: 0 is for what has none.
 const COMMANDS: usize = 9;
@@ -51,6 +51,8 @@ pub struct Metrics {
     pub micros: u64,
     /// The units that all requests were charged.
     pub units: u64,
+    /// Those of each tenant.
+    pub tenant_units: [u64; TENANTS],
     /// Slow queries.
     pub slow: u64,
 }
@@ -66,6 +68,7 @@ impl Metrics {
             times: [0; TIMES],
             micros: 0,
             units: 0,
+            tenant_units: [0; TENANTS],
             slow: 0,
         }
     }
@@ -78,6 +81,7 @@ impl Metrics {
         self.requests[place] = self.requests[place].saturating_add(1);
         if let Some(tenant) = served.tenant {
             raise(&mut self.tenants, tenant);
+            grow(&mut self.tenant_units, tenant, served.units);
         }
         let place = time_place(served.micros);
         self.times[place] = self.times[place].saturating_add(1);
@@ -93,6 +97,15 @@ fn raise(counts: &mut [u64; TENANTS], place: usize)
 {
     if place < TENANTS {
         counts[place] = counts[place].saturating_add(1);
+    }
+}
+
+// So many more at a place, if there is such a place.
+fn grow(counts: &mut [u64; TENANTS], place: usize, more: u64)
+    ensures { counts.new ≡ grown counts.old place more }
+{
+    if place < TENANTS {
+        counts[place] = counts[place].saturating_add(more);
     }
 }
 

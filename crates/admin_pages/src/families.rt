@@ -39,6 +39,8 @@ pub enum Family {
     Slow,
     /// Requests of a tenant, by its number in the list of keys.
     TenantRequests,
+    /// Units that a tenant's requests were charged.
+    TenantUnits,
     /// Collections of a tenant.
     TenantCollections,
     /// Documents of a tenant.
@@ -87,6 +89,7 @@ impl Family {
             Family::Units => "path_server_charged_units_total",
             Family::Slow => "path_server_slow_queries_total",
             Family::TenantRequests => "path_server_tenant_requests_total",
+            Family::TenantUnits => "path_server_tenant_charged_units_total",
             Family::TenantCollections => "path_server_tenant_collections",
             Family::TenantDocuments => "path_server_tenant_documents",
             Family::TenantTexts => "path_server_tenant_text_bytes",
@@ -119,6 +122,7 @@ impl Family {
             Family::Units => "Units that queries were charged.",
             Family::Slow => "Queries that took longer than --slow.",
             Family::TenantRequests => "Requests of a tenant, by its number in the list of keys.",
+            Family::TenantUnits => "Units that a tenant's queries were charged.",
             Family::TenantCollections => "Collections of a tenant.",
             Family::TenantDocuments => "Documents of a tenant.",
             Family::TenantTexts => "Bytes of texts of a tenant.",
@@ -141,7 +145,8 @@ impl Family {
             | Family::Requests
             | Family::Units
             | Family::Slow
-            | Family::TenantRequests => "counter",
+            | Family::TenantRequests
+            | Family::TenantUnits => "counter",
             Family::Times => "histogram",
             Family::Uptime
             | Family::Ready
@@ -181,6 +186,7 @@ impl Family {
             Family::Requests => Shape::Cells,
             Family::Times => Shape::Times,
             Family::TenantRequests
+            | Family::TenantUnits
             | Family::TenantCollections
             | Family::TenantDocuments
             | Family::TenantTexts
@@ -191,7 +197,7 @@ impl Family {
 }
 
 /// All metrics, in the order in which they are told.
-const FAMILIES: [Family; 22] = [
+const FAMILIES: [Family; 23] = [
     Family::Uptime,
     Family::Ready,
     Family::Open,
@@ -209,6 +215,7 @@ const FAMILIES: [Family; 22] = [
     Family::Units,
     Family::Slow,
     Family::TenantRequests,
+    Family::TenantUnits,
     Family::TenantCollections,
     Family::TenantDocuments,
     Family::TenantTexts,

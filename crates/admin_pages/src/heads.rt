@@ -4,8 +4,9 @@ ghost use Rattle.admin_pages.specs.declared.heads.Reading.TheVariants.{Part};
 ghost use Rattle.std.specs.List.{count_by, list_any};
 ghost use Rattle.httparse.specs.Grammar.{HasNoRequest, MayBecomeRequest, ReadsRequest, RequestHead};
 ghost use Rattle.httparse.specs.Spans.{IsHeaderWithin, IsRequestAt, IsRequestWithin, header_bytes};
-ghost use Rattle.admin_pages.specs.Heads.{brings_body, field_brings_body, field_is_host, is_host, judged, reading_of, OnPart};
+ghost use Rattle.admin_pages.specs.Heads.{brings_body, field_brings_body, field_is_elsewhere, field_is_host, judged, reading_of, OnPart};
 
+use crate::hosts::{is_elsewhere, is_host};
 use crate::routes::{Asked, Refusal, route};
 use httparse::spans::{EMPTY_HEADER_SPAN, HeaderSpan, RequestSpans, parse_request};
 use httparse::{Error, Status};
@@ -29,14 +30,16 @@ const FIELDS: usize = 64;
 
 /// Reads the first request of a connection from the bytes that have come so far (RFC 9112). A head may have 64 fields, and 8,192 bytes that do
 /// not make it whole; one that can still come to be whole within these bounds is waited for. A request has exactly one Host (section 3.2), where it is of HTTP/1.0 at most one, and no body.
-pub fn read_request(bytes: &[u8]) -> Reading
-    ensures whole { (h : RequestHead) (rest : List ℕ) → ReadsRequest bytes.now h rest → length h.fields ≤ 64 → result ≡ judged h }
+/// It is forbidden if a browser sends it for a web page of elsewhere. Then it has an Origin, a Sec-Fetch-Site that is neither `none` nor `same-origin`, or
+/// another Host. Its own are addresses, `localhost` and `own`, the name that the server was given.
+pub fn read_request(own: &[u8], bytes: &[u8]) -> Reading
+    ensures whole { (h : RequestHead) (rest : List ℕ) → ReadsRequest bytes.now h rest → length h.fields ≤ 64 → result ≡ judged own.now h }
     ensures waits { (more : List ℕ) (h : RequestHead) (rest : List ℕ) → ReadsRequest (bytes.now ++ more) h rest → length h.fields ≤ 64 → length bytes.now < 8192 → HasNoRequest bytes.now → result ≡ Part }
     ensures part { OnPart result ((length bytes.now < 8192) × HasNoRequest bytes.now × MayBecomeRequest bytes.now) }
 {
     let mut headers = [EMPTY_HEADER_SPAN; FIELDS];
     match parse_request(bytes, &mut headers) {
-        Ok(Status::Complete(head)) => match judge(bytes, &head, &headers) {
+        Ok(Status::Complete(head)) => match judge(own, bytes, &head, &headers) {
             Ok(asked) => Reading::Asked(asked),
             Err(refusal) => Reading::Refused(refusal),
         },
@@ -46,14 +49,23 @@ pub fn read_request(bytes: &[u8]) -> Reading
     }
 }
 
-fn judge(bytes: &[u8], head: &RequestSpans, headers: &[HeaderSpan]) -> Result<Asked, Refusal>
+fn judge(
+    own: &[u8],
+    bytes: &[u8],
+    head: &RequestSpans,
+    headers: &[HeaderSpan],
+) -> Result<Asked, Refusal>
     requires within { IsRequestWithin bytes.now headers.now head.now }
-    ensures { (h : RequestHead) → IsRequestAt bytes.now headers.now head.now h → reading_of result ≡ judged h }
+    ensures { (h : RequestHead) → IsRequestAt bytes.now headers.now head.now h → reading_of result ≡ judged own.now h }
 {
-    let fields = tell_fields(bytes, &headers[..head.headers]);
+    let headers = &headers[..head.headers];
+    let fields = tell_fields(bytes, headers);
     let is_old = head.version == 0;
     if fields.hosts > 1 || fields.hosts == 0 && !is_old {
         return Err(Refusal::BadRequest);
+    }
+    if comes_from_elsewhere(own, bytes, headers) {
+        return Err(Refusal::Forbidden);
     }
     if fields.has_body {
         return Err(Refusal::HasBody);
@@ -87,10 +99,16 @@ fn tell_fields(bytes: &[u8], headers: &[HeaderSpan]) -> Told
     Told { hosts, has_body }
 }
 
-fn is_host(name: &[u8]) -> bool
-    ensures { result ≡ is_host name.now }
+fn comes_from_elsewhere(own: &[u8], bytes: &[u8], headers: &[HeaderSpan]) -> bool
+    requires { All (IsHeaderWithin (length bytes.now)) headers.now }
+    ensures { result ≡ list_any (field_is_elsewhere own.now) (map (header_bytes bytes.now) headers.now) }
 {
-    name.eq_ignore_ascii_case(b"host")
+    for header in headers {
+        if is_elsewhere(own, header.name.of(bytes), header.value.of(bytes)) {
+            return true;
+        }
+    }
+    false
 }
 
 fn brings_body(name: &[u8], value: &[u8]) -> bool

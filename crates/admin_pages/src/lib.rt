@@ -5,6 +5,7 @@
 mod counted;
 mod families;
 mod heads;
+mod hosts;
 mod labels;
 mod laws;
 mod page;

@@ -241,6 +241,7 @@ fn value(metrics: &Metrics, gauges: &Gauges, family: Family, place: usize) -> u6
         Family::Units => metrics.units,
         Family::Slow => metrics.slow,
         Family::TenantRequests => number_at(&metrics.tenants, place),
+        Family::TenantUnits => number_at(&metrics.tenant_units, place),
         Family::TenantCollections => number_at(&gauges.collections, place),
         Family::TenantDocuments => number_at(&gauges.documents, place),
         Family::TenantTexts => number_at(&gauges.texts, place),

@@ -35,6 +35,7 @@ impl Reply {
             Reply::NotReady => "503 Service Unavailable\r\n",
             Reply::Draining => "202 Accepted\r\n",
             Reply::Refused(Refusal::BadRequest) => "400 Bad Request\r\n",
+            Reply::Refused(Refusal::Forbidden) => "403 Forbidden\r\n",
             Reply::Refused(Refusal::NotFound) => "404 Not Found\r\n",
             Reply::Refused(Refusal::GetOnly) => "405 Method Not Allowed\r\nAllow: GET\r\n",
             Reply::Refused(Refusal::PostOnly) => "405 Method Not Allowed\r\nAllow: POST\r\n",

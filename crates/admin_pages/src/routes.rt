@@ -23,6 +23,8 @@ pub enum Asked {
 pub enum Refusal {
     /// It is no request of RFC 9112, has not one Host, or its grace is no number.
     BadRequest,
+    /// A browser sends it for a web page of elsewhere.
+    Forbidden,
     /// There is no such page.
     NotFound,
     /// The page has GET alone.

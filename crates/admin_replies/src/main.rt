@@ -17,6 +17,9 @@ use std::{env, io};
 /// The most bytes that are read.
 const MOST_BYTES: u64 = 1_048_576;
 
+/// The name that the server was given.
+const NAME: &[u8] = b"admin.example";
+
 /// The seconds since the server's start.
 const UPTIME: u64 = 17;
 
@@ -46,7 +49,7 @@ fn answered(alloc: Global, bytes: &[u8], is_ready: bool) -> Result<Vec<u8>, Allo
         let _ = standing.answer(Asked::SayReady);
     }
     let mut out = Vec::new(alloc);
-    match read_request(bytes) {
+    match read_request(NAME, bytes) {
         Reading::Part => out.extend_from_slice(b"part\n")?,
         Reading::Refused(refusal) => append_short(alloc, Reply::Refused(refusal), &mut out)?,
         Reading::Asked(asked) => append_answer(alloc, standing.answer(asked), &mut out)?,
