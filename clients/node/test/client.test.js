@@ -365,6 +365,21 @@ test('a pipeline: async sources, its results behind a fault, and a timeout for e
   broken.close();
 });
 
+test('a server that drips', async (t) => {
+  const { at } = await answering(t, async (socket, asked) => {
+    for (const byte of ok(asked, USAGE)) {
+      socket.write(Buffer.of(byte));
+      await new Promise((done) => setTimeout(done, 100));
+    }
+  });
+  for (const open of [connect, pool]) {
+    const it = await open({ at, key: KEY, timeout: 300 });
+    await assert.rejects(it.usage(), TimedOut);
+    assert.deepEqual(await it.usage({ timeout: 10_000 }), usage);
+    it.close();
+  }
+});
+
 test('signals', async (t) => {
   const { at } = await answering(t, (socket, asked) => {
     if (asked.at(-1) !== 48) socket.write(ok(asked, asked.subarray(-1)));

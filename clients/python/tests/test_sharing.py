@@ -297,6 +297,27 @@ class Timeouts(unittest.TestCase):
             found = asyncio.run(use())
             self.assertEqual((type(found[0]), found[1:]), (TimedOut, [b"%d" % it for it in range(1, 10)]))
 
+    def test_a_server_that_drips(self):
+        """A byte now and then does not keep a call waiting beyond its timeout; a slow reply in time is taken."""
+        def serve(connection, _):
+            for request in peer.requests(connection):
+                for byte in reply(request, USAGE):
+                    connection.sendall(bytes([byte]))
+                    time.sleep(pause)
+
+        async def use():
+            async with path_client.connect_async(peer.address, KEY, 0.5) as client:
+                return await client.usage()
+
+        for run in (lambda: path_client.connect(peer.address, KEY, 0.5).usage(), lambda: asyncio.run(use())):
+            with Peer(serve) as peer:
+                pause = 0.005
+                self.assertEqual(run(), Usage(0, 0, 1))
+                pause = 0.1
+                began = time.monotonic()
+                self.assertRaises(TimedOut, run)
+                self.assertLess(time.monotonic() - began, 5)
+
     def test_a_pipeline_has_a_timeout_for_each_reply(self):
         """Ten replies at 0.1 s each are in time where each may take 0.5 s. If the fifth never comes, it has the four before."""
         def serve(connection, _):
