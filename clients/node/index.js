@@ -170,7 +170,8 @@ export class Client extends Calls {
 
   /** Gives the connection up, so that the next call opens another. */
   _drop(message) {
-    this.#link?.then((link) => link.end(BrokenConnection, message), () => {});
+    if (this.#live) this.#live.end(BrokenConnection, message);
+    else this.#link?.then((link) => link.end(BrokenConnection, message), () => {});
   }
 
   #options({ timeout = this.#timeout, signal } = {}, isPaced) {

@@ -297,6 +297,23 @@ class Timeouts(unittest.TestCase):
             found = asyncio.run(use())
             self.assertEqual((type(found[0]), found[1:]), (TimedOut, [b"%d" % it for it in range(1, 10)]))
 
+    def test_a_cancelled_call_of_a_pool(self):
+        """The next call does not wait for the reply that nobody wants any more."""
+        def serve(connection, _):
+            for request in peer.requests(connection):
+                if request[-1:] != b"0":
+                    connection.sendall(reply(request, request[-1:]))
+
+        async def use():
+            async with path_client.pool_async(peer.address, KEY, 1, 10.0) as many:
+                call = asyncio.ensure_future(many.get("c", "0"))
+                await asyncio.sleep(0.05)
+                call.cancel()
+                return await many.get("c", "1"), await asyncio.gather(call, return_exceptions=True)
+        with Peer(serve) as peer:
+            found, ended = asyncio.run(use())
+            self.assertEqual((found, type(ended[0])), (b"1", asyncio.CancelledError))
+
     def test_a_server_that_drips(self):
         """A byte now and then does not keep a call waiting beyond its timeout; a slow reply in time is taken."""
         def serve(connection, _):
