@@ -256,11 +256,11 @@ func TestPipeline(t *testing.T) {
 	want(t, "its results", 3, len(results))
 	slow := peer(t, func(conn net.Conn, _ int, next func() []byte) {
 		for request := next(); request != nil; request = next() {
-			time.Sleep(100 * time.Millisecond)
+			time.Sleep(150 * time.Millisecond)
 			conn.Write(ok(request, make([]byte, 12)))
 		}
 	})
-	results, err = connected(t, Options{Address: slow, Timeout: 500 * time.Millisecond}).Pipeline(ctx, make10())
+	results, err = connected(t, Options{Address: slow, Timeout: time.Second}).Pipeline(ctx, make10())
 	want(t, "a timeout for each reply", nil, err)
 	want(t, "its results", 10, len(results))
 }

@@ -323,7 +323,7 @@ test('a pool: what befalls one call is its own', async (t) => {
   const { at } = await answering(t, (socket, asked) => {
     if (asked.at(-1) !== 48) setTimeout(() => socket.write(ok(asked, asked.subarray(-1))), 10);
   });
-  const many = await pool({ at, key: KEY, size: 4, timeout: 500 });
+  const many = await pool({ at, key: KEY, size: 4, timeout: 1_000 });
   const ends = await Promise.allSettled(Array.from({ length: 10 }, (_, place) => many.get('c', `${place}`)));
   assert.ok(ends[0].reason instanceof TimedOut);
   assert.deepEqual(ends.slice(1).map((it) => it.value?.toString()), Array.from({ length: 9 }, (_, place) => `${place + 1}`));
@@ -347,16 +347,16 @@ test('a pipeline: async sources, its results behind a fault, and a timeout for e
   });
   let stop = 10;
   const slow = await answering(t, (socket, asked) => {
-    socket.turn = (socket.turn ?? Promise.resolve()).then(() => new Promise((done) => setTimeout(done, 100))).then(() => {
+    socket.turn = (socket.turn ?? Promise.resolve()).then(() => new Promise((done) => setTimeout(done, 150))).then(() => {
       socket.count = (socket.count ?? 0) + 1;
       if (socket.count <= stop) socket.write(ok(asked, USAGE));
     });
   });
-  const it = await connect({ at: slow.at, key: KEY, timeout: 500 });
+  const it = await connect({ at: slow.at, key: KEY, timeout: 1_000 });
   assert.deepEqual(await it.pipeline(Array(10).fill(request.usage())), Array(10).fill(usage));
   it.close();
   stop = 4;
-  const late = await connect({ at: slow.at, key: KEY, timeout: 500 });
+  const late = await connect({ at: slow.at, key: KEY, timeout: 1_000 });
   await assert.rejects(late.pipeline(Array(10).fill(request.usage())), (fault) => fault instanceof TimedOut && fault.results.length === 4);
   late.close();
   const lost = await answering(t, (socket, asked, place) => (socket.count = (socket.count ?? 0) + 1) <= 3 ? socket.write(ok(asked, USAGE)) : socket.destroy());

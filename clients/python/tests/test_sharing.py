@@ -269,6 +269,12 @@ class LostConnections(unittest.TestCase):
             run_all([threading.Thread(target=run, args=(it,)) for it in range(8)])
             self.assertEqual(wrong, [])
 
+        async def use():
+            async with path_client.pool_async(peer.address, KEY) as many:
+                return await asyncio.gather(*(many.get("c", str(it % 10)) for it in range(200)))
+        with Peer(serve) as peer:
+            self.assertEqual(asyncio.run(use()), [b"%d" % (it % 10) for it in range(200)])
+
 
 class Timeouts(unittest.TestCase):
     def test_a_timeout_is_its_own_call_alone(self):
@@ -280,7 +286,7 @@ class Timeouts(unittest.TestCase):
                     connection.sendall(reply(request, request[-1:]))
 
         with Peer(serve) as peer:
-            with path_client.pool(peer.address, KEY, 4, 0.5) as many:
+            with path_client.pool(peer.address, KEY, 4, 1.0) as many:
                 ends = {}
 
                 def run(name):
@@ -292,7 +298,7 @@ class Timeouts(unittest.TestCase):
                 self.assertEqual(ends, {"0": TimedOut, **{str(it): b"%d" % it for it in range(1, 10)}})
 
             async def use():
-                async with path_client.pool_async(peer.address, KEY, 4, 0.5) as many:
+                async with path_client.pool_async(peer.address, KEY, 4, 1.0) as many:
                     return await asyncio.gather(*(many.get("c", str(it)) for it in range(10)), return_exceptions=True)
             found = asyncio.run(use())
             self.assertEqual((type(found[0]), found[1:]), (TimedOut, [b"%d" % it for it in range(1, 10)]))
@@ -323,33 +329,33 @@ class Timeouts(unittest.TestCase):
                     time.sleep(pause)
 
         async def use():
-            async with path_client.connect_async(peer.address, KEY, 0.5) as client:
+            async with path_client.connect_async(peer.address, KEY, 1.0) as client:
                 return await client.usage()
 
-        for run in (lambda: path_client.connect(peer.address, KEY, 0.5).usage(), lambda: asyncio.run(use())):
+        for run in (lambda: path_client.connect(peer.address, KEY, 1.0).usage(), lambda: asyncio.run(use())):
             with Peer(serve) as peer:
                 pause = 0.005
                 self.assertEqual(run(), Usage(0, 0, 1))
                 pause = 0.1
                 began = time.monotonic()
                 self.assertRaises(TimedOut, run)
-                self.assertLess(time.monotonic() - began, 5)
+                self.assertLess(time.monotonic() - began, 2)
 
     def test_a_pipeline_has_a_timeout_for_each_reply(self):
-        """Ten replies at 0.1 s each are in time where each may take 0.5 s. If the fifth never comes, it has the four before."""
+        """Ten replies at 0.15 s each are in time where each may take 1 s. If the fifth never comes, it has the four before."""
         def serve(connection, _):
             for place, request in enumerate(peer.requests(connection)):
                 if place == stop:
                     time.sleep(5)
                     return
-                time.sleep(0.1)
+                time.sleep(0.15)
                 connection.sendall(reply(request, USAGE))
 
         async def use():
-            async with path_client.connect_async(peer.address, KEY, 0.5) as client:
+            async with path_client.connect_async(peer.address, KEY, 1.0) as client:
                 return await client.pipeline([Request.usage()] * 10)
 
-        for run in (lambda: path_client.connect(peer.address, KEY, 0.5).pipeline([Request.usage()] * 10), lambda: asyncio.run(use())):
+        for run in (lambda: path_client.connect(peer.address, KEY, 1.0).pipeline([Request.usage()] * 10), lambda: asyncio.run(use())):
             with Peer(serve) as peer:
                 stop = None
                 self.assertEqual(run(), [Usage(0, 0, 1)] * 10)
