@@ -75,14 +75,18 @@ export function keyBytes(key) {
   throw new RangeError(`a key is ${2 * KEY_BYTES} hexadecimal digits, or ${KEY_BYTES} bytes, not ${what}`);
 }
 
-/** A request's bytes on the wire. */
-export function frame(key, number, { code, fields }) {
-  const bytes = Buffer.allocUnsafe(9 + KEY_BYTES + fields.length);
-  bytes.writeUInt32BE(5 + KEY_BYTES + fields.length, 0);
-  bytes.writeUInt8(code, 4);
-  bytes.writeUInt32BE(number, 5);
-  bytes.set(key, 9);
-  bytes.set(fields, 9 + KEY_BYTES);
+/** The bytes of a request's frame. */
+export function lengthOf({ fields }) {
+  return 9 + KEY_BYTES + fields.length;
+}
+
+/** Writes a request's frame into bytes at a place, and gives the bytes. */
+export function writeFrame(bytes, at, key, number, { code, fields }) {
+  bytes.writeUInt32BE(5 + KEY_BYTES + fields.length, at);
+  bytes.writeUInt8(code, at + 4);
+  bytes.writeUInt32BE(number, at + 5);
+  bytes.set(key, at + 9);
+  bytes.set(fields, at + 9 + KEY_BYTES);
   return bytes;
 }
 

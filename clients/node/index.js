@@ -23,7 +23,11 @@ import { BrokenConnection, LostConnection, Refused, TimedOut } from './refusals.
 
 export { QUERY_LIMIT, TEXT_LIMIT, request } from './frames.js';
 export { ExactNumber } from './json_texts.js';
-export * from './refusals.js';
+export {
+  BadCommand, BadFields, BrokenConnection, Costly, DuplicateName, Exists, LoneSurrogate, LostConnection, NoMemory, NoTenant, NotFound, NotJson,
+  NotUtf8, NotValid, NotWellFormed, NumberLimit, QueryTooLong, Refused, ReplyTooLarge, Short, TimedOut, TooCostly, TooDeep, TooLong, TooManyBytes,
+  TooManyCollections, TooManyDocuments,
+} from './refusals.js';
 
 /** Requests of a pipeline that may wait for a reply at a time. */
 const WINDOW = 64;
@@ -86,6 +90,7 @@ export class Client extends Calls {
   #address;
   #key;
   #timeout;
+  #defaults;
   #tls;
   #isClosed = false;
   #isUnref = false;
@@ -95,6 +100,7 @@ export class Client extends Calls {
     this.#address = parseAddress(at);
     this.#key = givenKey(key);
     this.#timeout = checkTimeout(timeout);
+    this.#defaults = { timeout, signal: undefined };
     this.#tls = tls;
   }
 
@@ -133,7 +139,7 @@ export class Client extends Calls {
    * replies that came, as its property `results`.
    */
   async pipeline(requests, options) {
-    const how = this.#options(options, true);
+    const { timeout, signal } = this.#options(options);
     const link = await this.#openedForACall();
     const [sent, results] = [[], []];
     const settle = async (count) => {
@@ -142,7 +148,7 @@ export class Client extends Calls {
     let fault;
     try {
       for await (const it of requests) {
-        sent.push({ it, end: link.send(this.#key, it, how) });
+        sent.push({ it, end: link.send(this.#key, it, timeout, signal, true) });
         if (sent.length > WINDOW) await settle(sent.length - WINDOW);
       }
     } catch (found) {
@@ -160,9 +166,11 @@ export class Client extends Calls {
 
   async _call(make, options) {
     const it = make();
-    const how = this.#options(options, false);
-    let end = await (this.#live ?? (await this.#openedForACall())).send(this.#key, it, how);
-    if (end.error === LostConnection && isRead(it)) end = await (await this.#openedForACall()).send(this.#key, it, how);
+    const { timeout, signal } = options === undefined ? this.#defaults : this.#options(options);
+    let end = await (this.#live ?? (await this.#openedForACall())).send(this.#key, it, timeout, signal, false);
+    if (end.error === LostConnection && isRead(it)) {
+      end = await (await this.#openedForACall()).send(this.#key, it, timeout, signal, false);
+    }
     const result = resultOf(end, it);
     if (end.status !== undefined) throw result;
     return result;
@@ -174,9 +182,9 @@ export class Client extends Calls {
     else this.#link?.then((link) => link.end(BrokenConnection, message), () => {});
   }
 
-  #options({ timeout = this.#timeout, signal } = {}, isPaced) {
+  #options({ timeout = this.#timeout, signal } = {}) {
     signal?.throwIfAborted();
-    return { timeout: checkTimeout(timeout), signal, isPaced };
+    return { timeout: checkTimeout(timeout), signal };
   }
 
   async #opened() {

@@ -3,11 +3,16 @@
 import { randomBytes } from 'node:crypto';
 import net from 'node:net';
 import tls from 'node:tls';
-import { Replies, frame, outcome, shown } from './frames.js';
+import { Replies, lengthOf, outcome, shown, writeFrame } from './frames.js';
 import { BrokenConnection, LostConnection, TimedOut, refused } from './refusals.js';
 
 /** Request numbers: after the last one comes 0 again. */
 const NUMBERS = 2 ** 32;
+
+/** Bytes of a piece of frames, and the fewest for which the rest of one is kept. */
+const PIECE_BYTES = 65_536;
+const SHORT_BYTES = 256;
+const EMPTY = Buffer.alloc(0);
 
 /** The number of the last request of this process, over all its connections. It begins at random. */
 let number = randomBytes(4).readUInt32BE(0);
@@ -55,7 +60,10 @@ export class Link {
   #socket;
   #replies = new Replies();
   #waiting = new Queue();
-  #outgoing = [];
+  /** What is to be sent stands in the front of a piece, of which no byte is written twice: the socket may still hold it. */
+  #piece = EMPTY;
+  #filled = 0;
+  #isToWrite = false;
   #timer;
   /** When the timer fires: not behind the deadline of a request that waits. */
   #due = Infinity;
@@ -101,7 +109,7 @@ export class Link {
    * Writes a request's frame, and gives a promise of how it ends. The timeout of a call begins now; that of a paced request, of a pipeline,
    * once it is the next to be answered.
    */
-  send(key, request, { timeout, signal, isPaced = false }) {
+  send(key, request, timeout, signal, isPaced) {
     if (this.#fault) return Promise.resolve(this.#fault);
     if (signal?.aborted) return Promise.resolve({ aborted: signal });
     return new Promise((resolve) => {
@@ -115,7 +123,7 @@ export class Link {
       this.#waiting.push(it);
       if (!isPaced || this.#waiting.length === 1) this.#time(it);
       if (this.#waiting.length === 1) this.#hold();
-      this.#write(frame(key, number, request));
+      this.#write(key, it);
     });
   }
 
@@ -134,14 +142,34 @@ export class Link {
     else this.#socket.ref();
   }
 
-  /** Frames of one turn of the event loop go out together. */
-  #write(bytes) {
-    if (this.#outgoing.push(bytes) > 1) return;
-    process.nextTick(() => {
-      const frames = this.#outgoing;
-      this.#outgoing = [];
-      if (!this.#fault) this.#socket.write(frames.length === 1 ? frames[0] : Buffer.concat(frames));
-    });
+  /** Frames of one turn of the event loop go out together, the short ones in pieces. */
+  #write(key, it) {
+    const length = lengthOf(it.request);
+    if (this.#isToWrite === false) {
+      this.#isToWrite = true;
+      process.nextTick(() => this.#flush());
+    }
+    if (this.#piece.length - this.#filled < length) this.#send();
+    if (length > PIECE_BYTES) {
+      this.#socket.write(writeFrame(Buffer.allocUnsafe(length), 0, key, it.number, it.request));
+      return;
+    }
+    if (this.#piece.length === 0) this.#piece = Buffer.allocUnsafe(PIECE_BYTES);
+    writeFrame(this.#piece, this.#filled, key, it.number, it.request);
+    this.#filled += length;
+  }
+
+  /** Sends what stands in the piece. */
+  #send() {
+    if (this.#filled > 0) this.#socket.write(this.#piece.subarray(0, this.#filled));
+    this.#piece = this.#piece.subarray(this.#filled);
+    this.#filled = 0;
+    if (this.#piece.length < SHORT_BYTES) this.#piece = EMPTY;
+  }
+
+  #flush() {
+    this.#isToWrite = false;
+    if (!this.#fault) this.#send();
   }
 
   #time(it) {

@@ -299,6 +299,15 @@ test('the sentences are those of the shell', () => {
   assert.equal(all.TooCostly, all.Costly);
 });
 
+test('the types name what there is', () => {
+  const types = readFileSync(new URL('../index.d.ts', import.meta.url), 'utf8');
+  const declared = [...types.matchAll(/export declare (?:abstract )?(?:class|function|const) (\w+)|export \{ \w+ as (\w+) \}/g)].map(([, name, other]) => name ?? other);
+  const methods = [...types.split('abstract class Calls')[1].split('\n}')[0].matchAll(/^ {2}(\w+)[<(]/gm)].map(([, name]) => name);
+  assert.deepEqual(declared.sort(), Object.keys(all).sort());
+  for (const name of methods) assert.equal(typeof client[name], 'function', name);
+  assert.ok(methods.length >= 18);
+});
+
 test('what reads is sent again once, and what writes is not', async (t) => {
   const reads = { usage: [[], USAGE], list: [['c'], USAGE.subarray(4, 8)], query: [['c', '$'], USAGE.subarray(4, 8)], get: [['c', 'd'], Buffer.from('1')] };
   const writes = { put: [['c', 'd', '1']], putNew: [['c', 'd', '1']], remove: [['c', 'd']], drop: [['c']] };
