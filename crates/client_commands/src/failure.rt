@@ -101,6 +101,7 @@ impl Failure {
     pub fn of_answer(fault: LineFault) -> Failure
         ensures memory { (result ≡ Failure.Memory) ↔ (fault ≡ LineFault.Memory) }
         ensures costly { (result ≡ Failure.Refused 22) ↔ (fault ≡ LineFault.Costly) }
+        ensures other { (fault ≢ LineFault.Costly) → status_of result ≡ 4 }
     {
         match fault {
             LineFault::Costly => Failure::Refused(22),
