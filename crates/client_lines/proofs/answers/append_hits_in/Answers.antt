@@ -1,4 +1,4 @@
-use Rattle.std.proofs.Common.{◌≡◌, ℕ, zero, suc, List, [], ◌∷◌, ◌++◌, take, ap, ◌∙◌, sym, refl}
+use Rattle.std.proofs.Common.{◌≡◌, ℕ, zero, suc, List, [], ◌∷◌, ◌++◌, take, ap, ◌∙◌, refl}
 use Rattle.std.proofs.lemmas.Result.{on_ok_weaker}
 use Rattle.json_tape.specs.Document.{Doc, node_at, tree_of}
 use Rattle.json_text.specs.declared.tape.NodeId.{NodeId}
