@@ -77,6 +77,11 @@ function givenKey(key) {
   return readKey(file);
 }
 
+/** The milliseconds up to a time, at least 1; as they were given where they are no timeout, which is then refused. */
+function left(until, timeout) {
+  return typeof timeout === 'number' && timeout >= 1 ? Math.max(1, Math.ceil(until - performance.now())) : timeout;
+}
+
 function checkTimeout(timeout) {
   if (typeof timeout === 'number' && timeout >= 1 && timeout <= LONGEST) return timeout;
   throw new RangeError(`a timeout is a number of milliseconds from 1 to ${LONGEST}, not ${timeout}`);
@@ -250,7 +255,10 @@ export class Pool extends Calls {
   }
 
   async _call(make, options) {
-    return await this.#lend((client) => client._call(make, options), options);
+    const { timeout = this.#timeout } = options ?? {};
+    const until = performance.now() + timeout;
+    // what it waited for a connection is of its own time
+    return await this.#lend((client) => client._call(make, { ...options, timeout: left(until, timeout) }), options);
   }
 
   async #lend(use, { timeout = this.#timeout, signal } = {}) {

@@ -337,6 +337,12 @@ test('a pool: what befalls one call is its own', async (t) => {
   assert.ok(ends[0].reason instanceof TimedOut);
   assert.deepEqual(ends.slice(1).map((it) => it.value?.toString()), Array.from({ length: 9 }, (_, place) => `${place + 1}`));
   many.close();
+  const silent = await pool({ at, key: KEY, size: 1, timeout: 1_000 });
+  const began = performance.now();
+  const late = await Promise.allSettled([silent.get('c', '0'), silent.get('c', '0'), silent.get('c', '0')]);
+  assert.ok(late.every((it) => it.reason instanceof TimedOut));
+  assert.ok(performance.now() - began < 1_900);
+  silent.close();
   const closing = await answering(t, (socket, asked) => socket.end(ok(asked, asked.subarray(-1))));
   const again = await pool({ at: closing.at, key: KEY });
   const found = await Promise.all(Array.from({ length: 200 }, (_, place) => again.get('c', `${place % 10}`)));

@@ -125,7 +125,9 @@ class AsyncClient(AsyncCalls):
         return results
 
     async def _call(self, request: Request[Result]) -> Result:
-        deadline = self._deadline()
+        return await self._call_by(request, self._deadline())
+
+    async def _call_by(self, request: Request[Result], deadline: float) -> Result:
         try:
             result = await self._ask(request, deadline)
         except LostConnection:
@@ -208,7 +210,7 @@ class AsyncPool(AsyncCalls):
 
     async def open(self) -> None:
         """Opens a connection if none is open. A call does so by itself. Raises OSError if there is no server."""
-        await self._lend(lambda client: client.open())
+        await self._lend(lambda client, _: client.open())
 
     async def close(self) -> None:
         """Closes the pool for good; a second time does nothing. Calls under way raise BrokenConnection."""
@@ -216,11 +218,11 @@ class AsyncPool(AsyncCalls):
 
     async def pipeline(self, requests: Requests[Result]) -> List[Union[Result, Refused]]:
         """As `AsyncClient.pipeline`, over one of the connections."""
-        found: List[Union[Result, Refused]] = await self._lend(lambda client: client.pipeline(requests))
+        found: List[Union[Result, Refused]] = await self._lend(lambda client, _: client.pipeline(requests))
         return found
 
     async def _call(self, request: Request[Result]) -> Result:
-        found: Result = await self._lend(lambda client: client._call(request))
+        found: Result = await self._lend(lambda client, deadline: client._call_by(request, deadline))
         return found
 
     async def _lend(self, use: Any) -> Any:
@@ -230,16 +232,17 @@ class AsyncPool(AsyncCalls):
             for it in self._clients:
                 home.idle.put_nowait(it)
         client: AsyncClient
+        seconds = self._clients[0].timeout
+        deadline = home.loop.time() + seconds
         try:
             client = home.idle.get_nowait()
         except asyncio.QueueEmpty:
-            seconds = self._clients[0].timeout
             try:
                 client = await asyncio.wait_for(home.idle.get(), seconds)
             except asyncio.TimeoutError:
-                raise TimedOut("no connection of the pool came free within {} seconds".format(seconds)) from None
+                raise TimedOut("no connection of the pool came free in time") from None
         try:
-            return await use(client)
+            return await use(client, deadline)
         except asyncio.CancelledError:
             client._drop(BrokenConnection("a call on the connection was cancelled"))
             raise

@@ -82,7 +82,9 @@ class Client(Calls):
         return self._exchange(requests, time.monotonic() + self.timeout, True)
 
     def _call(self, request: Request[Result]) -> Result:
-        deadline = time.monotonic() + self.timeout
+        return self._call_by(request, time.monotonic() + self.timeout)
+
+    def _call_by(self, request: Request[Result], deadline: float) -> Result:
         try:
             results = self._exchange([request], deadline, False)
         except LostConnection:
@@ -172,7 +174,7 @@ class Pool(Calls):
 
     def open(self) -> None:
         """Opens a connection if none is open. A call does so by itself. Raises OSError if there is no server."""
-        with _Lent(self._idle.get(), self._clients[0].timeout) as client:
+        with _Lent(self._idle.get(), self._deadline()) as client:
             client.open()
 
     def close(self) -> None:
@@ -182,12 +184,16 @@ class Pool(Calls):
 
     def pipeline(self, requests: Iterable[Request[Result]]) -> List[Union[Result, Refused]]:
         """As `Client.pipeline`, over one of the connections."""
-        with _Lent(self._idle.get(), self._clients[0].timeout) as client:
+        with _Lent(self._idle.get(), self._deadline()) as client:
             return client.pipeline(requests)
 
     def _call(self, request: Request[Result]) -> Result:
-        with _Lent(self._idle.get(), self._clients[0].timeout) as client:
-            return client._call(request)
+        deadline = self._deadline()
+        with _Lent(self._idle.get(), deadline) as client:
+            return client._call_by(request, deadline)
+
+    def _deadline(self) -> float:
+        return time.monotonic() + self._clients[0].timeout
 
     def _all_idle(self) -> queue.LifoQueue[Client]:
         idle: queue.LifoQueue[Client] = queue.LifoQueue()
@@ -234,15 +240,15 @@ class _Held:
 class _Lent:
     """A client of a pool for one call."""
 
-    def __init__(self, idle: queue.LifoQueue[Client], seconds: float) -> None:
+    def __init__(self, idle: queue.LifoQueue[Client], deadline: float) -> None:
         self.idle = idle
-        self.seconds = seconds
+        self.deadline = deadline
 
     def __enter__(self) -> Client:
         try:
-            self.client = self.idle.get(timeout=self.seconds)
+            self.client = self.idle.get(timeout=max(0.0, self.deadline - time.monotonic()))
         except queue.Empty:
-            raise TimedOut("no connection of the pool came free within {} seconds".format(self.seconds)) from None
+            raise TimedOut("no connection of the pool came free in time") from None
         return self.client
 
     def __exit__(self, *_: object) -> None:

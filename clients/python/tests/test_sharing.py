@@ -303,6 +303,30 @@ class Timeouts(unittest.TestCase):
             found = asyncio.run(use())
             self.assertEqual((type(found[0]), found[1:]), (TimedOut, [b"%d" % it for it in range(1, 10)]))
 
+    def test_the_wait_for_a_connection_counts(self):
+        """Over one connection that is never answered, three calls end in the time of one."""
+        def serve(connection, _):
+            for _ in peer.requests(connection):
+                pass
+
+        async def use():
+            async with path_client.pool_async(peer.address, KEY, 1, 1.0) as many:
+                return await asyncio.gather(*(many.usage() for _ in range(3)), return_exceptions=True)
+
+        with Peer(serve) as peer:
+            ends, began = [], time.monotonic()
+            with path_client.pool(peer.address, KEY, 1, 1.0) as many:
+                def run():
+                    try:
+                        many.usage()
+                    except OSError as fault:
+                        ends.append(type(fault))
+                run_all([threading.Thread(target=run) for _ in range(3)])
+            self.assertEqual((ends, time.monotonic() - began < 1.9), ([TimedOut] * 3, True))
+            began = time.monotonic()
+            self.assertEqual([type(it) for it in asyncio.run(use())], [TimedOut] * 3)
+            self.assertLess(time.monotonic() - began, 1.9)
+
     def test_a_cancelled_call_of_a_pool(self):
         """The next call does not wait for the reply that nobody wants any more."""
         def serve(connection, _):
