@@ -94,6 +94,39 @@ def check_subcommands(report, room):
     room.case(["drop", "shop"], 0)
 
 
+def check_questions(report, room):
+    """Documents with a hit, the first hits, and one document that is fetched: its lines are those that the server gives of it."""
+    for name, total in (("o1", 10), ("o2", 30), ("o3", 24)):
+        room.case(["put", "orders", name], 0, text=b'{"id":"%s","total":%d,"items":[1,\n2,3]}' % (name.encode(), total))
+    room.case(["query", "--names", "orders", "$[?$.total<25]"], 0, b"o1\no3\n")
+    room.case(["query", "--names", "orders", "$[?$.total<0]"], 0)
+    room.case(["query", "--names", "--limit", "1", "orders", "$.items[*]"], 0, b"o1\n")
+    room.case(["query", "--limit", "4", "orders", "$.items[*]"], 0, b"".join(
+        b"%s\t$['items'][%d]\t%d\n" % it for it in ((b"o1", 0, 1), (b"o1", 1, 2), (b"o1", 2, 3), (b"o2", 0, 1))))
+    for query in ("$", "$..*", "$.items[::-1]", "$[?$.total<25]", "$.none"):
+        for form in ([], ["--json"]):
+            whole = room.run("query", "orders", query, *form).stdout
+            hits = re.findall(rb"o2\t\$.*?\n(?=o\d\t\$|\Z)|\{\"document\":\"o2\".*\n", whole, re.S if not form else 0)
+            room.case(["query", "--document", "o2", "orders", query, *form], 0, b"".join(hits))
+    room.case(["query", "--document", "o2", "--limit", "2", "orders", "$.items[*]"], 0, b"o2\t$['items'][0]\t1\no2\t$['items'][1]\t2\n")
+    room.case(["query", "--document", "o2", "--names", "orders", "$.items[*]"], 0, b"o2\n")
+    room.case(["query", "--document", "o2", "--names", "orders", "$.none"], 0)
+    room.refused(["query", "--document", "o4", "orders", "$"], 1, "NotFound: there is no such document or collection")
+    room.refused(["query", "--document", "o 4", "orders", "$"], 3, "BadName: a document's name has 1 to 128 ASCII letters, digits, '.', '-' or '_'")
+    room.refused(["query", "--document", "o2", "orders", "$["], 2, "NotWellFormed: the query is not well-formed (RFC 9535, section 2.1)")
+    room.refused(["query", "--document", "o2", "orders", "$[?count(@)]"], 2, "NotValid: the query is not valid (RFC 9535, section 2.1)")
+    room.refused(["query", "--document", "o2", "orders", "$" + " " * 4_096], 2, "QueryTooLong: a query has at most 4096 bytes")
+    room.case(["put", "orders", "deep"], 0, text=b"[" * 128 + b"]" * 128)
+    room.refused(["query", "--document", "deep", "orders", "$..*..*..*..*"], 2, "Costly: the query costs more than 10000000 units: ask for less")
+    text = b'["' + b"x" * 3_000_000 + b'"]'
+    room.case(["put", "orders", "large"], 0, text=text)
+    room.refused(["query", "orders", "$[0,0,0]"], 1, "ReplyTooLarge: the reply would have more than 8388608 bytes: ask for fewer hits")
+    room.case(["query", "--document", "large", "orders", "$[0,0,0]"], 0, b"large\t$[0]\t" + text[1:-1] + (b"\nlarge\t$[0]\t" + text[1:-1]) * 2 + b"\n")
+    for words in (["--limit", "0"], ["--limit", "x"], ["--document"]):
+        room.case(["query", "orders", "$", *words], 3, errors=any)
+    room.case(["drop", "orders"], 0)
+
+
 def check_keys(report, room):
     new = [room.run("new-key").stdout for _ in range(2)]
     report.case("two new keys", "", (True, True, True), (*(bool(re.fullmatch(rb"[0-9a-f]{32}\n", it)) for it in new), new[0] != new[1]))
@@ -289,7 +322,7 @@ def blocks_of(page):
 def check_page(report, room):
     """Runs the lines of docs/CLIENTS.md behind those that start a server, and compares what they print with the block behind them."""
     text = (TOP / "docs/CLIENTS.md").read_text(encoding="utf-8")
-    blocks = blocks_of(text[text.index("## Each command"):])
+    blocks = blocks_of(text[text.index("## Find documents"):])
     environment = {**os.environ, "PATH_SERVER_AT": room.address, "PATH_SERVER_KEY_FILE": str(room.folder / "key")}
     with connect(room.address, KEY) as client:
         for place, block in enumerate(blocks):
@@ -307,7 +340,7 @@ def check_page(report, room):
             elif block.startswith("const ") and has("lines of Node of docs/CLIENTS.md", "node"):
                 orders = "import { connect, request } from 'path-client'; const client = await connect({ at: '127.0.0.1:7000', key: '%s' }); const orders = [['b', '[1]']];"
                 report.case("lines of Node of docs/CLIENTS.md", block, (0, "1\n", ""), run_node(room, f"{orders % KEY.hex()}\n{block}\nconsole.log(results.length); client.close();"))
-        client.pipeline(Request.drop(name) for name in ("copy", "shop", "things"))
+        client.pipeline(Request.drop(name) for name in ("copy", "orders", "shop", "things"))
     check_examples(report, room)
 
 
@@ -377,6 +410,7 @@ def main():
     with Listening([KEY]) as server:
         room = Room(report, server.address)
         try:
+            check_questions(report, room)
             check_keys(report, room)
             check_subcommands(report, room)
             check_what_is_invalid(room)

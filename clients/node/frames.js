@@ -1,5 +1,7 @@
 // Requests and replies as bytes: the frames of docs/PROTOCOL.md, and nothing of connections.
 
+import { BrokenConnection } from './refusals.js';
+
 /** Bytes of a reply's body, at most. */
 const REPLY_LIMIT = 8_388_608;
 const COLLECTION_LIMIT = 64;
@@ -11,83 +13,90 @@ export const QUERY_LIMIT = 4_096;
 const KEY_BYTES = 16;
 const FRAME_FAULT = 255;
 
-/** The names of the statuses, by their numbers. */
-export const STATUSES = {
-  0: 'Ok', 1: 'Short', 2: 'NoTenant', 3: 'BadCommand', 4: 'BadFields', 5: 'TooLong', 6: 'NotUtf8', 7: 'NotJson', 8: 'TooDeep',
-  9: 'NumberLimit', 10: 'LoneSurrogate', 11: 'DuplicateName', 12: 'TooManyCollections', 13: 'TooManyDocuments', 14: 'TooManyBytes',
-  15: 'NotFound', 16: 'QueryTooLong', 17: 'NotWellFormed', 18: 'NotValid', 20: 'ReplyTooLarge', 21: 'NoMemory', 22: 'Costly',
-  23: 'Exists', 255: 'FrameFault',
-};
-
-/** The server answered with a status other than Ok. `status` is its number, `message` its name. */
-export class Refused extends Error {
-  constructor(status) {
-    super(STATUSES[status] ?? `Status${status}`);
-    this.name = 'Refused';
-    this.status = status;
-  }
-}
-
-/** The connection ended, or what came over it is not a reply. A request that was on its way may have been carried out. */
-export class BrokenConnection extends Error {
-  name = 'BrokenConnection';
-}
-
-/** No reply came in time. The request may have been carried out. */
-export class TimedOut extends BrokenConnection {
-  name = 'TimedOut';
-}
-
 /**
  * Commands with their fields, for any tenant: what `pipeline` takes. Names, texts and queries are strings or bytes; a string is sent as
- * UTF-8. Each throws a RangeError where the server would refuse a name, or the length of a text or query, whatever it holds.
+ * UTF-8. Each throws a RangeError where the server would refuse a name, or the length of a text or query, whatever it holds, and a TypeError
+ * for what is neither a string nor bytes.
  */
 export const request = {
   /** Keeps a text under a collection and a document, in the place of one that is there. */
-  put: (collection, document, text) => command(1, [...place(collection, document), bounded('a text', text, TEXT_LIMIT)], readNothing),
+  put: (collection, document, text) =>
+    command(1, 'PUT', [...place(collection, document), bounded('text', text, TEXT_LIMIT)], readNothing, collection, document),
   /** The text of a document. */
-  get: (collection, document) => command(2, place(collection, document), (payload) => Buffer.from(payload)),
+  get: (collection, document) => command(2, 'GET', place(collection, document), (payload) => Buffer.from(payload), collection, document),
   /** Removes a document. */
-  remove: (collection, document) => command(3, place(collection, document), readNothing),
+  remove: (collection, document) => command(3, 'REMOVE', place(collection, document), readNothing, collection, document),
   /** The names of a collection's documents. */
-  list: (collection) => command(4, [collectionName(collection)], readNames),
+  list: (collection) => command(4, 'LIST', [collectionName(collection)], readNames, collection),
   /** The hits of a query in each document of a collection. */
-  query: (collection, query) => command(5, [collectionName(collection), bounded('a query', query, QUERY_LIMIT)], readHits),
+  query: (collection, query) => question(collection, query, (payload) => [...new Hits(payload)]),
+  /** The hits of a query, made one by one as they are asked for. */
+  hits: (collection, query) => question(collection, query, (payload) => new Hits(payload)),
+  /** The names of the documents in which a query has a hit. */
+  documents: (collection, query) => question(collection, query, readDocuments),
   /** Removes a collection with all its documents. */
-  drop: (collection) => command(6, [collectionName(collection)], readNothing),
+  drop: (collection) => command(6, 'DROP', [collectionName(collection)], readNothing, collection),
   /** What the tenant keeps. */
-  usage: () => command(7, [], readUsage),
+  usage: () => USAGE,
   /** Keeps a text under a collection and a document where no document is there. */
-  putNew: (collection, document, text) => command(8, [...place(collection, document), bounded('a text', text, TEXT_LIMIT)], readNothing),
+  putNew: (collection, document, text) =>
+    command(8, 'PUT_NEW', [...place(collection, document), bounded('text', text, TEXT_LIMIT)], readNothing, collection, document),
 };
 
-function command(code, fields, read) {
-  return { code, fields: Buffer.concat(fields), read };
+/** The commands that change nothing, and may be sent again: GET, LIST, QUERY and USAGE. */
+const READS = [2, 4, 5, 7];
+
+function command(code, name, fields, read, collection = '', document = '') {
+  return { code, name, fields: Buffer.concat(fields), read, collection, document };
 }
+
+/** Whether a command changes nothing, so that it may be sent again. */
+export function isRead({ code }) {
+  return READS.includes(code);
+}
+
+/** The command of a request and the names in it, for people. */
+export function shown({ name, collection, document }) {
+  const text = (given) => (typeof given === 'string' ? given : Buffer.from(given).toString());
+  return { command: name, collection: text(collection), document: text(document) };
+}
+
+function question(collection, query, read) {
+  return command(5, 'QUERY', [collectionName(collection), bounded('query', query, QUERY_LIMIT)], read, collection);
+}
+
+const USAGE = command(7, 'USAGE', [], readUsage);
 
 /** The bytes of a key: 32 hexadecimal digits of either case, or 16 bytes. */
 export function keyBytes(key) {
-  const bytes = typeof key === 'string' && /^[0-9a-f]{32}$/i.test(key) ? Buffer.from(key, 'hex') : Buffer.from(key);
-  if (bytes.length !== KEY_BYTES) throw new RangeError(`a key has ${KEY_BYTES} bytes, or as many pairs of hexadecimal digits`);
+  if (typeof key === 'string' && /^[0-9a-f]{32}$/i.test(key)) return Buffer.from(key, 'hex');
+  if (key instanceof Uint8Array && key.length === KEY_BYTES) return Buffer.from(key);
+  const what = typeof key === 'string' ? `a string of ${key.length} characters` : key instanceof Uint8Array ? `${key.length} bytes` : typeof key;
+  throw new RangeError(`a key is ${2 * KEY_BYTES} hexadecimal digits, or ${KEY_BYTES} bytes, not ${what}`);
+}
+
+/** The bytes of a request's frame. */
+export function lengthOf({ fields }) {
+  return 9 + KEY_BYTES + fields.length;
+}
+
+/** Writes a request's frame into bytes at a place, and gives the bytes. */
+export function writeFrame(bytes, at, key, number, { code, fields }) {
+  bytes.writeUInt32BE(5 + KEY_BYTES + fields.length, at);
+  bytes.writeUInt8(code, at + 4);
+  bytes.writeUInt32BE(number, at + 5);
+  bytes.set(key, at + 9);
+  bytes.set(fields, at + 9 + KEY_BYTES);
   return bytes;
 }
 
-/** A request's bytes on the wire. */
-export function frame(key, number, { code, fields }) {
-  const head = Buffer.alloc(9);
-  head.writeUInt32BE(1 + 4 + KEY_BYTES + fields.length, 0);
-  head.writeUInt8(code, 4);
-  head.writeUInt32BE(number, 5);
-  return Buffer.concat([head, key, fields]);
-}
-
-/** What a reply says of a request that was sent under a number: its value, or a Refused. Throws where it is another's. */
+/** What a reply says of a request that was sent under a number: its value, or the status of its refusal. Throws where it is another's. */
 export function outcome({ status, number, payload }, wanted, { read }) {
   if (status === FRAME_FAULT) throw new BrokenConnection('the server met a framing fault');
   if (number !== wanted) throw new BrokenConnection(`a reply has the number ${number} in the place of ${wanted}`);
-  if (status === 0) return read(payload);
+  if (status === 0) return { value: read(payload) };
   if (payload.length > 0) throw new BrokenConnection('a refusal has a payload');
-  return new Refused(status);
+  return { status };
 }
 
 /** Cuts the bytes that come from the server into replies, however the pieces fall. */
@@ -114,14 +123,18 @@ export class Replies {
   }
 }
 
-function asBytes(text) {
-  if (typeof text !== 'string') return Buffer.from(text);
+function asBytes(what, text) {
+  if (text instanceof Uint8Array) return Buffer.from(text);
+  if (typeof text !== 'string') {
+    const hint = what === 'text' ? ': putJson serializes it, or JSON.stringify' : '';
+    throw new TypeError(`a ${what} is a string or bytes, not ${text === null ? 'null' : Array.isArray(text) ? 'an array' : typeof text}${hint}`);
+  }
   if (/\p{Surrogate}/u.test(text)) throw new RangeError('a text with a lone surrogate has no UTF-8');
   return Buffer.from(text);
 }
 
 function name(what, text, limit) {
-  const bytes = asBytes(text);
+  const bytes = asBytes(`${what}'s name`, text);
   if (bytes.length > limit || !/^[A-Za-z0-9._-]+$/.test(bytes.toString('latin1')) || bytes.includes(10)) {
     throw new RangeError(`the name of a ${what} has 1 to ${limit} ASCII letters, digits, '.', '-' or '_'`);
   }
@@ -133,10 +146,12 @@ const collectionName = (collection) => name('collection', collection, COLLECTION
 const place = (collection, document) => [collectionName(collection), name('document', document, DOCUMENT_LIMIT)];
 
 function bounded(what, text, limit) {
-  const bytes = asBytes(text);
-  if (bytes.length > limit) throw new RangeError(`${what} has at most ${limit} bytes, not ${bytes.length}`);
+  const bytes = asBytes(what, text);
+  if (bytes.length > limit) throw new RangeError(`a ${what} has at most ${limit} bytes, not ${bytes.length}`);
   return bytes;
 }
+
+const UTF8 = new TextDecoder('utf-8', { fatal: true, ignoreBOM: true });
 
 /** Reads the fields of a payload from the front. */
 class Payload {
@@ -159,7 +174,7 @@ class Payload {
 
   text(count) {
     try {
-      return new TextDecoder('utf-8', { fatal: true, ignoreBOM: true }).decode(this.take(count));
+      return UTF8.decode(this.take(count));
     } catch (fault) {
       throw fault instanceof BrokenConnection ? fault : new BrokenConnection('a name or path is not UTF-8');
     }
@@ -190,10 +205,35 @@ function readNames(payload) {
   return rest.end(rest.list(() => rest.name()));
 }
 
-function readHits(payload) {
+/** The hits of a query in their order. Each is made of the reply when it is asked for, so that the whole is not copied. */
+class Hits {
+  #payload;
+
+  constructor(payload) {
+    this.#payload = payload;
+    this.length = new Payload(payload).number();
+  }
+
+  *[Symbol.iterator]() {
+    const rest = new Payload(this.#payload);
+    for (let left = rest.number(); left > 0; left -= 1) {
+      yield { document: rest.name(), path: rest.text(rest.number()), value: Buffer.from(rest.take(rest.number())) };
+    }
+    rest.end();
+  }
+}
+
+/** The documents of a reply to a query, each once: a document's hits stand behind one another. */
+function readDocuments(payload) {
   const rest = new Payload(payload);
-  const hit = () => ({ document: rest.name(), path: rest.text(rest.number()), value: Buffer.from(rest.take(rest.number())) });
-  return rest.end(rest.list(hit));
+  const names = [];
+  for (let left = rest.number(); left > 0; left -= 1) {
+    const name = rest.name();
+    if (name !== names.at(-1)) names.push(name);
+    rest.take(rest.number());
+    rest.take(rest.number());
+  }
+  return rest.end(names);
 }
 
 function readUsage(payload) {

@@ -9,25 +9,36 @@
 //     }
 //     client.close();
 //
-// A call gives a promise of its value, which is rejected with Refused where the server answers with a status other than Ok, with
-// RangeError if the request is invalid (nothing was sent), with TimedOut or BrokenConnection if the connection is lost (the request may
-// have been carried out). After the last two, and where the server closed the connection while no request was under way, the next call
-// opens a new connection. A request that was sent is never sent again.
+// A call gives a promise of its value, which is rejected with Refused where the server answers with a status other than Ok (each status has a
+// class below it, such as NotFound), with RangeError or TypeError if the request is invalid (nothing was sent), with TimedOut or
+// BrokenConnection if the connection is lost (the request may have been carried out). After the last two, and where the server closed the
+// connection while no request was under way, the next call opens a new connection. A call that only reads (get, list, query, usage) is sent
+// again once if its connection is lost. What writes is never sent again.
 
-import net from 'node:net';
-import { BrokenConnection, Refused, Replies, TimedOut, frame, keyBytes, outcome, request } from './frames.js';
+import { readFileSync } from 'node:fs';
+import { Calls } from './calls.js';
+import { isRead, keyBytes } from './frames.js';
+import { Link, Queue, resultOf } from './link.js';
+import { BrokenConnection, LostConnection, Refused, TimedOut } from './refusals.js';
 
-export { BrokenConnection, QUERY_LIMIT, Refused, STATUSES, TEXT_LIMIT, TimedOut, request } from './frames.js';
+export { QUERY_LIMIT, TEXT_LIMIT, request } from './frames.js';
+export { ExactNumber } from './json_texts.js';
+export {
+  BadCommand, BadFields, BrokenConnection, Costly, DuplicateName, Exists, LoneSurrogate, LostConnection, NoMemory, NoTenant, NotFound, NotJson,
+  NotUtf8, NotValid, NotWellFormed, NumberLimit, QueryTooLong, Refused, ReplyTooLarge, Short, TimedOut, TooCostly, TooDeep, TooLong, TooManyBytes,
+  TooManyCollections, TooManyDocuments,
+} from './refusals.js';
 
 /** Requests of a pipeline that may wait for a reply at a time. */
 const WINDOW = 64;
 
-/** Request numbers: after the last one comes 0 again. */
-const NUMBERS = 2 ** 32;
+/** The longest time that a timer of Node takes, in milliseconds. */
+const LONGEST = 2 ** 31 - 1;
 
 /**
- * Opens a connection to `at` (`HOST:PORT`; `[::1]:7000` for IPv6) for the tenant of `key` (32 hexadecimal digits, or 16 bytes). `timeout` in
- * milliseconds bounds the opening and, after it, each call. Rejects if there is no server, or the address or the key is invalid.
+ * Opens a connection to `at` (`HOST:PORT`; `[::1]:7000` for IPv6) for the tenant of `key` (32 hexadecimal digits, or 16 bytes). Without them,
+ * PATH_SERVER_AT and the file PATH_SERVER_KEY_FILE have them. `timeout` in milliseconds bounds the opening and, after it, each call. With `tls`
+ * (true, or options of tls.connect) it speaks TLS. Rejects if there is no server, or an option is invalid.
  */
 export async function connect(options) {
   const client = new Client(options);
@@ -35,20 +46,67 @@ export async function connect(options) {
   return client;
 }
 
+/** Opens a pool of at most `size` connections (4), the first at once. The other options are those of `connect`. */
+export async function pool(options) {
+  const found = new Pool(options);
+  await found.open();
+  return found;
+}
+
+/** The key in a file that has one: 32 hexadecimal digits of either case. */
+export function readKey(file) {
+  const words = readFileSync(file, 'utf8').split(/[\s,]+/).filter(Boolean);
+  if (words.length !== 1) throw new RangeError(`${file} has ${words.length || 'no'} keys; a client wants a file with one`);
+  if (!/^[0-9a-f]{32}$/i.test(words[0])) throw new RangeError(`${file} has no key: 32 hexadecimal digits`);
+  return keyBytes(words[0]);
+}
+
+function parseAddress(at = process.env.PATH_SERVER_AT || undefined) {
+  if (at === undefined) throw new RangeError("give the server's address as `at`, or set PATH_SERVER_AT");
+  const found = /^(?:\[([^\]/]+)\]|([^:/]+)):(\d{1,5})$/.exec(at);
+  if (!found) throw new RangeError(`an address is HOST:PORT without a scheme or a path, not ${at}`);
+  const port = Number(found[3]);
+  if (port < 1 || port > 65_535) throw new RangeError(`a port is a number from 1 to 65535, not ${port}`);
+  return { host: found[1] ?? found[2], port };
+}
+
+function givenKey(key) {
+  if (key !== undefined) return keyBytes(key);
+  const file = process.env.PATH_SERVER_KEY_FILE;
+  if (!file) throw new RangeError("give the tenant's key, or set PATH_SERVER_KEY_FILE");
+  return readKey(file);
+}
+
+/** The milliseconds up to a time, at least 1; as they were given where they are no timeout, which is then refused. */
+function left(until, timeout) {
+  return typeof timeout === 'number' && timeout >= 1 ? Math.max(1, Math.ceil(until - performance.now())) : timeout;
+}
+
+function checkTimeout(timeout) {
+  if (typeof timeout === 'number' && timeout >= 1 && timeout <= LONGEST) return timeout;
+  throw new RangeError(`a timeout is a number of milliseconds from 1 to ${LONGEST}, not ${timeout}`);
+}
+
 /** A tenant's connection, opened when it is first needed. Calls that overlap are sent one behind the other over it, without waiting. */
-export class Client {
+export class Client extends Calls {
   #link;
+  /** What `#link` is a promise of, while it is open. */
+  #live;
   #address;
   #key;
   #timeout;
+  #defaults;
+  #tls;
   #isClosed = false;
+  #isUnref = false;
 
-  constructor({ at, key, timeout = 30_000 }) {
-    const found = /^(?:\[(.*)\]|([^:]*)):(\d+)$/.exec(at);
-    if (!found) throw new RangeError(`an address is HOST:PORT, not ${at}`);
-    this.#address = { host: found[1] ?? found[2], port: Number(found[3]) };
-    this.#key = keyBytes(key);
-    this.#timeout = timeout;
+  constructor({ at, key, timeout = 30_000, tls } = {}) {
+    super();
+    this.#address = parseAddress(at);
+    this.#key = givenKey(key);
+    this.#timeout = checkTimeout(timeout);
+    this.#defaults = { timeout, signal: undefined };
+    this.#tls = tls;
   }
 
   /** Opens the connection, where it is not open. A call does so by itself. */
@@ -59,161 +117,187 @@ export class Client {
   /** Closes the client for good. Calls under way are rejected with BrokenConnection. */
   close() {
     this.#isClosed = true;
-    this.#link?.then((link) => link.end(new BrokenConnection('the client is closed')), () => {});
+    this._drop('the client is closed');
   }
 
-  /** Keeps a JSON text under a collection and a document, in the place of one that is there. */
-  async put(collection, document, text) {
-    return this.#call(request.put(collection, document, text));
+  /** Lets the process end while no call is under way, although the connection is open. */
+  unref() {
+    return this.#hold(true);
   }
 
-  /** Keeps a JSON text under a collection and a document. Refused as Exists where a document is there. */
-  async putNew(collection, document, text) {
-    return this.#call(request.putNew(collection, document, text));
+  /** Takes `unref` back. */
+  ref() {
+    return this.#hold(false);
   }
 
-  /** The text's bytes as they were put. Refused as NotFound if there is none. */
-  async get(collection, document) {
-    return this.#call(request.get(collection, document));
-  }
-
-  /** Removes a document. Refused as NotFound if there is none. */
-  async remove(collection, document) {
-    return this.#call(request.remove(collection, document));
-  }
-
-  /** The names of a collection's documents, in the order of their bytes; empty if there is no such collection. */
-  async list(collection) {
-    return this.#call(request.list(collection));
-  }
-
-  /** The hits of a JSONPath query (RFC 9535): each with `document`, `path` and the bytes of its `value`. */
-  async query(collection, query) {
-    return this.#call(request.query(collection, query));
-  }
-
-  /** Removes a collection with all its documents. Refused as NotFound if there is none. */
-  async drop(collection) {
-    return this.#call(request.drop(collection));
-  }
-
-  /** What the tenant keeps: `collections`, `documents` and `bytes`. */
-  async usage() {
-    return this.#call(request.usage());
-  }
-
-  /** The milliseconds that a USAGE took: whether the server answers, and knows the key. */
-  async ping() {
-    const began = performance.now();
-    await this.usage();
-    return performance.now() - began;
+  #hold(isUnref) {
+    this.#isUnref = isUnref;
+    this.#link?.then((link) => link.unref(isUnref), () => {});
+    return this;
   }
 
   /**
-   * Sends the requests of an iterable, up to 64 before a reply, and gives a result for each, in their order: the value, or the Refused that
-   * the call would have thrown.
+   * Sends the requests of an iterable or an async iterable, up to 64 before a reply, and gives a result for each, in their order: the value, or
+   * the Refused that the call would have thrown. `timeout` bounds the wait for each reply.
+   *
+   * If the requests throw, those before are carried out, and it is rejected with the same. What it is rejected with has the results of the
+   * replies that came, as its property `results`.
    */
-  async pipeline(requests) {
-    const link = await this.#opened();
-    const results = [];
-    for await (const it of requests) {
-      const place = results.length;
-      if (place >= WINDOW) results[place - WINDOW] = await results[place - WINDOW];
-      results.push(link.send(this.#key, it, this.#timeout));
-      results[place].catch(() => {});
+  async pipeline(requests, options) {
+    const { timeout, signal } = this.#options(options);
+    const link = await this.#openedForACall();
+    const [sent, results] = [[], []];
+    const settle = async (count) => {
+      for (let at = results.length; at < count; at += 1) results.push(resultOf(await sent[at].end, sent[at].it));
+    };
+    let fault;
+    try {
+      for await (const it of requests) {
+        sent.push({ it, end: link.send(this.#key, it, timeout, signal, true) });
+        if (sent.length > WINDOW) await settle(sent.length - WINDOW);
+      }
+    } catch (found) {
+      fault = found;
     }
-    return Promise.all(results);
+    try {
+      await settle(sent.length);
+    } catch (found) {
+      fault = found;
+    }
+    if (fault === undefined) return results;
+    if (typeof fault === 'object') fault.results = results;
+    throw fault;
   }
 
-  async #call(it) {
-    const link = await this.#opened();
-    const result = await link.send(this.#key, it, this.#timeout);
-    if (result instanceof Refused) throw result;
+  async _call(make, options) {
+    const it = make();
+    const { timeout, signal } = options === undefined ? this.#defaults : this.#options(options);
+    let end = await (this.#live ?? (await this.#openedForACall())).send(this.#key, it, timeout, signal, false);
+    if (end.error === LostConnection && isRead(it)) {
+      end = await (await this.#openedForACall()).send(this.#key, it, timeout, signal, false);
+    }
+    const result = resultOf(end, it);
+    if (end.status !== undefined) throw result;
     return result;
+  }
+
+  /** Gives the connection up, so that the next call opens another. */
+  _drop(message) {
+    if (this.#live) this.#live.end(BrokenConnection, message);
+    else this.#link?.then((link) => link.end(BrokenConnection, message), () => {});
+  }
+
+  #options({ timeout = this.#timeout, signal } = {}) {
+    signal?.throwIfAborted();
+    return { timeout: checkTimeout(timeout), signal };
   }
 
   async #opened() {
     if (this.#isClosed) throw new BrokenConnection('the client is closed');
-    this.#link ??= Link.open(this.#address, this.#timeout, () => {
-      this.#link = undefined;
+    this.#link ??= Link.open(this.#address, this.#tls, this.#timeout, this.#isUnref, () => {
+      this.#link = this.#live = undefined;
     });
-    return this.#link;
+    const link = await this.#link;
+    if (!link.hasEnded) this.#live = link;
+    return link;
+  }
+
+  async #openedForACall() {
+    try {
+      return await this.#opened();
+    } catch (fault) {
+      if (fault instanceof BrokenConnection) throw fault;
+      throw new BrokenConnection(`no new connection: ${fault.message}`, { cause: fault });
+    }
   }
 }
 
-/** One connection: its socket, and the requests that wait for a reply, in order. */
-class Link {
-  #socket;
-  #replies = new Replies();
-  #waiting = [];
-  #number = 0;
-  #fault;
-  #ended;
+/** At most so many connections of a tenant. A call has one for itself, so that a timeout or a lost connection is that call's alone. */
+export class Pool extends Calls {
+  #clients;
+  #idle;
+  #waiting = new Queue();
+  #timeout;
 
-  /** Opens a connection; `ended` is called where it cannot be opened, and once it has ended. */
-  static open(address, timeout, ended) {
-    return new Promise((resolve, reject) => {
-      const fail = (fault) => {
-        ended();
-        reject(fault);
-      };
-      const socket = net.connect({ ...address, noDelay: true, timeout });
-      socket.once('error', fail);
-      socket.once('timeout', () => socket.destroy(new TimedOut(`no connection within ${timeout} ms`)));
-      socket.once('connect', () => {
-        socket.setTimeout(0);
-        socket.removeListener('error', fail);
-        resolve(new Link(socket, ended));
-      });
-    });
+  constructor({ size = 4, ...options } = {}) {
+    super();
+    if (!Number.isInteger(size) || size < 1) throw new RangeError(`a pool has at least 1 connection, not ${size}`);
+    this.#clients = Array.from({ length: size }, () => new Client(options));
+    this.#idle = [...this.#clients];
+    this.#timeout = options.timeout ?? 30_000;
   }
 
-  constructor(socket, ended) {
-    this.#socket = socket;
-    this.#ended = ended;
-    socket.on('data', (piece) => this.#take(piece));
-    socket.on('error', (fault) => this.end(new BrokenConnection(fault.message)));
-    socket.on('end', () => this.end(new BrokenConnection('the server ended the connection')));
-    socket.on('close', () => this.end(new BrokenConnection('the connection is closed')));
+  /** Opens a connection, where none is open. A call does so by itself. */
+  async open() {
+    await this.#lend((client) => client.open());
   }
 
-  /** Writes a request's frame, and gives a promise of what its reply says. */
-  send(key, it, timeout) {
-    if (this.#fault) return Promise.reject(this.#fault);
-    return new Promise((resolve, reject) => {
-      this.#number = (this.#number + 1) % NUMBERS;
-      const late = () => this.end(new BrokenConnection('another call on the connection had no answer in time'), timed);
-      const timer = setTimeout(late, timeout);
-      const timed = { number: this.#number, it, timer, resolve, reject, timeout };
-      this.#waiting.push(timed);
-      this.#socket.write(frame(key, this.#number, it));
-    });
+  /** Closes the pool for good. Calls under way are rejected with BrokenConnection. */
+  close() {
+    for (const it of this.#clients) it.close();
   }
 
-  #take(piece) {
+  /** Lets the process end while no call is under way, although connections are open. */
+  unref() {
+    for (const it of this.#clients) it.unref();
+    return this;
+  }
+
+  /** Takes `unref` back. */
+  ref() {
+    for (const it of this.#clients) it.ref();
+    return this;
+  }
+
+  /** As `Client.pipeline`, over one of the connections. */
+  async pipeline(requests, options) {
+    return await this.#lend((client) => client.pipeline(requests, options), options);
+  }
+
+  async _call(make, options) {
+    const { timeout = this.#timeout } = options ?? {};
+    const until = performance.now() + timeout;
+    // what it waited for a connection is of its own time
+    return await this.#lend((client) => client._call(make, { ...options, timeout: left(until, timeout) }), options);
+  }
+
+  async #lend(use, { timeout = this.#timeout, signal } = {}) {
+    signal?.throwIfAborted();
+    const client = this.#idle.pop() ?? (await this.#free(checkTimeout(timeout), signal));
     try {
-      for (const reply of this.#replies.feed(piece)) {
-        if (this.#waiting.length === 0) throw new BrokenConnection(`a reply numbered ${reply.number} answers no request`);
-        const { number, it, timer, resolve } = this.#waiting[0];
-        const result = outcome(reply, number, it);
-        this.#waiting.shift();
-        clearTimeout(timer);
-        resolve(result);
-      }
+      return await use(client);
     } catch (fault) {
-      this.end(fault);
+      // its reply is still to come, and would keep the next call waiting
+      if (signal?.aborted) client._drop('a call on the connection was aborted');
+      throw fault;
+    } finally {
+      this.#giveBack(client);
     }
   }
 
-  /** Closes the connection: no reply will come to what waits, of which one may have waited too long. */
-  end(fault, late) {
-    if (this.#fault) return;
-    this.#fault = fault;
-    this.#ended();
-    this.#socket.destroy();
-    for (const it of this.#waiting.splice(0)) {
-      clearTimeout(it.timer);
-      it.reject(it === late ? new TimedOut(`no answer within ${it.timeout} ms`) : fault);
+  #giveBack(client) {
+    while (this.#waiting.length > 0) {
+      const next = this.#waiting.first;
+      this.#waiting.shift();
+      if (next(client)) return;
     }
+    this.#idle.push(client);
+  }
+
+  /** Waits until a call gives its connection back. */
+  #free(timeout, signal) {
+    return new Promise((resolve, reject) => {
+      let isOver = false;
+      const over = () => {
+        if (isOver) return false;
+        clearTimeout(late);
+        signal?.removeEventListener('abort', abort);
+        return (isOver = true);
+      };
+      const abort = () => over() && reject(signal.reason);
+      const late = setTimeout(() => over() && reject(new TimedOut(`no connection of the pool came free within ${timeout} ms`)), timeout);
+      signal?.addEventListener('abort', abort, { once: true });
+      this.#waiting.push((client) => over() && (resolve(client), true));
+    });
   }
 }

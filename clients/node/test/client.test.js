@@ -6,9 +6,16 @@ import assert from 'node:assert/strict';
 import { spawn } from 'node:child_process';
 import net from 'node:net';
 import { once } from 'node:events';
+import { mkdtempSync, readFileSync, rmSync, writeFileSync } from 'node:fs';
+import { tmpdir } from 'node:os';
+import { join } from 'node:path';
 import { after, before, beforeEach, test } from 'node:test';
 import { fileURLToPath } from 'node:url';
-import { BrokenConnection, QUERY_LIMIT, Refused, TEXT_LIMIT, TimedOut, connect, request } from '../index.js';
+import * as all from '../index.js';
+import {
+  BrokenConnection, ExactNumber, Exists, LostConnection, NotFound, NotJson, NotWellFormed, QUERY_LIMIT, Refused, TEXT_LIMIT, TimedOut, connect,
+  pool, readKey, request,
+} from '../index.js';
 
 const PROGRAM = process.env.PATH_SERVER || fileURLToPath(new URL('../../../crates/path_program/out/path_program', import.meta.url));
 const KEY = '00112233445566778899aAbBcCdDeEfF';
@@ -22,13 +29,19 @@ async function listen(...words) {
   return { at: /^listening (\S+)\n$/.exec(line)[1], stop: () => (server.kill(), once(server, 'exit')) };
 }
 
-/** The address of a peer that answers a first request with these bytes, one at a time, and ends; or that says nothing. */
+/**
+ * The address of a peer that answers a first request with these bytes, one at a time, and ends; or that says nothing. `N` is the number of the
+ * request, and `N+` the next one.
+ */
 async function peer(t, reply) {
   const listener = net.createServer((socket) => {
     socket.on('error', () => {});
-    socket.once('data', () => {
+    socket.once('data', (asked) => {
       if (reply === undefined) return;
-      for (const byte of Buffer.from(reply.replaceAll(' ', ''), 'hex')) socket.write(Buffer.of(byte));
+      const digits = (number) => (number >>> 0).toString(16).padStart(8, '0');
+      const number = asked.readUInt32BE(5);
+      const filled = reply.replaceAll('N+', digits(number + 1)).replaceAll('N', digits(number)).replaceAll(' ', '');
+      for (const byte of Buffer.from(filled, 'hex')) socket.write(Buffer.of(byte));
       socket.end();
     });
   });
@@ -37,6 +50,40 @@ async function peer(t, reply) {
   t.after(() => listener.close());
   return `127.0.0.1:${listener.address().port}`;
 }
+
+/** The address of a peer that gives each connection to `serve`, which gets the bodies of its requests, and those that it has seen. */
+async function answering(t, serve) {
+  const seen = [];
+  const listener = net.createServer((socket) => {
+    let rest = Buffer.alloc(0);
+    socket.on('error', () => {});
+    const place = listener.count;
+    listener.count += 1;
+    socket.on('data', (piece) => {
+      rest = Buffer.concat([rest, piece]);
+      for (let end; rest.length >= 4 && rest.length >= (end = 4 + rest.readUInt32BE(0)); rest = rest.subarray(end)) {
+        seen.push(rest.subarray(4, end));
+        serve(socket, seen.at(-1), place);
+      }
+    });
+  });
+  listener.count = 0;
+  listener.listen(0, '127.0.0.1');
+  await once(listener, 'listening');
+  t.after(() => listener.close());
+  return { at: `127.0.0.1:${listener.address().port}`, seen };
+}
+
+/** The frame of an Ok to a request. */
+function ok(asked, payload = Buffer.alloc(0)) {
+  const head = Buffer.alloc(9);
+  head.writeUInt32BE(5 + payload.length, 0);
+  asked.copy(head, 5, 1, 5);
+  return Buffer.concat([head, payload]);
+}
+
+const USAGE = Buffer.alloc(12);
+const usage = { collections: 0, documents: 0, bytes: 0 };
 
 let server;
 let client;
@@ -66,18 +113,23 @@ test('commands', async () => {
 
 test('refusals', async () => {
   await client.put('shop', 'order-1', '[1]');
-  for (const [name, call] of [
-    ['NotJson', () => client.put('shop', 'order-1', '{')],
-    ['Exists', () => client.putNew('shop', 'order-1', '[]')],
-    ['NotFound', () => client.get('shop', 'order-2')],
-    ['NotFound', () => client.drop('more')],
-    ['NotWellFormed', () => client.query('shop', '$[')],
+  for (const [kind, place, call] of [
+    [NotJson, ['PUT', 'shop', 'order-1'], () => client.put('shop', 'order-1', '{')],
+    [Exists, ['PUT_NEW', 'shop', 'order-1'], () => client.putNew('shop', 'order-1', '[]')],
+    [NotFound, ['GET', 'shop', 'order-2'], () => client.get('shop', Buffer.from('order-2'))],
+    [NotFound, ['DROP', 'more', ''], () => client.drop('more')],
+    [NotWellFormed, ['QUERY', 'shop', ''], () => client.query('shop', '$[')],
   ]) {
-    await assert.rejects(call, { name: 'Refused', message: name });
+    await assert.rejects(call, (found) => {
+      assert.ok(found instanceof kind && found instanceof Refused);
+      assert.equal(found.name, kind.name);
+      assert.deepEqual([found.command, found.collection, found.document], place);
+      return true;
+    });
   }
   assert.equal((await client.get('shop', 'order-1')).toString(), '[1]');
   const stranger = await connect({ at: server.at, key: new Uint8Array(16) });
-  await assert.rejects(stranger.usage(), { message: 'NoTenant', status: 2 });
+  await assert.rejects(stranger.usage(), { name: 'NoTenant', status: 2 });
   stranger.close();
 });
 
@@ -97,15 +149,24 @@ test('requests that are none', async () => {
   }
   await client.put('c'.repeat(64), 'd'.repeat(128), `${' '.repeat(TEXT_LIMIT - 1)}1`);
   await client.drop('c'.repeat(64));
-  await assert.rejects(connect({ at: server.at, key: KEY.slice(2) }), RangeError);
-  await assert.rejects(connect({ at: '127.0.0.1', key: KEY }), RangeError);
+  for (const key of [KEY.slice(2), '0123456789abcdef', new Uint8Array(15), 7, 'g'.repeat(32)]) {
+    await assert.rejects(connect({ at: server.at, key }), RangeError);
+  }
+  for (const at of ['127.0.0.1', '127.0.0.1:65536', '127.0.0.1:0', ':7000', '::1:7000', 'http://127.0.0.1:7000', '127.0.0.1:7000/x', '']) {
+    await assert.rejects(connect({ at, key: KEY }), RangeError, at);
+  }
+  for (const timeout of [0, -1, 3e9, Infinity, NaN, null, '30']) {
+    await assert.rejects(connect({ at: server.at, key: KEY, timeout }), /a timeout is a number of milliseconds from 1 to 2147483647/);
+    await assert.rejects(client.usage({ timeout }), RangeError);
+  }
+  for (const size of [0, 1.5, '4']) await assert.rejects(pool({ at: server.at, key: KEY, size }), RangeError);
 });
 
 test('pipeline', async () => {
   const puts = Array.from({ length: 900 }, (_, place) => request.put('shop', `${place}`, `${place}`));
   const found = await client.pipeline([...puts, request.get('shop', 'none'), request.query('shop', '$[0]'), request.get('shop', '899')]);
   assert.deepEqual(found.slice(0, 900), Array(900).fill(undefined));
-  assert.ok(found[900] instanceof Refused && found[900].message === 'NotFound');
+  assert.ok(found[900] instanceof Refused && found[900] instanceof NotFound);
   assert.deepEqual(found.slice(901), [[], Buffer.from('899')]);
 });
 
@@ -132,10 +193,10 @@ test('a new connection where the server closed one', async () => {
 
 test('replies in single bytes', async (t) => {
   for (const [reply, call, wanted] of [
-    ['00000011 00 00000001 00000001 00000002 00000003', (it) => it.usage(), { collections: 1, documents: 2, bytes: 3 }],
-    ['0000000d 00 00000001 00000002 0161 0162', (it) => it.list('c'), ['a', 'b']],
+    ['00000011 00 N 00000001 00000002 00000003', (it) => it.usage(), { collections: 1, documents: 2, bytes: 3 }],
+    ['0000000d 00 N 00000002 0161 0162', (it) => it.list('c'), ['a', 'b']],
     [
-      '00000017 00 00000001 00000001 0164 00000003 24c3a9 00000001 31',
+      '00000017 00 N 00000001 0164 00000003 24c3a9 00000001 31',
       (it) => it.query('c', '$'),
       [{ document: 'd', path: '$é', value: Buffer.from('1') }],
     ],
@@ -149,18 +210,18 @@ test('replies in single bytes', async (t) => {
 test('what is no reply', async (t) => {
   for (const [reply, call] of [
     ['', (it) => it.usage()],
-    ['00000011 00 00000001 0000', (it) => it.usage()],
+    ['00000011 00 N 0000', (it) => it.usage()],
     ['00000004 00 000000', (it) => it.usage()],
     ['00800001', (it) => it.usage()],
-    ['00000005 00 00000002', (it) => it.drop('c')],
+    ['00000005 00 N+', (it) => it.drop('c')],
     ['00000005 ff 00000000', (it) => it.drop('c')],
-    ['00000006 00 00000001 00', (it) => it.drop('c')],
-    ['00000006 0f 00000001 00', (it) => it.drop('c')],
-    ['00000010 00 00000001 00000001 00000002 000000', (it) => it.usage()],
-    ['0000000b 00 00000001 00000002 0161', (it) => it.list('c')],
-    ['0000000b 00 00000001 00000001 0261', (it) => it.list('c')],
-    ['00000015 00 00000001 00000001 0164 00000001 ff 00000001 31', (it) => it.query('c', '$')],
-    ['00000015 00 00000001 00000001 0164 00000001 24 00000002 31', (it) => it.query('c', '$')],
+    ['00000006 00 N 00', (it) => it.drop('c')],
+    ['00000006 0f N 00', (it) => it.drop('c')],
+    ['00000010 00 N 00000001 00000002 000000', (it) => it.usage()],
+    ['0000000b 00 N 00000002 0161', (it) => it.list('c')],
+    ['0000000b 00 N 00000001 0261', (it) => it.list('c')],
+    ['00000015 00 N 00000001 0164 00000001 ff 00000001 31', (it) => it.query('c', '$')],
+    ['00000015 00 N 00000001 0164 00000001 24 00000002 31', (it) => it.query('c', '$')],
   ]) {
     const it = await connect({ at: await peer(t, reply), key: KEY });
     await assert.rejects(call(it), BrokenConnection, reply);
@@ -173,4 +234,214 @@ test('silence', async (t) => {
   const ends = await Promise.allSettled([it.usage(), it.list('c')]);
   assert.ok(ends[0].reason instanceof TimedOut && ends[1].reason instanceof BrokenConnection);
   it.close();
+});
+
+test('texts that are none', async () => {
+  for (const text of [{ a: 1 }, [49, 50], 5, true, null, undefined, new Date()]) {
+    await assert.rejects(client.put('shop', 'none', text), /putJson/);
+    await assert.rejects(client.put('shop', 'none', text), TypeError);
+  }
+  await assert.rejects(client.get('shop', 7), TypeError);
+  await assert.rejects(client.get('shop', 'none'), NotFound);
+});
+
+test('documents with a hit, and hits one by one', async () => {
+  for (const [name, total] of [['a', 10], ['b', 30], ['c', 24]]) await client.putJson('shop', name, { id: name, total, items: [1, 2] });
+  assert.deepEqual(await client.documents('shop', '$[?$.total<25]'), ['a', 'c']);
+  assert.deepEqual(await client.documents('shop', '$[?$.total<0]'), []);
+  const hits = await client.hits('shop', '$.items[*]');
+  assert.equal(hits.length, 6);
+  assert.deepEqual([...hits], await client.query('shop', '$.items[*]'));
+});
+
+test('JSON', async () => {
+  const text = '{"a":1.10,"b":9007199254740993,"c":[1E400,"\\"é[",null,true],"__proto__":{}}';
+  await client.put('shop', 'exact', text);
+  const value = await client.getJson('shop', 'exact', { exact: true });
+  assert.deepEqual([value.a.text, value.c[0].text, Number(value.a)], ['1.10', '1E400', 1.1]);
+  await client.putJson('shop', 'again', value);
+  assert.equal((await client.get('shop', 'again')).toString(), text);
+  await client.putJson('shop', 'plain', { a: [1, 'é', 0.1, 2n ** 60n, new Date(0)], b: undefined });
+  assert.equal((await client.get('shop', 'plain')).toString(), '{"a":[1,"é",0.1,1152921504606846976,"1970-01-01T00:00:00.000Z"]}');
+  assert.deepEqual(await client.getJson('shop', 'exact'), JSON.parse(text));
+  for (const none of [NaN, Infinity, undefined, () => 1, [undefined], Symbol('a')]) await assert.rejects(client.putJson('shop', 'none', none), TypeError);
+  assert.throws(() => new ExactNumber('01'), RangeError);
+});
+
+test('keys and the environment', async (t) => {
+  const folder = mkdtempSync(join(tmpdir(), 'path-client-'));
+  t.after(() => rmSync(folder, { recursive: true }));
+  const file = join(folder, 'acme.key');
+  writeFileSync(file, `${KEY}\n`);
+  assert.deepEqual(readKey(file), Buffer.from(KEY, 'hex'));
+  Object.assign(process.env, { PATH_SERVER_AT: server.at, PATH_SERVER_KEY_FILE: file });
+  for (const opened of [await connect(), await pool(), await connect({ timeout: 1_000 })]) {
+    assert.deepEqual(await opened.usage(), await client.usage());
+    opened.close();
+  }
+  writeFileSync(file, `${KEY}\n${KEY}\n`);
+  assert.throws(() => readKey(file), /2 keys/);
+  delete process.env.PATH_SERVER_AT;
+  delete process.env.PATH_SERVER_KEY_FILE;
+  await assert.rejects(connect({ key: KEY }), /PATH_SERVER_AT/);
+  await assert.rejects(connect({ at: server.at }), /PATH_SERVER_KEY_FILE/);
+});
+
+test('the sentences are those of the shell', () => {
+  const rows = readFileSync(new URL('../../../crates/client_commands/src/statuses.rt', import.meta.url), 'utf8');
+  const found = [...rows.split('= [')[1].split('];')[0].matchAll(/\(\s*"(\w+)",\s*"([^"]*)",?\s*\)/g)].map(([, name, sentence]) => [name, sentence]);
+  assert.equal(found.length, 24);
+  for (const [status, [name, sentence]] of found.entries()) {
+    if (['Ok', 'Retired'].includes(name)) continue;
+    const refused = new all[name]();
+    assert.deepEqual([refused.status, refused.name, refused.sentence], [status, name, sentence.replace(' in ', '')]);
+  }
+  assert.equal(all.TooCostly, all.Costly);
+});
+
+test('the types name what there is', () => {
+  const types = readFileSync(new URL('../index.d.ts', import.meta.url), 'utf8');
+  const declared = [...types.matchAll(/export declare (?:abstract )?(?:class|function|const) (\w+)|export \{ \w+ as (\w+) \}/g)].map(([, name, other]) => name ?? other);
+  const methods = [...types.split('abstract class Calls')[1].split('\n}')[0].matchAll(/^ {2}(\w+)[<(]/gm)].map(([, name]) => name);
+  assert.deepEqual(declared.sort(), Object.keys(all).sort());
+  for (const name of methods) assert.equal(typeof client[name], 'function', name);
+  assert.ok(methods.length >= 18);
+});
+
+test('what reads is sent again once, and what writes is not', async (t) => {
+  const reads = { usage: [[], USAGE], list: [['c'], USAGE.subarray(4, 8)], query: [['c', '$'], USAGE.subarray(4, 8)], get: [['c', 'd'], Buffer.from('1')] };
+  const writes = { put: [['c', 'd', '1']], putNew: [['c', 'd', '1']], remove: [['c', 'd']], drop: [['c']] };
+  for (const [name, [words, payload]] of Object.entries({ ...reads, ...writes })) {
+    for (const open of [connect, pool]) {
+      const { at, seen } = await answering(t, (socket, asked, place) => (place === 0 ? socket.destroy() : socket.write(ok(asked, payload))));
+      const it = await open({ at, key: KEY });
+      if (payload) await it[name](...words);
+      else await assert.rejects(it[name](...words), LostConnection);
+      assert.equal(seen.length, payload ? 2 : 1, name);
+      it.close();
+    }
+  }
+  const never = await answering(t, (socket) => socket.destroy());
+  const it = await connect({ at: never.at, key: KEY });
+  await assert.rejects(it.usage(), LostConnection);
+  assert.equal(never.seen.length, 2);
+  it.close();
+});
+
+test('a pool: what befalls one call is its own', async (t) => {
+  const { at } = await answering(t, (socket, asked) => {
+    if (asked.at(-1) !== 48) setTimeout(() => socket.write(ok(asked, asked.subarray(-1))), 10);
+  });
+  const many = await pool({ at, key: KEY, size: 4, timeout: 1_000 });
+  const ends = await Promise.allSettled(Array.from({ length: 10 }, (_, place) => many.get('c', `${place}`)));
+  assert.ok(ends[0].reason instanceof TimedOut);
+  assert.deepEqual(ends.slice(1).map((it) => it.value?.toString()), Array.from({ length: 9 }, (_, place) => `${place + 1}`));
+  many.close();
+  const silent = await pool({ at, key: KEY, size: 1, timeout: 1_000 });
+  const began = performance.now();
+  const late = await Promise.allSettled([silent.get('c', '0'), silent.get('c', '0'), silent.get('c', '0')]);
+  assert.ok(late.every((it) => it.reason instanceof TimedOut));
+  assert.ok(performance.now() - began < 1_900);
+  silent.close();
+  const closing = await answering(t, (socket, asked) => socket.end(ok(asked, asked.subarray(-1))));
+  const again = await pool({ at: closing.at, key: KEY });
+  const found = await Promise.all(Array.from({ length: 200 }, (_, place) => again.get('c', `${place % 10}`)));
+  assert.deepEqual(found.map(String), Array.from({ length: 200 }, (_, place) => `${place % 10}`));
+  again.close();
+});
+
+test('a pipeline: async sources, its results behind a fault, and a timeout for each reply', async (t) => {
+  async function* source() {
+    yield request.put('shop', 'a', '1');
+    yield request.get('shop', 'a');
+    throw new Error('the source');
+  }
+  await assert.rejects(client.pipeline(source()), (fault) => {
+    assert.deepEqual([fault.message, fault.results], ['the source', [undefined, Buffer.from('1')]]);
+    return true;
+  });
+  let stop = 10;
+  const slow = await answering(t, (socket, asked) => {
+    socket.turn = (socket.turn ?? Promise.resolve()).then(() => new Promise((done) => setTimeout(done, 150))).then(() => {
+      socket.count = (socket.count ?? 0) + 1;
+      if (socket.count <= stop) socket.write(ok(asked, USAGE));
+    });
+  });
+  const it = await connect({ at: slow.at, key: KEY, timeout: 1_000 });
+  assert.deepEqual(await it.pipeline(Array(10).fill(request.usage())), Array(10).fill(usage));
+  it.close();
+  stop = 4;
+  const late = await connect({ at: slow.at, key: KEY, timeout: 1_000 });
+  await assert.rejects(late.pipeline(Array(10).fill(request.usage())), (fault) => fault instanceof TimedOut && fault.results.length === 4);
+  late.close();
+  const lost = await answering(t, (socket, asked, place) => (socket.count = (socket.count ?? 0) + 1) <= 3 ? socket.write(ok(asked, USAGE)) : socket.destroy());
+  const broken = await connect({ at: lost.at, key: KEY });
+  await assert.rejects(broken.pipeline(Array(5).fill(request.usage())), (fault) => fault instanceof LostConnection && fault.results.length === 3);
+  broken.close();
+});
+
+test('a server that drips', async (t) => {
+  const { at } = await answering(t, async (socket, asked) => {
+    for (const byte of ok(asked, USAGE)) {
+      socket.write(Buffer.of(byte));
+      await new Promise((done) => setTimeout(done, 100));
+    }
+  });
+  for (const open of [connect, pool]) {
+    const it = await open({ at, key: KEY, timeout: 300 });
+    await assert.rejects(it.usage(), TimedOut);
+    assert.deepEqual(await it.usage({ timeout: 10_000 }), usage);
+    it.close();
+  }
+});
+
+test('signals', async (t) => {
+  const { at } = await answering(t, (socket, asked) => {
+    if (asked.at(-1) !== 48) socket.write(ok(asked, asked.subarray(-1)));
+  });
+  for (const open of [connect, pool]) {
+    const it = await open({ at, key: KEY, size: 1 });
+    await assert.rejects(it.get('c', '1', { signal: AbortSignal.abort() }), { name: 'AbortError' });
+    await assert.rejects(it.get('c', '0', { signal: AbortSignal.timeout(50) }), { name: 'TimeoutError' });
+    if (open === pool) assert.equal((await it.get('c', '1')).toString(), '1');
+    it.close();
+  }
+});
+
+test('the stack names the caller', async () => {
+  async function askForIt() {
+    await client.get('shop', 'none');
+  }
+  await assert.rejects(askForIt, (fault) => fault.stack.includes('askForIt'));
+});
+
+test('a process ends where the client is unref', async () => {
+  const script = `import { connect } from '${new URL('../index.js', import.meta.url)}';
+    const client = (await connect({ at: '${server.at}', key: '${KEY}' })).unref();
+    console.log((await client.usage()).bytes >= 0);`;
+  const child = spawn(process.execPath, ['--input-type=module', '-e', script], { stdio: ['ignore', 'pipe', 'inherit'], timeout: 20_000 });
+  const [line] = await once(child.stdout, 'data');
+  assert.deepEqual([line.toString(), await once(child, 'exit')], ['true\n', [0, null]]);
+});
+
+test('await using closes', async () => {
+  if (!Symbol.asyncDispose) return;
+  const it = await connect({ at: server.at, key: KEY });
+  await it[Symbol.asyncDispose]();
+  await assert.rejects(it.usage(), { message: 'the client is closed' });
+});
+
+test('many calls at once cost what few do', async () => {
+  const seconds = async (count) => {
+    const began = process.cpuUsage();
+    await Promise.all(Array.from({ length: count }, () => client.usage({ timeout: 300_000 })));
+    const { user, system } = process.cpuUsage(began);
+    return (user + system) / count;
+  };
+  await seconds(10_000);
+  const few = [];
+  for (let turn = 0; turn < 20; turn += 1) few.push(await seconds(1_000));
+  const each = few.reduce((sum, it) => sum + it) / few.length;
+  const many = Math.min(await seconds(100_000), await seconds(100_000));
+  assert.ok(many <= 1.5 * each, `${many} µs of a call among 100,000, ${each} among 1,000`);
 });

@@ -1,35 +1,75 @@
-"""The client for the tasks of an event loop."""
+"""The client and the pool for the tasks of an event loop."""
 from __future__ import annotations
 
 import asyncio
 import collections
+import os
 import socket
-import time
-from typing import Any, Awaitable, Deque, Iterable, List, Optional, Tuple
+import ssl as tls
+from typing import Any, AsyncIterable, AsyncIterator, Awaitable, Callable, Deque, Generator, Generic, Iterable, List, Optional, Tuple, TypeVar, Union
 
-from .client import PIECE_BYTES, Address, parse_address
-from .frames import NUMBERS, BrokenConnection, Hit, Refused, Replies, Reply, Request, Text, Usage, check_key
+from .calls import AsyncCalls
+from .connection import PIECE_BYTES
+from .frames import Replies, Reply, Request, next_number
+from .opening import Address, Key, check_key, check_timeout, parse_address
+from .refusals import BrokenConnection, LostConnection, Refused, TimedOut
+
+Result = TypeVar("Result")
+Opened = TypeVar("Opened")
+Context = Optional[tls.SSLContext]
+Requests = Union[Iterable[Request[Result]], AsyncIterable[Request[Result]]]
 
 
-async def connect_async(address: Address, key: bytes, timeout: float = 30.0) -> AsyncClient:
-    """Opens a connection for the tenant of `key`. `timeout` in seconds bounds the opening and, after it, each call.
+def connect_async(address: Optional[Address] = None, key: Optional[Key] = None, timeout: float = 30.0,
+                  ssl: Context = None) -> Opening[AsyncClient]:
+    """Opens a connection for the tenant of `key`: to be awaited, or to stand behind `async with`. The arguments are those of `connect`.
 
-    Raises OSError if there is no server, ValueError if the key does not have 16 bytes or the address is invalid.
+    Raises OSError if there is no server, ValueError if the address, the key or the timeout is invalid.
     """
-    client = AsyncClient(address, key, timeout)
-    await client.open()
-    return client
+    client = AsyncClient(address, key, timeout, ssl)
+    return Opening(client, client.open, client.close)
 
 
-class AsyncClient:
-    """A tenant's connection for the tasks of one event loop. Calls that overlap are sent one behind the other over it, without waiting."""
+def pool_async(address: Optional[Address] = None, key: Optional[Key] = None, size: int = 4, timeout: float = 30.0,
+               ssl: Context = None) -> Opening[AsyncPool]:
+    """Opens a pool of so many connections at most, the first at once: to be awaited, or to stand behind `async with`."""
+    found = AsyncPool(address, key, size, timeout, ssl)
+    return Opening(found, found.open, found.close)
 
-    def __init__(self, address: Address, key: bytes, timeout: float = 30.0) -> None:
+
+class Opening(Generic[Opened]):
+    """A client or a pool that is opened where it is awaited."""
+
+    def __init__(self, what: Opened, open: Callable[[], Awaitable[None]], close: Callable[[], Awaitable[None]]) -> None:
+        self._what, self._opens, self._closes = what, open, close
+
+    def __await__(self) -> Generator[Any, None, Opened]:
+        return self._open().__await__()
+
+    async def __aenter__(self) -> Opened:
+        return await self._open()
+
+    async def __aexit__(self, *_: object) -> None:
+        await self._closes()
+
+    async def _open(self) -> Opened:
+        await self._opens()
+        return self._what
+
+
+class AsyncClient(AsyncCalls):
+    """A tenant's connection for the tasks of an event loop. Calls that overlap are sent one behind the other over it, without waiting. In
+    another loop, and in a child behind a fork, it opens another connection.
+    """
+
+    def __init__(self, address: Optional[Address] = None, key: Optional[Key] = None, timeout: float = 30.0, ssl: Context = None) -> None:
         self.address = parse_address(address)
         self.key = check_key(key)
-        self.timeout = timeout
-        self._link: Optional[_Link] = None
-        self._opening = asyncio.Lock()
+        """The tenant's key of the calls that follow; may be set anew between calls."""
+        self.timeout = check_timeout(timeout)
+        """Seconds that each call takes at most."""
+        self.ssl = ssl
+        self._home: Optional[_Home] = None
         self._is_closed = False
 
     async def __aenter__(self) -> AsyncClient:
@@ -40,141 +80,269 @@ class AsyncClient:
 
     async def open(self) -> None:
         """Opens the connection if it is not open. A call does so by itself. Raises OSError if there is no server."""
-        await self._open()
+        await self._open(self._deadline())
 
     async def close(self) -> None:
         """Closes the client for good; a second time does nothing. Calls under way raise BrokenConnection."""
         self._is_closed = True
-        if self._link is not None:
-            await self._link.close(BrokenConnection("the client is closed"))
+        link = self._here().link
+        if link is not None:
+            link.end(BrokenConnection("the client is closed"))
+            await link.ended()
 
-    async def put(self, collection: Text, document: Text, text: Text) -> None:
-        """Keeps a JSON text under a collection and a document, in the place of one that is there."""
-        return await self._call(Request.put(collection, document, text))
-
-    async def put_new(self, collection: Text, document: Text, text: Text) -> None:
-        """Keeps a JSON text under a collection and a document. Refused as Exists where a document is there."""
-        return await self._call(Request.put_new(collection, document, text))
-
-    async def get(self, collection: Text, document: Text) -> bytes:
-        """The text as it was put, byte for byte. Refused as NotFound if there is none."""
-        return await self._call(Request.get(collection, document))
-
-    async def remove(self, collection: Text, document: Text) -> None:
-        """Removes a document. Refused as NotFound if there is none."""
-        return await self._call(Request.remove(collection, document))
-
-    async def list(self, collection: Text) -> List[str]:
-        """The names of a collection's documents, in the order of their bytes; empty if there is no such collection."""
-        return await self._call(Request.list(collection))
-
-    async def query(self, collection: Text, query: Text) -> List[Hit]:
-        """The hits of a JSONPath query (RFC 9535) in each document of a collection, by document and within it in the query's order."""
-        return await self._call(Request.query(collection, query))
-
-    async def drop(self, collection: Text) -> None:
-        """Removes a collection with all its documents. Refused as NotFound if there is none."""
-        return await self._call(Request.drop(collection))
-
-    async def usage(self) -> Usage:
-        """What the tenant keeps."""
-        return await self._call(Request.usage())
-
-    async def ping(self) -> float:
-        """The seconds that a USAGE took: whether the server answers, and knows the key."""
-        began = time.monotonic()
-        await self.usage()
-        return time.monotonic() - began
-
-    async def pipeline(self, requests: Iterable[Request]) -> List[Any]:
+    async def pipeline(self, requests: Requests[Result]) -> List[Union[Result, Refused]]:
         """Sends requests without waiting for one reply before the next, and gives a result for each, in their order: the value, or the
-        Refused that the call would have raised. `timeout` bounds the whole.
-        """
-        return await self._within_timeout(self._exchange(requests))
+        Refused that the call would have raised. The requests may come from an async iterable. `timeout` bounds the wait for each reply.
 
-    async def _call(self, request: Request) -> Any:
-        (result,) = await self._within_timeout(self._exchange([request]))
+        If the requests raise, those before are carried out, and it raises the same. What it raises has the results of the replies that came,
+        as its attribute `results`.
+        """
+        link = await self._open_for_a_call(self._deadline())
+        waiting: List[asyncio.Future[Any]] = []
+        pace = _Pace(link, waiting, self.timeout)
+        fault: Optional[Exception] = None
+        try:
+            source = _each(requests)
+            while fault is None:
+                try:
+                    request = await source.__anext__()
+                    waiting.append(link.send(self.key, request))
+                except StopAsyncIteration:
+                    break
+                except Exception as found:
+                    fault = found
+                else:
+                    await link.drain()
+            results = [await it for it in waiting]
+        except (BrokenConnection, TimedOut) as found:
+            found.results = [it.result() for it in waiting if it.done() and not it.cancelled() and it.exception() is None]
+            raise
+        finally:
+            pace.end()
+        if fault is not None:
+            setattr(fault, "results", results)
+            raise fault
+        return results
+
+    async def _call(self, request: Request[Result]) -> Result:
+        return await self._call_by(request, self._deadline())
+
+    async def _call_by(self, request: Request[Result], deadline: float) -> Result:
+        try:
+            result = await self._ask(request, deadline)
+        except LostConnection:
+            if not request.is_read:
+                raise
+            result = await self._ask(request, deadline)
         if isinstance(result, Refused):
             raise result
         return result
 
-    async def _exchange(self, requests: Iterable[Request]) -> List[Any]:
-        link = await self._open()
-        waiting = []
-        for request in requests:
-            waiting.append(link.send(self.key, request))
-            await link.drain()
-        return [await result for result in waiting]
-
-    async def _within_timeout(self, exchange: Awaitable[List[Any]]) -> List[Any]:
-        """The exchange's results. Where they take too long the connection is dropped: the server may never answer on it."""
+    async def _ask(self, request: Request[Result], deadline: float) -> Union[Result, Refused]:
+        link = await self._open_for_a_call(deadline)
+        result = link.send(self.key, request)
+        timer = link.loop.call_at(deadline, link.expire, [result], self.timeout)
         try:
-            return await asyncio.wait_for(exchange, self.timeout)
-        except asyncio.TimeoutError:
-            fault = TimeoutError("no answer within {} seconds".format(self.timeout))
-            if self._link is not None:
-                await self._link.close(BrokenConnection("another call on the connection had no answer in time"))
-            raise fault from None
+            await link.drain()
+            found: Union[Result, Refused] = await result
+            return found
+        finally:
+            timer.cancel()
 
-    async def _open(self) -> _Link:
-        async with self._opening:
-            if self._is_closed:
-                raise BrokenConnection("the client is closed")
-            if self._link is None:
-                self._link = await asyncio.wait_for(_Link.open(self.address), self.timeout)
-            elif self._link.has_ended():
-                await self._link.close(BrokenConnection("the server ended the connection"))
-                try:
-                    self._link = await asyncio.wait_for(_Link.open(self.address), self.timeout)
-                except OSError as fault:
-                    raise BrokenConnection("no new connection: {}".format(fault)) from fault
-            return self._link
+    def _deadline(self) -> float:
+        return asyncio.get_running_loop().time() + self.timeout
+
+    def _here(self) -> _Home:
+        home = self._home
+        if home is None or not home.is_here():
+            home = self._home = _Home()
+        return home
+
+    def _drop(self, fault: BrokenConnection) -> None:
+        link = self._here().link
+        if link is not None:
+            link.end(fault)
+
+    async def _open(self, deadline: float) -> _Link:
+        if self._is_closed:
+            raise BrokenConnection("the client is closed")
+        home = self._here()
+        if home.link is not None and not home.link.has_ended():
+            return home.link
+        try:
+            return await asyncio.wait_for(self._reopen(home), deadline - home.loop.time())
+        except asyncio.TimeoutError:
+            raise TimedOut("no connection to {}:{} within {} seconds".format(*self.address, self.timeout)) from None
+
+    async def _reopen(self, home: _Home) -> _Link:
+        async with home.opening:
+            if home.link is None or home.link.has_ended():
+                if home.link is not None:
+                    home.link.end(LostConnection("the server ended the connection"))
+                reader, writer = await asyncio.open_connection(*self.address, ssl=self.ssl)
+                home.link = _Link(reader, writer)
+            return home.link
+
+    async def _open_for_a_call(self, deadline: float) -> _Link:
+        try:
+            return await self._open(deadline)
+        except (BrokenConnection, TimedOut):
+            raise
+        except OSError as fault:
+            raise BrokenConnection("no new connection: {}".format(fault)) from fault
+
+
+class AsyncPool(AsyncCalls):
+    """At most so many connections of a tenant. A call has one for itself, so that a timeout or a lost connection is that call's alone."""
+
+    def __init__(self, address: Optional[Address] = None, key: Optional[Key] = None, size: int = 4, timeout: float = 30.0,
+                 ssl: Context = None) -> None:
+        if not isinstance(size, int) or size < 1:
+            raise ValueError("a pool has at least 1 connection, not {!r}".format(size))
+        self._clients = [AsyncClient(address, key, timeout, ssl) for _ in range(size)]
+        self._home: Optional[_Home] = None
+
+    async def __aenter__(self) -> AsyncPool:
+        return self
+
+    async def __aexit__(self, *_: object) -> None:
+        await self.close()
+
+    async def open(self) -> None:
+        """Opens a connection if none is open. A call does so by itself. Raises OSError if there is no server."""
+        await self._lend(lambda client, _: client.open())
+
+    async def close(self) -> None:
+        """Closes the pool for good; a second time does nothing. Calls under way raise BrokenConnection."""
+        await asyncio.gather(*(it.close() for it in self._clients))
+
+    async def pipeline(self, requests: Requests[Result]) -> List[Union[Result, Refused]]:
+        """As `AsyncClient.pipeline`, over one of the connections."""
+        found: List[Union[Result, Refused]] = await self._lend(lambda client, _: client.pipeline(requests))
+        return found
+
+    async def _call(self, request: Request[Result]) -> Result:
+        found: Result = await self._lend(lambda client, deadline: client._call_by(request, deadline))
+        return found
+
+    async def _lend(self, use: Any) -> Any:
+        home = self._home
+        if home is None or not home.is_here():
+            home = self._home = _Home()
+            for it in self._clients:
+                home.idle.put_nowait(it)
+        client: AsyncClient
+        seconds = self._clients[0].timeout
+        deadline = home.loop.time() + seconds
+        try:
+            client = home.idle.get_nowait()
+        except asyncio.QueueEmpty:
+            try:
+                client = await asyncio.wait_for(home.idle.get(), seconds)
+            except asyncio.TimeoutError:
+                raise TimedOut("no connection of the pool came free in time") from None
+        try:
+            return await use(client, deadline)
+        except asyncio.CancelledError:
+            client._drop(BrokenConnection("a call on the connection was cancelled"))
+            raise
+        finally:
+            home.idle.put_nowait(client)
+
+
+class _Home:
+    """What a client or a pool has in one event loop of one process."""
+
+    def __init__(self) -> None:
+        self.process = os.getpid()
+        self.loop = asyncio.get_running_loop()
+        self.opening = asyncio.Lock()
+        self.link: Optional[_Link] = None
+        self.idle: asyncio.LifoQueue[AsyncClient] = asyncio.LifoQueue()
+
+    def is_here(self) -> bool:
+        return self.process == os.getpid() and self.loop is asyncio.get_running_loop()
+
+
+class _Pace:
+    """Ends a connection over which a pipeline has waited too long for its next reply."""
+
+    def __init__(self, link: _Link, waiting: List[asyncio.Future[Any]], seconds: float) -> None:
+        self._link, self._waiting, self._seconds = link, waiting, seconds
+        self._timer = link.loop.call_later(seconds, self._look)
+
+    def _look(self) -> None:
+        rest = self._seconds - self._link.silence()
+        if rest > 0:
+            self._timer = self._link.loop.call_later(rest, self._look)
+        else:
+            self._link.expire(self._waiting, self._seconds)
+
+    def end(self) -> None:
+        self._timer.cancel()
 
 
 class _Link:
     """One connection: what waits for a reply, in order, and the task that reads replies."""
 
-    @staticmethod
-    async def open(address: Tuple[str, int]) -> _Link:
-        reader, writer = await asyncio.open_connection(*address)
-        writer.get_extra_info("socket").setsockopt(socket.IPPROTO_TCP, socket.TCP_NODELAY, 1)
-        return _Link(reader, writer)
-
     def __init__(self, reader: asyncio.StreamReader, writer: asyncio.StreamWriter) -> None:
+        writer.get_extra_info("socket").setsockopt(socket.IPPROTO_TCP, socket.TCP_NODELAY, 1)
+        self.loop = asyncio.get_running_loop()
         self._reader = reader
         self._writer = writer
-        self._number = 0
-        self._waiting: Deque[Tuple[int, Request, asyncio.Future]] = collections.deque()
-        self._fault: Optional[OSError] = None
+        # before 3.10, only one task may wait for room at a time
+        self._draining = asyncio.Lock()
+        self._waiting: Deque[Tuple[int, Request[Any], asyncio.Future[Any]]] = collections.deque()
+        self._moved = self.loop.time()
+        self._fault: Optional[BrokenConnection] = None
         self._reading = asyncio.ensure_future(self._read())
 
     def has_ended(self) -> bool:
         return self._fault is not None or self._reader.at_eof()
 
-    def send(self, key: bytes, request: Request) -> asyncio.Future:
+    def silence(self) -> float:
+        """The seconds since a request began to wait for its reply as the first."""
+        return self.loop.time() - self._moved if self._waiting else 0.0
+
+    def send(self, key: bytes, request: Request[Any]) -> asyncio.Future[Any]:
         """Writes the request's frame, and gives what its reply will be."""
         if self._fault is not None:
-            raise self._fault
-        number = (self._number + 1) % NUMBERS
+            raise _again(self._fault)
+        number = next_number()
         frame = request.frame(key, number)
-        result = asyncio.get_running_loop().create_future()
-        self._number = number
+        result: asyncio.Future[Any] = self.loop.create_future()
+        if not self._waiting:
+            self._moved = self.loop.time()
         self._waiting.append((number, request, result))
         self._writer.write(frame)
         return result
 
     async def drain(self) -> None:
-        """Waits until there is room for more."""
+        """Waits until there is room for more. If the connection is lost, what waits for a reply says so."""
         try:
-            await self._writer.drain()
+            async with self._draining:
+                await self._writer.drain()
         except OSError as fault:
-            self._break(fault)
-            raise self._fault from fault
+            self.end(LostConnection(str(fault)))
 
-    async def close(self, fault: OSError) -> None:
-        self._break(fault)
-        self._reading.cancel()
-        self._writer.close()
+    def expire(self, late: Iterable[asyncio.Future[Any]], seconds: float) -> None:
+        """Ends the connection, since the server may never answer over it."""
+        for result in late:
+            _fail(result, TimedOut("no answer within {} seconds".format(seconds)))
+        self.end(BrokenConnection("another call on the connection had no answer in time"))
+
+    def end(self, fault: BrokenConnection) -> None:
+        """Closes the connection, and ends what waits: no reply will come."""
+        if self._fault is None:
+            self._fault = fault
+            self._reading.cancel()
+            self._writer.transport.abort()
+        for _, _, result in self._waiting:
+            _fail(result, _again(self._fault))
+        self._waiting.clear()
+
+    async def ended(self) -> None:
+        """Waits until no task is at work on it."""
         await asyncio.gather(self._reading, return_exceptions=True)
 
     async def _read(self) -> None:
@@ -183,12 +351,16 @@ class _Link:
             while True:
                 piece = await self._reader.read(PIECE_BYTES)
                 if not piece:
-                    raise BrokenConnection("the server ended the connection")
+                    raise LostConnection("the server ended the connection")
                 replies.feed(piece)
                 for reply in iter(replies.next, None):
                     self._settle(reply)
+        except BrokenConnection as fault:
+            self.end(fault)
         except OSError as fault:
-            self._break(fault)
+            self.end(LostConnection(str(fault)))
+        finally:
+            # also where the loop ends and cancels its tasks
             self._writer.close()
 
     def _settle(self, reply: Reply) -> None:
@@ -197,15 +369,27 @@ class _Link:
         number, request, result = self._waiting[0]
         outcome = request.outcome(number, reply)
         self._waiting.popleft()
+        self._moved = self.loop.time()
         if not result.done():
             result.set_result(outcome)
 
-    def _break(self, fault: OSError) -> None:
-        """Ends what waits: no reply will come."""
-        if self._fault is None:
-            self._fault = fault if isinstance(fault, BrokenConnection) else BrokenConnection(str(fault))
-        for _, _, result in self._waiting:
-            if not result.done():
-                result.set_exception(self._fault)
-                result.exception()
-        self._waiting.clear()
+
+def _again(fault: BrokenConnection) -> BrokenConnection:
+    """The same fault for another call."""
+    return type(fault)(str(fault))
+
+
+def _fail(result: asyncio.Future[Any], fault: OSError) -> None:
+    if not result.done():
+        result.set_exception(fault)
+        # nobody may await it any more
+        result.exception()
+
+
+async def _each(requests: Requests[Result]) -> AsyncIterator[Request[Result]]:
+    if isinstance(requests, AsyncIterable):
+        async for request in requests:
+            yield request
+    else:
+        for request in requests:
+            yield request

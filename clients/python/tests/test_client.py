@@ -4,19 +4,23 @@
 The program is the one that bin/build makes, or the one that the environment's PATH_SERVER names.
 """
 import asyncio
+import datetime
+import decimal
 import os
-import select
-import subprocess
+import pickle
+import re
 import sys
 import tempfile
+import tracemalloc
 import unittest
+import unittest.mock
 from pathlib import Path
 
 TOP = Path(__file__).resolve().parents[3]
 sys.path[:0] = [str(TOP / "clients/python"), str(TOP / "tests")]
 
 import path_client
-from path_client import BrokenConnection, Hit, Refused, Request, Usage
+from path_client import BrokenConnection, Exists, Hit, NotFound, NotJson, NotWellFormed, Refused, Request, TimedOut, Usage
 from lib.running_server import Listening
 
 KEY, OTHER, STRANGER = (bytes([place] * 16) for place in (1, 2, 3))
@@ -62,17 +66,66 @@ class OneThread(Served):
 
     def test_refusals(self):
         self.client.put("shop", "order-1", "[1]")
-        for name, call in (
-            ("NotJson", lambda: self.client.put("shop", "order-1", "{")),
-            ("Exists", lambda: self.client.put_new("shop", "order-1", "[]")),
-            ("NotFound", lambda: self.client.get("shop", "order-2")),
-            ("NotFound", lambda: self.client.drop("more")),
-            ("NotWellFormed", lambda: self.client.query("shop", "$[")),
+        for kind, place, call in (
+            (NotJson, ("PUT", "shop", "order-1"), lambda: self.client.put("shop", "order-1", "{")),
+            (Exists, ("PUT_NEW", "shop", "order-1"), lambda: self.client.put_new("shop", "order-1", "[]")),
+            (NotFound, ("GET", "shop", "order-2"), lambda: self.client.get("shop", b"order-2")),
+            (NotFound, ("DROP", "more", ""), lambda: self.client.drop("more")),
+            (NotWellFormed, ("QUERY", "shop", ""), lambda: self.client.query("shop", "$[")),
         ):
-            with self.assertRaises(Refused) as refused:
+            with self.assertRaises(kind) as refused:
                 call()
-            self.assertEqual(refused.exception.name, name)
+            found = refused.exception
+            self.assertEqual((found.name, found.command, found.collection, found.document), (kind.__name__, *place))
+        self.assertEqual(str(pickle.loads(pickle.dumps(found))), str(found))
         self.assertEqual(self.client.get("shop", "order-1"), b"[1]")
+
+    def test_documents_with_a_hit(self):
+        for name, total in (("a", 10), ("b", 30), ("c", 24)):
+            self.client.put_json("shop", name, {"id": name, "total": total, "items": [1, 2]})
+        self.assertEqual(self.client.documents("shop", "$[?$.total<25]"), ["a", "c"])
+        self.assertEqual(self.client.documents("shop", "$[?$.total<0]"), [])
+        self.assertEqual(len(self.client.query("shop", "$[?$.total<25]")), 6)
+
+    def test_hits_one_by_one(self):
+        """A reply of 8 MB is not copied to go over its hits."""
+        text = b"[" + b",".join([b'"' + b"x" * 998 + b'"'] * 4_000) + b"]"
+        self.client.put("shop", "a", text)
+        self.client.put("shop", "b", text)
+        hits = self.client.hits("shop", "$[*]")
+        self.assertEqual(len(hits), 8_000)
+        tracemalloc.start()
+        found = sum(len(hit.value) for hit in hits)
+        _, most = tracemalloc.get_traced_memory()
+        tracemalloc.stop()
+        self.assertEqual(found, 8_000_000)
+        self.assertLess(most, 100_000)
+        self.assertEqual([*hits], self.client.query("shop", "$[*]"))
+
+    def test_json(self):
+        text = b'{"a":1.10,"b":9007199254740993,"c":[1E400,"\xc3\xa9",null,true],"d":{}}'
+        self.client.put("shop", "exact", text)
+        value = self.client.get_json("shop", "exact", exact=True)
+        self.assertEqual(value["a"], decimal.Decimal("1.10"))
+        self.client.put_json("shop", "again", value)
+        self.assertEqual(self.client.get("shop", "again"), text.replace(b"1E400", b"1E+400"))
+        self.client.put_json("shop", "plain", {"a": [1, "é", 0.1]})
+        self.assertEqual(self.client.get("shop", "plain"), '{"a":[1,"é",0.1]}'.encode())
+        self.assertEqual(self.client.get_json("shop", "plain"), {"a": [1, "é", 0.1]})
+        for value in (float("nan"), decimal.Decimal("Infinity"), {"a": datetime.date(2026, 11, 28)}, {1: decimal.Decimal(1)}):
+            self.assertRaises((TypeError, ValueError), self.client.put_json, "shop", "none", value)
+        self.assertRaises(NotFound, self.client.get, "shop", "none")
+
+    def test_texts_that_are_none(self):
+        """What is neither str nor bytes is not stored as other bytes."""
+        for value in ({"a": 1}, [49, 50], 5, True, None, datetime.date(2026, 11, 28)):
+            self.assertRaisesRegex(TypeError, "put_json", self.client.put, "shop", "none", value)
+        self.assertRaises(TypeError, self.client.get, "shop", 7)
+        self.assertRaises(TypeError, self.client.query, "shop", ["$"])
+        for value in (bytearray(b"[1]"), memoryview(b"[1]")):
+            self.client.put("shop", "one", value)
+            self.assertEqual(self.client.get("shop", "one"), b"[1]")
+        self.assertRaises(NotFound, self.client.get, "shop", "none")
 
     def test_another_key(self):
         with path_client.connect(self.address, STRANGER) as client:
@@ -103,6 +156,26 @@ class OneThread(Served):
         self.assertEqual(found[900].name, "NotFound")
         self.assertEqual(found[901:], [[], b"899"])
 
+    def test_a_pipeline_whose_requests_fail(self):
+        """Those before are carried out, and the fault has their results."""
+        def requests():
+            yield Request.put("shop", "a", "1")
+            yield Request.get("shop", "a")
+            yield Request.put("shop", "a b", "1")
+
+        with self.assertRaises(ValueError) as fault:
+            self.client.pipeline(requests())
+        self.assertEqual(fault.exception.results, [None, b"1"])
+        self.assertEqual(self.client.get("shop", "a"), b"1")
+
+    def test_a_call_within_a_pipeline(self):
+        self.client.put("shop", "a", "1")
+        with self.assertRaisesRegex(RuntimeError, "another client"):
+            self.client.pipeline(Request.put("shop", "b", self.client.get("shop", name)) for name in ("a",))
+        with path_client.pool(self.address, KEY) as many:
+            many.pipeline(Request.put("shop", "b", many.get("shop", name)) for name in ("a",))
+        self.assertEqual(self.client.get("shop", "b"), b"1")
+
     def test_a_pipeline_of_large_texts(self):
         text = b'"' + b"x" * 1_000_000 + b'"'
         found = self.client.pipeline(it for _ in range(20) for it in (Request.put("shop", "large", text), Request.get("shop", "large")))
@@ -123,7 +196,7 @@ class OneThread(Served):
 
 def wait_for_the_end(client):
     """Waits until the server has closed the client's connection."""
-    select.select([client._connection], [], [], 60)
+    client._links.get().connection.wait(False, 60)
 
 
 class ManyTasks(Served):
@@ -164,6 +237,33 @@ class ManyTasks(Served):
             self.assertEqual((found[0].name, found[1]), ("NotFound", Usage(1, 1, 1_000_002)))
         self.run_tasks(tasks)
 
+    def test_async_sources(self):
+        async def puts():
+            for place in range(200):
+                await asyncio.sleep(0)
+                yield Request.put("shop", str(place), str(place))
+            raise KeyError("the source")
+
+        async def tasks(client):
+            with self.assertRaises(KeyError) as fault:
+                await client.pipeline(puts())
+            self.assertEqual(fault.exception.results, [None] * 200)
+            self.assertEqual(len(await client.documents("shop", "$")), 200)
+            self.assertEqual(len(await client.hits("shop", "$")), 200)
+            await client.put_json("shop", "a", [decimal.Decimal("1.10")])
+            self.assertEqual(await client.get_json("shop", "a", exact=True), [decimal.Decimal("1.10")])
+        self.run_tasks(tasks)
+
+    def test_a_client_in_two_loops(self):
+        client = path_client.AsyncClient(self.address, KEY)
+
+        async def use():
+            async with path_client.connect_async(self.address, KEY) as other:
+                await asyncio.gather(*(client.put("shop", str(place), "1") for place in range(20)))
+                return await other.list("shop") == await client.list("shop")
+        for _ in range(3):
+            self.assertTrue(asyncio.run(use()))
+
     def test_a_call_that_is_cancelled(self):
         async def tasks(client):
             await client.put("shop", "order-1", "1")
@@ -182,45 +282,61 @@ class ManyTasks(Served):
             silent = await asyncio.start_server(take, "127.0.0.1", 0)
             async with await path_client.connect_async(silent.sockets[0].getsockname(), KEY, timeout=0.2) as client:
                 ends = await asyncio.gather(client.usage(), client.list("shop"), return_exceptions=True)
-                self.assertIn(TimeoutError, map(type, ends))
-                self.assertLessEqual(set(map(type, ends)), {TimeoutError, BrokenConnection})
+                self.assertIn(TimedOut, map(type, ends))
+                self.assertLessEqual(set(map(type, ends)), {TimedOut, BrokenConnection})
                 client.address, client.timeout = path_client.parse_address(self.address), 30.0
                 self.assertEqual(await client.list("shop"), [])
             silent.close()
         asyncio.run(tasks())
 
 
-class Commands(Served):
-    def run_command(self, *words, text=b"", **more):
+class Opening(Served):
+    def test_what_is_invalid(self):
+        for address in ("127.0.0.1", "127.0.0.1:65536", "127.0.0.1:0", "127.0.0.1:-1", "127.0.0.1:http", ":7000", "::1:7000",
+                        "http://127.0.0.1:7000", "tcp://127.0.0.1:7000/", "127.0.0.1:7000/x", ("127.0.0.1", 99_999), ""):
+            self.assertRaises(ValueError, path_client.connect, address, KEY)
+            self.assertRaises(ValueError, path_client.connect_async, address, KEY)
+        for key in (KEY[1:], "0123456789abcdef", "0" * 31, "g" * 32, 7):
+            self.assertRaises(ValueError, path_client.connect, self.address, key)
+        for timeout in (0, -1, None, float("nan"), float("inf"), "30", 1e12):
+            self.assertRaises(ValueError, path_client.connect, self.address, KEY, timeout)
+        for size in (0, -1, None, 1.5):
+            self.assertRaises(ValueError, path_client.pool, self.address, KEY, size)
+
+    def test_the_environment(self):
         with tempfile.NamedTemporaryFile("w", suffix=".key") as key:
             key.write(KEY.hex().upper() + "\n")
             key.flush()
-            paths = str(TOP / "clients/python")
-            environment = {**os.environ, "PATH_SERVER_AT": self.address, "PATH_SERVER_KEY_FILE": key.name, "PYTHONPATH": paths, **more}
-            command = [sys.executable, "-m", "path_client", *words]
-            ran = subprocess.run(command, input=text, capture_output=True, env=environment, timeout=60)
-        return ran.returncode, ran.stdout, ran.stderr
+            with unittest.mock.patch.dict(os.environ, PATH_SERVER_AT=self.address, PATH_SERVER_KEY_FILE=key.name):
+                for it in (path_client.connect(), path_client.pool(), path_client.connect(key=KEY.hex())):
+                    self.assertEqual(it.usage(), Usage(0, 0, 0))
+                    it.close()
+        with unittest.mock.patch.dict(os.environ, clear=True):
+            self.assertRaisesRegex(ValueError, "PATH_SERVER_AT", path_client.connect)
+            self.assertRaisesRegex(ValueError, "PATH_SERVER_KEY_FILE", path_client.connect, self.address)
 
-    def test_commands(self):
-        for words, text, wanted in (
-            (["put", "shop", "order-1"], TEXT, (0, b"", b"")),
-            (["put-new", "shop", "order-1"], TEXT, (1, b"", b"path_client: Exists\n")),
-            (["get", "shop", "order-1"], b"", (0, TEXT, b"")),
-            (["list", "shop"], b"", (0, b"order-1\n", b"")),
-            (["query", "shop", CHEAP], b"", (0, b"order-1\t$['items'][0]['name']\t\"tea\"\n", b"")),
-            (["query", "shop", "$["], b"", (2, b"", b"path_client: NotWellFormed\n")),
-            (["usage"], b"", (0, b"collections 1, documents 1, bytes 72\n", b"")),
-            (["remove", "shop", "order-1"], b"", (0, b"", b"")),
-            (["drop", "shop"], b"", (1, b"", b"path_client: NotFound\n")),
-        ):
-            self.assertEqual(self.run_command(*words, text=text), wanted, words)
-        self.assertRegex(self.run_command("ping")[1], rb"\d+\.\d{3} ms\n")
+    def test_no_server(self):
+        for it in (lambda: path_client.connect("127.0.0.1:1", KEY), lambda: path_client.pool("127.0.0.1:1", KEY)):
+            self.assertRaises(ConnectionRefusedError, it)
+        self.assertRaises(ConnectionRefusedError, lambda: asyncio.run(opened(path_client.pool_async("127.0.0.1:1", KEY))))
 
-    def test_what_is_invalid(self):
-        self.assertEqual(self.run_command("fetch")[0], 3)
-        self.assertEqual(self.run_command("get", "a b", "d")[0], 3)
-        self.assertEqual(self.run_command("usage", PATH_SERVER_KEY_FILE="/dev/null")[0], 3)
-        self.assertEqual(self.run_command("usage", PATH_SERVER_AT="127.0.0.1:1")[0], 4)
+
+async def opened(opening):
+    async with opening as client:
+        return await client.usage()
+
+
+class Sentences(unittest.TestCase):
+    def test_statuses(self):
+        """Each refusal says what the shell's does."""
+        rows = (TOP / "crates/client_commands/src/statuses.rt").read_text().partition("= [")[2].partition("];")[0]
+        found = re.findall(r'\(\s*"(\w+)",\s*"([^"]*)",?\s*\)', rows)
+        self.assertEqual(len(found), 24)
+        for status, (name, sentence) in enumerate(found):
+            if name not in ("Ok", "Retired"):
+                kind = getattr(path_client, name)
+                self.assertEqual((kind.status, kind.__name__, kind.sentence), (status, name, sentence.replace(" in ", "")))
+        self.assertIs(path_client.TooCostly, path_client.Costly)
 
 
 class KeyFiles(unittest.TestCase):

@@ -4,6 +4,8 @@ use Rattle.clap.specs.Values.{kind_of}
 use Rattle.clap.specs.declared.error.kind.ErrorKind.{ErrorKind}
 use Rattle.clap.specs.declared.error.kind.ErrorKind.TheVariants.{DisplayHelp, DisplayVersion, OutOfMemory}
 use Rattle.client_frames.specs.declared.requests.SendFault.TheVariants as send
+use Rattle.path_types.specs.declared.query_text.QueryFault.{QueryFault}
+use Rattle.path_types.specs.declared.query_text.QueryFault.TheVariants as query
 use Rattle.client_commands.specs.declared.failure.Failure.{Failure}
 use Rattle.client_commands.specs.declared.failure.Failure.TheVariants.{Words, AddressMissing, NoAddress, NoKeyFile, KeyFileUnread, KeyFile, CollectionName, DocumentName, NameQuery, Send, Refused, SomeRefused}
 use Rattle.client_commands.specs.declared.options.CommandLineFault.{CommandLineFault}
@@ -12,6 +14,13 @@ use Rattle.client_commands.specs.declared.options.CommandLineFault.TheVariants.{
 -- of a request that the server refuses, by the reply's status: 16 to 18 and 22 are those of a query
 abbrev pub status_of_refusal : ℕ → ℕ
 status_of_refusal status = if status == 16 || status == 17 || status == 18 || status == 22 then 2 else 1
+
+-- of a query's text that is refused, as the reply's status (docs/PROTOCOL.md); want of memory is no refusal of a text
+abbrev pub status_of_query : QueryFault → ℕ
+status_of_query query.QueryTooLong = 16
+status_of_query query.NotWellFormed = 17
+status_of_query query.NotValid = 18
+status_of_query query.Memory = 21
 
 abbrev pub status_of : Failure → ℕ
 status_of Words = 3

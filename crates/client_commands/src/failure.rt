@@ -1,12 +1,13 @@
 //! Why a command fails, and its exit status.
 
-ghost use Rattle.std.specs.Prelude.{◌≡◌, ◌⊎◌, ◌↔◌};
+ghost use Rattle.std.specs.Prelude.{◌≡◌, ◌≢◌, ◌⊎◌, ◌↔◌};
 ghost use Rattle.std.specs.IoError.{error_kind};
-ghost use Rattle.client_commands.specs.Statuses.{status_of, status_of_refusal};
+ghost use Rattle.client_commands.specs.Statuses.{status_of, status_of_query, status_of_refusal};
 
 use crate::messages::{Context, tell};
 use client_frames::{AnswerFault, PayloadFault, SendFault};
 use client_lines::{KeyFault, LineFault};
+use path_types::QueryFault;
 use std::io::{self, ErrorKind};
 
 /// Why a command fails.
@@ -80,6 +81,31 @@ impl Failure {
         match fault {
             LineFault::Memory => Failure::Memory,
             _ => Failure::NoReply,
+        }
+    }
+
+    /// The failure of a query that is refused here, as a server would.
+    pub fn of_query(fault: QueryFault) -> Failure
+        ensures memory { (result ≡ Failure.Memory) ↔ (fault ≡ QueryFault.Memory) }
+        ensures refused { (fault ≢ QueryFault.Memory) → result ≡ Failure.Refused (status_of_query fault) }
+    {
+        match fault {
+            QueryFault::QueryTooLong => Failure::Refused(16),
+            QueryFault::NotWellFormed => Failure::Refused(17),
+            QueryFault::NotValid => Failure::Refused(18),
+            QueryFault::Memory => Failure::Memory,
+        }
+    }
+
+    /// The failure of a query's lines on one document.
+    pub fn of_answer(fault: LineFault) -> Failure
+        ensures memory { (result ≡ Failure.Memory) ↔ (fault ≡ LineFault.Memory) }
+        ensures costly { (result ≡ Failure.Refused 22) ↔ (fault ≡ LineFault.Costly) }
+        ensures other { (fault ≢ LineFault.Costly) → status_of result ≡ 4 }
+    {
+        match fault {
+            LineFault::Costly => Failure::Refused(22),
+            _ => Failure::of_line(fault),
         }
     }
 

@@ -17,6 +17,9 @@ const VERSION: &str = "0.1.0";
 /// The longest `--timeout` in seconds, a day.
 const MOST_SECONDS: u64 = 86_400;
 
+/// The largest `--limit`, and that without one: more lines than a reply has.
+const MOST_LINES: u64 = 1_000_000_000;
+
 /// The command that is asked for.
 #[derive(Clone, Copy)]
 pub enum Verb {
@@ -45,6 +48,12 @@ pub struct Asked<'a> {
     pub file: Option<&'a str>,
     /// The query that selects each document's name.
     pub name: Option<&'a str>,
+    /// The one document that the query is evaluated on.
+    pub within: Option<&'a str>,
+    /// Whether the documents with a hit are printed in the place of the hits.
+    pub names: bool,
+    /// The most lines to print.
+    pub limit: u64,
     /// Whether output is JSON.
     pub json: bool,
     /// The seconds to wait for a byte from the server.
@@ -71,6 +80,9 @@ enum Word {
     Query,
     File,
     Name,
+    Within,
+    Names,
+    Limit,
 }
 
 /// The options that may stand before or after the subcommand.
@@ -112,7 +124,13 @@ const VERBS: [(&str, Verb, &str, &[Word]); 12] = [
         "query",
         Verb::Query,
         "Prints a line for each hit of a JSONPath query (RFC 9535): document, tab, path, tab, value",
-        &[Word::Collection, Word::Query],
+        &[
+            Word::Collection,
+            Word::Query,
+            Word::Names,
+            Word::Within,
+            Word::Limit,
+        ],
     ),
     (
         "drop",
@@ -179,6 +197,30 @@ fn name_option<'a>(alloc: Global) -> Arg<'a> {
         .action(ArgAction::Set)
 }
 
+fn within_option<'a>(alloc: Global) -> Arg<'a> {
+    Arg::new(alloc, "document")
+        .long("document")
+        .value_name("NAME")
+        .help("Fetches this one document whole, and evaluates the query here")
+        .action(ArgAction::Set)
+}
+
+fn names_option<'a>(alloc: Global) -> Arg<'a> {
+    Arg::new(alloc, "names")
+        .long("names")
+        .help("Prints each document with a hit once, instead of the hits")
+        .action(ArgAction::SetTrue)
+}
+
+fn limit_option<'a>(alloc: Global) -> Arg<'a> {
+    Arg::new(alloc, "limit")
+        .long("limit")
+        .value_name("N")
+        .help("Prints the first N hits at most, or documents with --names")
+        .value_parser(ValueParser::Unsigned(1, MOST_LINES))
+        .action(ArgAction::Set)
+}
+
 // An argument that has to be there.
 fn needed<'a>(alloc: Global, name: &'a str, help: &'a str) -> Arg<'a> {
     Arg::new(alloc, name)
@@ -214,6 +256,9 @@ fn arg<'a>(alloc: Global, word: Word) -> Arg<'a> {
         Word::Query => needed(alloc, "QUERY", "A JSONPath query (RFC 9535)"),
         Word::File => file_argument(alloc),
         Word::Name => name_option(alloc),
+        Word::Within => within_option(alloc),
+        Word::Names => names_option(alloc),
+        Word::Limit => limit_option(alloc),
     }
 }
 
@@ -352,6 +397,9 @@ fn options_of<'a>(matches: &ArgMatches<'a>) -> Option<Options<'a>> {
         query: words.get_str("QUERY").unwrap_or_default(),
         file: words.get_str("FILE"),
         name: words.get_str("name"),
+        within: words.get_str("document"),
+        names: words.get_flag("names"),
+        limit: words.get_one("limit").unwrap_or(MOST_LINES),
         json: words.get_flag("json"),
         timeout: words.get_one("timeout")?,
     };

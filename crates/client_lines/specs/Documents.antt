@@ -5,7 +5,7 @@ use Rattle.serde_json.specs.Data.{Data, string, object, member, no_members}
 use Rattle.serde_json.specs.Read.{read}
 use Rattle.serde_json.specs.Find.{get, as_str}
 use Rattle.client_lines.specs.declared.documents.LineFault.{LineFault}
-use Rattle.client_lines.specs.declared.documents.LineFault.TheVariants.{NotUtf8, NotJson, NoName, NoText, NoDocument, Memory}
+use Rattle.client_lines.specs.declared.documents.LineFault.TheVariants.{NotUtf8, NotJson, NoName, NoText, NoDocument, Costly, Memory}
 
 -- an object with a name and a text
 abbrev pub document : (name text : List ℕ) → Data
@@ -30,4 +30,5 @@ Refuses NotJson line = read line ≡ None
 Refuses NoName line = (name : List ℕ) → ¬ HasString line (codes "name") name
 Refuses NoText line = (text : List ℕ) → ¬ HasString line (codes "text") text
 Refuses (NoDocument fault) line = ⊥
+Refuses Costly line = ⊥
 Refuses Memory line = Unit {0}

@@ -2,3 +2,4 @@ pub mod Lines
 pub mod Documents
 pub mod Keys
 pub mod Naming
+pub mod Answers

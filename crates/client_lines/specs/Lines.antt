@@ -1,5 +1,6 @@
 -- The lines that a client prints of a reply: this project's own.
-use Rattle.std.specs.Prelude.{ℕ, ◌==◌, List, [], ◌∷◌, ◌++◌, if◌then◌else◌, map, flat_map, codes}
+use Rattle.std.specs.Prelude.{ℕ, ◌==◌, List, [], ◌∷◌, ◌++◌, Bool, if◌then◌else◌, map, flat_map, codes, nat_eq}
+use Rattle.std.specs.Cmp.Lexicographic.{pointwise}
 use Rattle.json.specs.Print.{quoted}
 use Rattle.client_frames.specs.Payloads.{Found}
 
@@ -27,3 +28,16 @@ name_line name = name ++ 10 ∷ []
 
 abbrev pub name_lines : List (List ℕ) → List ℕ
 name_lines names = flat_map name_line names
+
+-- the line of a hit in the form that is asked for, as an object of JSON or plain
+abbrev pub line_in : Bool → Found → List ℕ
+line_in json f = if json then json_line f else hit_line f
+
+-- the documents of hits that stand behind one of this document, each once: those of a document stand behind one another
+unfoldable pub documents_behind : (last : List ℕ) → List Found → List (List ℕ)
+documents_behind last [] = []
+documents_behind last (f ∷ fs) = if pointwise nat_eq f.document last then documents_behind last fs else f.document ∷ documents_behind f.document fs
+
+-- no document has the name of no byte
+abbrev pub documents_of : List Found → List (List ℕ)
+documents_of hits = documents_behind [] hits

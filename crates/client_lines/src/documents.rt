@@ -31,6 +31,9 @@ pub enum LineFault {
     /// The server would refuse it as a document.
     #[error("it is not a document: {0}")]
     NoDocument(TextFault),
+    /// A query on it costs more than the budget.
+    #[error("a query on it costs more than the budget")]
+    Costly,
     /// An allocation failed.
     #[error("an allocation failed")]
     Memory,
@@ -45,6 +48,7 @@ impl LineFault {
             LineFault::NoName => "NoName",
             LineFault::NoText => "NoText",
             LineFault::NoDocument(fault) => text_fault_name(*fault),
+            LineFault::Costly => "Costly",
             LineFault::Memory => "NoMemory",
         }
     }

@@ -3,7 +3,7 @@
 ghost use Rattle.std.specs.Prelude.{◌≡◌, ◌++◌, map, codes, string_bytes, IfOk, OnOk};
 ghost use Rattle.json.specs.Print.{quoted};
 ghost use Rattle.client_frames.specs.Readings.{found_of, name_of};
-ghost use Rattle.client_lines.specs.Lines.{hit_line, hit_lines, json_line, json_lines, name_lines};
+ghost use Rattle.client_lines.specs.Lines.{documents_of, hit_line, hit_lines, json_line, json_lines, name_lines};
 
 use crate::documents::LineFault;
 use crate::pieces::{append_all, append_blanked};
@@ -12,7 +12,8 @@ use serde_json::json;
 use std::alloc::{AllocError, Global};
 use store_names::DocName;
 
-fn append_hit(hit: &Hit<'_>, out: &mut Vec<u8>) -> Result<(), AllocError>
+/// Appends the line of a hit.
+pub fn append_hit(hit: &Hit<'_>, out: &mut Vec<u8>) -> Result<(), AllocError>
     ensures { OnOk result (out.new.items ≡ out.old.items ++ hit_line (found_of hit.now)) }
 {
     append_all(
@@ -38,8 +39,9 @@ fn quote(alloc: Global, text: &str) -> Result<String, AllocError>
     json!(in alloc; text)?.to_string(alloc)
 }
 
+/// Appends the line of a hit as an object of JSON.
 #[tactic(auto, unfolding(crate::specs::Lines::json_line))]
-fn append_json_hit(alloc: Global, hit: &Hit<'_>, out: &mut Vec<u8>) -> Result<(), LineFault>
+pub fn append_json_hit(alloc: Global, hit: &Hit<'_>, out: &mut Vec<u8>) -> Result<(), LineFault>
     ensures { OnOk result (out.new.items ≡ out.old.items ++ json_line (found_of hit.now)) }
 {
     let Ok(path) = simdutf8::basic::from_utf8(hit.path) else {
@@ -83,4 +85,20 @@ pub fn append_names(names: &[DocName<'_>], out: &mut Vec<u8>) -> Result<(), Allo
         append_all(&[name.bytes, b"\n"], out)?;
     }
     Ok(())
+}
+
+/// The documents of hits, each once: in a reply, the hits of a document stand behind one another.
+#[tactic(auto, unfolding(crate::specs::Lines::documents_behind))]
+pub fn documents_of<'a>(alloc: Global, hits: &[Hit<'a>]) -> Result<Vec<DocName<'a>>, AllocError>
+    ensures { IfOk result (λ names. map name_of names.items ≡ documents_of (map found_of hits.now)) }
+{
+    let mut names = Vec::new(alloc);
+    let mut last: &[u8] = b"";
+    for hit in hits {
+        if hit.document.bytes != last {
+            last = hit.document.bytes;
+            names.push(hit.document)?;
+        }
+    }
+    Ok(names)
 }

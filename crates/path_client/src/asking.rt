@@ -76,7 +76,8 @@ fn list<R: Print + AllocGlobal, S: Read + Write + Drop>(
     print_names(rt, names.as_slice())
 }
 
-fn print_names<R: Print + AllocGlobal>(rt: &R, names: &[DocName<'_>]) -> Result<(), Failure> {
+/// Prints a line for each name.
+pub fn print_names<R: Print + AllocGlobal>(rt: &R, names: &[DocName<'_>]) -> Result<(), Failure> {
     let mut out = Vec::new(rt.alloc());
     match append_names(names, &mut out) {
         Ok(()) => print(rt, out.as_slice()),

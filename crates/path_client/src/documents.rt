@@ -1,11 +1,12 @@
 //! The subcommands that send or print texts.
 
-use crate::asking::print;
+use crate::asking::{print, print_names};
 use crate::connection::Connection;
 use client_commands::{Asked, Failure, Verb};
 use client_frames::{Hit, read_hits, read_names};
-use client_lines::{LineFault, append_document, append_hits, append_json_hits};
+use client_lines::{append_document, append_hits, append_hits_in, append_json_hits, documents_of};
 use json_tape::TEXT_LIMIT;
+use path_types::{ValidQuery, compile};
 use standard_streams::{ReadFault, read_past};
 use std::alloc::Global;
 use std::fs;
@@ -91,8 +92,20 @@ fn put<R: Input + Files + AllocGlobal, S: Read + Write + Drop>(
     connection.done(&command)
 }
 
-/// Prints a line for each hit.
+/// Prints a line for each hit, or for each document with one.
 pub fn query<R: Print + AllocGlobal, S: Read + Write + Drop>(
+    rt: &R,
+    connection: &mut Connection<S>,
+    collection: CollName<'_>,
+    asked: &Asked<'_>,
+) -> Result<(), Failure> {
+    match asked.within {
+        Some(name) => query_one(rt, connection, collection, name, asked),
+        None => query_all(rt, connection, collection, asked),
+    }
+}
+
+fn query_all<R: Print + AllocGlobal, S: Read + Write + Drop>(
     rt: &R,
     connection: &mut Connection<S>,
     collection: CollName<'_>,
@@ -100,17 +113,80 @@ pub fn query<R: Print + AllocGlobal, S: Read + Write + Drop>(
 ) -> Result<(), Failure> {
     let query = asked.query.as_bytes();
     let payload = connection.ask(&Command::Query { collection, query })?;
-    let lines = hit_lines(rt.alloc(), payload, asked.json)?;
-    print(rt, lines.as_slice())
+    let hits = read_hits(rt.alloc(), payload).map_err(Failure::of_payload)?;
+    if asked.names {
+        print_documents(rt, hits.as_slice(), asked.limit)
+    } else {
+        print_hits(rt, first(hits.as_slice(), asked.limit), asked.json)
+    }
 }
 
-fn hit_lines(alloc: Global, payload: &[u8], json: bool) -> Result<Vec<u8>, Failure> {
-    let hits = read_hits(alloc, payload).map_err(Failure::of_payload)?;
-    let mut out = Vec::new(alloc);
-    match append_lines(alloc, hits.as_slice(), json, &mut out) {
-        Ok(()) => Ok(out),
-        Err(failure) => Err(failure),
+// The first so many of a list, or all.
+fn first<T>(list: &[T], limit: u64) -> &[T] {
+    let limit = usize::try_from(limit).unwrap_or(usize::MAX);
+    list.get(..limit).unwrap_or(list)
+}
+
+fn print_documents<R: Print + AllocGlobal>(
+    rt: &R,
+    hits: &[Hit<'_>],
+    limit: u64,
+) -> Result<(), Failure> {
+    match documents_of(rt.alloc(), hits) {
+        Ok(names) => print_names(rt, first(names.as_slice(), limit)),
+        Err(_) => Err(Failure::Memory),
     }
+}
+
+fn print_hits<R: Print + AllocGlobal>(rt: &R, hits: &[Hit<'_>], json: bool) -> Result<(), Failure> {
+    let mut out = Vec::new(rt.alloc());
+    append_lines(rt.alloc(), hits, json, &mut out)?;
+    print(rt, out.as_slice())
+}
+
+// Fetches a document, and evaluates the query here.
+fn query_one<R: Print + AllocGlobal, S: Read + Write + Drop>(
+    rt: &R,
+    connection: &mut Connection<S>,
+    collection: CollName<'_>,
+    name: &str,
+    asked: &Asked<'_>,
+) -> Result<(), Failure> {
+    let Some(document) = DocName::read(name.as_bytes()) else {
+        return Err(Failure::DocumentName);
+    };
+    let query = compile(rt.alloc(), asked.query.as_bytes()).map_err(Failure::of_query)?;
+    let text = connection.ask(&Command::Get {
+        collection,
+        document,
+    })?;
+    print_found(rt, &query, document, text, asked)
+}
+
+fn print_found<R: Print + AllocGlobal>(
+    rt: &R,
+    query: &ValidQuery,
+    document: DocName<'_>,
+    text: &[u8],
+    asked: &Asked<'_>,
+) -> Result<(), Failure> {
+    let limit = if asked.names { 1 } else { asked.limit };
+    let limit = usize::try_from(limit).unwrap_or(usize::MAX);
+    let mut out = Vec::new(rt.alloc());
+    append_hits_in(
+        rt.alloc(),
+        query,
+        document,
+        text,
+        asked.json,
+        limit,
+        &mut out,
+    )
+    .map_err(Failure::of_answer)?;
+    if asked.names && !out.is_empty() {
+        return print_names(rt, &[document]);
+    }
+    print(rt, out.as_slice())
 }
 
 fn append_lines(

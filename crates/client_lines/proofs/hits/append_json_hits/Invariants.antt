@@ -1,4 +1,4 @@
-use Rattle.std.proofs.Common.{◌≡◌, ◌++◌, drop, flat_map, map}
+use Rattle.std.proofs.Common.{◌≡◌, ◌++◌, drop, map}
 use Rattle.client_frames.specs.Readings.{found_of}
 use Rattle.client_lines.specs.Lines.{json_lines}
 use Rattle.client_lines.proofs.hits.append_json_hits.Given as goal

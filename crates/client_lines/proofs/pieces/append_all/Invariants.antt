@@ -1,4 +1,4 @@
-use Rattle.std.proofs.Common.{◌≡◌, ◌++◌, drop, flat_map, map}
+use Rattle.std.proofs.Common.{◌≡◌, ◌++◌, drop, flat_map}
 use Rattle.client_lines.proofs.pieces.append_all.Given as goal
 
 abbrev pub invariant-loop-piece : goal.invariant-loop-piece

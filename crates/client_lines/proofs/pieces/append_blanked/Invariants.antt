@@ -1,4 +1,4 @@
-use Rattle.std.proofs.Common.{◌≡◌, ◌++◌, drop, flat_map, map}
+use Rattle.std.proofs.Common.{◌≡◌, ◌++◌, drop, map}
 use Rattle.client_lines.specs.Lines.{blanked}
 use Rattle.client_lines.proofs.pieces.append_blanked.Given as goal
 

@@ -1,0 +1,3 @@
+module pathclient
+
+go 1.19

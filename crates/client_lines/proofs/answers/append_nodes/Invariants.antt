@@ -1,0 +1,7 @@
+use Rattle.std.proofs.Common.{◌≡◌, ◌++◌, drop}
+use Rattle.tape_select.specs.Nodelists.{nodes_of}
+use Rattle.client_lines.specs.Answers.{node_lines}
+use Rattle.client_lines.proofs.answers.append_nodes.Given as goal
+
+abbrev pub invariant-loop-node : goal.invariant-loop-node
+invariant-loop-node l = l.out.items ++ node_lines l.json l.name.bytes.now (nodes_of l.document (drop l.node-index l.nodes)) ≡ l.fn.out.items ++ node_lines l.json l.name.bytes.now (nodes_of l.document l.nodes)
