@@ -1,0 +1,4 @@
+pub mod Runs
+pub mod Completions
+pub mod Backwards
+pub mod Longest

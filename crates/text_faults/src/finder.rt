@@ -1,0 +1,81 @@
+//! The place at which a text is not JSON.
+
+ghost use Rattle.std.specs.Prelude.{◌≡◌, ◌+◌, ◌≤◌, List, OnOk, OnErr, IfOk, IsUtf8, Option, Some, None, reverse, true, false, cond};
+ghost use Rattle.text_faults.specs.Moves.{State, step, top, moved};
+ghost use Rattle.text_faults.specs.Prefixes.{IsLongest};
+
+use crate::marks::{Digits, Expected, Letters, Move, Now, Place};
+use crate::moves::{letter, next};
+use json_text::{Mode, Shape};
+use std::alloc::{AllocError, Global};
+
+// The innermost open container.
+fn innermost(opens: &Vec<Shape>) -> Option<Shape>
+    ensures { result ≡ top (reverse opens.now.items) }
+{
+    match opens.last() {
+        Some(shape) => Some(*shape),
+        None => None,
+    }
+}
+
+// Carries out a move that can stand.
+fn carry(now: &mut Now, opens: &mut Vec<Shape>, by: Move) -> Result<bool, AllocError>
+    ensures { IfOk result (λ went. moved by (reverse opens.old.items) ≡ cond went (Some (record { now = now.new; opens = reverse opens.new.items })) None) }
+{
+    match by {
+        Move::To(next) => *now = next,
+        Move::Into(shape, next) => {
+            opens.push(shape)?;
+            *now = next;
+        }
+        Move::Out(next) => {
+            let _ = opens.pop();
+            *now = next;
+        }
+        Move::Refused => return Ok(false),
+    }
+    Ok(true)
+}
+
+/// The place at which a text stops to be JSON (RFC 8259): some JSON text begins with the bytes before it, and none with one byte more. Of a text
+/// that only ends too soon it is the end.
+pub fn not_json(alloc: Global, text: &str) -> Result<Place, AllocError>
+    ensures place { IfOk result (λ place. IsLongest text.now place.at) }
+{
+    let mut now = Now::Value;
+    let mut opens = Vec::new(alloc);
+    for (at, byte) in text.as_bytes().iter().enumerate() {
+        let by = next(now, innermost(&opens), *byte);
+        if !carry(&mut now, &mut opens, by)? {
+            return Ok(Place { at, expected: expected(now, innermost(&opens)) });
+        }
+    }
+    Ok(Place { at: text.len(), expected: expected(now, innermost(&opens)) })
+}
+
+// What may stand there.
+fn expected(now: Now, top: Option<Shape>) -> Expected {
+    match now {
+        Now::Value => Expected::Value,
+        Now::FirstValue => Expected::ValueOrBracket,
+        Now::Name => Expected::Name,
+        Now::FirstName => Expected::NameOrBrace,
+        Now::Colon => Expected::Colon,
+        Now::Next => behind_value(top),
+        Now::Quoted(_, Mode::Between) => Expected::Character,
+        Now::Quoted(_, Mode::Escape) => Expected::Escape,
+        Now::Quoted(_, Mode::Hex(_)) => Expected::Hexadecimal,
+        Now::Number(Digits::Minus | Digits::Point | Digits::E | Digits::Sign) => Expected::Digit,
+        Now::Number(_) => behind_value(top),
+        Now::Word(letters) => Expected::Letter(letter(letters) as char),
+    }
+}
+
+fn behind_value(top: Option<Shape>) -> Expected {
+    match top {
+        None => Expected::End,
+        Some(Shape::Array) => Expected::CommaOrBracket,
+        Some(Shape::Object) => Expected::CommaOrBrace,
+    }
+}
