@@ -9,8 +9,8 @@ use crate::moves::{letter, next};
 use json_text::{Mode, Shape};
 use std::alloc::{AllocError, Global};
 
-// The innermost open container.
-fn innermost(opens: &Vec<Shape>) -> Option<Shape>
+/// The innermost open container.
+pub fn innermost(opens: &Vec<Shape>) -> Option<Shape>
     ensures { result ≡ top (reverse opens.now.items) }
 {
     match opens.last() {
@@ -19,8 +19,8 @@ fn innermost(opens: &Vec<Shape>) -> Option<Shape>
     }
 }
 
-// Carries out a move that can stand.
-fn carry(now: &mut Now, opens: &mut Vec<Shape>, by: Move) -> Result<bool, AllocError>
+/// Carries out a move, unless it is refused.
+pub fn carry(now: &mut Now, opens: &mut Vec<Shape>, by: Move) -> Result<bool, AllocError>
     ensures { IfOk result (λ went. moved by (reverse opens.old.items) ≡ cond went (Some (record { now = now.new; opens = reverse opens.new.items })) None) }
 {
     match by {

@@ -1,0 +1,120 @@
+//! What is said of a refused text beside the refusal's name.
+
+ghost use Rattle.std.specs.Prelude.{◌⊎◌, IsUtf8};
+ghost use Rattle.std.specs.Str.{IsValidUpTo};
+
+use crate::finder::not_json;
+use crate::hints::hint;
+use crate::limits::{lone_surrogate, number_limit, too_deep};
+use crate::marks::Expected;
+use crate::names::duplicate_name;
+use crate::spots::{found_at, spot_at};
+use json_text::TextFault;
+use std::alloc::{AllocError, Global};
+use std::fmt;
+
+/// The length of the longest front that is UTF-8.
+pub fn not_utf8(text: &[u8]) -> usize
+    ensures { IsUtf8 text.now ⊎ IsValidUpTo text.now result }
+{
+    match std::str::from_utf8(text) {
+        Ok(whole) => whole.len(),
+        Err(error) => error.valid_up_to(),
+    }
+}
+
+impl fmt::Display for Expected {
+    fn fmt<W: fmt::Write>(&self, f: &mut fmt::Formatter<W>) -> fmt::Result {
+        match self {
+            Expected::Value => write!(f, "a value"),
+            Expected::ValueOrBracket => write!(f, "a value or ']'"),
+            Expected::Name => write!(f, "a name in double quotes"),
+            Expected::NameOrBrace => write!(f, "a name in double quotes or '}}'"),
+            Expected::Colon => write!(f, "':'"),
+            Expected::CommaOrBracket => write!(f, "',' or ']'"),
+            Expected::CommaOrBrace => write!(f, "',' or '}}'"),
+            Expected::End => write!(f, "the end of the text"),
+            Expected::Character => write!(f, "a character or '\"'"),
+            Expected::Escape => write!(f, "an escape"),
+            Expected::Hexadecimal => write!(f, "four hexadecimal digits"),
+            Expected::Digit => write!(f, "a digit"),
+            Expected::Letter(letter) => write!(f, "'{letter}'"),
+        }
+    }
+}
+
+/// What is said of a refused text: where it is refused, in a form that people count, and why there. A second line is a hint. Where there is
+/// nothing to say, it is empty.
+pub fn told(alloc: Global, text: &[u8], fault: TextFault) -> Result<String, AllocError> {
+    match fault {
+        TextFault::TooLong => format!(in alloc; "{} bytes or more, at most 4194304 are read", text.len()),
+        TextFault::NotUtf8 => {
+            let at = not_utf8(text);
+            format!(in alloc; "{}: expected UTF-8, found {}", spot_at(text, at), found_at(text, at))
+        }
+        TextFault::Memory => Ok(String::new(alloc)),
+        _ => match std::str::from_utf8(text) {
+            Ok(whole) => told_of_utf8(alloc, whole, fault),
+            Err(_) => Ok(String::new(alloc)),
+        },
+    }
+}
+
+fn told_of_utf8(alloc: Global, text: &str, fault: TextFault) -> Result<String, AllocError> {
+    match fault {
+        TextFault::NotJson => told_of_no_json(alloc, text),
+        TextFault::TooDeep => {
+            told_at(alloc, text, too_deep(alloc, text)?, "level 257, at most 256 are read")
+        }
+        TextFault::NumberLimit => told_at(
+            alloc,
+            text,
+            number_limit(alloc, text)?,
+            "a number of more than 256 bytes, or with an exponent above 999999999",
+        ),
+        TextFault::LoneSurrogate => told_at(
+            alloc,
+            text,
+            lone_surrogate(alloc, text)?,
+            "a surrogate without its partner",
+        ),
+        TextFault::DuplicateName => told_of_twins(alloc, text),
+        TextFault::TooLong | TextFault::NotUtf8 | TextFault::Memory => Ok(String::new(alloc)),
+    }
+}
+
+fn told_at(
+    alloc: Global,
+    text: &str,
+    at: Option<usize>,
+    what: &str,
+) -> Result<String, AllocError> {
+    match at {
+        Some(at) => format!(in alloc; "{}: {what}", spot_at(text.as_bytes(), at)),
+        None => Ok(String::new(alloc)),
+    }
+}
+
+fn told_of_no_json(alloc: Global, text: &str) -> Result<String, AllocError> {
+    let place = not_json(alloc, text)?;
+    let bytes = text.as_bytes();
+    let spot = spot_at(bytes, place.at);
+    let found = found_at(bytes, place.at);
+    match hint(bytes, place) {
+        Some(hint) => {
+            format!(in alloc; "{spot}: expected {}, found {found}\nhint: {hint}", place.expected)
+        }
+        None => format!(in alloc; "{spot}: expected {}, found {found}", place.expected),
+    }
+}
+
+fn told_of_twins(alloc: Global, text: &str) -> Result<String, AllocError> {
+    let Some(twins) = duplicate_name(alloc, text)? else {
+        return Ok(String::new(alloc));
+    };
+    let bytes = text.as_bytes();
+    let second = spot_at(bytes, twins.second);
+    let first = spot_at(bytes, twins.first);
+    let name = text.get(twins.second..twins.end).unwrap_or("");
+    format!(in alloc; "{second}: the name {name} again, first at {first}")
+}
