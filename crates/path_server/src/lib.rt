@@ -29,5 +29,5 @@ pub use keys::{KeysFault, read_keys};
 pub use laws::{hits_lead_back, paths_are_answered};
 pub use replay::{SCRIPT_LIMIT, ScriptFault, replay_script};
 pub use script_streams::{ReplayStreamFault, replay_stream};
-pub use streams::{QueryStreamFault, query_stream};
+pub use streams::{QueryStreamFault, query_stream, query_to};
 pub use texts::query_text;
