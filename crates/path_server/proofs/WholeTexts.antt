@@ -1,6 +1,6 @@
 -- A text that is cut one byte past the limit on texts is refused as the whole text is, or it is the whole text.
 use Rattle.std.proofs.Common.{◌≡◌, ℕ, ◌+◌, ◌<◌, min, List, [], length, take, arith, Option, None, Some, inl, inr}
-use Rattle.std.specs.Prelude.{IfSome}
+use Rattle.std.specs.Prelude.{IfSome, IfErr, OnOk, Result, Ok, Err}
 use Rattle.std.proofs.lemmas.List.{length-take, take_all}
 use Rattle.json_tape.specs.Verdict.{text_limit, IsRefused}
 use Rattle.json_text.specs.declared.tape.TextFault.TheVariants as text
@@ -49,12 +49,20 @@ breaks_whole query cut None old new e b = tt
 breaks_whole query cut (Some document) old new e (lines, a, w) = (lines, answers_whole query document [] lines (rw e at a), w)
 
 -- what is said of the text that was read holds of the reader's
-pub answered_whole : (query cut : List ℕ) (left old new : Option (List ℕ)) → IfSome left (λ document. cut ≡ take (text_limit + 1) document) → AnswersStream query (Some cut) old new → AnswersStream query left old new
+answered_whole : (query cut : List ℕ) (left old new : Option (List ℕ)) → IfSome left (λ document. cut ≡ take (text_limit + 1) document) → AnswersStream query (Some cut) old new → AnswersStream query left old new
 answered_whole query cut None old new e a = tt
 answered_whole query cut (Some document) old new e (lines, a, w) = (lines, answers_whole query document [] lines (rw e at a), w)
 
-pub failed_whole : (query cut : List ℕ) (left old new : Option (List ℕ)) (fault : QueryStreamFault) → IfSome left (λ document. cut ≡ take (text_limit + 1) document) → FailsStream query (Some cut) old new fault → FailsStream query left old new fault
+failed_whole : (query cut : List ℕ) (left old new : Option (List ℕ)) (fault : QueryStreamFault) → IfSome left (λ document. cut ≡ take (text_limit + 1) document) → FailsStream query (Some cut) old new fault → FailsStream query left old new fault
 failed_whole query cut left old new (Read fault) e k = k
 failed_whole query cut left old new (Refused fault) e (r, inl k) = (refused_whole query cut left fault e r, inl k)
 failed_whole query cut left old new (Refused fault) e (r, inr (m, b)) = (refused_whole query cut left fault e r, inr (m, breaks_whole query cut left old new e b))
 failed_whole query cut left old new (Write fault) e b = breaks_whole query cut left old new e b
+
+pub answered_stream : {E : Type 0} (query cut : List ℕ) (left old new : Option (List ℕ)) (result : Result (Unit {0}) E) → IfSome left (λ document. cut ≡ take (text_limit + 1) document) → OnOk result (AnswersStream query (Some cut) old new) → OnOk result (AnswersStream query left old new)
+answered_stream query cut left old new (Ok x) e a = answered_whole query cut left old new e a
+answered_stream query cut left old new (Err x) e a = tt
+
+pub failed_stream : {A : Type 0} (query cut : List ℕ) (left old new : Option (List ℕ)) (result : Result A QueryStreamFault) → IfSome left (λ document. cut ≡ take (text_limit + 1) document) → IfErr result (FailsStream query (Some cut) old new) → IfErr result (FailsStream query left old new)
+failed_stream query cut left old new (Ok x) e a = tt
+failed_stream query cut left old new (Err fault) e a = failed_whole query cut left old new fault e a

@@ -25,6 +25,7 @@ pub use call::call_over;
 pub use call_fault::CallFault;
 pub use call_streams::{CallStreamFault, call_stream, read_call};
 pub use fault::QueryTextFault;
+pub use json_tape::TEXT_LIMIT;
 pub use keys::{KeysFault, read_keys};
 pub use laws::{hits_lead_back, paths_are_answered};
 pub use replay::{SCRIPT_LIMIT, ScriptFault, replay_script};
