@@ -1,7 +1,7 @@
 #!/usr/bin/env python3
 """Where usual mistakes in texts and queries are, and what may stand there: tests/mistakes.py [NUMBER]
 
-Of each line of tests/mistakes.cases, the program `path_server query`, the program `refusal_places` (the one that `rt ci` makes, or the one that the
+Of each line of tests/mistakes.cases, the program `refusal_places` (the one that `rt ci` makes, or the one that the
 environment's REFUSAL_PLACES names), the Python client's places and, if there is Node, the Node client's say the same. So they do of texts and queries
 cut at each byte, with each byte replaced by others, and of NUMBER random changes (2,000 by default). The place of what does not follow a grammar is
 compared with a parser over the RFC's ABNF (tests/lib/earley.py), and of texts with that of Python's json where it refuses the same.
@@ -17,7 +17,7 @@ import time
 
 from lib import earley
 from lib.json_verdict import verdict
-from lib.running_server import PATIENCE, PROGRAM, TOP, Report
+from lib.running_server import PATIENCE, TOP, Report
 from path_client.places import find_place
 
 PLACES = os.environ.get("REFUSAL_PLACES") or str(TOP / "crates/refusal_places/out/refusal_places")
@@ -34,7 +34,7 @@ MEANT = ['{"a":1,"\\u0061":2,"b":{"a":3,"a":1e1000000000}}', '["\\ud800","\\udc0
          '{"x":[1E-9999999999,' + "1" * 257 + "]}", "[" * 257 + "]" * 257]
 ASKED = ["$.a.b[0]['c']", "$[?@.a==1 && @.b>2].c", "$..x[*,1:2:3,-1]", "$[?length(@.n)<=3||!(@.x)]", "$[?count(@..*)>1,?@['a'][0]!=\"z\"]",
          "$[?value($.a)==true&&!@.q]", '$ [ 1 : -2 , "\\u00e9\\ud83d\\ude00" ] .é', '$[?f(@.a,1,"x",g(2),@.b==null)]', "$[?(@.a||@.b)&&(1.5e-3<@.c)]",
-         "$[?@[?@.x>0]]"]
+         "$[?@[?@.x>0]]", "$[?1==$.a['b'][0]]", "$[?@ ['a'] [ 1 ]<@[ 'b' ] .c&&@]", "$[?'a'>=$ .b]"]
 TEXT_SIGNS = "{}[],:\"\\/ \n0123456789-+.eEtrufalsnabD'é𝄞\x01x"
 QUERY_SIGNS = "$@[]().,:?!=<>&|*\"'\\ \n0123456789-+eEtrufalsnabDdC_é𝄞x"
 OTHERS = "{}[],:\"\\ 01-.e$@?('é"
@@ -161,12 +161,6 @@ def try_table(report):
         of_texts = [got.split(" | ")[0] for (name, *_), got in zip(cases, told) if name not in QUERIES]
         for (name, data), line, other in zip(texts, of_texts, node_answers(texts)):
             report.case(f"{name} of the table, in Node", data, line, other)
-    for (name, _, _, data), line in zip(cases, told):
-        words, text = (data, b"1") if name in QUERIES else (b"$", data)
-        if b"\0" not in words:
-            ran = subprocess.run([PROGRAM, "query", words], input=text, stdout=subprocess.PIPE, stderr=subprocess.PIPE, timeout=PATIENCE)
-            lines = ran.stderr.decode("utf-8", "replace").split("\n")
-            report.case(f"{name} of the table, by the program", data, [f"path_server: {name}", *line.split(" | "), ""], lines)
 
 
 def try_long(report):

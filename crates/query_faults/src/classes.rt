@@ -70,10 +70,20 @@ pub fn inside_next(inside: Inside, b: u8, quote: u8) -> Option<Inside> {
         Inside::Unit => None,
         Inside::UnitBehindD => behind_d(b),
         Inside::Digits(left) => {
-            counted(b, Inside::Digits(left.saturating_sub(1)), Inside::Between, left)
+            counted(
+                b,
+                Inside::Digits(left.saturating_sub(1)),
+                Inside::Between,
+                left,
+            )
         }
         Inside::HighDigits(left) => {
-            counted(b, Inside::HighDigits(left.saturating_sub(1)), Inside::LowSlash, left)
+            counted(
+                b,
+                Inside::HighDigits(left.saturating_sub(1)),
+                Inside::LowSlash,
+                left,
+            )
         }
         Inside::LowSlash if b == b'\\' => Some(Inside::LowU),
         Inside::LowU if b == b'u' => Some(Inside::LowD),
@@ -111,5 +121,8 @@ pub fn decimal_next(decimal: Decimal, b: u8) -> Option<Decimal> {
 }
 
 pub fn may_end(decimal: Decimal) -> bool {
-    matches!(decimal, Decimal::Zero | Decimal::Int | Decimal::Frac | Decimal::Exp)
+    matches!(
+        decimal,
+        Decimal::Zero | Decimal::Int | Decimal::Frac | Decimal::Exp
+    )
 }

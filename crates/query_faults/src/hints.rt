@@ -10,7 +10,10 @@ fn word_at<'a>(query: &'a [u8], at: usize, word: &[u8]) -> bool {
 }
 
 fn is_expression(now: Now) -> bool {
-    matches!(now, Now::Operand(_) | Now::Behind(_, _) | Now::Compared(_) | Now::Word(_))
+    matches!(
+        now,
+        Now::Operand(_) | Now::Behind(_, _) | Now::Compared(_) | Now::Word(_)
+    )
 }
 
 /// The habit that led to a query that is not well-formed, if it looks like one.
@@ -47,7 +50,9 @@ pub fn hint(query: &[u8], at: usize, now: Now) -> Option<&'static str> {
             Some("a name in brackets stands in quotes")
         }
         Now::Selector if found == b'(' => Some("a filter begins with ?"),
-        _ if is_expression(now) && word_at(query, at, b"=~") => Some("there are no regular expressions"),
+        _ if is_expression(now) && word_at(query, at, b"=~") => Some(
+            "there are no regular expressions",
+        ),
         _ => None,
     }
 }

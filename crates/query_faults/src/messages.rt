@@ -1,7 +1,7 @@
 //! What is said of a refused query beside the refusal's name.
 
 use crate::hints::hint;
-use crate::reading::{LEVEL_LIMIT, Reading};
+use crate::reading::{LEVEL_LIMIT, Reading, is_bound};
 use crate::states::{Decimal, Frame, Inside, Now, Operand, Part, Side, Whole};
 use std::alloc::{AllocError, Global};
 use text_faults::{found_at, not_utf8, spot_at};
@@ -21,7 +21,11 @@ fn behind(operand: Operand, side: Side, frame: Option<Frame>) -> &'static str {
     );
     let is_argument = matches!(frame, Some(Frame::Call { plain: true, .. }));
     if side == Side::Left && operand == Operand::Literal {
-        return if is_argument { "a comparison, ',' or ')'" } else { "a comparison" };
+        return if is_argument {
+            "a comparison, ',' or ')'"
+        } else {
+            "a comparison"
+        };
     }
     match (side == Side::Left && is_compared, frame) {
         (true, Some(Frame::Filter)) => "a comparison, '&&', '||', ',' or ']'",
@@ -45,9 +49,10 @@ fn inside(inside: Inside) -> &'static str {
     }
 }
 
-fn number(part: Part, whole: Whole) -> &'static str {
+fn number(part: Part, whole: Whole, bound: bool) -> &'static str {
     match (whole, part) {
         (Whole::Minus, _) => "a digit from 1 to 9",
+        (_, _) if bound => "']'",
         (Whole::Before, Part::Step) => "a number, ',' or ']'",
         (Whole::Before, _) => "a number, ':', ',' or ']'",
         (_, Part::Step) => "',' or ']'",
@@ -58,6 +63,7 @@ fn number(part: Part, whole: Whole) -> &'static str {
 // What may come next.
 fn expected(reading: &Reading<'_>) -> &'static str {
     let frame = reading.innermost();
+    let bound = is_bound(frame);
     let is_top = matches!(frame, Some(Frame::Query { side: None, .. }));
     match reading.now {
         Now::Root => "'$'",
@@ -65,11 +71,14 @@ fn expected(reading: &Reading<'_>) -> &'static str {
         Now::Short if is_top => "a character of a name, '.', '[' or the end of the query",
         Now::Segment { .. } if is_top => "'.', '[' or the end of the query",
         Now::Segment { .. } | Now::Short => "'.', '[' or what follows a query in a filter",
+        Now::Dot if bound => "a name",
+        Now::Selector if bound => "a name in quotes or an index",
+        Now::BehindSelector if bound => "']'",
         Now::Dot => "a name, '*' or '.'",
         Now::Dots => "a name, '*' or '['",
         Now::Selector => "a name in quotes, a number, ':', '*' or '?'",
         Now::BehindSelector => "',' or ']'",
-        Now::Number(part, whole) => number(part, whole),
+        Now::Number(part, whole) => number(part, whole, bound),
         Now::Name { inside: it, .. } | Now::Text { inside: it, .. } => inside(it),
         Now::Operand(Side::Left) => "'@', '$', a literal, a function, '!' or '('",
         Now::Operand(Side::Negated) => "'@', '$', a function or '('",
@@ -96,7 +105,11 @@ pub fn told(alloc: Global, query: &[u8], refusal: Refusal) -> Result<String, All
     let utf8 = not_utf8(query);
     for (at, byte) in query.iter().enumerate() {
         if at == utf8 && refusal == Refusal::NotWellFormed {
-            return format!(in alloc; "{}: expected UTF-8, found {}", spot_at(query, at), found_at(query, at));
+            return format!(in alloc;
+                "{}: expected UTF-8, found {}",
+                spot_at(query, at),
+                found_at(query, at)
+            );
         }
         if !reading.take(at, *byte)? {
             return told_at(alloc, query, &reading, at);

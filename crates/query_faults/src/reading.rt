@@ -20,6 +20,19 @@ enum Did {
     TooDeep,
 }
 
+/// Whether the innermost query selects one node at most, since it is the right side of a comparison.
+pub fn is_bound(innermost: Option<Frame>) -> bool {
+    matches!(
+        innermost,
+        Some(
+            Frame::Query {
+                side: Some(Side::Right),
+                ..
+            } | Frame::Bracket { bound: true, .. }
+        )
+    )
+}
+
 // These bytes of a text, or none if it does not have them.
 fn part_of(text: &[u8], start: usize, end: usize) -> &[u8] {
     match text.get(start..end) {
@@ -153,8 +166,11 @@ impl<'a> Reading<'a> {
 
     // The brackets hold more than one name or index.
     fn is_no_single(&mut self) {
-        if let Some(Frame::Bracket { .. }) = self.frames.pop() {
-            let _ = self.frames.push(Frame::Bracket { single: false });
+        if let Some(Frame::Bracket { bound, .. }) = self.frames.pop() {
+            let _ = self.frames.push(Frame::Bracket {
+                single: false,
+                bound,
+            });
         }
     }
 
@@ -169,12 +185,18 @@ impl<'a> Reading<'a> {
             return Ok(self.to(Now::Dot));
         }
         match self.frames.last().copied() {
-            Some(Frame::Query {
-                side: Some(side),
-                singular,
-            }) => {
+            Some(
+                Frame::Query {
+                    side: Some(side),
+                    singular,
+                },
+            ) => {
                 let _ = self.frames.pop();
-                let operand = if singular { Operand::Singular } else { Operand::Query };
+                let operand = if singular {
+                    Operand::Singular
+                } else {
+                    Operand::Query
+                };
                 Ok(self.again(Now::Behind(side, operand)))
             }
             _ => Ok(Did::Refuse),
@@ -182,7 +204,11 @@ impl<'a> Reading<'a> {
     }
 
     fn bracket(&mut self) -> Result<Did, AllocError> {
-        self.frames.push(Frame::Bracket { single: true })?;
+        let bound = is_bound(self.innermost());
+        self.frames.push(Frame::Bracket {
+            single: true,
+            bound,
+        })?;
         Ok(self.to(Now::Selector))
     }
 
@@ -192,7 +218,9 @@ impl<'a> Reading<'a> {
         if is_first(b) {
             return Ok(self.to(Now::Short));
         }
+        let is_bound = is_bound(self.innermost());
         match b {
+            b'*' | b'.' if is_bound => Ok(Did::Refuse),
             b'*' => {
                 self.is_plural();
                 Ok(self.to(Now::Segment { blank: false }))
@@ -211,7 +239,9 @@ impl<'a> Reading<'a> {
             return Ok(Did::Take);
         }
         self.start = at;
+        let is_bound = is_bound(self.innermost());
         match b {
+            b'*' | b'?' | b':' if is_bound => Ok(Did::Refuse),
             b'\'' | b'"' => Ok(self.to(Now::Name {
                 quote: b,
                 inside: Inside::Between,
@@ -251,13 +281,18 @@ impl<'a> Reading<'a> {
         if is_blank(b) {
             return Did::Take;
         }
+        let is_bound = is_bound(self.innermost());
         match b {
+            b',' if is_bound => Did::Refuse,
             b',' => {
                 self.is_no_single();
                 self.to(Now::Selector)
             }
             b']' => {
-                let is_single = matches!(self.frames.pop(), Some(Frame::Bracket { single: true }));
+                let is_single = matches!(
+                    self.frames.pop(),
+                    Some(Frame::Bracket { single: true, .. })
+                );
                 if !is_single {
                     self.is_plural();
                 }
@@ -288,7 +323,9 @@ impl<'a> Reading<'a> {
         if is_blank(b) {
             return self.to(Now::Number(part, Whole::Behind));
         }
+        let is_bound = is_bound(self.innermost());
         match (b, part) {
+            (b':', _) if is_bound => Did::Refuse,
             (b':', Part::Start) => {
                 self.is_no_single();
                 self.to(Now::Number(Part::End, Whole::Before))
@@ -339,14 +376,16 @@ impl<'a> Reading<'a> {
 
     // The argument of the innermost call is no longer one literal, query or call alone.
     fn is_logical(&mut self) {
-        if let Some(Frame::Call {
-            start,
-            end,
-            side,
-            arguments,
-            argument,
-            ..
-        }) = self.frames.last().copied()
+        if let Some(
+            Frame::Call {
+                start,
+                end,
+                side,
+                arguments,
+                argument,
+                ..
+            },
+        ) = self.frames.last().copied()
         {
             let _ = self.frames.pop();
             let _ = self.frames.push(Frame::Call {
@@ -415,13 +454,15 @@ impl<'a> Reading<'a> {
 
     // One more argument, which begins there.
     fn begin_argument(&mut self, at: usize) {
-        if let Some(Frame::Call {
-            start,
-            end,
-            side,
-            arguments,
-            ..
-        }) = self.frames.last().copied()
+        if let Some(
+            Frame::Call {
+                start,
+                end,
+                side,
+                arguments,
+                ..
+            },
+        ) = self.frames.last().copied()
         {
             let _ = self.frames.pop();
             let _ = self.frames.push(Frame::Call {
@@ -503,7 +544,9 @@ impl<'a> Reading<'a> {
             return self.to(Now::Compared(b));
         }
         let is_argument = matches!(self.innermost(), Some(Frame::Call { plain: true, .. }));
-        if side == Side::Left && operand == Operand::Literal && !(is_argument && b != b'&' && b != b'|')
+        if side == Side::Left
+            && operand == Operand::Literal
+            && !(is_argument && b != b'&' && b != b'|')
         {
             return Did::Refuse;
         }
@@ -529,14 +572,16 @@ impl<'a> Reading<'a> {
             }
             (
                 b',' | b')',
-                Some(Frame::Call {
-                    start,
-                    end,
-                    arguments,
-                    argument,
-                    plain,
-                    ..
-                }),
+                Some(
+                    Frame::Call {
+                        start,
+                        end,
+                        arguments,
+                        argument,
+                        plain,
+                        ..
+                    },
+                ),
             ) => {
                 if arguments > 1 {
                     self.mark(argument, Rule::OneArgument);

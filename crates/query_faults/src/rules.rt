@@ -29,15 +29,24 @@ impl Rule {
 impl fmt::Display for Rule {
     fn fmt<W: fmt::Write>(&self, f: &mut fmt::Formatter<W>) -> fmt::Result {
         match self {
-            Rule::WholeLimit => write!(f, "an index is between -9007199254740991 and 9007199254740991"),
+            Rule::WholeLimit => write!(
+                f,
+                "an index is between -9007199254740991 and 9007199254740991"
+            ),
             Rule::NumberLimit => {
-                write!(f, "a number has at most 256 bytes and an exponent of at most 999999999")
+                write!(
+                    f,
+                    "a number has at most 256 bytes and an exponent of at most 999999999"
+                )
             }
             Rule::UnknownFunction => write!(f, "the functions are length, count and value"),
             Rule::RegularExpression => write!(f, "match and search are not in this server"),
             Rule::OneArgument => write!(f, "a function has one argument"),
             Rule::ValueArgument => {
-                write!(f, "the argument is a literal, a query of names and indexes, or a function")
+                write!(
+                    f,
+                    "the argument is a literal, a query of names and indexes, or a function"
+                )
             }
             Rule::QueryArgument => write!(f, "the argument is a query"),
             Rule::FunctionAsTest => write!(f, "a function is no test: compare its value"),

@@ -68,17 +68,26 @@ pub enum Inside {
 #[derive(Clone, Copy, PartialEq, Eq)]
 pub enum Now {
     Root,
-    Segment { blank: bool },
+    Segment {
+        blank: bool,
+    },
     Dot,
     Dots,
     Short,
     Selector,
     BehindSelector,
     Number(Part, Whole),
-    Name { quote: u8, inside: Inside },
+    Name {
+        quote: u8,
+        inside: Inside,
+    },
     Operand(Side),
     Arguments,
-    Text { quote: u8, inside: Inside, side: Side },
+    Text {
+        quote: u8,
+        inside: Inside,
+        side: Side,
+    },
     Literal(Decimal, Side),
     Word(Side),
     Compared(u8),
@@ -86,12 +95,27 @@ pub enum Now {
     Behind(Side, Operand),
 }
 
-/// What is open.
+/// What is open. The right side of a comparison is bound to one name or one index a segment.
 #[derive(Clone, Copy)]
 pub enum Frame {
-    Query { side: Option<Side>, singular: bool },
-    Bracket { single: bool },
+    Query {
+        side: Option<Side>,
+        singular: bool,
+    },
+    Bracket {
+        single: bool,
+        bound: bool,
+    },
     Filter,
-    Paren { side: Side },
-    Call { start: usize, end: usize, side: Side, arguments: usize, argument: usize, plain: bool },
+    Paren {
+        side: Side,
+    },
+    Call {
+        start: usize,
+        end: usize,
+        side: Side,
+        arguments: usize,
+        argument: usize,
+        plain: bool,
+    },
 }

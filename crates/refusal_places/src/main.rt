@@ -48,7 +48,10 @@ fn append_answer(alloc: Global, line: &[u8], out: &mut Vec<u8>) -> Result<(), Al
 }
 
 fn answer(alloc: Global, line: &[u8]) -> Result<String, AllocError> {
-    let blank = line.iter().position(|byte| *byte == b' ').unwrap_or(line.len());
+    let blank = line
+        .iter()
+        .position(|byte| *byte == b' ')
+        .unwrap_or(line.len());
     let name = line.get(..blank).unwrap_or(line);
     let digits = line.get(blank..).unwrap_or(line).trim_ascii();
     let bytes = bytes_of(alloc, digits)?;

@@ -2,3 +2,4 @@ pub mod Runs
 pub mod Completions
 pub mod Backwards
 pub mod Longest
+pub mod Next

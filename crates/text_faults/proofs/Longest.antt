@@ -1,5 +1,5 @@
 -- Where the machine stops in a text of UTF-8, no JSON text goes on, and some goes on up to there.
-use Rattle.json_text.proofs.Names.{◌≡◌, ◌≢◌, ℕ, zero, suc, ◌+◌, ◌<◌, ◌≤◌, ◌⊎◌, inl, inr, Bool, true, false, leb, List, [], ◌∷◌, ◌++◌, length, take, drop, get_or, Option, Some, None, refl, sym, ap, ◌∙◌, subst, arith, nat_tests, append_assoc, append-nil, IsUtf8, encodes, cases_Bool, length-encode, len_utf8_bounds, IsText, turn, Plain, take-append-drop, length-append, length-take}
+use Rattle.json_text.proofs.Names.{◌≡◌, ◌≢◌, ℕ, zero, suc, ◌+◌, ◌<◌, ◌≤◌, ◌⊎◌, inl, inr, Bool, true, false, leb, List, [], ◌∷◌, ◌++◌, length, take, drop, get_or, Option, Some, None, refl, sym, ap, ◌∙◌, subst, arith, nat_tests, append_assoc, append-nil, IsUtf8, encodes, cases_Bool, length-encode, len_utf8_bounds, IsText, Tree, turn, Plain, take-append-drop, length-append, length-take}
 use Rattle.json_text.proofs.Strings.{ArePlain, plain_bytes}
 use Rattle.std.specs.Char.{IsScalar}
 use Rattle.std.proofs.lemmas.Str.{encode_ascii, inside_one}
@@ -139,13 +139,17 @@ viable (u ∷ us) (x ∷ a) b s s' r sc h e stops c = elim (cases_Bool (leb 128 
       low_back x a s s' r (subst (λ k. k < 128) head low) (subst IsScalar head (and_parts (scalar u) (scalars us) sc).0) e (λ t w. viable us a b t s' r (and_parts (scalar u) (scalars us) sc).1 tail w stops c)
 ]
 
-begins : (text : List ℕ) (a b : List ℕ) (s : State) → IsUtf8 text → text ≡ a ++ b → run_on start a ≡ Some s → Stops s b → Begins a
-begins text a b s (us, (sc, e)) h w stops = let x = some_completion s.now s.opens in
-    found x.0 (viable us a b (state now.Value []) s x.0 sc (e ∙ h) w stops x.1)
-  where
-    found : (r : List ℕ) → Completes now.Value [] (a ++ r) → Begins a
-    found r (before, v, rest, bl, val, af, f) =
-        (r, (val (length before)).0, record { before = before; bytes = v; after = rest; blanks_before = bl; value = (val (length before)).1; blanks_after = af; whole = f ∙ sym (append_assoc before v rest) })
+-- what completes the start is a JSON text
+spelled : (bytes : List ℕ) → Completes now.Value [] bytes → (t : Tree) × IsText bytes t
+spelled bytes (before, v, rest, bl, val, af, f) =
+    ((val (length before)).0, record { before = before; bytes = v; after = rest; blanks_before = bl; value = (val (length before)).1; blanks_after = af; whole = f ∙ sym (append_assoc before v rest) })
+
+-- bytes up to which the machine comes, and what completes its state, are a JSON text
+pub reaches : (text a b : List ℕ) (s : State) (r : List ℕ) → IsUtf8 text → text ≡ a ++ b → run_on start a ≡ Some s → Stops s b → Completes s.now s.opens r → (t : Tree) × IsText (a ++ r) t
+reaches text a b s r (us, (sc, e)) h w stops c = spelled (a ++ r) (viable us a b (state now.Value []) s r sc (e ∙ h) w stops c)
+
+begins : (text a b : List ℕ) (s : State) → IsUtf8 text → text ≡ a ++ b → run_on start a ≡ Some s → Stops s b → Begins a
+begins text a b s u h w stops = let x = some_completion s.now s.opens in let y = reaches text a b s x.0 u h w stops x.1 in (x.0, y.0, y.1)
 
 -- the place at which the machine stops
 pub longest : (text : List ℕ) (n : ℕ) (s : State) → IsUtf8 text → n ≤ length text → run_on start (take n text) ≡ Some s → Stops s (drop n text) → IsLongest text n

@@ -1,2 +1,3 @@
+pub mod Expectations
 pub mod Moves
 pub mod Prefixes

@@ -2,6 +2,7 @@
 use Rattle.std.specs.Prelude.{ℕ, Bool, true, false, cond, ◌&&◌, ◌||◌, eqb, leb, List, [], ◌∷◌, Option, Some, None}
 use Rattle.json_text.specs.Scanning.{turn}
 use Rattle.json_text.specs.Tokens.{is_blank}
+use Rattle.json_text.specs.declared.modes.Mode.{Mode}
 use Rattle.json_text.specs.declared.modes.Mode.TheVariants as modes
 use Rattle.json_text.specs.declared.modes.Turn.{Turn}
 use Rattle.json_text.specs.declared.modes.Turn.TheVariants.{Stop, Fail, Go}
@@ -9,6 +10,8 @@ use Rattle.json_text.specs.declared.tape.Shape.{Shape}
 use Rattle.json_text.specs.declared.tape.Shape.TheVariants as shapes
 use Rattle.text_faults.specs.declared.marks.Digits.{Digits}
 use Rattle.text_faults.specs.declared.marks.Digits.TheVariants as digits
+use Rattle.text_faults.specs.declared.marks.Expected.{Expected}
+use Rattle.text_faults.specs.declared.marks.Expected.TheVariants as expected
 use Rattle.text_faults.specs.declared.marks.Letters.{Letters}
 use Rattle.text_faults.specs.declared.marks.Letters.TheVariants as letters
 use Rattle.text_faults.specs.declared.marks.Move.{Move}
@@ -141,6 +144,32 @@ next Next innermost b = follow innermost b
 next (Quoted purpose mode) innermost b = quoted purpose (turn mode b)
 next (Number d) innermost b = number d innermost b
 next (Word l) innermost b = cond (eqb b (letter l)) (To (after_letter l)) Refused
+
+abbrev pub behind_value : Option Shape → Expected
+behind_value None = expected.End
+behind_value (Some shapes.Array) = expected.CommaOrBracket
+behind_value (Some shapes.Object) = expected.CommaOrBrace
+
+abbrev pub in_string : Mode → Expected
+in_string modes.Between = expected.Character
+in_string modes.Escape = expected.Escape
+in_string (modes.Hex n) = expected.Hexadecimal
+
+abbrev pub in_number : Bool → Option Shape → Expected
+in_number true innermost = behind_value innermost
+in_number false innermost = expected.Digit
+
+-- what is said to be expected
+abbrev pub expected_of : Now → Option Shape → Expected
+expected_of Value innermost = expected.Value
+expected_of FirstValue innermost = expected.ValueOrBracket
+expected_of Name innermost = expected.Name
+expected_of FirstName innermost = expected.NameOrBrace
+expected_of Colon innermost = expected.Colon
+expected_of Next innermost = behind_value innermost
+expected_of (Quoted purpose mode) innermost = in_string mode
+expected_of (Number d) innermost = in_number (ends d) innermost
+expected_of (Word l) innermost = expected.Letter (letter l)
 
 -- what may come next, and the open containers from the innermost out
 pub record State : Type 0 where

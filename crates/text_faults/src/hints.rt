@@ -4,13 +4,12 @@ use crate::marks::{Expected, Place};
 
 // The last byte before a place that is no blank.
 fn before(text: &[u8], at: usize) -> Option<u8> {
-    let mut last = None;
-    for byte in text.iter().take(at) {
+    for byte in text.get(..at).unwrap_or(text).iter().rev() {
         if !matches!(*byte, b' ' | b'\t' | b'\n' | b'\r') {
-            last = Some(*byte);
+            return Some(*byte);
         }
     }
-    last
+    None
 }
 
 fn byte_before(text: &[u8], at: usize) -> Option<u8> {
@@ -42,10 +41,14 @@ pub fn hint(text: &[u8], place: Place) -> Option<&'static str> {
     };
     let next = text.get(place.at.saturating_add(1)).copied();
     match *found {
-        0xEF if place.at == 0 && next == Some(0xBB) => Some("a byte order mark stands before the text"),
+        0xEF if place.at == 0 && next == Some(0xBB) => Some(
+            "a byte order mark stands before the text",
+        ),
         b'/' if next == Some(b'/') || next == Some(b'*') => Some("JSON has no comments"),
         b'#' if place.expected != Expected::Character => Some("JSON has no comments"),
-        b'}' | b']' if is_after_comma(text, place.at) => Some("no comma stands behind the last one"),
+        b'}' | b']' if is_after_comma(text, place.at) => Some(
+            "no comma stands behind the last one",
+        ),
         b'\'' if is_value(place.expected) || is_name(place.expected) => {
             Some("strings and names stand in double quotes")
         }

@@ -47,10 +47,17 @@ impl fmt::Display for Expected {
 /// nothing to say, it is empty.
 pub fn told(alloc: Global, text: &[u8], fault: TextFault) -> Result<String, AllocError> {
     match fault {
-        TextFault::TooLong => format!(in alloc; "{} bytes or more, at most 4194304 are read", text.len()),
+        TextFault::TooLong => format!(in alloc;
+            "{} bytes or more, at most 4194304 are read",
+            text.len()
+        ),
         TextFault::NotUtf8 => {
             let at = not_utf8(text);
-            format!(in alloc; "{}: expected UTF-8, found {}", spot_at(text, at), found_at(text, at))
+            format!(in alloc;
+                "{}: expected UTF-8, found {}",
+                spot_at(text, at),
+                found_at(text, at)
+            )
         }
         TextFault::Memory => Ok(String::new(alloc)),
         _ => match std::str::from_utf8(text) {
@@ -64,7 +71,12 @@ fn told_of_utf8(alloc: Global, text: &str, fault: TextFault) -> Result<String, A
     match fault {
         TextFault::NotJson => told_of_no_json(alloc, text),
         TextFault::TooDeep => {
-            told_at(alloc, text, too_deep(alloc, text)?, "level 257, at most 256 are read")
+            told_at(
+                alloc,
+                text,
+                too_deep(alloc, text)?,
+                "level 257, at most 256 are read",
+            )
         }
         TextFault::NumberLimit => told_at(
             alloc,
@@ -83,12 +95,7 @@ fn told_of_utf8(alloc: Global, text: &str, fault: TextFault) -> Result<String, A
     }
 }
 
-fn told_at(
-    alloc: Global,
-    text: &str,
-    at: Option<usize>,
-    what: &str,
-) -> Result<String, AllocError> {
+fn told_at(alloc: Global, text: &str, at: Option<usize>, what: &str) -> Result<String, AllocError> {
     match at {
         Some(at) => format!(in alloc; "{}: {what}", spot_at(text.as_bytes(), at)),
         None => Ok(String::new(alloc)),
@@ -102,7 +109,10 @@ fn told_of_no_json(alloc: Global, text: &str) -> Result<String, AllocError> {
     let found = found_at(bytes, place.at);
     match hint(bytes, place) {
         Some(hint) => {
-            format!(in alloc; "{spot}: expected {}, found {found}\nhint: {hint}", place.expected)
+            format!(in alloc;
+                "{spot}: expected {}, found {found}\nhint: {hint}",
+                place.expected
+            )
         }
         None => format!(in alloc; "{spot}: expected {}, found {found}", place.expected),
     }

@@ -8,6 +8,7 @@ ghost use Rattle.text_faults.specs.Moves as moves;
 use crate::marks::{Digits, Letters, Move, Now, Purpose};
 use json_text::{Mode, Shape, Turn};
 
+#[inline(always)]
 fn is_blank(b: u8) -> bool
     ensures { result ≡ tokens.is_blank b }
 {
@@ -33,6 +34,7 @@ fn is_short(b: u8) -> bool
         || b == b't'
 }
 
+#[inline(always)]
 fn turn(mode: Mode, b: u8) -> Turn
     ensures { result ≡ scanning.turn mode b }
 {
@@ -129,6 +131,7 @@ fn after_letter(letters: Letters) -> Now
     }
 }
 
+#[inline(always)]
 fn is_digit(b: u8) -> bool
     ensures { result ≡ moves.is_digit b }
 {
@@ -142,6 +145,7 @@ fn is_e(b: u8) -> bool
 }
 
 // A byte that goes on with a number.
+#[inline(always)]
 fn digit(digits: Digits, b: u8) -> Option<Digits>
     ensures { result ≡ moves.digit digits b }
 {
@@ -188,13 +192,7 @@ fn digit(digits: Digits, b: u8) -> Option<Digits>
                 None
             }
         }
-        Digits::Sign | Digits::Exp => {
-            if is_digit(b) {
-                Some(Digits::Exp)
-            } else {
-                None
-            }
-        }
+        Digits::Sign | Digits::Exp => { if is_digit(b) { Some(Digits::Exp) } else { None } }
     }
 }
 
@@ -211,7 +209,9 @@ fn point(b: u8) -> Option<Digits>
     }
 }
 
-fn ends(digits: Digits) -> bool
+/// Whether a number may end here.
+#[inline(always)]
+pub fn ends(digits: Digits) -> bool
     ensures { result ≡ moves.ends digits }
 {
     match digits {
@@ -221,6 +221,7 @@ fn ends(digits: Digits) -> bool
 }
 
 // A byte behind a value.
+#[inline(always)]
 fn follow(top: Option<Shape>, b: u8) -> Move
     ensures { result ≡ moves.follow top b }
 {
@@ -279,6 +280,7 @@ fn name(b: u8) -> Move
     }
 }
 
+#[inline(always)]
 fn after_string(purpose: Purpose) -> Now
     ensures { result ≡ moves.after_string purpose }
 {
@@ -288,6 +290,7 @@ fn after_string(purpose: Purpose) -> Now
     }
 }
 
+#[inline(always)]
 fn quoted(purpose: Purpose, turn: Turn) -> Move
     ensures { result ≡ moves.quoted purpose turn }
 {
@@ -298,6 +301,7 @@ fn quoted(purpose: Purpose, turn: Turn) -> Move
     }
 }
 
+#[inline(always)]
 fn number(digits: Digits, top: Option<Shape>, b: u8) -> Move
     ensures { result ≡ moves.number digits top b }
 {
@@ -314,6 +318,7 @@ fn number(digits: Digits, top: Option<Shape>, b: u8) -> Move
 }
 
 /// What a byte does, by what may come next and the innermost open container.
+#[inline(always)]
 pub fn next(now: Now, top: Option<Shape>, b: u8) -> Move
     ensures { result ≡ moves.next now top b }
 {
@@ -334,13 +339,7 @@ pub fn next(now: Now, top: Option<Shape>, b: u8) -> Move
                 into_array(begin(b))
             }
         }
-        Now::Name => {
-            if is_blank(b) {
-                Move::To(now)
-            } else {
-                name(b)
-            }
-        }
+        Now::Name => { if is_blank(b) { Move::To(now) } else { name(b) } }
         Now::FirstName => {
             if is_blank(b) {
                 Move::To(now)
