@@ -20,7 +20,7 @@ use Rattle.path_server.specs.declared.keys.KeysFault.TheVariants as keys
 use Rattle.tenant_map.specs.declared.tenants.TenantsFault.{TenantsFault}
 use Rattle.tenant_map.specs.declared.tenants.TenantsFault.TheVariants as tenants
 use Rattle.command_line.specs.declared.failure.Failure.{Failure}
-use Rattle.command_line.specs.declared.failure.Failure.TheVariants.{CommandLine, Words, Query, Keys, Replay, Tenants, Net, Address, KeyLine, Write, Read, Call, Memory}
+use Rattle.command_line.specs.declared.failure.Failure.TheVariants.{CommandLine, Words, Query, Refused, Keys, Replay, Tenants, Net, Address, KeyLine, Write, Read, Call, Memory}
 
 abbrev pub status_of_kind : ErrorKind → ℕ
 status_of_kind DisplayHelp = 0
@@ -84,6 +84,7 @@ abbrev pub status_of : Failure → ℕ
 status_of (CommandLine error) = status_of_kind (kind_of error)
 status_of Words = 3
 status_of (Query fault) = status_of_query fault
+status_of (Refused at) = status_of_refusal at.fault
 status_of (Keys fault) = status_of_keys fault
 status_of (Replay fault) = status_of_replay fault
 status_of (Tenants fault) = status_of_tenants fault

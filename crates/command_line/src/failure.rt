@@ -6,11 +6,14 @@ ghost use Rattle.clap.specs.Values.{kind_of};
 ghost use Rattle.command_line.specs.Statuses.{status_of, status_of_refusal, status_of_query, status_of_keys, status_of_tenants, status_of_script, status_of_replay, status_of_call, status_of_call_stream, status_of_kind};
 
 use clap::error::ErrorKind as ParseKind;
+use json_text::TextFault;
 use path_server::{
     CallFault, CallStreamFault, KeysFault, QueryStreamFault, QueryTextFault, ReplayStreamFault,
     ScriptFault,
 };
+use query_faults::Refusal;
 use standard_streams::ReadFault;
+use std::alloc::{AllocError, Global};
 use std::fmt;
 use std::io::{self, ErrorKind};
 use tenant_map::TenantsFault;
@@ -24,6 +27,8 @@ pub enum Failure {
     Words,
     /// The query on the text on standard input was not answered.
     Query(QueryStreamFault),
+    /// The same, with what is said of the place.
+    Refused(RefusedAt),
     /// The keys are not in their written form.
     Keys(KeysFault),
     /// The script on standard input was not replayed.
@@ -56,6 +61,19 @@ pub struct AddressFault {
 impl fmt::Display for AddressFault {
     fn fmt<W: fmt::Write>(&self, f: &mut fmt::Formatter<W>) -> fmt::Result {
         write!(f, "{}: {}", self.address, self.reason)
+    }
+}
+
+/// A refusal of a text or a query, and what is said of its place.
+#[derive(Debug, Drop)]
+pub struct RefusedAt {
+    pub fault: QueryTextFault,
+    pub told: String,
+}
+
+impl fmt::Display for RefusedAt {
+    fn fmt<W: fmt::Write>(&self, f: &mut fmt::Formatter<W>) -> fmt::Result {
+        write!(f, "{}\n{}", self.fault, self.told)
     }
 }
 
@@ -94,6 +112,28 @@ impl Failure {
         }
     }
 
+    /// The failure of a query on a text, with the place at which either is refused, if there is one and memory for it. If `shows`, its line is shown.
+    pub fn of_query(
+        alloc: Global,
+        query: &[u8],
+        text: &[u8],
+        fault: QueryStreamFault,
+        shows: bool,
+    ) -> Failure
+        ensures status { status_of result ≡ status_of_query fault }
+    {
+        let QueryStreamFault::Refused(refusal) = fault else {
+            return Failure::Query(fault);
+        };
+        match told(alloc, query, text, refusal, shows) {
+            Ok(told) if !told.is_empty() => Failure::Refused(RefusedAt {
+                fault: refusal,
+                told,
+            }),
+            _ => Failure::Query(fault),
+        }
+    }
+
     /// The exit status.
     pub fn status(&self) -> u8
         ensures { result ≡ status_of self.now }
@@ -102,6 +142,7 @@ impl Failure {
             Failure::CommandLine(error) => status_at(error.kind()),
             Failure::Words => 3,
             Failure::Query(fault) => query_status(*fault),
+            Failure::Refused(at) => refusal_status(at.fault),
             Failure::Keys(fault) => keys_status(*fault),
             Failure::Replay(fault) => replay_status(*fault),
             Failure::Tenants(fault) => tenants_status(*fault),
@@ -142,6 +183,7 @@ impl fmt::Display for Failure {
             Failure::CommandLine(error) => write!(f, "{error}"),
             Failure::Words => writeln!(f, "path_server: BadCommandLine"),
             Failure::Query(fault) => writeln!(f, "path_server: {fault}"),
+            Failure::Refused(at) => writeln!(f, "path_server: {at}"),
             Failure::Keys(fault) => writeln!(f, "path_server: {fault}"),
             Failure::Replay(fault) => writeln!(f, "path_server: {fault}"),
             Failure::Tenants(fault) => writeln!(f, "path_server: {fault}"),
@@ -153,6 +195,49 @@ impl fmt::Display for Failure {
             Failure::Call(fault) => writeln!(f, "path_server: {fault}"),
             Failure::Memory => writeln!(f, "path_server: NoMemory"),
         }
+    }
+}
+
+// What is said of the place at which a text or a query is refused.
+fn told(
+    alloc: Global,
+    query: &[u8],
+    text: &[u8],
+    fault: QueryTextFault,
+    shows: bool,
+) -> Result<String, AllocError> {
+    match fault {
+        QueryTextFault::TooLong => text_faults::told(alloc, text, TextFault::TooLong, shows),
+        QueryTextFault::NotUtf8 => text_faults::told(alloc, text, TextFault::NotUtf8, shows),
+        QueryTextFault::NotJson => text_faults::told(alloc, text, TextFault::NotJson, shows),
+        QueryTextFault::TooDeep => text_faults::told(alloc, text, TextFault::TooDeep, shows),
+        QueryTextFault::NumberLimit => text_faults::told(
+            alloc,
+            text,
+            TextFault::NumberLimit,
+            shows,
+        ),
+        QueryTextFault::LoneSurrogate => text_faults::told(
+            alloc,
+            text,
+            TextFault::LoneSurrogate,
+            shows,
+        ),
+        QueryTextFault::DuplicateName => text_faults::told(
+            alloc,
+            text,
+            TextFault::DuplicateName,
+            shows,
+        ),
+        QueryTextFault::QueryTooLong => query_faults::told(alloc, query, Refusal::TooLong, shows),
+        QueryTextFault::NotWellFormed => query_faults::told(
+            alloc,
+            query,
+            Refusal::NotWellFormed,
+            shows,
+        ),
+        QueryTextFault::NotValid => query_faults::told(alloc, query, Refusal::NotValid, shows),
+        QueryTextFault::Costly | QueryTextFault::Memory => Ok(String::new(alloc)),
     }
 }
 

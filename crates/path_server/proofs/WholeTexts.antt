@@ -1,14 +1,13 @@
 -- A text that is cut one byte past the limit on texts is refused as the whole text is, or it is the whole text.
-use Rattle.std.proofs.Common.{◌≡◌, ℕ, ◌+◌, ◌<◌, min, List, [], length, take, arith, Option, None, Some}
-use Rattle.std.specs.Prelude.{IfSome}
-use Rattle.std.specs.Io.KnownBytes.{Appends}
+use Rattle.std.proofs.Common.{◌≡◌, ℕ, ◌+◌, ◌<◌, min, List, [], length, take, arith, Option, None, Some, inl, inr}
+use Rattle.std.specs.Prelude.{IfSome, IfErr, OnOk, Result, Ok, Err}
 use Rattle.std.proofs.lemmas.List.{length-take, take_all}
 use Rattle.json_tape.specs.Verdict.{text_limit, IsRefused}
 use Rattle.json_text.specs.declared.tape.TextFault.TheVariants as text
-use Rattle.standard_streams.specs.Fronts.{StopsShort}
 use Rattle.path_server.specs.QueryText.{Refuses, Answers}
-use Rattle.path_server.specs.QueryStream.{AnswersStream, BreaksOff}
-use Rattle.path_server.proofs.Refusals.{memory_wanted}
+use Rattle.path_server.specs.QueryStream.{AnswersStream, BreaksOff, FailsStream}
+use Rattle.path_server.specs.declared.streams.QueryStreamFault.{QueryStreamFault}
+use Rattle.path_server.specs.declared.streams.QueryStreamFault.TheVariants.{Read, Refused, Write}
 use Rattle.path_server.specs.declared.fault.QueryTextFault.{QueryTextFault}
 use Rattle.path_server.specs.declared.fault.QueryTextFault.TheVariants.{TooLong, NotUtf8, NotJson, TooDeep, NumberLimit, LoneSurrogate, DuplicateName, QueryTooLong, NotWellFormed, NotValid, Costly, Memory}
 
@@ -41,18 +40,29 @@ refuses_whole query document Memory r = rw (whole document (r text.TooLong (omeg
 pub answers_whole : (query document old new : List ℕ) → Answers query (take (text_limit + 1) document) old new → Answers query document old new
 answers_whole query document old new a = rw (whole document (a.accepted.1 text.TooLong)) at a
 
-pub refused_whole : (query cut : List ℕ) (left : Option (List ℕ)) (fault : QueryTextFault) → IfSome left (λ document. cut ≡ take (text_limit + 1) document) → Refuses query cut fault → IfSome left (λ document. Refuses query document fault)
+refused_whole : (query cut : List ℕ) (left : Option (List ℕ)) (fault : QueryTextFault) → IfSome left (λ document. cut ≡ take (text_limit + 1) document) → Refuses query cut fault → IfSome left (λ document. Refuses query document fault)
 refused_whole query cut None fault e r = tt
 refused_whole query cut (Some document) fault e r = refuses_whole query document fault (rw e at r)
 
-pub answered_whole : (query cut lines : List ℕ) (left old new : Option (List ℕ)) → IfSome left (λ document. cut ≡ take (text_limit + 1) document) → Answers query cut [] lines → Appends old new lines → AnswersStream query left old new
-answered_whole query cut lines None old new e a w = tt
-answered_whole query cut lines (Some document) old new e a w = (lines, answers_whole query document [] lines (rw e at a), w)
+breaks_whole : (query cut : List ℕ) (left old new : Option (List ℕ)) → IfSome left (λ document. cut ≡ take (text_limit + 1) document) → BreaksOff query (Some cut) old new → BreaksOff query left old new
+breaks_whole query cut None old new e b = tt
+breaks_whole query cut (Some document) old new e (lines, a, w) = (lines, answers_whole query document [] lines (rw e at a), w)
 
-pub breaks_whole : (query cut lines : List ℕ) (left old new : Option (List ℕ)) → IfSome left (λ document. cut ≡ take (text_limit + 1) document) → Answers query cut [] lines → StopsShort lines old new → BreaksOff query left old new
-breaks_whole query cut lines None old new e a w = tt
-breaks_whole query cut lines (Some document) old new e a w = (lines, answers_whole query document [] lines (rw e at a), w)
+-- what is said of the text that was read holds of the reader's
+answered_whole : (query cut : List ℕ) (left old new : Option (List ℕ)) → IfSome left (λ document. cut ≡ take (text_limit + 1) document) → AnswersStream query (Some cut) old new → AnswersStream query left old new
+answered_whole query cut None old new e a = tt
+answered_whole query cut (Some document) old new e (lines, a, w) = (lines, answers_whole query document [] lines (rw e at a), w)
 
--- memory may be wanted with the lines of a text that is accepted
-pub lines_want : (query cut lines : List ℕ) (left : Option (List ℕ)) → IfSome left (λ document. cut ≡ take (text_limit + 1) document) → Answers query cut [] lines → IfSome left (λ document. Refuses query document Memory)
-lines_want query cut lines left e a = refused_whole query cut left Memory e (memory_wanted query cut a.tree a.accepted)
+failed_whole : (query cut : List ℕ) (left old new : Option (List ℕ)) (fault : QueryStreamFault) → IfSome left (λ document. cut ≡ take (text_limit + 1) document) → FailsStream query (Some cut) old new fault → FailsStream query left old new fault
+failed_whole query cut left old new (Read fault) e k = k
+failed_whole query cut left old new (Refused fault) e (r, inl k) = (refused_whole query cut left fault e r, inl k)
+failed_whole query cut left old new (Refused fault) e (r, inr (m, b)) = (refused_whole query cut left fault e r, inr (m, breaks_whole query cut left old new e b))
+failed_whole query cut left old new (Write fault) e b = breaks_whole query cut left old new e b
+
+pub answered_stream : {E : Type 0} (query cut : List ℕ) (left old new : Option (List ℕ)) (result : Result (Unit {0}) E) → IfSome left (λ document. cut ≡ take (text_limit + 1) document) → OnOk result (AnswersStream query (Some cut) old new) → OnOk result (AnswersStream query left old new)
+answered_stream query cut left old new (Ok x) e a = answered_whole query cut left old new e a
+answered_stream query cut left old new (Err x) e a = tt
+
+pub failed_stream : {A : Type 0} (query cut : List ℕ) (left old new : Option (List ℕ)) (result : Result A QueryStreamFault) → IfSome left (λ document. cut ≡ take (text_limit + 1) document) → IfErr result (FailsStream query (Some cut) old new) → IfErr result (FailsStream query left old new)
+failed_stream query cut left old new (Ok x) e a = tt
+failed_stream query cut left old new (Err fault) e a = failed_whole query cut left old new fault e a

@@ -1,6 +1,6 @@
-//! A query on the text that a reader has, answered to a writer.
+//! A query on a text, or on the one that a reader has, answered to a writer.
 
-ghost use Rattle.std.specs.Prelude.{OnOk, IfErr};
+ghost use Rattle.std.specs.Prelude.{OnOk, IfErr, Some};
 ghost use Rattle.path_server.specs.QueryStream.{AnswersStream, FailsStream};
 
 use crate::fault::QueryTextFault;
@@ -26,11 +26,10 @@ pub enum QueryStreamFault {
     Write(WriteFault),
 }
 
-/// Reads a text to its end, at most one byte past [`json_tape::TEXT_LIMIT`], and writes what [`crate::query_text`] appends for it. It writes in
-/// pieces of some 65,536 bytes, so that it holds at most a piece and a path.
+/// Reads a text to its end, at most one byte past [`json_tape::TEXT_LIMIT`], and writes what [`crate::query_text`] appends for it, as [`query_to`]
+/// does.
 ///
-/// If the text cannot be read (Read), or [`crate::query_text`] refuses it (Refused), nothing is written. Once lines are being written, a failed
-/// allocation (Refused, with Memory) or a failed write (Write) breaks them off: a prefix of them is written, and not all.
+/// If the text cannot be read (Read), nothing is written.
 pub fn query_stream<R: Read + Drop, W: Write>(
     alloc: Global,
     query: &[u8],
@@ -44,7 +43,23 @@ pub fn query_stream<R: Read + Drop, W: Write>(
         Ok(text) => text,
         Err(fault) => return Err(QueryStreamFault::Read(fault)),
     };
-    let document = match Document::read_owned(alloc, text) {
+    query_to(alloc, query, text.as_slice(), writer)
+}
+
+/// Writes what [`crate::query_text`] appends for a text. It writes in pieces of some 65,536 bytes, so that it holds at most a piece and a path.
+///
+/// If [`crate::query_text`] refuses the text (Refused), nothing is written. Once lines are being written, a failed allocation (Refused, with Memory)
+/// or a failed write (Write) breaks them off: a prefix of them is written, and not all.
+pub fn query_to<W: Write>(
+    alloc: Global,
+    query: &[u8],
+    text: &[u8],
+    writer: &mut W,
+) -> Result<(), QueryStreamFault>
+    ensures answered { OnOk result (AnswersStream query.now (Some text.now) (W.contents writer.old) (W.contents writer.new)) }
+    ensures failed { IfErr result (λ fault. FailsStream query.now (Some text.now) (W.contents writer.old) (W.contents writer.new) fault) }
+{
+    let document = match Document::read(alloc, text) {
         Ok(document) => document,
         Err(fault) => return Err(QueryStreamFault::Refused(fault.into())),
     };

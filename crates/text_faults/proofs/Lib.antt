@@ -1,0 +1,5 @@
+pub mod Runs
+pub mod Completions
+pub mod Backwards
+pub mod Longest
+pub mod Next
