@@ -195,6 +195,13 @@ def selectors():
         for part in ("-1", "400000", "-2:", "::100000", "'a'"):
             yield f"{name}, {part} as often as may be", text, filled(part, ",", "$[")
         yield f"{name}, a filter as often as may be", text, filled("?@[0]==1", ",", "$[") + ".zz"
+        at = text.count(",") // 2
+        for part in (f"{at}", f"{at}:{at + 1}", f"{-at}:{1 - at}", f"{at}:{at - 1}:-1", f"{at}::{at // 2}"):
+            yield f"{name}, {part} in the middle as often as may be", text, filled(part, ",", "$[")
+    turns = many("[[[[[[[[[[[[[[[[[[[[0]]]]]]]]]]]]]]]]]]]],0,0,0,0,0")
+    at = turns.count(",") // 2
+    for part in (f"{at}", f"{at}:{at + 1}"):
+        yield f"deep arrays and zeros, {part} in the middle as often as may be", turns, filled(part, ",", "$[")
     text, count = members(numbered())
     yield "a wide object, its last name often", text, filled(f"'k{count - 1:05}'", ",", "$[")
     yield "a wide object, names that it has not", text, filled("'k'", ",", "$..[")

@@ -5,4 +5,3 @@ pub mod Places
 pub mod Sides
 pub mod Pairs
 pub mod Contents
-pub mod Ends
