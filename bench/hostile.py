@@ -166,8 +166,19 @@ def equality():
     spelt = "\\u0078" * (TEXT // 8)
     yield "two strings, one escaped, often", f'["{"x" * (TEXT // 8)}","{spelt}"]', often
     yield "two strings, which is less, often", f'[{same}a",{same}b"]', filled("@>=$[0]", "&&")
+    yield from sorted_strings()
     yield "numbers of 256 digits, which is less, often", many(NUMBER), filled("@<=$[0]", "&&")
     yield "numbers of one value with other exponents", many("1e999999999", last="10e999999998"), filled("@==$[-1]", "&&")
+
+
+def sorted_strings():
+    """Strings of one beginning, each of which is compared with each."""
+    for count in (20, 95, 380):
+        for name, (first, part) in {"plain": ("", "s"), "an escape and then plain": ("\\n", "s"), "escapes between plain": ("", "s" * 40 + "\\n"),
+                                    "escaped": ("", "\\u0061")}.items():
+            times = (TEXT // count - len(first) - 10) // len(part)
+            parts = [f'"{first}{part * times}{at:03}"' for at in range(count)]
+            yield f"{count} strings, {name}, each with each", "[" + ",".join(parts) + "]", distinct(f"@<$[{at}]" for at in range(count))
 
 
 def depths():

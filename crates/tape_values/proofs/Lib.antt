@@ -6,3 +6,5 @@ pub mod Members
 pub mod Lines
 mod Dropped
 mod Behind
+mod Settled
+mod Orders
