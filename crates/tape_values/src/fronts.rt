@@ -9,9 +9,10 @@ use simdutf8::basic::from_utf8;
 // So many bytes are compared at once.
 const BLOCK: usize = 256;
 
-// A beginning of fewer bytes is not passed, nor one of less than this part of the longer string: to see that the rest is UTF-8 would take longer.
-const FEW: usize = 64;
+/// A beginning of fewer bytes is not passed.
+pub const FEW: usize = 64;
 
+// Nor is one of less than this part of the longer string: to see that the rest is UTF-8 would take longer.
 const PART: usize = 64;
 
 // Behind so many characters without a backslash no escape is open: `\u0061` has six.

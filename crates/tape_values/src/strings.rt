@@ -5,7 +5,7 @@ ghost use Rattle.std.specs.Cmp.Lexicographic.{slice_cmp};
 ghost use Rattle.std.specs.Ordering.{nat_cmp};
 ghost use Rattle.tape_values.specs.Contents.{letters_left, string_scalars, IsStringValue};
 
-use crate::fronts::rests;
+use crate::fronts::{FEW, rests};
 use crate::letters::{Letters, compare_letters};
 use json_tape::{Document, NodeId, Scalars};
 use std::cmp::Ordering;
@@ -38,11 +38,14 @@ pub fn compare_strings(doc: &Document, a: StringValue<'_>, b: StringValue<'_>) -
 {
     let _ = doc.root();
     if let (StringValue::Stored(x), StringValue::Stored(y)) = (a, b) {
-        if let Some((left, right)) = rests(doc.text(x), doc.text(y)) {
-            return compare_letters(
-                Letters::Spelt(Scalars::new(left)),
-                Letters::Spelt(Scalars::new(right)),
-            );
+        let bytes = doc.text(x);
+        if FEW <= bytes.len() {
+            if let Some((left, right)) = rests(bytes, doc.text(y)) {
+                return compare_letters(
+                    Letters::Spelt(Scalars::new(left)),
+                    Letters::Spelt(Scalars::new(right)),
+                );
+            }
         }
     }
     compare_letters(letters(doc, a), letters(doc, b))

@@ -1,6 +1,6 @@
 //! Values of a text, compared (RFC 9535, section 2.3.5.2.2).
 
-ghost use Rattle.std.specs.Prelude.{◌≡◌, ◌<◌, length, Some, false, IsTrue, IfSome, MatchOption};
+ghost use Rattle.std.specs.Prelude.{◌≡◌, ◌<◌, length, Some, true, false, IsTrue, IfSome, MatchOption};
 ghost use Rattle.json_tape.specs.Document.{count, node_at, following, IsIn, kind_of};
 ghost use Rattle.json_tape.specs.Tree.{source_of};
 ghost use Rattle.json_tape.specs.Nodes.{children};
@@ -11,6 +11,7 @@ ghost use Rattle.tape_values.specs.Contents.{IsNumberText, content_value, IsCont
 use crate::digits::{Digits, compare_digits};
 use crate::guesses::{guess, have_one_name};
 use crate::strings::{StringValue, compare_strings};
+use decimal_order::orders_values;
 use json_tape::{Document, Kind, NodeId};
 use std::cmp::Ordering;
 
@@ -66,6 +67,21 @@ fn member_total(doc: &Document, n: NodeId) -> u32
     }
 }
 
+// Whether two values are numbers of the same digits.
+#[inline(always)]
+#[tactic(auto, using(crate::proofs::Members::same_digits))]
+fn have_same_digits(doc: &Document, a: NodeId, b: NodeId) -> bool
+    requires left { a.0 < count doc.now }
+    requires right { b.0 < count doc.now }
+    ensures { IsTrue result → equal_trees (node_at doc.now a.0).tree (node_at doc.now b.0).tree ≡ true }
+{
+    orders_values();
+    match (doc.kind(a), doc.kind(b)) {
+        (Kind::Number, Kind::Number) => number_text(doc, a) == number_text(doc, b),
+        _ => false,
+    }
+}
+
 // Whether the values of two lists of siblings are equal, one by one.
 #[cycle(equal)]
 fn equal_siblings(doc: &Document, a: Option<NodeId>, b: Option<NodeId>) -> bool
@@ -79,7 +95,7 @@ fn equal_siblings(doc: &Document, a: Option<NodeId>, b: Option<NodeId>) -> bool
         let Some(y) = right else {
             return false;
         };
-        if !equal_values(doc, x, y) {
+        if !have_same_digits(doc, x, y) && !equal_values(doc, x, y) {
             return false;
         }
         left = doc.next_sibling(x);
