@@ -166,8 +166,19 @@ def equality():
     spelt = "\\u0078" * (TEXT // 8)
     yield "two strings, one escaped, often", f'["{"x" * (TEXT // 8)}","{spelt}"]', often
     yield "two strings, which is less, often", f'[{same}a",{same}b"]', filled("@>=$[0]", "&&")
+    yield from sorted_strings()
     yield "numbers of 256 digits, which is less, often", many(NUMBER), filled("@<=$[0]", "&&")
     yield "numbers of one value with other exponents", many("1e999999999", last="10e999999998"), filled("@==$[-1]", "&&")
+
+
+def sorted_strings():
+    """Strings of one beginning, each of which is compared with each."""
+    for count in (20, 95, 380):
+        for name, (first, part) in {"plain": ("", "s"), "an escape and then plain": ("\\n", "s"), "escapes between plain": ("", "s" * 40 + "\\n"),
+                                    "escaped": ("", "\\u0061")}.items():
+            times = (TEXT // count - len(first) - 10) // len(part)
+            parts = [f'"{first}{part * times}{at:03}"' for at in range(count)]
+            yield f"{count} strings, {name}, each with each", "[" + ",".join(parts) + "]", distinct(f"@<$[{at}]" for at in range(count))
 
 
 def depths():
@@ -195,6 +206,13 @@ def selectors():
         for part in ("-1", "400000", "-2:", "::100000", "'a'"):
             yield f"{name}, {part} as often as may be", text, filled(part, ",", "$[")
         yield f"{name}, a filter as often as may be", text, filled("?@[0]==1", ",", "$[") + ".zz"
+        at = text.count(",") // 2
+        for part in (f"{at}", f"{at}:{at + 1}", f"{-at}:{1 - at}", f"{at}:{at - 1}:-1", f"{at}::{at // 2}"):
+            yield f"{name}, {part} in the middle as often as may be", text, filled(part, ",", "$[")
+    turns = many("[[[[[[[[[[[[[[[[[[[[0]]]]]]]]]]]]]]]]]]]],0,0,0,0,0")
+    at = turns.count(",") // 2
+    for part in (f"{at}", f"{at}:{at + 1}"):
+        yield f"deep arrays and zeros, {part} in the middle as often as may be", turns, filled(part, ",", "$[")
     text, count = members(numbered())
     yield "a wide object, its last name often", text, filled(f"'k{count - 1:05}'", ",", "$[")
     yield "a wide object, names that it has not", text, filled("'k'", ",", "$..[")

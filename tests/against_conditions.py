@@ -2,8 +2,8 @@
 """Compares what random conditions on a few sides select with a plain evaluator: tests/against_conditions.py [CONDITIONS [SEED]].
 
 A condition joins comparisons of sides with literals, and of sides that cost no units with each other, by `||`, `&&`, `!` and parentheses, those of
-one side or of several in one operand; its values are the literals, others between and beyond them, and arrays and objects. The evaluator is
-plain_queries.py. The program is the one that bin/build makes or the one that the environment's PATH_SERVER names.
+one side or of several in one operand; its values are the literals, others between and beyond them, and arrays and objects. Every eighth text has
+long strings that begin alike, which are compared with each other. The evaluator is plain_queries.py. The program is the one that bin/build makes or the one that the environment's PATH_SERVER names.
 """
 import random
 import subprocess
@@ -19,6 +19,8 @@ WORDS = ["null", "true", "false"]
 OTHERS = ["4", "6", "-2", "0.5", "1.5", "1e300", '"c"', '"abc"', '"\\ud83d\\ude00"', "[]", "[1]", "[[1],2]", "{}", '{"a":1}']
 SIDES = ["@", "@", "@", "length(@)", "value(@)", "count(@)", "$", "length($)", "@.a", "@[0]", "$[0]", "length(@[0])", "length(value(@))"]
 FREE = ["@", "@", "$", "length(@)", "length($)", "count(@)", "value(@)", "length('ab')", "length(value(@))", "length(count(@))"]
+PIECES = ["s" * 70, "s" * 300, "s" * 20, "\u00e9" * 40, "\u20ac" * 9, "\U0001f600" * 20, "\\u0061" * 20, "\\n" * 12, "\\\\" * 5, "\\ud83d\\ude00" * 6]
+ENDS = ["", "a", "\\u0061", "b", "\u00e9", "\\u00e9", "\\ud83d\\ude00", "\\ud83d\\ude01", "\U0001f600", "\uffff", "\\n", "\\\\", "\\/", "/", "s" * 300]
 OPERATORS = ["==", "!=", "<", "<=", ">", ">="]
 PER_TEXT = 10
 
@@ -63,12 +65,26 @@ def text(chance):
     return "[" + ",".join(chance.choice(values) for _ in range(chance.choice([1, 10, 40]))) + "]"
 
 
+def long_text(chance):
+    """Strings that begin alike, and end in one way or another."""
+    front = "".join(chance.choice(PIECES) for _ in range(chance.randint(1, 4)))
+    return "[" + ",".join(f'"{front}{chance.choice(ENDS)}{chance.choice(ENDS)}"' for _ in range(12)) + "]"
+
+
+def long_query(chance):
+    """A filter that compares with some of the values."""
+    parts = (f"@{chance.choice(OPERATORS)}$[{chance.randrange(12)}]" for _ in range(chance.randint(1, 6)))
+    return "$[?" + chance.choice(["||", "&&"]).join(parts) + "]"
+
+
 def main():
     count = int(sys.argv[1]) if len(sys.argv) > 1 else 2_000
     chance, report = random.Random(int(sys.argv[2]) if len(sys.argv) > 2 else 1), Report()
     for place in range(count):
-        source = text(chance).encode() if place % PER_TEXT == 0 else source
-        asked = query(chance)
+        is_long = place // PER_TEXT % 8 == 7
+        if place % PER_TEXT == 0:
+            source = (long_text(chance) if is_long else text(chance)).encode()
+        asked = long_query(chance) if is_long else query(chance)
         if len(asked.encode()) > 4_096:
             continue
         query_of(asked)

@@ -5,8 +5,7 @@ ghost use Rattle.json_tape.specs.Document.{count};
 ghost use Rattle.compared_sides.specs.Answered.{AreRight, IsRight, Answers};
 
 use json_tape::{Document, NodeId};
-use path_grammar::Op;
-use tape_values::{Side, compare_sides};
+use tape_values::equal_and_less;
 
 /// How the values of two nodes compare.
 #[derive(Clone, Copy)]
@@ -69,11 +68,12 @@ fn found(doc: &Document, a: NodeId, b: NodeId) -> Answer
     ensures answer { Answers doc.now a b result }
     ensures kept { IsRight doc.now (Some result) }
 {
+    let (is_equal, is_less) = equal_and_less(doc, a, b);
     Answer {
         left: a,
         right: b,
-        is_equal: compare_sides(doc, Op::Eq, &Side::Node(a), &Side::Node(b)),
-        is_less: compare_sides(doc, Op::Lt, &Side::Node(a), &Side::Node(b)),
+        is_equal,
+        is_less,
     }
 }
 

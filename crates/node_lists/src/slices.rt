@@ -109,13 +109,6 @@ fn picked_by_place(
     Ok(())
 }
 
-// Whether the elements of an array have numbers that follow one another, as those of which none has anything in it do.
-fn stand_in_line(doc: &Document, n: NodeId) -> bool
-    requires { n.0 < count doc.now }
-{
-    doc.after(n) - n.0 - 1 == element_total(doc, n)
-}
-
 // The elements at these places, in document order.
 fn picked(
     doc: &Document,
@@ -131,7 +124,7 @@ fn picked(
     requires sound { Inside doc.now out.old.items }
     ensures { Adds doc.now result out.new.items (nodes_of doc.now out.old.items ++ picked (is_place places.first places.end places.step) 0 (elements (node_at doc.now n.0))) (length (picked (is_place places.first places.end places.step) 0 (elements (node_at doc.now n.0)))) meter.old.left meter.new.left }
 {
-    if FAR <= places.step && stand_in_line(doc, n) {
+    if FAR <= places.step {
         picked_by_place(doc, n, places, meter, out)
     } else {
         picked_by_walking(doc, n, places, meter, out)

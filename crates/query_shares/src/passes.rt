@@ -242,6 +242,14 @@ fn condition_in_turn<'a>(plan: &Parts, stage: &'a Stage, number: usize) -> Optio
 /// The most units with which children are ever asked at once.
 pub const MOST: u64 = 10_000;
 
+// The most where others wait, so that a child is asked at once for about as much as a share.
+const MOST_IN_TURN: u64 = 400;
+
+// Whether others wait: then a share is short.
+fn others_wait(left: u64, least: u64) -> bool {
+    left.saturating_sub(least) < SHORT
+}
+
 // The most for the next children, where so many units were spent on children. So the units of tries in vain are about as many as are spent.
 fn most_after(most: u64, is_in_vain: bool, spent: u64) -> u64 {
     let left = if is_in_vain { 0 } else { most };
@@ -285,7 +293,11 @@ fn ask(
         return Ok(Reached::End);
     };
     let units = evaluation.state.meter.left;
-    let most = evaluation.most;
+    let most = if others_wait(units, least) {
+        evaluation.most.min(MOST_IN_TURN)
+    } else {
+        evaluation.most
+    };
     let (passed, is_costly) = chosen_at_once(
         doc,
         plan,
@@ -615,7 +627,7 @@ fn go_on(
     ensures end { IfOk result (λ to. to ≡ End → IsThrough evaluation.new) }
     ensures cut { IfOk result (λ to. to ≡ Share → evaluation.new.state.meter.left < least) }
 {
-    let do_others_wait = evaluation.state.meter.left.saturating_sub(least) < SHORT;
+    let do_others_wait = others_wait(evaluation.state.meter.left, least);
     if !goes_by_selector(stage, do_others_wait) && is_between(evaluation) {
         return list_on(doc, plan, stage, least, evaluation);
     }

@@ -4,4 +4,7 @@ pub mod Sizes
 pub mod Twins
 pub mod Members
 pub mod Lines
-pub mod Ends
+mod Dropped
+mod Behind
+mod Settled
+mod Orders

@@ -1,7 +1,10 @@
 -- Equality of arrays and objects, by their children.
-use Rattle.std.proofs.Common.{◌≡◌, ℕ, suc, ◌+◌, List, ◌∷◌, Bool, true, ◌&&◌, ◌||◌, length, Option, Some, nat_eq, eq-eqb, refl, sym, ap, ◌∙◌}
+use Rattle.std.proofs.Common.{◌≡◌, ℕ, suc, ◌+◌, List, ◌∷◌, Bool, true, ◌&&◌, ◌||◌, length, Option, Some, nat_eq, eq-eqb, arith, refl, sym, ap, ◌∙◌}
 use Rattle.std.specs.Prelude.{bytes_eq}
-use Rattle.json_tape.specs.Tree.{Null, True, False, Num, Str, Name, Tree, Leaf, Arr, Obj, Elements, NoElement, Element, Members, NoMember, Member}
+use Rattle.std.specs.Ordering.{is_eq}
+use Rattle.std.specs.Cmp.{tied_itself}
+use Rattle.decimal_order.specs.Laws.{OrdersValues}
+use Rattle.json_tape.specs.Tree.{Null, True, False, Num, Str, Name, Tree, Leaf, Arr, Obj, Elements, NoElement, Element, Members, NoMember, Member, source_of}
 use Rattle.json_tape.specs.Meaning.{meaning}
 use Rattle.json_tape.specs.Nodes.{Node, Step, key, size, elements_from, members_from, children_of, children}
 use Rattle.json_tape.specs.Document.{kind_of}
@@ -105,6 +108,11 @@ values_equal (Leaf s (Str cs)) (Obj u fs) = refl
 
 pub values_met : (t u : Tree) (a b : Option Value) (r : Bool) → a ≡ Some (value_of t) → b ≡ Some (value_of u) → r ≡ equal_results a b → r ≡ equal_trees t u
 values_met t u a b r p q e = rw (p, q) at e ∙ values_equal t u
+
+-- numbers of the same digits are equal
+pub same_digits : (t u : Tree) → OrdersValues → kind_of t ≡ kinds.Number → kind_of u ≡ kinds.Number → (source_of t).bytes ≡ (source_of u).bytes → equal_trees t u ≡ true
+same_digits (Leaf s Num) (Leaf v Num) o p q e = rw (← e) (ap is_eq (tied_itself o.numbers s.bytes))
+same_digits t u o p q e = grind arith
 
 pub ruleset arrays = (arrays_equal, children_smaller)
 

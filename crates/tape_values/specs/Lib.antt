@@ -4,5 +4,6 @@ pub use Rattle.path_meaning.specs.Functions
 pub mod Places
 pub mod Sides
 pub mod Pairs
+pub mod Fronts
+pub mod Orders
 pub mod Contents
-pub mod Ends

@@ -1,22 +1,39 @@
 //! Comparisons of a filter (RFC 9535, section 2.3.5.2.2).
 
-ghost use Rattle.std.specs.Prelude.{◌≡◌, Some, None, IsTrue, MatchOption, IfSome};
+ghost use Rattle.std.specs.Prelude.{◌≡◌, ◌<◌, Some, None, IsTrue, MatchOption, IfSome};
 ghost use Rattle.path_grammar.specs.View.{literal_view};
 ghost use Rattle.path_types.specs.Validity.{is_literal};
-ghost use Rattle.json_tape.specs.Document.{single, IsIn};
-ghost use Rattle.tape_values.specs.Comparison.{a_number, literal_value, equal_results, less_results, compared};
+ghost use Rattle.json_tape.specs.Document.{count, node_at, single, IsIn};
+ghost use Rattle.tape_values.specs.Comparison.{a_number, literal_value, value_of, equal_results, less_results, compared};
 ghost use Rattle.tape_values.specs.Contents.{content_value, digits_text, AreDigits, IsContent};
 ghost use Rattle.tape_values.specs.Functions.{only_value, whole_number};
+ghost use Rattle.tape_values.specs.Orders.{meets};
 ghost use Rattle.tape_values.specs.Sides.{side_value, side_number, IsSide, IsNumberSide, IsNumberFound};
 
 use crate::digits::{Digits, compare_digits};
-use crate::letters::Letters;
 use crate::sides::Side;
-use crate::values::{Content, equal_contents, less_contents, number_text, value_content};
+use crate::strings::{StringValue, compare_strings};
+use crate::values::{Content, equal_contents, number_text, value_content};
 use decimal_order::orders_values;
 use json_tape::{Document, Kind, NodeId};
 use path_grammar::{Literal, Op};
 use path_types::judges_numbers;
+use std::cmp::Ordering;
+
+// Whether a comparison holds of two values that have this order.
+#[inline(always)]
+fn meets(op: Op, order: Ordering) -> bool
+    ensures { result ≡ meets op order }
+{
+    match op {
+        Op::Eq => order.is_eq(),
+        Op::Ne => order.is_ne(),
+        Op::Lt => order.is_lt(),
+        Op::Gt => order.is_gt(),
+        Op::Le => order.is_le(),
+        Op::Ge => order.is_ge(),
+    }
+}
 
 // What a literal is.
 fn literal_content<'a>(doc: &Document, literal: &'a Literal) -> Content<'a>
@@ -28,7 +45,7 @@ fn literal_content<'a>(doc: &Document, literal: &'a Literal) -> Content<'a>
     judges_numbers();
     match literal {
         Literal::Number(digits) => Content::Number(Digits::Written(digits.as_slice())),
-        Literal::Text(scalars) => Content::Text(Letters::Plain(scalars.as_slice())),
+        Literal::Text(scalars) => Content::Text(StringValue::Written(scalars.as_slice())),
         Literal::Bool(is_true) => Content::Bool(*is_true),
         Literal::Null => Content::Null,
     }
@@ -48,36 +65,24 @@ fn side_content<'a>(doc: &'a Document, side: &Side<'a>) -> Content<'a>
     }
 }
 
-fn equal(doc: &Document, left: &Side<'_>, right: &Side<'_>) -> bool
-    requires left { IsSide doc.now left.now }
-    requires right { IsSide doc.now right.now }
-    ensures { result ≡ equal_results (side_value doc.now left.now) (side_value doc.now right.now) }
-{
-    equal_contents(doc, side_content(doc, left), side_content(doc, right))
-}
-
-fn less(doc: &Document, left: &Side<'_>, right: &Side<'_>) -> bool
-    requires left { IsSide doc.now left.now }
-    requires right { IsSide doc.now right.now }
-    ensures { result ≡ less_results (side_value doc.now left.now) (side_value doc.now right.now) }
-{
-    less_contents(doc, side_content(doc, left), side_content(doc, right))
-}
-
 /// Whether a comparison holds, whatever the sides are.
 #[inline(never)]
+#[tactic(auto, using(crate::proofs::Orders::orders))]
 pub fn compare_contents(doc: &Document, op: Op, left: Side<'_>, right: Side<'_>) -> bool
     requires left { IsSide doc.now left }
     requires right { IsSide doc.now right }
     ensures { result ≡ compared op (side_value doc.now left.entry) (side_value doc.now right.entry) }
 {
-    match op {
-        Op::Eq => equal(doc, &left, &right),
-        Op::Ne => !equal(doc, &left, &right),
-        Op::Lt => less(doc, &left, &right),
-        Op::Gt => less(doc, &right, &left),
-        Op::Le => less(doc, &left, &right) || equal(doc, &left, &right),
-        Op::Ge => less(doc, &right, &left) || equal(doc, &right, &left),
+    orders_values();
+    match (side_content(doc, &left), side_content(doc, &right)) {
+        (Content::Text(a), Content::Text(b)) => meets(op, compare_strings(doc, a, b)),
+        (Content::Number(a), Content::Number(b)) => meets(op, compare_digits(a, b)),
+        (a, b) => match op {
+            Op::Eq | Op::Le => equal_contents(doc, a, b),
+            Op::Ne => !equal_contents(doc, a, b),
+            Op::Ge => equal_contents(doc, b, a),
+            Op::Lt | Op::Gt => false,
+        },
     }
 }
 
@@ -107,15 +112,7 @@ pub fn compare_numbers(op: Op, a: Digits<'_>, b: Digits<'_>) -> bool
     ensures { result ≡ compared op (Some (a_number (digits_text a.entry))) (Some (a_number (digits_text b.entry))) }
 {
     orders_values();
-    let order = compare_digits(a, b);
-    match op {
-        Op::Eq => order.is_eq(),
-        Op::Ne => order.is_ne(),
-        Op::Lt => order.is_lt(),
-        Op::Gt => order.is_gt(),
-        Op::Le => order.is_le(),
-        Op::Ge => order.is_ge(),
-    }
+    meets(op, compare_digits(a, b))
 }
 
 // Whether a comparison of a node's value, or of Nothing, with a literal holds, whatever they are.
@@ -190,5 +187,26 @@ pub fn compare<'a>(doc: &'a Document, op: Op, left: &Side<'a>, right: &Side<'a>)
     match (side_digits(doc, left), side_digits(doc, right)) {
         (Some(a), Some(b)) => compare_numbers(op, a, b),
         _ => compare_contents(doc, op, *left, *right),
+    }
+}
+
+/// Whether two values of a document are equal, and whether the first comes before the second. They are looked at once. It takes no memory.
+#[tactic(auto, using(crate::proofs::Orders::orders))]
+pub fn equal_and_less(doc: &Document, a: NodeId, b: NodeId) -> (bool, bool)
+    requires left { a.0 < count doc.now }
+    requires right { b.0 < count doc.now }
+    ensures equal { result.0 ≡ equal_results (Some (value_of (node_at doc.now a.0).tree)) (Some (value_of (node_at doc.now b.0).tree)) }
+    ensures less { result.1 ≡ less_results (Some (value_of (node_at doc.now a.0).tree)) (Some (value_of (node_at doc.now b.0).tree)) }
+{
+    match (value_content(doc, a), value_content(doc, b)) {
+        (Content::Text(x), Content::Text(y)) => {
+            let order = compare_strings(doc, x, y);
+            (order.is_eq(), order.is_lt())
+        }
+        (Content::Number(x), Content::Number(y)) => {
+            let order = compare_digits(x, y);
+            (order.is_eq(), order.is_lt())
+        }
+        (x, y) => (equal_contents(doc, x, y), false),
     }
 }

@@ -7,23 +7,25 @@ ghost use Rattle.json_tape.specs.Document.{count, node_at, following, IsIn};
 ghost use Rattle.json_tape.specs.Nodes.{children};
 ghost use Rattle.tape_values.specs.Pairs.{same_name, IsAmong};
 
-use crate::letters::{Letters, equal_letters};
+use crate::letters::{Letters, compare_letters};
 use json_tape::{Document, NodeId};
 
 // How many members are gone over where a member's twin is sought.
 const FEW: u32 = 16;
 
 /// Whether two members have one name.
+#[tactic(auto, using(crate::proofs::Orders::orders))]
 pub fn have_one_name(doc: &Document, m: NodeId, o: NodeId) -> bool
     requires left { m.0 < count doc.now }
     requires right { o.0 < count doc.now }
     ensures { result ≡ same_name (node_at doc.now m.0).way_up (node_at doc.now o.0).way_up }
 {
     if doc.has_name(m) && doc.has_name(o) {
-        equal_letters(
+        let order = compare_letters(
             Letters::Spelt(doc.name_scalars(m)),
             Letters::Spelt(doc.name_scalars(o)),
-        )
+        );
+        order.is_eq()
     } else {
         false
     }

@@ -1,13 +1,12 @@
 //! The selector of an index (RFC 9535, section 2.3.3).
 
-ghost use Rattle.std.specs.Prelude.{◌≡◌, ◌<◌, ◌≤◌, ◌-◌, ◌+◌, length, drop, Some, IsTrue, IfSome};
+ghost use Rattle.std.specs.Prelude.{◌≡◌, ◌<◌, ◌≤◌, length, drop, Some, IfSome};
 ghost use Rattle.std.specs.List.{Contains};
-ghost use Rattle.json_tape.specs.Document.{Doc, count, node_at, following, single, IsIn};
-ghost use Rattle.json_tape.specs.Nodes.{children, elements, size};
-ghost use Rattle.tape_values.specs.Ends.{number_at};
+ghost use Rattle.json_tape.specs.Document.{count, node_at, following, single, IsIn};
+ghost use Rattle.json_tape.specs.Nodes.{children, elements};
 ghost use Rattle.tape_values.specs.Selection.{nth, at_index, position_in};
 
-use json_tape::{Document, Kind, NodeId};
+use json_tape::{Document, Kind, Lead, NodeId};
 use path_grammar::IntLit;
 
 // The first element of an array.
@@ -59,7 +58,7 @@ fn position(i: i64, total: u32) -> Option<u32>
 }
 
 // The value so many places on, and those behind it.
-#[tactic(auto, using(crate::proofs::Ends::skipping))]
+#[tactic(auto, using(crate::proofs::Dropped::skipping))]
 fn skip(doc: &Document, first: Option<NodeId>, place: u32) -> Option<NodeId>
     requires { IsIn doc.now first }
     ensures nodes { following doc.now result ≡ drop place (following doc.now first) }
@@ -92,87 +91,71 @@ fn child_around(doc: &Document, n: NodeId, end: u32) -> Option<NodeId>
     None
 }
 
-fn are_same(a: Option<NodeId>, b: Option<NodeId>) -> bool
-    ensures { IsTrue result → (d : Doc) → following d a ≡ following d b }
+// A number from `low` on and below `high` that is as far between them as the place is between two others.
+fn number_between(low: u32, high: u32, from: u32, to: u32, place: u32) -> u32
+    requires numbers { low < high }
+    requires least { from ≤ place }
+    requires most { place < to }
+    ensures least { low ≤ result }
+    ensures most { result < high }
 {
-    match (a, b) {
-        (None, None) => true,
-        (Some(x), Some(y)) => x.0 == y.0,
-        _ => false,
-    }
+    let numbers = u64::from(high - low);
+    let passed = numbers * u64::from(place - from) / u64::from(to - from);
+    low + passed.min(numbers - 1) as u32
 }
 
-// Where the child before this one ends, or the last one.
-fn end_before(doc: &Document, n: NodeId, here: Option<NodeId>, left: u32) -> u32
+// The element at a place, by its number. Each number of a range is one of a value in an element, whose entry has its place, and so the range becomes
+// shorter: in turns as far on as the place is, which finds it at once where all elements have as many values, and by half.
+fn element_by_number(doc: &Document, n: NodeId, total: u32, place: u32) -> Option<NodeId>
     requires inside { n.0 < count doc.now }
-    requires here { IsIn doc.now here }
-    requires place { following doc.now here ≡ drop left (elements (node_at doc.now n.0)) }
-    ensures value { result ≡ number_at left (elements (node_at doc.now n.0)) ((node_at doc.now n.0).number + size (node_at doc.now n.0).tree) }
-    ensures end { result ≤ count doc.now }
-{
-    let _ = doc.root();
-    let _ = left;
-    match here {
-        None => doc.after(n),
-        Some(c) => c.0,
-    }
-}
-
-// The child before this one, or the last one; `left` is this one's place, or how many children there are.
-fn before(doc: &Document, n: NodeId, here: Option<NodeId>, left: u32) -> Option<NodeId>
-    requires inside { n.0 < count doc.now }
-    requires here { IsIn doc.now here }
-    requires place { following doc.now here ≡ drop left (elements (node_at doc.now n.0)) }
-    requires some { 0 < left }
-    requires most { left ≤ length (elements (node_at doc.now n.0)) }
-    ensures nodes { IfSome result (λ p. following doc.now (Some p) ≡ drop (left - 1) (elements (node_at doc.now n.0))) }
-    ensures inside { IsIn doc.now result }
-{
-    let _ = doc.root();
-    let end = end_before(doc, n, here, left);
-    if end == 0 {
-        return None;
-    }
-    let Some(p) = child_around(doc, n, end) else {
-        return None;
-    };
-    if doc.after(p) == end && are_same(doc.next_sibling(p), here) {
-        Some(p)
-    } else {
-        None
-    }
-}
-
-// The element at a place, gone back to from the end.
-#[tactic(auto, using(crate::proofs::Ends::going_back))]
-fn back_to(doc: &Document, n: NodeId, total: u32, place: u32) -> Option<NodeId>
-    requires inside { n.0 < count doc.now }
-    requires all { total ≡ length (elements (node_at doc.now n.0)) }
     requires place { place < total }
-    ensures nodes { IfSome result (λ p. following doc.now (Some p) ≡ drop place (elements (node_at doc.now n.0))) }
+    ensures nodes { IfSome result (λ found. following doc.now (Some found) ≡ drop place (elements (node_at doc.now n.0))) }
     ensures inside { IsIn doc.now result }
 {
-    let mut here = None;
-    let mut left = total;
-    while place < left {
-        let Some(p) = before(doc, n, here, left) else {
+    let _ = doc.root();
+    let mut low = n.0 + 1;
+    let mut high = doc.after(n);
+    let mut from = 0;
+    let mut to = total;
+    for turn in 0..64_u32 {
+        if high <= low {
+            return None;
+        }
+        let number = if turn % 2 == 0 {
+            number_between(low, high, from, to, place)
+        } else {
+            low + (high - low) / 2
+        };
+        let found = child_around(doc, n, number + 1)?;
+        let Lead::Index(i) = doc.lead(found) else {
             return None;
         };
-        here = Some(p);
-        left -= 1;
+        if i == place {
+            return Some(found);
+        }
+        if i < place {
+            low = doc.after(found);
+            from = i + 1;
+        } else {
+            high = found.0;
+            to = i;
+        }
     }
-    here
+    None
 }
 
-/// The element at a place, and those behind it: gone to from the nearer end.
+// So many elements are walked over.
+const FEW: u32 = 8;
+
+/// The element at a place, and those behind it.
 pub fn elements_from(doc: &Document, n: NodeId, place: u32) -> Option<NodeId>
     requires { n.0 < count doc.now }
     ensures nodes { following doc.now result ≡ drop place (elements (node_at doc.now n.0)) }
     ensures inside { IsIn doc.now result }
 {
     let total = element_total(doc, n);
-    if total / 2 < place && place < total {
-        if let Some(found) = back_to(doc, n, total, place) {
+    if FEW < place && place < total {
+        if let Some(found) = element_by_number(doc, n, total, place) {
             return Some(found);
         }
     }
@@ -195,7 +178,7 @@ fn element_in_line(doc: &Document, n: NodeId, place: u32, total: u32) -> Option<
 }
 
 /// The element with this index (RFC 9535, section 2.3.3).
-#[tactic(auto, using(crate::proofs::Ends::firsts))]
+#[tactic(auto, using(crate::proofs::Dropped::firsts))]
 pub fn element(doc: &Document, n: NodeId, i: IntLit) -> Option<NodeId>
     requires { n.0 < count doc.now }
     ensures node { single doc.now result ≡ at_index i (elements (node_at doc.now n.0)) }

@@ -1,10 +1,12 @@
 //! Strings of a text and of a query, by their scalar values.
 
-ghost use Rattle.std.specs.Prelude.{◌≡◌, bytes_eq};
-ghost use Rattle.tape_values.specs.Comparison.{less_scalars};
+ghost use Rattle.std.specs.Prelude.{◌≡◌};
+ghost use Rattle.std.specs.Cmp.Lexicographic.{slice_cmp};
+ghost use Rattle.std.specs.Ordering.{nat_cmp};
 ghost use Rattle.tape_values.specs.Contents.{letters_left, Takes};
 
 use json_tape::Scalars;
+use std::cmp::Ordering;
 
 /// The scalar values of a string, in order.
 #[derive(Drop)]
@@ -31,29 +33,21 @@ fn next_letter(letters: &mut Letters<'_>) -> Option<char>
     }
 }
 
-/// Whether two strings have the same scalar values.
-pub fn equal_letters(mut a: Letters<'_>, mut b: Letters<'_>) -> bool
-    ensures { result ≡ bytes_eq (letters_left a.entry) (letters_left b.entry) }
+/// How two strings compare: at the first scalar value that differs, or as one is the beginning of the other.
+pub fn compare_letters(mut a: Letters<'_>, mut b: Letters<'_>) -> Ordering
+    ensures { result ≡ slice_cmp nat_cmp (letters_left a.entry) (letters_left b.entry) }
 {
     while let Some(c) = next_letter(&mut a) {
-        match next_letter(&mut b) {
-            Some(d) if c == d => {}
-            _ => return false,
+        let Some(d) = next_letter(&mut b) else {
+            return Ordering::Greater;
+        };
+        if c != d {
+            return c.cmp(&d);
         }
     }
-    next_letter(&mut b).is_none()
-}
-
-/// Whether the first string comes before the second: at the first scalar value that differs, or as its beginning.
-pub fn less_letters(mut a: Letters<'_>, mut b: Letters<'_>) -> bool
-    ensures { result ≡ less_scalars (letters_left a.entry) (letters_left b.entry) }
-{
-    while let Some(d) = next_letter(&mut b) {
-        match next_letter(&mut a) {
-            None => return true,
-            Some(c) if c == d => {}
-            Some(c) => return c < d,
-        }
+    if next_letter(&mut b).is_none() {
+        Ordering::Equal
+    } else {
+        Ordering::Less
     }
-    false
 }

@@ -10,14 +10,16 @@
 
 mod compare;
 mod digits;
+mod fronts;
 mod guesses;
 mod indexes;
 mod letters;
 mod sides;
 mod slices;
+mod strings;
 mod values;
 
-pub use compare::{compare as compare_sides, compare_found, compare_whole};
+pub use compare::{compare as compare_sides, compare_found, compare_whole, equal_and_less};
 pub use indexes::{element, element_total, elements_from};
 pub use sides::Side;
 pub use slices::{Places, slice_places};

@@ -1,6 +1,6 @@
 //! Values of a text, compared (RFC 9535, section 2.3.5.2.2).
 
-ghost use Rattle.std.specs.Prelude.{◌≡◌, ◌<◌, length, Some, false, IsTrue, IfSome, MatchOption};
+ghost use Rattle.std.specs.Prelude.{◌≡◌, ◌<◌, length, Some, true, false, IsTrue, IfSome, MatchOption};
 ghost use Rattle.json_tape.specs.Document.{count, node_at, following, IsIn, kind_of};
 ghost use Rattle.json_tape.specs.Tree.{source_of};
 ghost use Rattle.json_tape.specs.Nodes.{children};
@@ -10,7 +10,8 @@ ghost use Rattle.tape_values.specs.Contents.{IsNumberText, content_value, IsCont
 
 use crate::digits::{Digits, compare_digits};
 use crate::guesses::{guess, have_one_name};
-use crate::letters::{Letters, equal_letters, less_letters};
+use crate::strings::{StringValue, compare_strings};
+use decimal_order::orders_values;
 use json_tape::{Document, Kind, NodeId};
 use std::cmp::Ordering;
 
@@ -21,7 +22,7 @@ pub enum Content<'a> {
     Null,
     Bool(bool),
     Number(Digits<'a>),
-    Text(Letters<'a>),
+    Text(StringValue<'a>),
     Array(NodeId),
     Object(NodeId),
 }
@@ -47,7 +48,7 @@ pub fn value_content(doc: &Document, n: NodeId) -> Content<'_>
         Kind::Null => Content::Null,
         Kind::Bool(is_true) => Content::Bool(is_true),
         Kind::Number => Content::Number(Digits::Written(number_text(doc, n))),
-        Kind::Text => Content::Text(Letters::Spelt(doc.string_scalars(n))),
+        Kind::Text => Content::Text(StringValue::Stored(n)),
         Kind::Array => Content::Array(n),
         Kind::Object => Content::Object(n),
     }
@@ -66,6 +67,21 @@ fn member_total(doc: &Document, n: NodeId) -> u32
     }
 }
 
+// Whether two values are numbers of the same digits.
+#[inline(always)]
+#[tactic(auto, using(crate::proofs::Members::same_digits))]
+fn have_same_digits(doc: &Document, a: NodeId, b: NodeId) -> bool
+    requires left { a.0 < count doc.now }
+    requires right { b.0 < count doc.now }
+    ensures { IsTrue result → equal_trees (node_at doc.now a.0).tree (node_at doc.now b.0).tree ≡ true }
+{
+    orders_values();
+    match (doc.kind(a), doc.kind(b)) {
+        (Kind::Number, Kind::Number) => number_text(doc, a) == number_text(doc, b),
+        _ => false,
+    }
+}
+
 // Whether the values of two lists of siblings are equal, one by one.
 #[cycle(equal)]
 fn equal_siblings(doc: &Document, a: Option<NodeId>, b: Option<NodeId>) -> bool
@@ -79,7 +95,7 @@ fn equal_siblings(doc: &Document, a: Option<NodeId>, b: Option<NodeId>) -> bool
         let Some(y) = right else {
             return false;
         };
-        if !equal_values(doc, x, y) {
+        if !have_same_digits(doc, x, y) && !equal_values(doc, x, y) {
             return false;
         }
         left = doc.next_sibling(x);
@@ -241,7 +257,7 @@ fn equal_objects(doc: &Document, a: NodeId, b: NodeId) -> bool
 /// Whether two sides are equal.
 #[cycle(equal)]
 #[inline(never)]
-#[tactic(auto, using(crate::proofs::Members::arrays))]
+#[tactic(auto, using(crate::proofs::Members::arrays, crate::proofs::Orders::orders))]
 pub fn equal_contents(doc: &Document, a: Content<'_>, b: Content<'_>) -> bool
     requires left { IsContent doc.now a }
     requires right { IsContent doc.now b }
@@ -252,7 +268,7 @@ pub fn equal_contents(doc: &Document, a: Content<'_>, b: Content<'_>) -> bool
         (Content::Null, Content::Null) => true,
         (Content::Bool(a), Content::Bool(b)) => a == b,
         (Content::Number(a), Content::Number(b)) => compare_digits(a, b) == Ordering::Equal,
-        (Content::Text(a), Content::Text(b)) => equal_letters(a, b),
+        (Content::Text(a), Content::Text(b)) => compare_strings(doc, a, b) == Ordering::Equal,
         (Content::Array(a), Content::Array(b)) => {
             equal_siblings(doc, doc.first_child(a), doc.first_child(b))
         }
@@ -271,7 +287,7 @@ pub fn equal_contents(doc: &Document, a: Content<'_>, b: Content<'_>) -> bool
 /// values where members stand in one order. Where they do not, a member is looked up by its name (`Document::twin`) where there are
 /// more than 16, and else looked for from the last one found on.
 #[cycle(equal)]
-#[tactic(auto, using(crate::proofs::Members::arrays))]
+#[tactic(auto, using(crate::proofs::Members::arrays, crate::proofs::Orders::orders))]
 pub fn equal_values(doc: &Document, a: NodeId, b: NodeId) -> bool
     requires left { a.0 < count doc.now }
     requires right { b.0 < count doc.now }
@@ -287,15 +303,15 @@ pub fn equal_values(doc: &Document, a: NodeId, b: NodeId) -> bool
 }
 
 /// Whether the first side comes before the second.
+#[tactic(auto, using(crate::proofs::Orders::orders))]
 pub fn less_contents(doc: &Document, a: Content<'_>, b: Content<'_>) -> bool
     requires left { IsContent doc.now a }
     requires right { IsContent doc.now b }
     ensures { result ≡ less_results (content_value doc.now a.entry) (content_value doc.now b.entry) }
 {
-    let _ = doc;
     match (a, b) {
         (Content::Number(a), Content::Number(b)) => compare_digits(a, b) == Ordering::Less,
-        (Content::Text(a), Content::Text(b)) => less_letters(a, b),
+        (Content::Text(a), Content::Text(b)) => compare_strings(doc, a, b) == Ordering::Less,
         _ => false,
     }
 }
