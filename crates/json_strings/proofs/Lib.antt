@@ -1,7 +1,6 @@
 pub mod Steps
 pub mod PlainLanes
 pub mod LoneLaw
-pub mod EscapeSteps
 pub mod Spelled
 pub mod Comparing
 pub mod Utf8Order

@@ -1,6 +1,6 @@
 -- Many bytes that are no backslash.
 use Rattle.std.proofs.Common.{◌≡◌, ℕ, zero, suc, ◌+◌, ◌-◌, ◌≤◌, List, length, drop, ap, ◌∙◌, arith}
-use Rattle.json_strings.specs.Spelling.{AreSlashless}
+use Rattle.structural_index.specs.Runs.{AreSlashless}
 use Rattle.json_strings.specs.Surrogates.{lone}
 use Rattle.json_strings.proofs.Steps.{lone_plain}
 

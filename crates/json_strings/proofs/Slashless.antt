@@ -7,7 +7,7 @@ use Rattle.std.proofs.lemmas.Bool.{eqb-true}
 use Rattle.std.proofs.lemmas.Nat.Bits.{bit_at-zero, bit_at-trailing_zeros}
 use Rattle.std.proofs.lemmas.Simd.{mask_l-mod, bit_mask_l}
 use Rattle.structural_index.proofs.Lanes.{HasLane, repeated, combined, off, on, alone, equal}
-use Rattle.json_strings.specs.Spelling.{AreSlashless}
+use Rattle.structural_index.specs.Runs.{AreSlashless}
 
 -- ---- The bits of a mask
 

@@ -5,7 +5,6 @@
 #![tactic(auto)]
 
 mod characters;
-mod escapes;
 mod extents;
 mod hashes;
 mod keys;
@@ -15,7 +14,6 @@ mod scalars;
 mod scan;
 mod sought;
 
-pub use escapes::escapes_hold;
 pub use extents::{bytes_at, part_at};
 pub use hashes::{bytes_word, hash, mixed};
 pub use keys::Key;

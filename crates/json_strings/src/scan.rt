@@ -2,13 +2,13 @@
 
 ghost use Rattle.std.specs.Prelude.{ℕ, IsTrue, ◌≡◌, ◌≢◌, false, ◌+◌, ◌<◌, ◌≤◌, length, drop, get_or, slice_index, IfSome};
 ghost use Rattle.std.specs.Int.{bit_at};
-ghost use Rattle.json_text.specs.Scanning.{turn as turn_of, is_short as short, is_hex as hex, string_end};
-ghost use Rattle.json_strings.specs.Spelling.{AreSlashless};
+ghost use Rattle.json_text.specs.Scanning.{turn as turn_of, string_end};
+ghost use Rattle.structural_index.specs.Runs.{AreSlashless};
 ghost use Rattle.json_strings.specs.Surrogates.{number_of_hex, past_char, past_unit, past_byte, standing, lone_from, lone};
 
 use json_text::{Mode, Turn};
 use std::simd::prelude::*;
-use structural_index::{Looks, Stopped};
+use structural_index::{Looks, Stopped, is_hex, is_short};
 
 /// Where a search for a lone surrogate stands: in which part of a character, the unit so far, and whether a high surrogate ended right before.
 #[derive(Clone, Copy)]
@@ -16,25 +16,6 @@ pub struct Surrogates {
     pub mode: Mode,
     pub unit: u32,
     pub high: bool,
-}
-
-pub fn is_short(b: u8) -> bool
-    ensures { result ≡ short b }
-{
-    b == b'"'
-        || b == b'\\'
-        || b == b'/'
-        || b == b'b'
-        || b == b'f'
-        || b == b'n'
-        || b == b'r'
-        || b == b't'
-}
-
-pub fn is_hex(b: u8) -> bool
-    ensures { result ≡ hex b }
-{
-    (48 <= b && b <= 57) || (65 <= b && b <= 70) || (97 <= b && b <= 102)
 }
 
 fn next_turn(mode: Mode, b: u8) -> Turn

@@ -7,10 +7,10 @@ use Rattle.json_text.proofs.Names.{IsString, at, IsScalarText, IsValue, IsElemen
 use Rattle.json_text.proofs.Names.{object, one_element, next_element, one_member, next_member, member, Atom, class, AreAtoms, NoAtomFirst, text, word}
 use Rattle.json_text.proofs.Names.{IsWord, turn}
 use Rattle.json_walk.proofs.Names.{op_byte, blank_byte, byte, is_inside, places, IsSeam, is_plain_atom, Kind, Between}
-use Rattle.std.proofs.Common.{filter}
+use Rattle.std.proofs.Common.{filter, ◌==◌}
 use Rattle.std.specs.List.{range_with_len}
 use Rattle.byte_masks.specs.Classes.{control_byte}
-use Rattle.structural_index.specs.Places.{run_before, quotes_before, is_atom, after_atom, is_place, places_from}
+use Rattle.structural_index.specs.Places.{run_before, quotes_before, is_atom, after_atom, is_place, is_wrong, places_from}
 use Rattle.structural_index.proofs.Skips.{past_blank}
 use Rattle.structural_index.proofs.Seams as seams
 use Rattle.json_text.specs.declared.tape.Kind.TheVariants as kinds
@@ -18,7 +18,7 @@ use Rattle.json_walk.specs.Counting.{is_source_byte, source_bytes_before, source
 use Rattle.json_text.specs.declared.modes.Turn.TheVariants.{Go}
 use Rattle.json_text.proofs.Strings.{ArePlain, plain_bytes}
 use Rattle.json_text.proofs.Chars.{number_atoms}
-use Rattle.json_walk.proofs.Bridge.{Each, each_append, uncons, drop_past, stands, string_ends, token_place, blank_from, length_within, atoms_each}
+use Rattle.json_walk.proofs.Bridge.{Each, each_append, uncons, drop_past, stands, string_ends, string_right, right_behind, word_no_slash, token_place, blank_from, length_within, atoms_each}
 use Rattle.json_text.proofs.Complete.{no_atom-blanks}
 use Rattle.json_text.proofs.Repeats.{or_right}
 use Rattle.std.proofs.Math.Bool.{and-false}
@@ -36,21 +36,37 @@ pub record Crossed (bytes : List ℕ) (i j : ℕ) (rest : List ℕ) (n w : ℕ) 
   pub weight : source_bytes_before bytes j ≡ source_bytes_before bytes i + w
   pub left : drop j bytes ≡ rest
   pub clean : (k : ℕ) → i ≤ k → k < j → (is_inside bytes k && control_byte (byte bytes k)) ≡ false
+  pub right : (k : ℕ) → i < k → k ≤ j → is_wrong bytes k ≡ false
 
 clean_outside : (bytes : List ℕ) (k : ℕ) → is_inside bytes k ≡ false → (is_inside bytes k && control_byte (byte bytes k)) ≡ false
 clean_outside bytes k h = ap (λ x. x && control_byte (byte bytes k)) h
+
+-- behind bytes that are no backslashes nothing is escaped
+right_along : (bytes : List ℕ) (i j : ℕ) → ((k : ℕ) → i ≤ k → k < j → (byte bytes k == 92) ≡ false) → (k : ℕ) → i < k → k ≤ j → is_wrong bytes k ≡ false
+right_along bytes i j h zero a b = absurd (omega arith)
+right_along bytes i j h (suc k) a b = right_behind bytes k (h k (omega arith) (omega arith))
+
+-- one byte that is none
+right_one : (bytes : List ℕ) (i : ℕ) → (byte bytes i == 92) ≡ false → (k : ℕ) → i < k → k ≤ suc i → is_wrong bytes k ≡ false
+right_one bytes i h = right_along bytes i (suc i) (λ k a b. (let f : k ≡ i = omega arith in ap (λ x. byte bytes x == 92) f ∙ h))
+
+blank_no_slash : (b : ℕ) → blank_byte b ≡ true → (b == 92) ≡ false
+blank_no_slash b h = grind (arith, nat_tests)
+
+op_no_slash : (b : ℕ) → op_byte b ≡ true → (b == 92) ≡ false
+op_no_slash b h = grind (arith, nat_tests)
 
 clean_byte : (a b : Bool) → b ≡ false → (a && b) ≡ false
 clean_byte a b h = grind arith
 
 pub cross_blanks : (bytes : List ℕ) (i : ℕ) (s rest : List ℕ) → i ≤ length bytes → IsSeam bytes i → drop i bytes ≡ s ++ rest → AreBlanks s → (j : ℕ) × Crossed bytes i j rest 0 0
-cross_blanks bytes i [] rest l m e h = (i, record { within = l; seam = m; count = omega arith; weight = omega arith; left = e; clean = λ k p q. absurd (omega arith) })
+cross_blanks bytes i [] rest l m e h = (i, record { within = l; seam = m; count = omega arith; weight = omega arith; left = e; clean = λ k p q. absurd (omega arith); right = λ k p q. absurd (omega arith) })
 cross_blanks bytes i (b ∷ s) rest l m e h = let u = uncons bytes i b (s ++ rest) e in let within = u.within in
     let blank = ap blank_byte u.here ∙ blank_from b h.0 in let p = seams.seam_blank bytes i m blank in
     let x = cross_blanks bytes (suc i) s rest (omega arith) p.1 u.left h.1 in
     let none : is_source_byte bytes i ≡ false = ap (λ t. t || not (blank_byte (byte bytes i) || op_byte (byte bytes i))) m.outside ∙ ap (λ t. not (t || op_byte (byte bytes i))) blank in
     let same : source_bytes_before bytes (suc i) ≡ source_bytes_before bytes i = source_suc bytes i ∙ ap (λ t. cond t (suc (source_bytes_before bytes i)) (source_bytes_before bytes i)) none in
-    (x.0, record { within = x.1.within; seam = x.1.seam; count = ap length (past_blank bytes i within p.0) ∙ x.1.count; weight = x.1.weight ∙ ap (λ n. n + 0) same; left = x.1.left; clean = λ k p q. elim (cases_lt i k) [ inl y ↦ x.1.clean k y q | inr y ↦ (let f : k ≡ i = omega arith in clean_outside bytes k (ap (is_inside bytes) f ∙ m.outside)) ] })
+    (x.0, record { within = x.1.within; seam = x.1.seam; count = ap length (past_blank bytes i within p.0) ∙ x.1.count; weight = x.1.weight ∙ ap (λ n. n + 0) same; left = x.1.left; clean = λ k p q. elim (cases_lt i k) [ inl y ↦ x.1.clean k y q | inr y ↦ (let f : k ≡ i = omega arith in clean_outside bytes k (ap (is_inside bytes) f ∙ m.outside)) ]; right = λ k p q. elim (cases_lt (suc i) k) [ inl y ↦ x.1.right k y q | inr y ↦ right_one bytes i (blank_no_slash (byte bytes i) blank) k p y ] })
 
 -- n source bytes from i on
 source_run : (bytes : List ℕ) (i n : ℕ) → ((k : ℕ) → i ≤ k → k < i + n → is_source_byte bytes k ≡ true) → source_bytes_before bytes (i + n) ≡ source_bytes_before bytes i + n
@@ -64,7 +80,7 @@ cross_sign bytes i b rest m e o =
     let count : length (places_from bytes i) ≡ suc (length (places_from bytes (suc i))) = ap length q.one in
     let none : is_source_byte bytes i ≡ false = ap (λ t. t || not (blank_byte (byte bytes i) || op_byte (byte bytes i))) m.outside ∙ ap (λ t. not (blank_byte (byte bytes i) || t)) op ∙ or_true (blank_byte (byte bytes i)) in
     let same : source_bytes_before bytes (suc i) ≡ source_bytes_before bytes i = source_suc bytes i ∙ ap (λ t. cond t (suc (source_bytes_before bytes i)) (source_bytes_before bytes i)) none in
-    record { within = omega arith; seam = q.seam; count = omega arith; weight = omega arith; left = u.left; clean = λ k p r. (let f : k ≡ i = omega arith in clean_outside bytes k (ap (is_inside bytes) f ∙ m.outside)) }
+    record { within = omega arith; seam = q.seam; count = omega arith; weight = omega arith; left = u.left; clean = λ k p r. (let f : k ≡ i = omega arith in clean_outside bytes k (ap (is_inside bytes) f ∙ m.outside)); right = right_one bytes i (op_no_slash (byte bytes i) op) }
   where
     or_true : (a : Bool) → not (a || true) ≡ false
     or_true a = grind arith
@@ -118,6 +134,7 @@ cross_string bytes i vs rest cs m e (inside, h, is) =
       ]);
       left = drop_past bytes i vs rest e;
       clean = λ k p q. clean_byte (is_inside bytes k) (control_byte (byte bytes k)) (stands (λ b. control_byte b ≡ false) bytes i vs rest (string_clean vs cs (inside, h, is)) e k p q);
+      right = string_right bytes i vs rest cs e (inside, h, is);
     }
 
 plain_source : (b : ℕ) → is_plain_atom b ≡ true → not (blank_byte b || op_byte b) ≡ true
@@ -132,6 +149,7 @@ cross_word bytes i b vs rest kind m e a n k = let t = token_place bytes i i (b �
       weight = source_run bytes i (suc (length vs)) (λ x c d. or_right (is_inside bytes x) (not (blank_byte (byte bytes x) || op_byte (byte bytes x))) (plain_source (byte bytes x) (stands (λ y. is_plain_atom y ≡ true) bytes i (b ∷ vs) rest (atoms_each (b ∷ vs) a) e x c d)));
       left = drop_past bytes i (b ∷ vs) rest e;
       clean = λ x p q. (let f : i + (x - i) ≡ x = omega arith in clean_outside bytes x (ap (is_inside bytes) (sym f) ∙ seams.atoms_outside bytes i m.outside (x - i) (λ y c d. stands (λ z. is_plain_atom z ≡ true) bytes i (b ∷ vs) rest (atoms_each (b ∷ vs) a) e y c (omega arith))));
+      right = right_along bytes i (i + suc (length vs)) (stands (λ c. (c == 92) ≡ false) bytes i (b ∷ vs) rest (word_no_slash (b ∷ vs) kind k) e);
     }
 
 -- ---- the tree
@@ -185,7 +203,18 @@ pub record Reaches (bytes : List ℕ) (i : ℕ) (rest : List ℕ) (n w : ℕ) : 
   pub crossed : Crossed bytes i end rest n w
 
 reaches_both : (bytes : List ℕ) (i : ℕ) (mid rest : List ℕ) (m n v w x y : ℕ) → (f : Reaches bytes i mid m v) → Reaches bytes f.end rest n w → x ≡ m + n → y ≡ v + w → Reaches bytes i rest x y
-reaches_both bytes i mid rest m n v w x y f g e d = grind arith
+reaches_both bytes i mid rest m n v w x y f g e d = record {
+  end = g.end;
+  crossed = record {
+    within = g.crossed.within;
+    seam = g.crossed.seam;
+    count = (let a = f.crossed.count in let b = g.crossed.count in omega arith);
+    weight = (let a = f.crossed.weight in let b = g.crossed.weight in omega arith);
+    left = g.crossed.left;
+    clean = λ k p q. elim (cases_lt k f.end) [ inl l ↦ f.crossed.clean k p l | inr l ↦ g.crossed.clean k l q ];
+    right = λ k p q. elim (cases_lt f.end k) [ inl l ↦ g.crossed.right k l q | inr l ↦ f.crossed.right k p l ];
+  };
+}
 
 reach_blanks : (bytes : List ℕ) (i : ℕ) (s rest : List ℕ) → i ≤ length bytes → IsSeam bytes i → drop i bytes ≡ s ++ rest → AreBlanks s → Reaches bytes i rest 0 0
 reach_blanks bytes i s rest l m e h = let x = cross_blanks bytes i s rest l m e h in record { end = x.0; crossed = x.1 }
@@ -196,7 +225,7 @@ then_blanks bytes i s rest n w f h =
     reaches_both bytes i (s ++ rest) rest n 0 w 0 n w f (reach_blanks bytes f.end s rest f.crossed.within f.crossed.seam f.crossed.left h) (omega arith) (omega arith)
 
 then_sign : (bytes : List ℕ) (i b : ℕ) (rest : List ℕ) (n w : ℕ) → Reaches bytes i (b ∷ rest) n w → op_byte b ≡ true → Reaches bytes i rest (suc n) w
-then_sign bytes i b rest n w f h = search (arith, reaches_both, cross_sign)
+then_sign bytes i b rest n w f h = reaches_both bytes i (b ∷ rest) rest n 1 w 0 (suc n) w f (record { end = suc f.end; crossed = cross_sign bytes f.end b rest f.crossed.seam f.crossed.left h }) (omega arith) (omega arith)
 
 -- a container's first byte
 first_sign : (bytes : List ℕ) (i b : ℕ) (rest : List ℕ) → IsSeam bytes i → drop i bytes ≡ b ∷ rest → op_byte b ≡ true → Reaches bytes i rest 1 0

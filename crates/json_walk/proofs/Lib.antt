@@ -7,7 +7,6 @@ pub mod Calls
 pub mod WalkEnds
 pub mod Depths
 pub mod ShortNumbers
-pub mod Gaps
 pub mod Marks
 pub mod Known
 pub mod ClearBits

@@ -5,7 +5,9 @@ use Rattle.json_text.proofs.Names.{text, word, sign_at, Token, State}
 use Rattle.json_walk.proofs.Names.{op_byte, blank_byte, byte, is_inside, places, HasControlInside, IsSpan, IsSeam, next_place, StandsAt, weight}
 use Rattle.json_walk.proofs.Names.{IsBounded}
 use Rattle.std.proofs.Common.{true≢false}
-use Rattle.structural_index.specs.Places.{is_real_quote, is_place, places_from, IsUnclosed}
+use Rattle.json_text.proofs.Names.{false≢true}
+use Rattle.structural_index.specs.Places.{is_real_quote, is_place, places_from, IsUnclosed, HasWrongEscape}
+use Rattle.structural_index.proofs.WrongEscapes.{first_right, past_escape}
 use Rattle.structural_index.proofs.Seams as seams
 use Rattle.json_walk.specs.Counting.{source_bytes_before, is_source_byte}
 use Rattle.json_walk.specs.Walking.{IsPaid, GoesOn, IsPlaceNumber}
@@ -114,6 +116,12 @@ pub control_none : (bytes : List ℕ) (t : Tree) → IsText bytes t → HasContr
 control_none bytes t x (k, l, interior, control) = let r = reach_text bytes t x in let y = r.crossed in
     let end : r.end ≡ length bytes = at_end bytes r.end y.within y.left in
     let inside = seams.and_second (not (is_real_quote bytes k)) (is_inside bytes k) interior in grind (arith, r, y, end, inside)
+
+pub wrong_none : (bytes : List ℕ) (t : Tree) → IsText bytes t → HasWrongEscape bytes → ⊥
+wrong_none bytes t x (zero, h) = absurd (false≢true (sym (first_right bytes) ∙ h))
+wrong_none bytes t x (suc k, h) = let r = reach_text bytes t x in let y = r.crossed in
+    let end : r.end ≡ length bytes = at_end bytes r.end y.within y.left in
+    elim (cases_lt (length bytes) (suc k)) [ inl l ↦ false≢true (sym (past_escape bytes (suc k) l) ∙ h) | inr l ↦ false≢true (sym (y.right (suc k) (omega arith) (omega arith)) ∙ h) ]
 
 pub walk_bounded : (bytes : List ℕ) (k before now : ℕ) → k ≤ length (places bytes) → StandsAt bytes k (length bytes) → IsPaid bytes k (length bytes) before now → IsBounded bytes before now
 walk_bounded bytes k before now l at paid t x = let c = text_counts bytes t x in let w = c.bytes_are in omega arith

@@ -1,5 +1,5 @@
 use Rattle.std.proofs.Common.{◌-◌, ◌≤◌, length}
-use Rattle.json_strings.specs.Spelling.{AreSlashless}
+use Rattle.structural_index.specs.Runs.{AreSlashless}
 use Rattle.json_strings.proofs.scan.slashless_end.Given as goal
 
 abbrev pub invariant-loop-k : goal.invariant-loop-k
