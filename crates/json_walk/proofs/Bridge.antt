@@ -131,13 +131,13 @@ passed_plain bytes k (b ∷ bs) rest f e h =
 hex_plain : (b n : ℕ) → IsHexDigit b n → turn Between b ≡ Go Between
 hex_plain b n h = grind (arith, nat_tests)
 
-hex_known : (b n : ℕ) → IsHexDigit b n → is_hex b ≡ true
+pub hex_known : (b n : ℕ) → IsHexDigit b n → is_hex b ≡ true
 hex_known b n h = grind (arith, nat_tests)
 
 short_known : (l : ℕ) (u : Bool) → IsShort l → (is_short l || u) ≡ true
 short_known l u h = grind (arith, nat_tests)
 
-unit_known : (bytes : List ℕ) (k : ℕ) → byte bytes k ≡ 117 → is_hex (byte bytes (k + 1)) ≡ true → is_hex (byte bytes (k + 2)) ≡ true → is_hex (byte bytes (k + 3)) ≡ true → is_hex (byte bytes (k + 4)) ≡ true → (is_short 117 || is_unit bytes k) ≡ true
+pub unit_known : (bytes : List ℕ) (k : ℕ) → byte bytes k ≡ 117 → is_hex (byte bytes (k + 1)) ≡ true → is_hex (byte bytes (k + 2)) ≡ true → is_hex (byte bytes (k + 3)) ≡ true → is_hex (byte bytes (k + 4)) ≡ true → (is_short 117 || is_unit bytes k) ≡ true
 unit_known bytes k e a b c d = all (eqb (byte bytes k) 117) _ _ _ _ (ap (λ x. eqb x 117) e) a b c d
   where
     all : (t a b c d : Bool) → t ≡ true → a ≡ true → b ≡ true → c ≡ true → d ≡ true → (false || (t && (a && b && c && d))) ≡ true

@@ -13,6 +13,7 @@ pub mod ClearBits
 pub mod Words
 pub mod Runs
 pub mod Bridge
+pub mod LoneStrings
 pub mod Counting
 pub mod Walking
 pub mod PlaceWalk

@@ -42,7 +42,7 @@ unfolding any_below
 any_same p q zero h = refl
 any_same p q (suc n) h = ap₂ (λ a b. a || b) (any_same p q n (λ i lt. h i (omega arith))) (h n (omega arith))
 
-any_none : (p : ℕ → Bool) (n : ℕ) → ((i : ℕ) → p i ≡ false) → any_below p n ≡ false
+pub any_none : (p : ℕ → Bool) (n : ℕ) → ((i : ℕ) → p i ≡ false) → any_below p n ≡ false
 unfolding any_below
 any_none p zero h = refl
 any_none p (suc n) h = ap₂ (λ a b. a || b) (any_none p n h) (h n)

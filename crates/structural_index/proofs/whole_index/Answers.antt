@@ -10,5 +10,5 @@ returns c =
       unclosed_is = search (rules, whole);
       control_is = control_whole c.args.text.now _ whole.control;
       wrong_is = whole.all_wrong;
-      slashes_are = whole.all_slashes;
+      lone_is = whole.all_lone;
     }

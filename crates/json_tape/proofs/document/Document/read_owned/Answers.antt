@@ -20,4 +20,4 @@ invariant_of-result c =
     let found = c.in-Ok-read_indexed.ensures in let tape = c.in-Ok-read_indexed.parts.tape in (search (arith, document), search arith)
 
 pub read_indexed-requires-clause-index : goal.read_indexed-requires-clause-index
-read_indexed-requires-clause-index c = let found = c.in-Ok-index.ensures in subst (IsIndexOf c.in-Ok-index.index) (sym c.in-Ok.ensures.0) (record { places_are = found.places; unclosed_is = found.unclosed; control_is = found.control_inside; wrong_is = found.wrong_escape; slashes_are = found.slashes })
+read_indexed-requires-clause-index c = let found = c.in-Ok-index.ensures in subst (IsIndexOf c.in-Ok-index.index) (sym c.in-Ok.ensures.0) (record { places_are = found.places; unclosed_is = found.unclosed; control_is = found.control_inside; wrong_is = found.wrong_escape; lone_is = found.lone_surrogate })
