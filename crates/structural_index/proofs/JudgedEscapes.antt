@@ -8,7 +8,7 @@ use Rattle.std.proofs.lemmas.Bool.Decides.{nat_tests}
 use Rattle.bit_words.specs.Words.{HasBits}
 use Rattle.structural_index.specs.Bits.{set_bits_from}
 use Rattle.structural_index.specs.Places.{byte, run_before, is_escaped, is_hex, is_d, is_early, is_late, are_digits, is_short, is_unit, is_wrong, spells_high, spells_low, is_high, is_low, is_lone, HasWrongEscape, HasLoneSurrogate}
-use Rattle.structural_index.specs.Blocks.{any_below, after_letter, after_escape, letter_of, half_of, is_lower, AreJudged}
+use Rattle.structural_index.specs.Blocks.{any_below, after_letter, after_escape, letter_of, is_lower, AreJudged}
 use Rattle.structural_index.specs.declared.escapes.Escapes.{Escapes}
 use Rattle.structural_index.specs.declared.escapes.Letter.TheVariants.{Plain, High, Low, Nothing}
 use Rattle.structural_index.proofs.Below.{any_found, any_where}
@@ -44,25 +44,7 @@ same a b e = grind (arith, nat_tests)
 u_no_short : (b : ℕ) → is_short b ≡ true → eqb b 117 ≡ false
 u_no_short b h = grind (arith, nat_tests)
 
--- ---- a letter past the end is a space
-
-few_digits : (text : List ℕ) (i : ℕ) → length text ≤ i + 4 → are_digits text i ≡ false
-few_digits text i h = ap (λ c. is_hex (byte text (i + 1)) && is_hex (byte text (i + 2)) && is_hex (byte text (i + 3)) && is_hex c) (get_or_past text (i + 4) 32 h) ∙ none (is_hex (byte text (i + 1))) (is_hex (byte text (i + 2))) (is_hex (byte text (i + 3)))
-  where
-    none : (a b c : Bool) → (a && b && c && false) ≡ false
-    none x0 x1 x2 = grind arith
-
-pub no_letter : (text : List ℕ) (i : ℕ) → is_short (byte text i) ≡ false → is_unit text i ≡ false → letter_of text i ≡ Nothing
-no_letter text i s u = ap (λ x. cond x Plain (cond (is_unit text i) (cond (is_d (byte text (i + 1))) (half_of (byte text (i + 2))) Plain) Nothing)) s ∙ ap (λ x. cond x (cond (is_d (byte text (i + 1))) (half_of (byte text (i + 2))) Plain) Nothing) u
-
-pub no_unit : (text : List ℕ) (i : ℕ) → length text ≤ i + 4 → is_unit text i ≡ false
-no_unit text i h = ap (λ x. eqb (byte text i) 117 && x) (few_digits text i h) ∙ none (eqb (byte text i) 117)
-  where
-    none : (a : Bool) → (a && false) ≡ false
-    none x0 = grind arith
-
-pub past_letter : (text : List ℕ) (i : ℕ) → length text ≤ i → letter_of text i ≡ Nothing
-past_letter text i h = no_letter text i (ap is_short (get_or_past text i 32 h)) (no_unit text i (omega arith))
+-- ---- letters
 
 -- a letter is that of a low surrogate exactly where such digits are spelt
 low_by : (a u d e l : Bool) → (a ≡ true → u ≡ false) → (e ≡ true → l ≡ false) → is_lower (cond a Plain (cond u (cond d (cond e High (cond l Low Plain)) Plain) Nothing)) ≡ (u && (d && l))
