@@ -1,9 +1,10 @@
 #!/usr/bin/env python3
 """Compares the verdicts of `path_server query` on random texts with those of Python's json: tests/against_python.py [ROUNDS [SEED]].
 
-A text is written from a random value, with blanks and escapes of its own, and then a few of its bytes are changed (json_verdict.py has
-the verdict). It runs the program that bin/build makes, or the one that the environment's PATH_SERVER names.
+First come texts with one escape, or one byte that is no UTF-8, at each place of the first two blocks of 64 bytes. Then a text is written from a
+random value, with blanks and escapes of its own, and a few of its bytes are changed (json_verdict.py has the verdict). It runs the program that bin/build makes, or the one that the environment's PATH_SERVER names.
 """
+import itertools
 import os
 import random
 import subprocess
@@ -17,6 +18,24 @@ PROGRAM = os.environ.get("PATH_SERVER") or TOP / "crates/path_program/out/path_p
 PIECES = [b'"', b"\\", b",", b":", b"[", b"]", b"{", b"}", b" ", b"\n", b"\t", b"\r", b"0", b"1", b"-", b"+", b".", b"e", b"E",
           b"null", b"true", b"\\u", b"\\ud83d", b"\\ude00", b"\\n", b"\x00", b"\x1f", b"\x7f", b"\xc3\xa9", b"\x80", b"\xff",
           b"\xed\xa0\x80", b"\xef\xbb\xbf", b"9" * 257, b"1e999999999", b"1e1000000000", b'"a":1', b'"\\u0061":2']
+
+# What a string has at each place of a block: escapes of the grammar, others, surrogates with and without their halves, and bytes that are no UTF-8.
+PLACED = [b"\\n", b'\\"', b"\\\\", b"\\/", b"\\u00e9", b"\\ud83d\\ude00", b"\\uDBFF\\uDFFF", b"\\ud7ff", b"\\ue000", b"\\x", b"\\u12g4",
+          b"\\ug234", b"\\u123", b"\\u", b"\\", b"\\ud83d", b"\\uDE00", b"\\ud83d\\n\\ude00", b"\\ud83da\\ude00", b"\\ud83d\\ud83d\\ude00",
+          b"\\ud83d\\ude00\\ude00", b"\\\\ud83d\\ude00", b"\\ud83d\\\\ude00", b"\xc3\xa9", b"\xff", b"\xc3", b"\xed\xa0\x80", b"\x1f"]
+
+
+def placed():
+    """Texts with each of those behind 0 to 130 bytes, in a string, and in a name and before the text's end around the end of a block."""
+    for before in range(131):
+        for piece in PLACED:
+            front = b'"' + b"a" * before + piece
+            yield front + b'"'
+            if before % 64 > 54 or before % 64 < 2:
+                yield b'{' + front + b'":1,"a":2}'
+                yield front
+    yield b'{"' + b"\\n" * 10000 + b'":1,"' + b"\\u000a" * 10000 + b'":2}'
+    yield b'{"' + b"\\n" * 10000 + b'":1,"' + b"\\u000a" * 9999 + b'":2}'
 
 
 def program_verdict(source):
@@ -65,8 +84,8 @@ def main():
     rounds = int(sys.argv[1]) if len(sys.argv) > 1 else 5000
     chance = random.Random(int(sys.argv[2]) if len(sys.argv) > 2 else 1)
     counts, differing = {}, 0
-    for _ in range(rounds):
-        source = changed(chance, written(chance, 4).encode())
+    made = (changed(chance, written(chance, 4).encode()) for _ in range(rounds))
+    for source in itertools.chain(placed(), made):
         wanted, found = verdict(source), program_verdict(source)
         counts[wanted or "accepted"] = counts.get(wanted or "accepted", 0) + 1
         if found != wanted:

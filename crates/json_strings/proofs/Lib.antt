@@ -1,7 +1,5 @@
 pub mod Steps
 pub mod PlainLanes
-pub mod LoneLaw
-pub mod EscapeSteps
 pub mod Spelled
 pub mod Comparing
 pub mod Utf8Order
@@ -11,7 +9,5 @@ pub mod ShortHashes
 pub mod PackedWords
 pub mod StopBits
 pub mod Letters
-pub mod Slashless
 pub mod Beginnings
 pub mod PlainRuns
-pub mod LoneSteps

@@ -1,7 +1,6 @@
 pub mod Letters
 pub mod Spelling
 pub mod Reading
-pub mod Surrogates
 pub mod KeyOrder
 pub mod Hashes
 pub mod Keys

@@ -44,10 +44,6 @@ begins b = ltb b 128 || leb 192 b
 abbrev pub has_backslash : List ℕ → Bool
 has_backslash bs = list_any (λ b. nat_eq b 92) bs
 
--- no byte from byte i to before byte j is a backslash
-abbrev pub AreSlashless : List ℕ → (i j : ℕ) → Type 0
-AreSlashless text i j = (k : ℕ) → i ≤ k → k < j → get_or text k 0 ≢ 0x5c
-
 -- two quotes or more stand there, one at the start and one at the end
 abbrev pub IsQuoted : List ℕ → Extent → Type 0
 IsQuoted text e = (2 ≤ e.len) × (e.start + e.len ≤ length text) × (get_or text e.start 0 ≡ 34) × (get_or text (e.start + e.len - 1) 0 ≡ 34)

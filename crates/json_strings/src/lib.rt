@@ -5,7 +5,6 @@
 #![tactic(auto)]
 
 mod characters;
-mod escapes;
 mod extents;
 mod hashes;
 mod keys;
@@ -15,11 +14,10 @@ mod scalars;
 mod scan;
 mod sought;
 
-pub use escapes::escapes_hold;
 pub use extents::{bytes_at, part_at};
 pub use hashes::{bytes_word, hash, mixed};
 pub use keys::Key;
 pub use plain::{Words, is_meant_by, is_meant_plainly, words_of};
 pub use scalars::{Scalars, count_of, unquoted};
-pub use scan::{is_lone, quote_past};
+pub use scan::quote_past;
 pub use sought::{Sought, compare_sought, is_sought, sought_hash};

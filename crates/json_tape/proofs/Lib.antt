@@ -3,7 +3,6 @@ pub mod Verdicts
 pub mod Limits
 pub mod Holders
 pub mod Lones
-pub mod Surrogateless
 pub mod TreeBuilt
 pub mod Spots
 pub mod Readers

@@ -90,7 +90,7 @@ fn read_indexed(alloc: Global, text: &str, index: &Index) -> Result<Parts, TextF
         Err(BuildFault::NotJson) => return Err(TextFault::NotJson),
         Err(BuildFault::Memory) => return Err(TextFault::Memory),
     };
-    match judge_tape(alloc, text, index.slashes.as_slice(), &reading) {
+    match judge_tape(alloc, text, index.lone_surrogate, &reading) {
         Ok(names) => Ok(Parts {
             tape: reading.tape,
             names,

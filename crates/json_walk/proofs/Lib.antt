@@ -7,13 +7,13 @@ pub mod Calls
 pub mod WalkEnds
 pub mod Depths
 pub mod ShortNumbers
-pub mod Gaps
 pub mod Marks
 pub mod Known
 pub mod ClearBits
 pub mod Words
 pub mod Runs
 pub mod Bridge
+pub mod LoneStrings
 pub mod Counting
 pub mod Walking
 pub mod PlaceWalk

@@ -1,13 +1,12 @@
 -- What stands at a place of the list: each is a place of the text, where a token may begin.
 use Rattle.json_text.proofs.Names.{◌≡◌, ℕ, zero, suc, ◌+◌, ◌-◌, ◌<◌, ◌≤◌, ◌^◌, Bool, true, false, not, ◌&&◌, ◌||◌, cond, List, ◌∷◌, length, drop}
 use Rattle.json_text.proofs.Names.{get_or, refl, sym, ap, ◌∙◌, arith, get_or_default, is_blank, text_limit, State, IsSmall}
-use Rattle.json_walk.proofs.Names.{places, IsSeam, ClosesBefore, HoldSlashes, StandsAt, IsListed, place}
+use Rattle.json_walk.proofs.Names.{places, IsSeam, ClosesBefore, StandsAt, IsListed, place}
 use Rattle.std.proofs.Common.{filter}
 use Rattle.std.specs.List.{range_with_len}
 use Rattle.structural_index.specs.Places.{is_place}
 use Rattle.structural_index.proofs.Seams as seams
 use Rattle.json_walk.specs.Placing.{IsIndexed}
-use Rattle.json_walk.specs.declared.slashes.Slashes.{Slashes}
 use Rattle.json_walk.proofs.Walking.{look_back, place_behind, place_number}
 use Rattle.json_walk.proofs.WalkEnds.{reads_small}
 use Rattle.json_walk.proofs.Bridge.{same_default}
@@ -89,8 +88,8 @@ module _ (text items : List ℕ) (listed : IsListed text items) where
         next = sym last ∙ sym (place_behind text k (place items k) (in_text k l) (stands_at k l));
       }
 
-  pub indexed : (slashes : Slashes) → HoldSlashes text slashes → IsIndexed text slashes
-  indexed slashes h = record { utf8 = listed.utf8; controls = listed.controls; escapes = h }
+  pub indexed : IsIndexed text
+  indexed = record { utf8 = listed.utf8; controls = listed.controls; escapes = listed.escapes }
 
   pub near : (k : ℕ) → k < length items → place items k < 2 ^ 24
   near k l = let i = in_text k l in let s = listed.short in omega (arith, i, s)

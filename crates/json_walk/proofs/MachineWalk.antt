@@ -2,7 +2,7 @@
 use Rattle.json_text.proofs.Names.{◌≡◌, ℕ, ◌+◌, ◌≤◌, List, [], ◌∷◌, ◌++◌, length, take, drop, Option, Some, None, Bool, true, false, cond, refl}
 use Rattle.json_text.proofs.Names.{sym, ap, ◌∙◌, subst, arith, append_assoc, length-append, common_steps, nat_tests, take_at, drop_at}
 use Rattle.json_text.proofs.Names.{take-append-drop, length-take-le, take_all, drop_all, Name, Scalar, Str, Tree, IsBlank, IsString, at, IsScalarText}
-use Rattle.json_text.proofs.Names.{scalar, IsText, Top, tape_of, deepest, IsToken, sign, text, word, Goes, sign_at, IsWord, Token, Opening, Text}
+use Rattle.json_text.proofs.Names.{scalar, IsText, Top, tape_of, deepest, IsToken, sign, text, word, Goes, sign_at, IsWord, Token, Opening}
 use Rattle.json_text.proofs.Names.{State, takes_value, takes_name, run_at, put_leaf, put_open, level_of}
 use Rattle.json_text.proofs.Names.{step, start, IsSmall}
 use Rattle.json_walk.proofs.Names.{Kind, Extent, Entry, Shape, Array, Object, Level, Root, Want, Open}

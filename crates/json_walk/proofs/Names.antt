@@ -17,7 +17,7 @@ pub use Rattle.json_text.specs.declared.tape.Want.{Want}
 pub use Rattle.json_text.specs.declared.tape.Want.TheVariants.{Next, Value}
 pub use Rattle.json_walk.specs.Building.{IsBounded}
 pub use Rattle.json_walk.specs.Lexing.{Marked}
-pub use Rattle.json_walk.specs.Placing.{HoldSlashes, ClosesBefore, StringEnds}
+pub use Rattle.json_walk.specs.Placing.{ClosesBefore, StringEnds}
 pub use Rattle.json_walk.specs.Walked.{IsListed, Walked, at, begins_value, is_text, place, point, token_of, Halts, Point, TokenAt, WalksValue, end_of}
 pub use Rattle.json_walk.specs.Walked.{moves, no_more, stays, want_at}
 pub use Rattle.json_walk.specs.Walking.{weight, StandsAt}

@@ -4,13 +4,15 @@ use Rattle.json_text.proofs.Names.{get_or, drop, refl, sym, ap, subst, ◌∙◌
 use Rattle.json_text.proofs.Names.{text, word, sign_at, Token, State}
 use Rattle.json_walk.proofs.Names.{op_byte, blank_byte, byte, is_inside, places, HasControlInside, IsSpan, IsSeam, next_place, StandsAt, weight}
 use Rattle.json_walk.proofs.Names.{IsBounded}
-use Rattle.std.proofs.Common.{true≢false}
-use Rattle.structural_index.specs.Places.{is_real_quote, is_place, places_from, IsUnclosed}
+use Rattle.std.proofs.Common.{true≢false, ap₂, ◌&&◌}
+use Rattle.json_text.proofs.Names.{false≢true}
+use Rattle.structural_index.specs.Places.{is_real_quote, is_place, places_from, IsUnclosed, HasWrongEscape, HasLoneSurrogate}
+use Rattle.structural_index.proofs.JudgedEscapes.{start_free, past_free, free_right, free_paired}
 use Rattle.structural_index.proofs.Seams as seams
 use Rattle.json_walk.specs.Counting.{source_bytes_before, is_source_byte}
 use Rattle.json_walk.specs.Walking.{IsPaid, GoesOn, IsPlaceNumber}
 use Rattle.json_walk.proofs.Bridge.{sign_op, token_place}
-use Rattle.json_walk.proofs.Counting.{Crossed, cross_sign, cross_string, cross_word, start_seam, source_suc, reach_text, at_end, text_counts}
+use Rattle.json_walk.proofs.Counting.{HasLonePart, Crossed, cross_sign, cross_string, cross_word, start_seam, source_suc, reach_text, at_end, text_counts}
 
 -- from a seam over blanks to the next place
 settled_after : (bytes : List ℕ) (j : ℕ) → j ≤ length bytes → IsSeam bytes j → (n : ℕ) → n ≡ next_place bytes j → (IsSeam bytes n) × (places_from bytes n ≡ places_from bytes j) × (source_bytes_before bytes n ≡ source_bytes_before bytes j)
@@ -33,14 +35,14 @@ pub walk_starts : (bytes : List ℕ) → StandsAt bytes 0 (next_place bytes 0)
 walk_starts bytes = arrive bytes 0 0 (omega arith) (start_seam bytes) refl
 
 -- the weight of a token, and one place
-token_crossed : (bytes : List ℕ) (i p : ℕ) (vs rest : List ℕ) (tok : Token) → IsSeam bytes i → drop i bytes ≡ vs ++ rest → IsToken p vs tok rest → Crossed bytes i (i + length vs) rest 1 (weight tok)
+token_crossed : (bytes : List ℕ) (i p : ℕ) (vs rest : List ℕ) (tok : Token) → IsSeam bytes i → drop i bytes ≡ vs ++ rest → IsToken p vs tok rest → Crossed (Unit {0}) bytes i (i + length vs) rest 1 (weight tok)
 token_crossed bytes i p vs rest tok m e (sign {b = b} h) = let n : suc i ≡ i + 1 = omega arith in
-    subst (λ w. Crossed bytes i (i + 1) rest 1 w) (sym (no_weight p b tok h)) (subst (λ j. Crossed bytes i j rest 1 0) n (cross_sign bytes i b rest m e (sign_op p b tok h)))
+    subst (λ w. Crossed (Unit {0}) bytes i (i + 1) rest 1 w) (sym (no_weight p b tok h)) (subst (λ j. Crossed (Unit {0}) bytes i j rest 1 0) n (cross_sign (Unit {0}) bytes i b rest m e (sign_op p b tok h)))
   where
     no_weight : (p b : ℕ) (tok : Token) → sign_at p b ≡ Some tok → weight tok ≡ 0
     no_weight p b tok g = grind (arith, nat_tests)
-token_crossed bytes i p vs rest tok m e (text cs h) = cross_string bytes i vs rest cs m e h
-token_crossed bytes i p vs rest tok m e (word {b = b} {vs = bs} {kind = kind} a n k) = cross_word bytes i b bs rest kind m e a n k
+token_crossed bytes i p vs rest tok m e (text cs h) = cross_string (Unit {0}) bytes i vs rest cs (λ l. tt) m e h
+token_crossed bytes i p vs rest tok m e (word {b = b} {vs = bs} {kind = kind} a n k) = cross_word (Unit {0}) bytes i b bs rest kind m e a n k
 
 drop_step : (ps qs : List ℕ) (k i : ℕ) → i ∷ qs ≡ drop k ps → qs ≡ drop (suc k) ps
 drop_step [] qs zero i e = absurd (cc)
@@ -50,7 +52,7 @@ drop_step (p ∷ ps) qs (suc k) i e = drop_step ps qs k i e
 
 pub walk_goes_on : (bytes : List ℕ) (k i j : ℕ) (s s' : State) → StandsAt bytes k i → (taken : Taken bytes i j s s') → GoesOn bytes k i j taken.tok
 walk_goes_on bytes k i j s s' at taken = let e = taken.end in
-    let c = subst (λ x. Crossed bytes i x taken.rest 1 (weight taken.tok)) (sym e) (token_crossed bytes i i taken.vs taken.rest taken.tok at.seam taken.stands taken.is_token) in
+    let c = subst (λ x. Crossed (Unit {0}) bytes i x taken.rest 1 (weight taken.tok)) (sym e) (token_crossed bytes i i taken.vs taken.rest taken.tok at.seam taken.stands taken.is_token) in
     let one = token_place bytes i i taken.vs taken.rest taken.tok at.seam taken.stands taken.is_token in
     let left : places_from bytes j ≡ drop (suc k) (places bytes) = drop_step (places bytes) (places_from bytes j) k i (ap (λ x. i ∷ places_from bytes x) e ∙ sym one.one ∙ at.left) in
     let x = settled_after bytes j c.within c.seam (next_place bytes j) refl in
@@ -113,7 +115,20 @@ unclosed_none bytes t x u = let r = reach_text bytes t x in let y = r.crossed in
 pub control_none : (bytes : List ℕ) (t : Tree) → IsText bytes t → HasControlInside bytes → ⊥
 control_none bytes t x (k, l, interior, control) = let r = reach_text bytes t x in let y = r.crossed in
     let end : r.end ≡ length bytes = at_end bytes r.end y.within y.left in
-    let inside = seams.and_second (not (is_real_quote bytes k)) (is_inside bytes k) interior in grind (arith, r, y, end, inside)
+    let inside = seams.and_second (not (is_real_quote bytes k)) (is_inside bytes k) interior in false≢true (sym (y.clean k (omega arith) (omega (arith, end, l))) ∙ ap₂ (λ a b. a && b) inside control)
+
+pub wrong_none : (bytes : List ℕ) (t : Tree) → IsText bytes t → HasWrongEscape bytes → ⊥
+wrong_none bytes t x (zero, h) = absurd (false≢true (sym (free_right bytes 0 (start_free bytes)) ∙ h))
+wrong_none bytes t x (suc k, h) = let r = reach_text bytes t x in let y = r.crossed in
+    let end : r.end ≡ length bytes = at_end bytes r.end y.within y.left in
+    elim (cases_lt (length bytes) (suc k)) [ inl l ↦ false≢true (sym (free_right bytes (suc k) (past_free bytes (suc k) l)) ∙ h) | inr l ↦ false≢true (sym (y.right (suc k) (omega arith) (omega arith)) ∙ h) ]
+
+-- a surrogate is lone exactly where a string or a name of the tree has a lone one
+pub lone_part : (bytes : List ℕ) (t : Tree) → IsText bytes t → HasLoneSurrogate bytes → HasLonePart t
+lone_part bytes t x (zero, h) = absurd (false≢true (sym (free_paired bytes 0 (start_free bytes)) ∙ h))
+lone_part bytes t x (suc k, h) = let r = reach_text bytes t x in let y = r.crossed in
+    let end : r.end ≡ length bytes = at_end bytes r.end y.within y.left in
+    elim (cases_lt (length bytes) (suc k)) [ inl l ↦ absurd (false≢true (sym (free_paired bytes (suc k) (past_free bytes (suc k) l)) ∙ h)) | inr l ↦ y.lone (suc k) (omega arith) (omega arith) h ]
 
 pub walk_bounded : (bytes : List ℕ) (k before now : ℕ) → k ≤ length (places bytes) → StandsAt bytes k (length bytes) → IsPaid bytes k (length bytes) before now → IsBounded bytes before now
 walk_bounded bytes k before now l at paid t x = let c = text_counts bytes t x in let w = c.bytes_are in omega arith

@@ -1,24 +1,15 @@
 -- What a builder that goes from place to place asks of the text, and what it finds of a string.
-use Rattle.std.specs.Prelude.{◌≡◌, ◌<◌, ◌≤◌, ℕ, suc, ◌+◌, Bool, List, drop, length, Option, Some, None, IsUtf8}
-use Rattle.structural_index.specs.Places.{byte, HasControlInside, AreSlashBlocks}
+use Rattle.std.specs.Prelude.{◌≡◌, ◌<◌, ℕ, suc, ◌+◌, Bool, List, drop, Option, Some, None, IsUtf8}
+use Rattle.structural_index.specs.Places.{byte, HasControlInside, HasWrongEscape}
 use Rattle.structural_index.specs.Seams.{IsSpan, IsSeam, next_place}
-use Rattle.json_strings.specs.Spelling.{AreSlashless}
-use Rattle.json_walk.specs.declared.slashes.Slashes.{Slashes}
 use Rattle.json_text.specs.Tokens.{quote_end}
 use Rattle.json_walk.specs.Bridge.{SpellsString}
 
--- no backslash of a text stands in the gap, and all stand in these blocks
-pub record HoldSlashes (text : List ℕ) (slashes : Slashes) : Type 0 where
-  pub gap : AreSlashless text slashes.from slashes.to
-  pub blocks_are : AreSlashBlocks text slashes.blocks.now
-  pub next : slashes.next ≤ length slashes.blocks.now
-  pub long : slashes.long ≡ length text
-
 -- what has been shown of a text before its tokens are looked at
-pub record IsIndexed (text : List ℕ) (slashes : Slashes) : Type 0 where
+pub record IsIndexed (text : List ℕ) : Type 0 where
   pub utf8 : IsUtf8 text
   pub controls : HasControlInside text → ⊥
-  pub escapes : HoldSlashes text slashes
+  pub escapes : HasWrongEscape text → ⊥
 
 -- a token begins at byte i, and the next place is this one: a quote right before it closes the string that begins at byte i
 pub record ClosesBefore (text : List ℕ) (i n : ℕ) : Type 0 where

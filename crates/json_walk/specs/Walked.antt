@@ -1,6 +1,6 @@
 -- A walk over the places of a text, a token at each: what leads from one point of it to another, and where nothing leads on.
 use Rattle.std.specs.Prelude.{◌≡◌, ◌≢◌, ◌<◌, ◌≤◌, ℕ, zero, suc, ◌+◌, Bool, true, false, List, drop, ◌++◌, length, get_or, Option, Some, None, Result, Ok, Err, IsUtf8}
-use Rattle.structural_index.specs.Places.{places, IsUnclosed, HasControlInside}
+use Rattle.structural_index.specs.Places.{places, IsUnclosed, HasControlInside, HasWrongEscape}
 use Rattle.json_text.specs.declared.tape.Kind.TheVariants as kinds
 use Rattle.json_text.specs.declared.tape.Extent.{Extent}
 use Rattle.json_text.specs.declared.tape.Shape.{Shape}
@@ -106,6 +106,7 @@ pub record IsListed (text items : List ℕ) : Type 0 where
   pub short : length text ≤ text_limit
   pub utf8 : IsUtf8 text
   pub controls : HasControlInside text → ⊥
+  pub escapes : HasWrongEscape text → ⊥
   pub closed : IsUnclosed text → ⊥
 
 -- the place with this number, and the byte that stands there

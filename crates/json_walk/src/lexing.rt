@@ -8,16 +8,13 @@ ghost use Rattle.json_walk.specs.Lexing.{IsWordKind, Marked};
 ghost use Rattle.tape_cells.specs.Opened.{HasRoom};
 ghost use Rattle.json_walk.specs.Walked.{IsNameAt, IsValueAt, FitsTape, source_in, end_of, price_of};
 ghost use Rattle.json_text.specs.Verdict.{text_limit};
-ghost use Rattle.json_walk.specs.Placing.{IsIndexed, HoldSlashes, ClosesBefore, StringEnds, end_in};
-ghost use Rattle.name_stamps.specs.Stamps.{IsPlain};
-ghost use Rattle.json_strings.specs.Spelling.{AreSlashless};
+ghost use Rattle.json_walk.specs.Placing.{IsIndexed, ClosesBefore, StringEnds, end_in};
 ghost use Rattle.structural_index.specs.Runs.{AreDigitsBut};
 
 use crate::exponents::has_short_exponent;
 use crate::short_numbers::is_short_decimal;
-use crate::slashes::Slashes;
 use decimal_order::{late_exponents_keep_limits, scan};
-use json_strings::{escapes_hold, quote_past};
+use json_strings::quote_past;
 use json_text::{Extent, Kind, Shape};
 use name_stamps::Quoted;
 use std::simd::prelude::*;
@@ -160,102 +157,78 @@ fn has_quote_before(looks: &mut Looks<'_>, i: usize, next: usize) -> bool
     looks.at(next - 1) == b'"'
 }
 
-// The place past the string that begins at i, where the place behind it is this one, and whether it is known to have no backslash.
-#[tactic(auto, using(crate::proofs::Placing::plain_before, crate::proofs::Placing::held_before, crate::proofs::Placing::unheld_before, crate::proofs::Placing::scanned_part))]
+// The place past the string that begins at i, where the place behind it is this one, and whether its bytes were passed without a look.
+#[tactic(auto, using(crate::proofs::Placing::closed_before))]
 #[inline(always)]
-fn string_end(
-    looks: &mut Looks<'_>,
-    i: usize,
-    next: usize,
-    slashes: &mut Slashes<'_>,
-) -> Option<(usize, bool)>
+fn string_end(looks: &mut Looks<'_>, i: usize, next: usize) -> Option<(usize, bool)>
     requires in_text { i < length looks.old.0 }
     requires near { next ≤ length looks.old.0 }
     requires short { length looks.old.0 ≤ text_limit }
     requires quote { slice_index looks.old.0 i ≡ 34 }
-    requires indexed { IsIndexed looks.old.0 slashes.old }
+    requires indexed { IsIndexed looks.old.0 }
     requires closes { ClosesBefore looks.old.0 i next }
     ensures ends { StringEnds looks.old.0 i (end_in result) }
     ensures bound { IfSome result (λ x. (i < x.0) × (x.0 ≤ length looks.old.0)) }
-    ensures plain { IfSome result (λ x. IsTrue x.1 → (i + 1 < x.0) × AreSlashless looks.old.0 (i + 1) x.0) }
-    ensures slashes { HoldSlashes looks.old.0 slashes.new }
+    ensures passed { IfSome result (λ x. IsTrue x.1 → i + 1 < x.0) }
     ensures same { looks.new.0 ≡ looks.old.0 }
     ensures looked { IfSome result (λ x. looks.new.1 + i ≤ looks.old.1 + x.0) }
     ensures quick { IfSome result (λ x. IsTrue x.1 → looks.new.1 ≤ looks.old.1 + 1) }
 {
-    if !has_quote_before(looks, i, next) {
-        return match quote_past(looks, i + 1) {
-            Some(end) => Some((end, false)),
-            None => None,
-        };
-    }
-    if slashes.spare(i + 1, next) {
+    if has_quote_before(looks, i, next) {
         return Some((next, true));
     }
-    slashes.advance(i + 1);
-    if slashes.spare(i + 1, next) {
-        return Some((next, true));
-    }
-    if escapes_hold(looks.part(i + 1, next - 1)) {
-        Some((next, false))
-    } else {
-        None
+    match quote_past(looks, i + 1) {
+        Some(end) => Some((end, false)),
+        None => None,
     }
 }
 
 // The string that begins at i.
 #[inline(always)]
-fn string(looks: &mut Looks<'_>, i: usize, next: usize, slashes: &mut Slashes<'_>) -> Option<Quoted>
+fn string(looks: &mut Looks<'_>, i: usize, next: usize) -> Option<Quoted>
     requires in_text { i < length looks.old.0 }
     requires near { next ≤ length looks.old.0 }
     requires short { length looks.old.0 ≤ text_limit }
     requires quote { slice_index looks.old.0 i ≡ 34 }
-    requires indexed { IsIndexed looks.old.0 slashes.old }
+    requires indexed { IsIndexed looks.old.0 }
     requires closes { ClosesBefore looks.old.0 i next }
     ensures string { IsNameAt looks.old.0 i (source_in result) }
     ensures room { IfSome result (λ q. HasRoom q.source) }
     ensures none { result ≡ None → IsValueAt looks.old.0 i None }
-    ensures plain { IfSome result (λ q. IsTrue q.plain → IsPlain looks.old.0 q.source × (2 ≤ q.source.len) × (q.source.start + q.source.len ≤ length looks.old.0)) }
-    ensures slashes { HoldSlashes looks.old.0 slashes.new }
+    ensures passed { IfSome result (λ q. IsTrue q.passed → (2 ≤ q.source.len) × (q.source.start + q.source.len ≤ length looks.old.0)) }
     ensures same { looks.new.0 ≡ looks.old.0 }
     ensures looked { IfSome result (λ q. looks.new.1 ≤ looks.old.1 + q.source.len) }
-    ensures quick { IfSome result (λ q. IsTrue q.plain → looks.new.1 ≤ looks.old.1 + 1) }
+    ensures quick { IfSome result (λ q. IsTrue q.passed → looks.new.1 ≤ looks.old.1 + 1) }
 {
-    match string_end(looks, i, next, slashes) {
+    match string_end(looks, i, next) {
         None => None,
-        Some((end, plain)) => Some(Quoted {
+        Some((end, passed)) => Some(Quoted {
             source: Extent {
                 start: i as u32,
                 len: (end - i) as u32,
             },
-            plain,
+            passed,
         }),
     }
 }
 
 /// The name at place i, where the place behind it is this one.
 #[inline(always)]
-pub fn name(
-    looks: &mut Looks<'_>,
-    i: usize,
-    next: usize,
-    slashes: &mut Slashes<'_>,
-) -> Option<Quoted>
+pub fn name(looks: &mut Looks<'_>, i: usize, next: usize) -> Option<Quoted>
     requires in_text { i < length looks.old.0 }
     requires near { next ≤ length looks.old.0 }
     requires short { length looks.old.0 ≤ text_limit }
-    requires indexed { IsIndexed looks.old.0 slashes.old }
+    requires indexed { IsIndexed looks.old.0 }
     requires closes { ClosesBefore looks.old.0 i next }
     ensures name { IsNameAt looks.old.0 i (source_in result) }
     ensures room { IfSome result (λ q. HasRoom q.source) }
-    ensures plain { IfSome result (λ q. IsTrue q.plain → IsPlain looks.old.0 q.source × (2 ≤ q.source.len) × (q.source.start + q.source.len ≤ length looks.old.0)) }
-    ensures slashes { HoldSlashes looks.old.0 slashes.new }
+    ensures passed { IfSome result (λ q. IsTrue q.passed → (2 ≤ q.source.len) × (q.source.start + q.source.len ≤ length looks.old.0)) }
     ensures same { looks.new.0 ≡ looks.old.0 }
     ensures looked { IfSome result (λ q. looks.new.1 ≤ looks.old.1 + q.source.len + 1) }
-    ensures quick { IfSome result (λ q. IsTrue q.plain → looks.new.1 ≤ looks.old.1 + 2) }
+    ensures quick { IfSome result (λ q. IsTrue q.passed → looks.new.1 ≤ looks.old.1 + 2) }
 {
     if looks.at(i) == b'"' {
-        string(looks, i, next, slashes)
+        string(looks, i, next)
     } else {
         None
     }
@@ -300,28 +273,21 @@ fn word(looks: &mut Looks<'_>, i: usize, next: usize, may_exceed: &mut bool) -> 
 
 /// What the value at place i begins with, where the place behind it is this one. Marks where a number may be beyond the limits.
 #[inline(always)]
-pub fn value(
-    looks: &mut Looks<'_>,
-    i: usize,
-    next: usize,
-    slashes: &mut Slashes<'_>,
-    may_exceed: &mut bool,
-) -> Option<Lexed>
+pub fn value(looks: &mut Looks<'_>, i: usize, next: usize, may_exceed: &mut bool) -> Option<Lexed>
     requires in_text { i < length looks.old.0 }
     requires near { next ≤ length looks.old.0 }
     requires short { length looks.old.0 ≤ text_limit }
-    requires indexed { IsIndexed looks.old.0 slashes.old }
+    requires indexed { IsIndexed looks.old.0 }
     requires closes { ClosesBefore looks.old.0 i next }
     requires no_blank { blank (slice_index looks.old.0 i) ≡ false }
     ensures value { IsValueAt looks.old.0 i result }
     ensures fits { IfSome result FitsTape }
     ensures marked { IfSome result (λ l. Marked looks.old.0 i may_exceed.old (Ok (end_of i l)) may_exceed.new) }
-    ensures slashes { HoldSlashes looks.old.0 slashes.new }
     ensures same { looks.new.0 ≡ looks.old.0 }
     ensures looked { IfSome result (λ l. looks.new.1 ≤ looks.old.1 + price_of l) }
 {
     match looks.at(i) {
-        b'"' => match string(looks, i, next, slashes) {
+        b'"' => match string(looks, i, next) {
             None => None,
             Some(quoted) => Some(Lexed::Text(quoted.source)),
         },

@@ -9,8 +9,6 @@ pub mod laws;
 mod lexing;
 mod second_stage;
 mod short_numbers;
-mod slashes;
 
 pub use exponents::has_short_exponent;
 pub use second_stage::{Reading, build, walk};
-pub use slashes::BLOCK;

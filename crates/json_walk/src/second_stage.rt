@@ -12,12 +12,10 @@ ghost use Rattle.json_walk.specs.Building.{IsBounded};
 ghost use Rattle.tape_cells.specs.Opened.{HasRoom};
 ghost use Rattle.json_text.specs.Suspects.{AreSuspects, narrow};
 ghost use Rattle.json_text.specs.Verdict.{text_limit};
-ghost use Rattle.json_walk.specs.Placing.{HoldSlashes};
 ghost use Rattle.name_stamps.specs.Stamps.{IsStamped, IsUnsuspected, DuplicateCheck, IsFresh, IsSameTop, HasSlot, HasTable};
 ghost use Rattle.json_walk.specs.Walked.{stamped_source, IsListed, FitsTape, token_of, behind, with_sign, no_more, spot_after, is_whole as whole_token, spot_behind, byte_at, ending as ending_of, width as width_of, shape_of, point, at, WalksTo, WalksName, WalksValue, WalksInto, AsksName, AsksValue, AsksChild};
 
 use crate::lexing::{Lexed, name, value};
-use crate::slashes::Slashes;
 use json_text::{BuildFault, Extent, Kind, Level, Shape, Want};
 use name_stamps::{SeenNames, Slot, StampedName, stamped};
 use std::alloc::Global;
@@ -119,24 +117,17 @@ fn put(
 // The name at place number k and the colon behind it.
 #[tactic(auto, using(crate::proofs::Listed::in_text, crate::proofs::WalkSteps::no_name_halts))]
 #[inline(always)]
-fn named(
-    looks: &mut Looks<'_>,
-    places: &[u32],
-    k: usize,
-    slashes: &mut Slashes<'_>,
-) -> Option<StampedName>
+fn named(looks: &mut Looks<'_>, places: &[u32], k: usize) -> Option<StampedName>
     requires listed { IsListed looks.old.0 places.now }
     requires inside { k + 1 < length places.now }
-    requires slashes { HoldSlashes looks.old.0 slashes.old }
     ensures named { (b : Built) (w : Want) (exceeds : Bool) → AsksName looks.old.0 places.now k w
         → WalksName looks.old.0 places.now (point k (standing b w None) looks.old.1 exceeds) b (k + 2) (stamped_source result) looks.new.1 exceeds }
     ensures room { IfSome result (λ m. HasRoom m.source) }
     ensures stamped { IfSome result (λ m. IsStamped looks.old.0 m.source m.stamp) }
-    ensures slashes { HoldSlashes looks.old.0 slashes.new }
     ensures same { looks.new.0 ≡ looks.old.0 }
 {
     let colon = places[k + 1] as usize;
-    match name(looks, places[k] as usize, colon, slashes) {
+    match name(looks, places[k] as usize, colon) {
         Some(name) if looks.at(colon) == b':' => Some(stamped(looks, name)),
         _ => None,
     }
@@ -151,13 +142,11 @@ fn valued<const OBJECT: bool>(
     places: &[u32],
     k: usize,
     name: Option<Extent>,
-    slashes: &mut Slashes<'_>,
     builder: &mut Builder,
     may_exceed: &mut bool,
 ) -> Result<Option<u8>, BuildFault>
     requires listed { IsListed looks.old.0 places.now }
     requires inside { k + 1 < length places.now }
-    requires slashes { HoldSlashes looks.old.0 slashes.old }
     requires small { IsSmall k (standing builder.old Want.Next None) }
     requires level { level_of builder.old.opens ≡ Level.Inside (shape_of OBJECT) }
     requires name { IfSome name HasRoom }
@@ -165,13 +154,12 @@ fn valued<const OBJECT: bool>(
         → WalksValue looks.old.0 places.now (point k (standing builder.old w name) looks.old.1 may_exceed.old) (shape_of OBJECT) (k + 1) result builder.new looks.new.1 may_exceed.new }
     ensures checked { IfOk result (λ made. (seen : SeenNames) → DuplicateCheck looks.old.0 builder.old seen → IsFresh looks.old.0 builder.old seen name → DuplicateCheck looks.old.0 builder.new seen) }
     ensures top { IfOk result (λ made. IfSome made (λ sign. IsSameTop builder.old.opens builder.new.opens)) }
-    ensures slashes { HoldSlashes looks.old.0 slashes.new }
     ensures same { looks.new.0 ≡ looks.old.0 }
 {
     let i = places[k];
     let next = places[k + 1] as usize;
     let level = Level::Inside(shape::<OBJECT>());
-    match value(looks, i as usize, next, slashes, may_exceed) {
+    match value(looks, i as usize, next, may_exceed) {
         None => Err(BuildFault::NotJson),
         Some(Lexed::Opens(shape)) => nothing_more(builder.open(level, name, shape, i)),
         Some(Lexed::Text(source)) => {
@@ -195,7 +183,6 @@ fn child<const OBJECT: bool>(
     looks: &mut Looks<'_>,
     places: &[u32],
     k: usize,
-    slashes: &mut Slashes<'_>,
     builder: &mut Builder,
     may_exceed: &mut bool,
     seen: &mut SeenNames,
@@ -203,7 +190,6 @@ fn child<const OBJECT: bool>(
 ) -> Result<Option<u8>, BuildFault>
     requires listed { IsListed looks.old.0 places.now }
     requires inside { k + width_of (shape_of OBJECT) < length places.now }
-    requires slashes { HoldSlashes looks.old.0 slashes.old }
     requires small { IsSmall k (standing builder.old Want.Next None) }
     requires level { level_of builder.old.opens ≡ Level.Inside (shape_of OBJECT) }
     requires checked { DuplicateCheck looks.old.0 builder.old seen.old }
@@ -213,27 +199,18 @@ fn child<const OBJECT: bool>(
         → WalksValue looks.old.0 places.now (point k (standing builder.old w None) looks.old.1 may_exceed.old) (shape_of OBJECT) (k + width_of (shape_of OBJECT)) result builder.new looks.new.1 may_exceed.new }
     ensures checked { IfOk result (λ made. DuplicateCheck looks.old.0 builder.new seen.new) }
     ensures has_slot { IfOk result (λ made. IfSome made (λ sign. IsTrue OBJECT → HasSlot builder.new slot seen.new)) }
-    ensures slashes { HoldSlashes looks.old.0 slashes.new }
     ensures same { looks.new.0 ≡ looks.old.0 }
 {
     if !OBJECT {
-        return valued::<OBJECT>(looks, places, k, None, slashes, builder, may_exceed);
+        return valued::<OBJECT>(looks, places, k, None, builder, may_exceed);
     }
-    let Some(name) = named(looks, places, k, slashes) else {
+    let Some(name) = named(looks, places, k) else {
         return Err(BuildFault::NotJson);
     };
     if seen.insert(slot, name.stamp).is_err() {
         return Err(BuildFault::Memory);
     }
-    valued::<OBJECT>(
-        looks,
-        places,
-        k + 2,
-        Some(name.source),
-        slashes,
-        builder,
-        may_exceed,
-    )
+    valued::<OBJECT>(looks, places, k + 2, Some(name.source), builder, may_exceed)
 }
 
 // What stands behind a container that was closed at place number k.
@@ -376,13 +353,11 @@ fn run<const OBJECT: bool>(
     looks: &mut Looks<'_>,
     places: &[u32],
     spot: Spot,
-    slashes: &mut Slashes<'_>,
     builder: &mut Builder,
     may_exceed: &mut bool,
     seen: &mut SeenNames,
 ) -> Result<Spot, BuildFault>
     requires listed { IsListed looks.old.0 places.now }
-    requires slashes { HoldSlashes looks.old.0 slashes.old }
     requires small { IsSmall spot.number (standing builder.old Want.Next None) }
     requires level { level_of builder.old.opens ≡ Level.Inside (shape_of OBJECT) }
     requires checked { DuplicateCheck looks.old.0 builder.old seen.old }
@@ -390,7 +365,6 @@ fn run<const OBJECT: bool>(
     ensures further { IfOk result (λ next. (spot.number < next.number) × (next.number ≤ length places.now)) }
     ensures opened { IfOk result (λ next. next.behind ≡ false → level_of builder.new.opens ≡ Level.Root → ⊥) }
     ensures checked { IfOk result (λ next. DuplicateCheck looks.old.0 builder.new seen.new) }
-    ensures slashes { HoldSlashes looks.old.0 slashes.new }
     ensures same { looks.new.0 ≡ looks.old.0 }
 {
     let first = match entered::<OBJECT>(looks, places, spot, builder, seen) {
@@ -409,7 +383,7 @@ fn run<const OBJECT: bool>(
     };
     let mut k = first;
     while k + width::<OBJECT>() < places.len() {
-        match child::<OBJECT>(looks, places, k, slashes, builder, may_exceed, seen, slot) {
+        match child::<OBJECT>(looks, places, k, builder, may_exceed, seen, slot) {
             Err(fault) => return Err(fault),
             Ok(None) => {
                 return Ok(Spot {
@@ -433,13 +407,11 @@ fn children(
     places: &[u32],
     spot: Spot,
     shape: Shape,
-    slashes: &mut Slashes<'_>,
     builder: &mut Builder,
     may_exceed: &mut bool,
     seen: &mut SeenNames,
 ) -> Result<Spot, BuildFault>
     requires listed { IsListed looks.old.0 places.now }
-    requires slashes { HoldSlashes looks.old.0 slashes.old }
     requires small { IsSmall spot.number (standing builder.old Want.Next None) }
     requires level { level_of builder.old.opens ≡ Level.Inside shape }
     requires checked { DuplicateCheck looks.old.0 builder.old seen.old }
@@ -447,12 +419,11 @@ fn children(
     ensures further { IfOk result (λ next. (spot.number < next.number) × (next.number ≤ length places.now)) }
     ensures opened { IfOk result (λ next. next.behind ≡ false → level_of builder.new.opens ≡ Level.Root → ⊥) }
     ensures checked { IfOk result (λ next. DuplicateCheck looks.old.0 builder.new seen.new) }
-    ensures slashes { HoldSlashes looks.old.0 slashes.new }
     ensures same { looks.new.0 ≡ looks.old.0 }
 {
     match shape {
-        Shape::Array => run::<false>(looks, places, spot, slashes, builder, may_exceed, seen),
-        Shape::Object => run::<true>(looks, places, spot, slashes, builder, may_exceed, seen),
+        Shape::Array => run::<false>(looks, places, spot, builder, may_exceed, seen),
+        Shape::Object => run::<true>(looks, places, spot, builder, may_exceed, seen),
     }
 }
 
@@ -462,13 +433,11 @@ fn containers(
     looks: &mut Looks<'_>,
     places: &[u32],
     spot: Spot,
-    slashes: &mut Slashes<'_>,
     builder: &mut Builder,
     may_exceed: &mut bool,
     seen: &mut SeenNames,
 ) -> Result<Spot, BuildFault>
     requires listed { IsListed looks.old.0 places.now }
-    requires slashes { HoldSlashes looks.old.0 slashes.old }
     requires inside { spot.number ≤ length places.now }
     requires small { IsSmall spot.number (standing builder.old Want.Next None) }
     requires opened { spot.behind ≡ false → level_of builder.old.opens ≡ Level.Root → ⊥ }
@@ -476,14 +445,11 @@ fn containers(
     ensures walks { WalksTo looks.old.0 places.now (at spot builder.old looks.old.1 may_exceed.old) result builder.new looks.new.1 may_exceed.new }
     ensures over { IfOk result (λ next. (level_of builder.new.opens ≡ Level.Root) × (next.behind ≡ true)) }
     ensures checked { IfOk result (λ next. DuplicateCheck looks.old.0 builder.new seen.new) }
-    ensures slashes { HoldSlashes looks.old.0 slashes.new }
     ensures same { looks.new.0 ≡ looks.old.0 }
 {
     let mut next = spot;
     while let Level::Inside(shape) = builder.level() {
-        match children(
-            looks, places, next, shape, slashes, builder, may_exceed, seen,
-        ) {
+        match children(looks, places, next, shape, builder, may_exceed, seen) {
             Ok(spot) => next = spot,
             Err(fault) => return Err(fault),
         }
@@ -522,18 +488,15 @@ fn is_whole(lexed: Lexed) -> bool
 fn whole(
     looks: &mut Looks<'_>,
     places: &[u32],
-    slashes: &mut Slashes<'_>,
     builder: &mut Builder,
     may_exceed: &mut bool,
 ) -> Result<Spot, BuildFault>
     requires listed { IsListed looks.old.0 places.now }
-    requires slashes { HoldSlashes looks.old.0 slashes.old }
     requires first { builder.old ≡ nothing }
     ensures walks { WalksTo looks.old.0 places.now (point 0 (standing builder.old Want.Value None) looks.old.1 may_exceed.old) result builder.new looks.new.1 may_exceed.new }
     ensures checked { IfOk result (λ next. (seen : SeenNames) → DuplicateCheck looks.old.0 builder.old seen → DuplicateCheck looks.old.0 builder.new seen) }
     ensures further { IfOk result (λ next. next.number ≤ length places.now) }
     ensures opened { IfOk result (λ next. next.behind ≡ false → level_of builder.new.opens ≡ Level.Root → ⊥) }
-    ensures slashes { HoldSlashes looks.old.0 slashes.new }
     ensures same { looks.new.0 ≡ looks.old.0 }
 {
     if places.is_empty() {
@@ -541,7 +504,7 @@ fn whole(
     }
     let i = places[0];
     let next = place_behind(places, 0, looks.length());
-    let Some(lexed) = value(looks, i as usize, next, slashes, may_exceed) else {
+    let Some(lexed) = value(looks, i as usize, next, may_exceed) else {
         return Err(BuildFault::NotJson);
     };
     first_spot(put(builder, Level::Root, None, i, lexed), lexed)
@@ -576,15 +539,14 @@ pub fn walk(alloc: Global, index: &Index, looks: &mut Looks<'_>) -> Result<Readi
     ensures looked { IfOk result (λ reading. IsBounded looks.old.0 looks.old.1 looks.new.1) }
     ensures suspects { IfOk result (λ reading. AreSuspects looks.old.0 reading.tape reading.suspects.items) }
 {
-    if index.unclosed || index.control_inside {
+    if index.unclosed || index.control_inside || index.wrong_escape {
         return Err(BuildFault::NotJson);
     }
     let places = index.places.as_slice();
-    let mut slashes = Slashes::new(index.slashes.as_slice(), looks.length());
     let mut builder = Builder::new(alloc, places.len() / 2 + 1)?;
     let mut may_exceed = false;
     let mut seen = SeenNames::new(alloc);
-    let first = match whole(looks, places, &mut slashes, &mut builder, &mut may_exceed) {
+    let first = match whole(looks, places, &mut builder, &mut may_exceed) {
         Ok(first) => first,
         Err(fault) => return Err(fault),
     };
@@ -592,7 +554,6 @@ pub fn walk(alloc: Global, index: &Index, looks: &mut Looks<'_>) -> Result<Readi
         looks,
         places,
         first,
-        &mut slashes,
         &mut builder,
         &mut may_exceed,
         &mut seen,

@@ -3,7 +3,8 @@ use Rattle.json_text.proofs.Names.{◌≡◌, ℕ, ◌+◌, None, false, List, [
 use Rattle.json_text.proofs.Names.{Spelt, Plain, Source, AreChars, IsString, meaning_after, extent, bytes_at}
 use lib.Utf8.{encode}
 use Rattle.json_text.specs.Meaning.{meaning}
-use Rattle.json_strings.specs.Spelling.{has_backslash, AreSlashless}
+use Rattle.structural_index.specs.Runs.{AreSlashless}
+use Rattle.json_strings.specs.Spelling.{has_backslash}
 use Rattle.name_stamps.specs.Stamps.{bytes_stamp}
 use Rattle.json_text.specs.declared.tape.Extent.{Extent}
 use Rattle.json_text.proofs.Fits.{Lies}

@@ -1,7 +1,7 @@
 -- The duplicate check while a text is walked: names are compared by their stamps, and objects that may have a repeated name are suspects.
 use Rattle.std.specs.Prelude.{◌/◌, ◌≡◌, ◌≢◌, ℕ, ◌+◌, ◌*◌, ◌%◌, ◌<◌, ◌≤◌, ◌⊎◌, List, [], ◌∷◌, ◌++◌, length, get_or, set, Option, Some, None}
 use Rattle.std.specs.List.{Contains}
-use Rattle.json_strings.specs.Spelling.{AreSlashless}
+use Rattle.structural_index.specs.Runs.{AreSlashless}
 use Rattle.json_text.specs.declared.tape.Entry.{Entry}
 use Rattle.json_text.specs.declared.tape.Extent.{Extent}
 use Rattle.json_text.specs.declared.tape.Role.TheVariants as roles

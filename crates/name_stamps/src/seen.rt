@@ -2,7 +2,7 @@
 
 ghost use Rattle.std.specs.Prelude.{◌≡◌, ℕ, List, ◌+◌, ◌<◌, ◌≤◌, length, false, OnOk, IfOk, IfSome, IsTrue};
 ghost use Rattle.tape_cells.specs.Built.{nothing, top_of, children_of};
-ghost use Rattle.name_stamps.specs.Stamps.{DuplicateCheck, HasTable, IsPlain, IsStamped, HasSlot, AddsSuspect, IsUnsuspected, IsInserted, stamp};
+ghost use Rattle.name_stamps.specs.Stamps.{DuplicateCheck, HasTable, IsStamped, HasSlot, AddsSuspect, IsUnsuspected, IsInserted, stamp};
 ghost use Rattle.json_text.specs.Suspects.{narrow};
 
 use json_strings::{bytes_word, mixed};
@@ -23,14 +23,14 @@ const DEPTHS: usize = 8;
 // A byte for each stamp and depth.
 const MARKS: usize = 8192;
 
-/// A string, and whether it is known to have no backslash.
+/// A string, and whether its bytes were passed without a look.
 #[derive(Clone, Copy)]
 pub struct Quoted {
     pub source: Extent,
-    pub plain: bool,
+    pub passed: bool,
 }
 
-/// A name, and its stamp where it is known to have no backslash.
+/// A name, and its stamp where none of its bytes is a backslash.
 #[derive(Clone, Copy)]
 pub struct StampedName {
     pub source: Extent,
@@ -62,28 +62,33 @@ pub fn stamp_of(half: u32) -> usize
     (half / 4_194_304) as usize
 }
 
-/// A name with its stamp, whose bytes are looked at where no backslash is one of them.
+/// A name with its stamp, whose bytes are looked at if they were not before.
 #[inline(always)]
 pub fn stamped(looks: &mut Looks<'_>, name: Quoted) -> StampedName
-    requires plain { IsTrue name.plain → IsPlain looks.old.0 name.source × (2 ≤ name.source.len) × (name.source.start + name.source.len ≤ length looks.old.0) }
+    requires within { IsTrue name.passed → (2 ≤ name.source.len) × (name.source.start + name.source.len ≤ length looks.old.0) }
     ensures source { result.source ≡ name.source }
     ensures stamp { IsStamped looks.old.0 name.source result.stamp }
     ensures same { looks.new.0 ≡ looks.old.0 }
     ensures looked { looks.new.1 ≤ looks.old.1 + name.source.len }
-    ensures unlooked { name.plain ≡ false → looks.new.1 ≡ looks.old.1 }
+    ensures unlooked { name.passed ≡ false → looks.new.1 ≡ looks.old.1 }
 {
     let source = name.source;
-    if !name.plain {
+    if !name.passed {
         return StampedName {
             source,
             stamp: None,
         };
     }
     let start = source.start as usize;
-    let bytes = looks.part(start, start + source.len as usize);
-    StampedName {
-        source,
-        stamp: Some(stamp_of(mixed(bytes_word(bytes)))),
+    match looks.slashless(start, start + source.len as usize) {
+        Some(bytes) => StampedName {
+            source,
+            stamp: Some(stamp_of(mixed(bytes_word(bytes)))),
+        },
+        None => StampedName {
+            source,
+            stamp: None,
+        },
     }
 }
 

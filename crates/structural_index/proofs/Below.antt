@@ -37,17 +37,17 @@ and-false x0 = grind arith
 
 -- ---- below a number
 
-any_same : (p q : ℕ → Bool) (n : ℕ) → ((i : ℕ) → i < n → p i ≡ q i) → any_below p n ≡ any_below q n
+pub any_same : (p q : ℕ → Bool) (n : ℕ) → ((i : ℕ) → i < n → p i ≡ q i) → any_below p n ≡ any_below q n
 unfolding any_below
 any_same p q zero h = refl
 any_same p q (suc n) h = ap₂ (λ a b. a || b) (any_same p q n (λ i lt. h i (omega arith))) (h n (omega arith))
 
-any_none : (p : ℕ → Bool) (n : ℕ) → ((i : ℕ) → p i ≡ false) → any_below p n ≡ false
+pub any_none : (p : ℕ → Bool) (n : ℕ) → ((i : ℕ) → p i ≡ false) → any_below p n ≡ false
 unfolding any_below
 any_none p zero h = refl
 any_none p (suc n) h = ap₂ (λ a b. a || b) (any_none p n h) (h n)
 
-any_found : (p : ℕ → Bool) (n i : ℕ) → i < n → p i ≡ true → any_below p n ≡ true
+pub any_found : (p : ℕ → Bool) (n i : ℕ) → i < n → p i ≡ true → any_below p n ≡ true
 unfolding any_below
 any_found p zero i lt h = let no : ⊥ = omega arith in absurd no
 any_found p (suc n) i lt h = go (λ below. any_found p n i below h) (cases_lt i n)
@@ -58,7 +58,7 @@ any_found p (suc n) i lt h = go (λ below. any_found p n i below h) (cases_lt i 
         let e : n ≡ i = omega arith in
         ap (λ a. any_below p n || a) (ap p e ∙ h) ∙ or-true (any_below p n)
 
-any_where : (p : ℕ → Bool) (n : ℕ) → any_below p n ≡ true → (i : ℕ) × (i < n) × (p i ≡ true)
+pub any_where : (p : ℕ → Bool) (n : ℕ) → any_below p n ≡ true → (i : ℕ) × (i < n) × (p i ≡ true)
 unfolding any_below
 any_where p zero h = absurd (false≢true h)
 any_where p (suc n) h = go (or_cases (any_below p n) (p n) h) (any_where p n)
@@ -67,7 +67,7 @@ any_where p (suc n) h = go (or_cases (any_below p n) (p n) h) (any_where p n)
     go (inl t) rest = let r = rest t in (r.0, omega (arith, r.1), r.2)
     go (inr t) rest = (n, omega arith, t)
 
-any_along : (p : ℕ → Bool) (at n : ℕ) → any_below p (at + n) ≡ (any_below p at || any_below (λ i. p (at + i)) n)
+pub any_along : (p : ℕ → Bool) (at n : ℕ) → any_below p (at + n) ≡ (any_below p at || any_below (λ i. p (at + i)) n)
 unfolding any_below
 any_along p at zero = grind (arith, add-zero at, or-false (any_below p at))
 any_along p at (suc n) = grind (arith, add-suc at n, any_along p at n, or-assoc (any_below p at) (any_below (λ i. p (at + i)) n) (p (at + n)))

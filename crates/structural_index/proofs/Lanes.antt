@@ -1,5 +1,5 @@
 -- What stands in one lane of a vector, and what a bit of a mask tells of it.
-use Rattle.std.proofs.Common.{◌≡◌, ℕ, ◌+◌, ◌*◌, ◌-◌, ◌%◌, ◌^◌, ◌<◌, ◌≤◌, ◌≢◌, eqb, leb, ltb, bit_or, cond, Bool, true, false, List, map, replicate, length, get_or, w64, inl, inr, refl, sym, ap, ap₂, ◌∙◌, arith}
+use Rattle.std.proofs.Common.{◌≡◌, ℕ, ◌+◌, ◌*◌, ◌%◌, ◌^◌, ◌<◌, ◌≤◌, ◌≢◌, eqb, leb, ltb, bit_or, cond, Bool, true, false, List, map, replicate, length, get_or, w64, inl, inr, refl, sym, ap, ap₂, ◌∙◌, arith}
 use Rattle.std.specs.Int.{bit_at, trailing_zeros}
 use Rattle.std.proofs.lemmas.Bool.{cases_lt}
 use Rattle.std.proofs.lemmas.Bool.Decides.{nat_tests}
@@ -124,6 +124,11 @@ unstopped_lane n i v x few inside lane clear =
     let three = combined bit_or n i _ _ _ _ inside two control in
     let t = none_of (eqb x 34) (eqb x 92) (ltb x 32) (off 7 n i _ _ few inside three clear) in
     (let a = t.0 in λ e. grind (arith, nat_tests), let b = t.1 in λ e. grind (arith, nat_tests), let d = t.2 in grind (arith, nat_tests))
+
+-- ---- No backslash
+
+pub slashless_lane : (n i : ℕ) (v : List ℕ) (x : ℕ) → n ≤ 64 → i < n → HasLane n i v x → bit_at (mask_l (map (top 7) (zip2 equal v (replicate n 92))) % 2 ^ 64) i ≡ 0 → x ≢ 92
+slashless_lane n i v x few inside lane clear = let t = alone (eqb x 92) (off 7 n i _ _ few inside (combined equal n i v (replicate n 92) x 92 inside lane (repeated n i 92 inside)) clear) in λ e. grind (arith, nat_tests)
 
 -- ---- From one value to before another
 

@@ -1,5 +1,5 @@
 -- Bytes without whitespace from one byte of a text on, and which of them are digits.
-use Rattle.std.specs.Prelude.{◌≡◌, ◌<◌, ◌≤◌, ◌+◌, ℕ, List, length, get_or, IsTrue, IsFalse}
+use Rattle.std.specs.Prelude.{◌≡◌, ◌≢◌, ◌<◌, ◌≤◌, ◌+◌, ℕ, List, length, get_or, IsTrue, IsFalse}
 use Rattle.std.specs.Int.{bit_at}
 use Rattle.byte_masks.specs.Classes.{blank_byte}
 use Rattle.structural_index.specs.Places.{byte}
@@ -8,6 +8,10 @@ use Rattle.structural_index.specs.Laws.{AreBlanks}
 -- no byte from byte i to before byte j is a blank
 abbrev pub AreSolid : List ℕ → (i j : ℕ) → Type 0
 AreSolid text i j = (k : ℕ) → i ≤ k → k < j → IsFalse (blank_byte (byte text k))
+
+-- no byte from byte i to before byte j is a backslash
+abbrev pub AreSlashless : List ℕ → (i j : ℕ) → Type 0
+AreSlashless text i j = (k : ℕ) → i ≤ k → k < j → get_or text k 0 ≢ 0x5c
 
 -- byte j is the first blank from byte i to before byte n, or n where there is none
 pub record EndsAtBlank (text : List ℕ) (i n j : ℕ) : Type 0 where

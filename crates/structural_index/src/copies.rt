@@ -29,8 +29,8 @@ pub fn index_and_copy(alloc: Global, text: &[u8]) -> Result<(Index, Vec<u8>), Al
     ensures copy { IfOk result (λ r. r.1.items ≡ text.now) }
 {
     let room = Vec::with_capacity(alloc, text.len())?;
-    let (found, blocks, carry, front) = whole_blocks::<true>(alloc, text, room)?;
-    let index = whole_index(found, blocks, text, carry)?;
+    let (found, escapes, carry, front) = whole_blocks::<true>(alloc, text, room)?;
+    let index = whole_index(found, escapes, text, carry)?;
     let mut copy = front;
     copy.extend_from_slice(&text[text.len() / 64 * 64..])?;
     Ok((index, copy))

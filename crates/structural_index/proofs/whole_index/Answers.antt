@@ -9,5 +9,6 @@ returns c =
       places_are = whole.all_places;
       unclosed_is = search (rules, whole);
       control_is = control_whole c.args.text.now _ whole.control;
-      slashes_are = whole.all_slashes;
+      wrong_is = whole.all_wrong;
+      lone_is = whole.all_lone;
     }

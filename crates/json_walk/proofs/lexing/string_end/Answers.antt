@@ -1,6 +1,6 @@
-use Rattle.json_text.proofs.Names.{◌≡◌, ◌+◌, subst, drop, quote_end, arith}
+use Rattle.json_text.proofs.Names.{◌≡◌, ◌+◌, subst, drop, quote_end}
 use Rattle.json_walk.specs.Placing.{StringEnds}
-use Rattle.json_walk.proofs.Placing.{scanned_string, scanned_part, plain_before, held_before, unheld_before}
+use Rattle.json_walk.proofs.Placing.{scanned_string}
 use Rattle.json_walk.proofs.lexing.string_end.Goals as goal
 
 pub returns-in-Some-clause-ends : goal.returns-in-Some-clause-ends

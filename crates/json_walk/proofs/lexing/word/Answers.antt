@@ -1,8 +1,8 @@
 use Rattle.std.proofs.Common.{arith}
 use Rattle.json_text.specs.declared.tape.Kind.TheVariants.{Number}
 use Rattle.json_walk.proofs.TokensAt.{word_at, no_value_at}
-use Rattle.json_walk.proofs.Known.{limited_marked, spelt_marked}
-use Rattle.json_walk.proofs.Runs.{ahead, blanks_last, some_bytes}
+use Rattle.json_walk.proofs.Known.{spelt_marked}
+use Rattle.json_walk.proofs.Runs.{ahead, blanks_last}
 use Rattle.json_walk.proofs.lexing.word.Goals as goal
 
 pub run-others-requires-clause-order : goal.run-others-requires-clause-order

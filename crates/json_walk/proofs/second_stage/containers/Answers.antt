@@ -5,7 +5,7 @@ use Rattle.json_walk.proofs.WalkContainer.{walked_small, small_state, walks_same
 use Rattle.json_walk.proofs.second_stage.containers.Goals as goal
 
 pub loop-shape-init : goal.loop-shape-init
-loop-shape-init c = record { same = refl; slashes = c.requires.slashes; walked = here c.args.looks.now.0 c.args.places.now _; to = c.requires.inside; checked = c.requires.checked; opened = c.requires.opened }
+loop-shape-init c = record { same = refl; walked = here c.args.looks.now.0 c.args.places.now _; to = c.requires.inside; checked = c.requires.checked; opened = c.requires.opened }
 
 pub children-requires-clause-small : goal.children-requires-clause-small
 children-requires-clause-small c = grind (arith, small_state, walked_small)

@@ -1,8 +1,7 @@
 use Rattle.json_text.proofs.Names.{◌≡◌, ◌∙◌, ◌+◌, not, eqb, sym, ap, subst, arith, ℕ, Option, Result, Ok}
-use Rattle.json_walk.proofs.Names.{BuildFault, IsListed, WalksValue, at, HoldSlashes, DuplicateCheck}
+use Rattle.json_walk.proofs.Names.{BuildFault, IsListed, WalksValue, at, DuplicateCheck}
 use Rattle.json_walk.specs.Walked.{width, shape_of}
-use Rattle.json_walk.proofs.Listed.{near, number_below}
-use Rattle.json_walk.proofs.WalkContainer.{entered_none, entered_some, may_continue, child_walks, next_may_continue, walks_ended, child_fault, few_halts, walked_small, walked_onward, small_state, if_ok}
+use Rattle.json_walk.proofs.WalkContainer.{entered_none, entered_some, may_continue, child_walks, next_may_continue, walks_ended, child_fault, few_halts, walked_onward, if_ok}
 use Rattle.json_walk.proofs.WalkSteps.{halts_more}
 use Rattle.json_walk.proofs.CheckSteps.{where_some}
 use Rattle.json_walk.proofs.second_stage.run.Given.{Over}
@@ -21,9 +20,6 @@ loop-k-init g c =
 pub child-requires-clause-listed : goal.child-requires-clause-listed
 child-requires-clause-listed g c = subst (λ b. IsListed b c.args.places.now) (sym c.loop-k.invariant.same) c.requires.listed
 
-pub child-requires-clause-slashes : goal.child-requires-clause-slashes
-child-requires-clause-slashes g c = subst (λ b. HoldSlashes b c.loop-k.slashes) (sym c.loop-k.invariant.same) c.loop-k.invariant.slashes
-
 pub child-requires-clause-level : goal.child-requires-clause-level
 child-requires-clause-level g c = c.loop-k.invariant.level ∙ c.requires.level
 
@@ -32,9 +28,6 @@ child-requires-clause-checked g c = subst (λ b. DuplicateCheck b c.loop-k.build
 
 pub child-requires-clause-has_slot : goal.child-requires-clause-has_slot
 child-requires-clause-has_slot g c = c.loop-k.invariant.has_slot
-
-pub returns-in-Err-child-clause-slashes : goal.returns-in-Err-child-clause-slashes
-returns-in-Err-child-clause-slashes g c = subst (λ b. HoldSlashes b c.child.new.slashes) c.loop-k.invariant.same c.in-Err-child.ensures.slashes
 
 pub returns-in-Err-child-clause-same : goal.returns-in-Err-child-clause-same
 returns-in-Err-child-clause-same g c = c.in-Err-child.ensures.same ∙ c.loop-k.invariant.same
@@ -65,7 +58,6 @@ loop-k-preserved g c =
     let found = walks g (goal.at.loop-k-preserved g c).After-child n _ (c.in-Ok-Some-eq44.is ∙ ap Ok c.in-Ok-Some-eq44.field-0-is) (ap (λ x. c.loop-k.k + x) c.width-in-Ok-Some-eq44.ensures.value) in
     record {
       same = c.in-Ok-Some-eq44.ensures.same ∙ c.loop-k.invariant.same;
-      slashes = subst (λ b. HoldSlashes b c.child.new.slashes) c.loop-k.invariant.same c.in-Ok-Some-eq44.ensures.slashes;
       level = found.1 ∙ sym c.requires.level;
       continues = next_may_continue _ _ c.requires.listed _ n _ c.child.new.looks.1 c.child.new.may_exceed _ _ c.child.new.builder c.in-Ok-Some-eq44.field-0-0 c.requires.level (omega arith) (omega arith) found;
       to = omega (arith, same);

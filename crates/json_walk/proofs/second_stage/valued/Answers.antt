@@ -1,7 +1,7 @@
 use Rattle.std.proofs.Common.{◌+◌, ℕ, List, get_or, ap, refl, arith}
 use Rattle.json_walk.specs.declared.lexing.Lexed.TheVariants as lexed
 use Rattle.json_walk.proofs.Listed.{in_text, closes_before, next_is, no_blank, near, small_enough}
-use Rattle.json_walk.proofs.WalkSteps.{lexed_walks, opened_walks, no_value_halts}
+use Rattle.json_walk.proofs.WalkSteps.{lexed_walks, opened_walks}
 use Rattle.json_text.specs.declared.tape.Kind.TheVariants as kinds
 use Rattle.json_walk.proofs.CheckSteps.{leaf_signed, open_checked, by_none}
 use Rattle.json_walk.proofs.second_stage.valued.Goals as goal

@@ -1,22 +1,23 @@
 use Rattle.json_text.proofs.Names.{◌≡◌, ◌∙◌, length, refl, sym, ap, subst, arith, Ok, Err, StandsForAll, AreWithinLimits, AreSuspects}
 use Rattle.json_walk.proofs.Names.{NotJson, IsListed, Walked, at, DuplicateCheck}
 use Rattle.tape_cells.specs.Built.{nothing}
-use Rattle.json_walk.proofs.Walking.{unclosed_none, control_none}
+use Rattle.json_walk.proofs.Walking.{unclosed_none, control_none, wrong_none}
 use Rattle.json_walk.proofs.WalkContainer.{walked_small, small_state, walks_same}
 use Rattle.json_walk.proofs.WholeWalk.{WholeWalk, began, fault_none, more_none, whole_walk, first_point}
 use Rattle.name_stamps.proofs.NamesApart.{suspects_left}
-use Rattle.json_walk.proofs.second_stage.walk.Goals.{After-as_slice-places, In-Ok-containers, After-into_tape, then-index-via-then-index, then-index-via-else-index+then-index-2}
+use Rattle.json_walk.proofs.second_stage.walk.Goals.{After-as_slice-places, In-Ok-containers, After-into_tape, then-index-via-then-index, then-index-via-else-index+then-index-2, then-index-via-else-index+else-index-2+then-index-3}
 use Rattle.json_walk.proofs.second_stage.walk.Goals as goal
 
 pub returns-then-index-clause-refused : goal.returns-then-index-clause-refused
 returns-then-index-clause-refused c = λ e t x. elim c.then-index.branch [
   | then-index-via-then-index w ↦ unclosed_none c.args.looks.now.0 t x (c.requires.index.unclosed_is.0 w.if-index.true)
   | then-index-via-else-index+then-index-2 w ↦ control_none c.args.looks.now.0 t x (c.requires.index.control_is.0 w.if-index-2.true)
+  | then-index-via-else-index+else-index-2+then-index-3 w ↦ wrong_none c.args.looks.now.0 t x (c.requires.index.wrong_is.0 w.if-index-3.true)
 ]
 
 -- the list that is walked
 listed : (c : After-as_slice-places) → IsListed c.args.looks.now.0 c.as_slice-places.result.now
-listed c = record { list = grind arith; short = c.requires.short; utf8 = c.requires.utf8; controls = λ h. grind arith; closed = λ h. grind arith }
+listed c = record { list = grind arith; short = c.requires.short; utf8 = c.requires.utf8; controls = λ h. grind arith; escapes = λ h. grind arith; closed = λ h. grind arith }
 
 pub returns-in-Err-clause-refused : goal.returns-in-Err-clause-refused
 returns-in-Err-clause-refused c = λ e.

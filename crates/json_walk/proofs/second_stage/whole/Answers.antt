@@ -1,8 +1,7 @@
 use Rattle.json_text.proofs.Names.{◌∙◌, ℕ, List, length, get_or, ap, arith, nat_tests}
 use Rattle.json_walk.proofs.Names.{places}
 use Rattle.json_walk.proofs.Listed.{in_text, closes_before, no_blank, near, place_in}
-use Rattle.json_walk.proofs.WalkSteps.{no_value_halts}
-use Rattle.json_walk.proofs.WalkContainer.{whole_walks, spot_one, nothing_halts}
+use Rattle.json_walk.proofs.WalkContainer.{whole_walks, spot_one}
 use Rattle.json_walk.proofs.CheckSteps.{whole_checked}
 use Rattle.json_walk.proofs.second_stage.whole.Goals as goal
 

@@ -1,5 +1,5 @@
-use Rattle.json_text.proofs.Names.{◌∙◌, sym, arith, kind_of}
-use Rattle.json_tape.proofs.Readers.{kind_is, length_is, string_length, no_length}
+use Rattle.json_text.proofs.Names.{◌∙◌, sym}
+use Rattle.json_tape.proofs.Readers.{kind_is, length_is}
 use Rattle.json_tape.proofs.document.Document.length.Goals as goal
 
 pub string_scalars-requires-clause-string : goal.string_scalars-requires-clause-string

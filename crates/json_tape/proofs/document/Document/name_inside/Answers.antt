@@ -1,7 +1,7 @@
-use Rattle.json_text.proofs.Names.{chars, arith, ap, ◌∙◌}
+use Rattle.json_text.proofs.Names.{ap, ◌∙◌}
 use Rattle.json_tape.specs.Document.{Doc}
-use Rattle.json_strings.proofs.Spelled.{quoted_at, scalars_at, string_short}
-use Rattle.json_tape.proofs.Readers.{member_role, member_lead, text_short}
+use Rattle.json_strings.proofs.Spelled.{quoted_at}
+use Rattle.json_tape.proofs.Readers.{member_role, member_lead}
 use Rattle.json_tape.proofs.document.Document.name_inside.Goals as goal
 
 pub unquoted-requires : goal.unquoted-requires

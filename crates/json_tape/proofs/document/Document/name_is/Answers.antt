@@ -1,7 +1,7 @@
-use Rattle.json_text.proofs.Names.{◌∙◌, ap, bytes_eq, arith}
+use Rattle.json_text.proofs.Names.{◌∙◌, ap}
 use Rattle.json_tape.specs.Document.{Doc}
-use Rattle.json_strings.proofs.Spelled.{quoted_at, scalars_at}
-use Rattle.json_tape.proofs.Readers.{nameless, member_role, member_lead}
+use Rattle.json_strings.proofs.Spelled.{quoted_at}
+use Rattle.json_tape.proofs.Readers.{member_lead}
 use Rattle.json_tape.proofs.document.Document.name_is.Goals as goal
 
 pub is_meant_by-requires : goal.is_meant_by-requires

@@ -1,7 +1,7 @@
-use Rattle.json_text.proofs.Names.{arith, ap, ◌∙◌, chars}
+use Rattle.json_text.proofs.Names.{ap, ◌∙◌}
 use Rattle.json_tape.specs.Document.{Doc}
-use Rattle.json_strings.proofs.Spelled.{quoted_at, scalars_at, string_short}
-use Rattle.json_tape.proofs.Readers.{string_is, text_short}
+use Rattle.json_strings.proofs.Spelled.{quoted_at}
+use Rattle.json_tape.proofs.Readers.{string_is}
 use Rattle.json_tape.proofs.document.Document.string_scalars.Goals as goal
 
 pub unquoted-requires : goal.unquoted-requires
