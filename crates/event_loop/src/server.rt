@@ -16,7 +16,7 @@ use std::net::{Net, SocketAddr};
 use std::time::Clock;
 
 /// A server of many connections. Its value has whether it listens, its limits, the budgets of memory, and the core with the bytes that each served
-/// connection is owed, and those that moved on each stream, as far as it shows them. It also has how many connections are open and were accepted, and how many bytes were read and written.
+/// connection is owed. It also has the bytes that moved on each stream, as far as that shows them. It also has how many connections are open and were accepted, and how many bytes were read and written.
 #[derive(Drop)]
 pub struct Server<S: System + Drop, C: LoopCore, T: Time + Drop> {
     rounds: Rounds<S, C, T>,

@@ -8,8 +8,8 @@ use crate::laws::loop_is_served;
 use crate::measured_hub::MeasuredHub;
 use event_loop::{Journal, LoopFault, Server, System, Time};
 
-/// Serves as [`Server::serve`] does. Whatever peers send and however connections come and go, each tenant's replies are those of its own requests alone,
-/// and the bytes written to a peer are a prefix of the replies to the first requests in the bytes read of it.
+/// Serves as [`Server::serve`] does. Whatever peers send and however connections come and go, each tenant's replies are those of its own requests alone.
+/// The bytes written to a peer are a prefix of the replies to the first requests in the bytes read of it.
 ///
 /// # Errors
 ///

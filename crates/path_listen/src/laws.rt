@@ -19,8 +19,8 @@ pub fn turns_are_served()
     sessions_stand_in_streams();
 }
 
-/// If each turn moves the bytes of its events on the stream of its own connection, and nothing else moves there, then all that moved on a stream
-/// since its connection was opened is what the events of that connection read and sent.
+/// If each turn moves the bytes of its events on its own connection's stream, and nothing else moves there, a stream shows its own events. All that moved
+/// on it since its connection was opened is what these read and sent.
 pub fn wires_show_their_events()
     ensures { WiresShow }
 {}
