@@ -16,7 +16,7 @@ use path_grammar::IntLit;
 use tape_values::{Places, element, element_total, elements_from, slice_places};
 
 // The step from which an element is found sooner by its place than by a walk.
-const FAR: u64 = 8;
+const FAR: u64 = 32;
 
 // The element at the first place, and those behind it.
 #[tactic(auto, using(crate::proofs::Picking::beginning))]
