@@ -17,7 +17,8 @@ pub fn is_short(b: u8) -> bool
 pub fn is_hex(b: u8) -> bool
     ensures { result ≡ hex b }
 {
-    matches!(b, b'0'..=b'9' | b'A'..=b'F' | b'a'..=b'f')
+    // No test is skipped, since the processor cannot guess which of them holds.
+    ((b'0' <= b) & (b <= b'9')) | ((b'A' <= b) & (b <= b'F')) | ((b'a' <= b) & (b <= b'f'))
 }
 
 // Whether the four bytes behind this one are hexadecimal digits.
@@ -26,7 +27,7 @@ fn are_digits(text: &[u8], at: usize) -> bool
     requires { at + 4 < length text.now }
     ensures { result ≡ digits text.now at }
 {
-    is_hex(text[at + 1]) && is_hex(text[at + 2]) && is_hex(text[at + 3]) && is_hex(text[at + 4])
+    is_hex(text[at + 1]) & is_hex(text[at + 2]) & is_hex(text[at + 3]) & is_hex(text[at + 4])
 }
 
 // What the byte behind a backslash is: a letter that is no surrogate's, the u of a high surrogate or of a low one, or no letter that an escape may have.
