@@ -9,6 +9,7 @@ mod due;
 mod journal;
 mod loop_core;
 mod needs;
+mod numbers;
 mod open;
 mod waiting;
 

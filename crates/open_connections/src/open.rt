@@ -14,6 +14,7 @@ use crate::due::{Due, DueList};
 use crate::journal::Slow;
 use crate::loop_core::LoopCore;
 use crate::needs::{After, covers, is_for_reply, left_of, need, piece_of};
+use crate::numbers::{added, conn_of, has_moved};
 use crate::waiting::{Waiting, waiting_among};
 use admin_pages::Metrics;
 use connection_turns::{
@@ -776,27 +777,6 @@ impl<S: Peer, C: LoopCore, T: Time + Drop> Open<S, C, T> {
         self.idle.sort_unstable();
         self.idle.reverse();
     }
-}
-
-// The number that the core knows a connection by.
-fn conn_of(key: usize) -> Option<u32>
-    ensures { MatchOption result (2 ^ 32 ≤ key) (λ conn. conn ≡ key) }
-{
-    u32::try_from(key).ok()
-}
-
-// Whether one of these numbers of bytes is not 0.
-fn has_moved(read: u64, written: u64) -> bool
-    ensures { IsFalse result → (read ≡ 0) × (written ≡ 0) }
-{
-    read > 0 || written > 0
-}
-
-// A count of bytes with so many more. It stops at its greatest number.
-fn added(count: u64, more: u64) -> u64
-    ensures { more ≡ 0 → result ≡ count }
-{
-    count.saturating_add(more)
 }
 
 // Reads once what still comes on a connection that is served no further.

@@ -1,0 +1,23 @@
+//! Numbers of connections and of bytes.
+ghost use Rattle.std.specs.Prelude.{◌≡◌, ◌≤◌, ◌^◌, IsFalse, MatchOption};
+
+/// The number that the core knows a connection by.
+pub(crate) fn conn_of(key: usize) -> Option<u32>
+    ensures { MatchOption result (2 ^ 32 ≤ key) (λ conn. conn ≡ key) }
+{
+    u32::try_from(key).ok()
+}
+
+/// Whether one of these numbers of bytes is not 0.
+pub(crate) fn has_moved(read: u64, written: u64) -> bool
+    ensures { IsFalse result → (read ≡ 0) × (written ≡ 0) }
+{
+    read > 0 || written > 0
+}
+
+/// A count of bytes with so many more. It stops at its greatest number.
+pub(crate) fn added(count: u64, more: u64) -> u64
+    ensures { more ≡ 0 → result ≡ count }
+{
+    count.saturating_add(more)
+}
