@@ -7,8 +7,11 @@ mod many;
 use command_line::{Failure, Request, read_request};
 use connection_lines::EndLines;
 use path_hub::Hub;
-use path_server::{call_stream, query_stream, read_call, read_keys, replay_stream};
+use path_server::{
+    QueryStreamFault, TEXT_LIMIT, call_stream, query_to, read_call, read_keys, replay_stream,
+};
 use socket_wire::{StreamListener, StreamWire, serve_streams};
+use standard_streams::read_past;
 use std::net::{Net, OpenListener, OpenStream, TcpListener, TcpStream};
 use std::process::ExitCode;
 use std::rt::{Clock, Env, Files};
@@ -16,13 +19,16 @@ use std::{env, io};
 
 // Answers `path_server query QUERY`.
 fn query<R: Input + Print + AllocGlobal>(rt: &R, query: &str) -> Result<(), Failure> {
-    query_stream(
-        rt.alloc(),
+    let alloc = rt.alloc();
+    let read = read_past(alloc, rt.reader(), TEXT_LIMIT as u64);
+    let text = read.map_err(|fault| Failure::Query(QueryStreamFault::Read(fault)))?;
+    let answered = query_to(
+        alloc,
         query.as_bytes(),
-        rt.reader(),
+        text.as_slice(),
         &mut io::writer(rt),
-    )
-    .map_err(Failure::Query)
+    );
+    answered.map_err(|fault| Failure::of_query(alloc, query.as_bytes(), text.as_slice(), fault))
 }
 
 // Answers `path_server replay KEYS`.
