@@ -112,14 +112,20 @@ impl Failure {
         }
     }
 
-    /// The failure of a query on a text, with the place at which either is refused, if there is one and memory for it.
-    pub fn of_query(alloc: Global, query: &[u8], text: &[u8], fault: QueryStreamFault) -> Failure
+    /// The failure of a query on a text, with the place at which either is refused, if there is one and memory for it. If `shows`, its line is shown.
+    pub fn of_query(
+        alloc: Global,
+        query: &[u8],
+        text: &[u8],
+        fault: QueryStreamFault,
+        shows: bool,
+    ) -> Failure
         ensures status { status_of result ≡ status_of_query fault }
     {
         let QueryStreamFault::Refused(refusal) = fault else {
             return Failure::Query(fault);
         };
-        match told(alloc, query, text, refusal) {
+        match told(alloc, query, text, refusal, shows) {
             Ok(told) if !told.is_empty() => Failure::Refused(RefusedAt {
                 fault: refusal,
                 told,
@@ -198,18 +204,39 @@ fn told(
     query: &[u8],
     text: &[u8],
     fault: QueryTextFault,
+    shows: bool,
 ) -> Result<String, AllocError> {
     match fault {
-        QueryTextFault::TooLong => text_faults::told(alloc, text, TextFault::TooLong),
-        QueryTextFault::NotUtf8 => text_faults::told(alloc, text, TextFault::NotUtf8),
-        QueryTextFault::NotJson => text_faults::told(alloc, text, TextFault::NotJson),
-        QueryTextFault::TooDeep => text_faults::told(alloc, text, TextFault::TooDeep),
-        QueryTextFault::NumberLimit => text_faults::told(alloc, text, TextFault::NumberLimit),
-        QueryTextFault::LoneSurrogate => text_faults::told(alloc, text, TextFault::LoneSurrogate),
-        QueryTextFault::DuplicateName => text_faults::told(alloc, text, TextFault::DuplicateName),
-        QueryTextFault::QueryTooLong => query_faults::told(alloc, query, Refusal::TooLong),
-        QueryTextFault::NotWellFormed => query_faults::told(alloc, query, Refusal::NotWellFormed),
-        QueryTextFault::NotValid => query_faults::told(alloc, query, Refusal::NotValid),
+        QueryTextFault::TooLong => text_faults::told(alloc, text, TextFault::TooLong, shows),
+        QueryTextFault::NotUtf8 => text_faults::told(alloc, text, TextFault::NotUtf8, shows),
+        QueryTextFault::NotJson => text_faults::told(alloc, text, TextFault::NotJson, shows),
+        QueryTextFault::TooDeep => text_faults::told(alloc, text, TextFault::TooDeep, shows),
+        QueryTextFault::NumberLimit => text_faults::told(
+            alloc,
+            text,
+            TextFault::NumberLimit,
+            shows,
+        ),
+        QueryTextFault::LoneSurrogate => text_faults::told(
+            alloc,
+            text,
+            TextFault::LoneSurrogate,
+            shows,
+        ),
+        QueryTextFault::DuplicateName => text_faults::told(
+            alloc,
+            text,
+            TextFault::DuplicateName,
+            shows,
+        ),
+        QueryTextFault::QueryTooLong => query_faults::told(alloc, query, Refusal::TooLong, shows),
+        QueryTextFault::NotWellFormed => query_faults::told(
+            alloc,
+            query,
+            Refusal::NotWellFormed,
+            shows,
+        ),
+        QueryTextFault::NotValid => query_faults::told(alloc, query, Refusal::NotValid, shows),
         QueryTextFault::Costly | QueryTextFault::Memory => Ok(String::new(alloc)),
     }
 }

@@ -2,9 +2,10 @@
 
 use crate::hints::hint;
 use crate::reading::{LEVEL_LIMIT, Reading, is_bound};
+use crate::rules::Rule;
 use crate::states::{Decimal, Frame, Inside, Now, Operand, Part, Side, Whole};
 use std::alloc::{AllocError, Global};
-use text_faults::{found_at, not_utf8, spot_at};
+use text_faults::{found_at, not_utf8, shown_if, spot_at};
 
 /// Why a query is refused.
 #[derive(Clone, Copy, Debug, PartialEq, Eq)]
@@ -95,9 +96,14 @@ fn expected(reading: &Reading<'_>) -> &'static str {
     }
 }
 
-/// What is said of a refused query: where it is refused, in a form that people count, and why there. A second line is a hint. Where there is
-/// nothing to say, it is empty.
-pub fn told(alloc: Global, query: &[u8], refusal: Refusal) -> Result<String, AllocError> {
+/// What is said of a refused query: where it is refused, in a form that people count, and why there. If `shows`, two lines show the place in its
+/// line. A last line is a hint. Where there is nothing to say, it is empty.
+pub fn told(
+    alloc: Global,
+    query: &[u8],
+    refusal: Refusal,
+    shows: bool,
+) -> Result<String, AllocError> {
     let mut reading = Reading::new(alloc, query);
     if refusal == Refusal::TooLong {
         return format!(in alloc; "{} bytes, at most 4096 are read", query.len());
@@ -105,23 +111,34 @@ pub fn told(alloc: Global, query: &[u8], refusal: Refusal) -> Result<String, All
     let utf8 = not_utf8(query);
     for (at, byte) in query.iter().enumerate() {
         if at == utf8 && refusal == Refusal::NotWellFormed {
-            return format!(in alloc;
-                "{}: expected UTF-8, found {}",
-                spot_at(query, at),
-                found_at(query, at)
-            );
+            let found = found_at(query, at);
+            let spot = spot_at(query, at);
+            let shown = shown_if(shows, alloc, query, at)?;
+            return format!(in alloc; "{spot}: expected UTF-8, found {found}{shown}");
         }
         if !reading.take(at, *byte)? {
-            return told_at(alloc, query, &reading, at);
+            return told_at(alloc, query, &reading, at, shows);
         }
     }
     if refusal == Refusal::NotValid {
-        return match reading.broken {
-            Some((at, rule)) => format!(in alloc; "{}: {rule}", spot_at(query, at)),
-            None => Ok(String::new(alloc)),
-        };
+        return told_of_rule(alloc, query, reading.broken, shows);
     }
-    told_at(alloc, query, &reading, query.len())
+    told_at(alloc, query, &reading, query.len(), shows)
+}
+
+fn told_of_rule(
+    alloc: Global,
+    query: &[u8],
+    broken: Option<(usize, Rule)>,
+    shows: bool,
+) -> Result<String, AllocError> {
+    match broken {
+        Some((at, rule)) => {
+            let shown = shown_if(shows, alloc, query, at)?;
+            format!(in alloc; "{}: {rule}{shown}", spot_at(query, at))
+        }
+        None => Ok(String::new(alloc)),
+    }
 }
 
 fn told_at(
@@ -129,15 +146,19 @@ fn told_at(
     query: &[u8],
     reading: &Reading<'_>,
     at: usize,
+    shows: bool,
 ) -> Result<String, AllocError> {
     let spot = spot_at(query, at);
+    let shown = shown_if(shows, alloc, query, at)?;
     if reading.is_too_deep {
-        return format!(in alloc; "{spot}: level 33, at most {LEVEL_LIMIT} are read");
+        return format!(in alloc; "{spot}: level 33, at most {LEVEL_LIMIT} are read{shown}");
     }
     let found = found_at(query, at);
     let expected = expected(reading);
     match hint(query, at, reading.now) {
-        Some(hint) => format!(in alloc; "{spot}: expected {expected}, found {found}\nhint: {hint}"),
-        None => format!(in alloc; "{spot}: expected {expected}, found {found}"),
+        Some(hint) => {
+            format!(in alloc; "{spot}: expected {expected}, found {found}{shown}\nhint: {hint}")
+        }
+        None => format!(in alloc; "{spot}: expected {expected}, found {found}{shown}"),
     }
 }

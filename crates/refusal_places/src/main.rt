@@ -56,10 +56,10 @@ fn answer(alloc: Global, line: &[u8]) -> Result<String, AllocError> {
     let digits = line.get(blank..).unwrap_or(line).trim_ascii();
     let bytes = bytes_of(alloc, digits)?;
     if let Some(refusal) = query_refusal(name) {
-        return query_faults::told(alloc, bytes.as_slice(), refusal);
+        return query_faults::told(alloc, bytes.as_slice(), refusal, false);
     }
     match text_fault(name) {
-        Some(fault) => text_faults::told(alloc, bytes.as_slice(), fault),
+        Some(fault) => text_faults::told(alloc, bytes.as_slice(), fault, false),
         None => String::from_str(alloc, "no refusal"),
     }
 }

@@ -1,3 +1,4 @@
+pub mod Beyond
 pub mod Expectations
 pub mod Moves
 pub mod Prefixes

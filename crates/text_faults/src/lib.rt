@@ -19,4 +19,4 @@ pub use limits::{lone_surrogate, number_limit, too_deep};
 pub use marks::{Expected, Place};
 pub use messages::{not_utf8, told};
 pub use names::{Twins, duplicate_name};
-pub use spots::{Found, Spot, found_at, spot_at};
+pub use spots::{Found, Spot, found_at, shown_at, shown_if, spot_at};

@@ -1,5 +1,10 @@
 //! The places of what is JSON and beyond a limit, or has no meaning.
 
+ghost use Rattle.std.specs.Prelude.{◌≡◌, ℕ, IfOk, IfSome, IsTrue, take, drop};
+ghost use Rattle.decimal_order.specs.Number.{IsNumber};
+ghost use Rattle.decimal_order.specs.Limits.{IsWithinLimits};
+ghost use Rattle.text_faults.specs.Beyond.{HasBeyond};
+
 use crate::escapes::lone;
 use crate::tokens::{Kind, Token, Tokens};
 use decimal_order::{scan, within_limits};
@@ -26,15 +31,17 @@ pub fn too_deep(alloc: Global, text: &str) -> Result<Option<usize>, AllocError> 
     Ok(None)
 }
 
-/// The first number beyond the limits.
-pub fn number_limit(alloc: Global, text: &str) -> Result<Option<usize>, AllocError> {
+/// The first number beyond the limits. That it is the first is only tested.
+pub fn number_limit(alloc: Global, text: &str) -> Result<Option<usize>, AllocError>
+    ensures { IfOk result (λ found. IfSome found (λ at. HasBeyond text.now at)) }
+{
     let mut tokens = Tokens::new(alloc, text.as_bytes());
     for _ in 0..text.len() {
         let Some(token) = tokens.next()? else {
             return Ok(None);
         };
         if let Kind::Number = token.kind {
-            if !is_limited(bytes_of(text, token)) {
+            if is_beyond(bytes_of(text, token)) {
                 return Ok(Some(token.start));
             }
         }
@@ -42,15 +49,19 @@ pub fn number_limit(alloc: Global, text: &str) -> Result<Option<usize>, AllocErr
     Ok(None)
 }
 
-fn is_limited(number: &[u8]) -> bool {
+fn is_beyond(number: &[u8]) -> bool
+    ensures { IsTrue result → IsNumber number.now × (IsWithinLimits number.now → ⊥) }
+{
     match scan(number) {
-        Some(decimal) => within_limits(&decimal),
+        Some(decimal) => !within_limits(&decimal),
         None => false,
     }
 }
 
 /// The bytes of a token.
-pub fn bytes_of(text: &str, token: Token) -> &[u8] {
+pub fn bytes_of(text: &str, token: Token) -> &[u8]
+    ensures { (size : ℕ) × (result.now ≡ take size (drop token.start text.now)) }
+{
     let bytes = text.as_bytes();
     if token.start <= token.end && token.end <= bytes.len() {
         &bytes[token.start..token.end]

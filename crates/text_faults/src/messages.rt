@@ -8,7 +8,7 @@ use crate::hints::hint;
 use crate::limits::{lone_surrogate, number_limit, too_deep};
 use crate::marks::Expected;
 use crate::names::duplicate_name;
-use crate::spots::{found_at, spot_at};
+use crate::spots::{found_at, shown_if, spot_at};
 use json_text::TextFault;
 use std::alloc::{AllocError, Global};
 use std::fmt;
@@ -43,9 +43,14 @@ impl fmt::Display for Expected {
     }
 }
 
-/// What is said of a refused text: where it is refused, in a form that people count, and why there. A second line is a hint. Where there is
-/// nothing to say, it is empty.
-pub fn told(alloc: Global, text: &[u8], fault: TextFault) -> Result<String, AllocError> {
+/// What is said of a refused text: where it is refused, in a form that people count, and why there. If `shows`, two lines show the place in its
+/// line. A last line is a hint. Where there is nothing to say, it is empty.
+pub fn told(
+    alloc: Global,
+    text: &[u8],
+    fault: TextFault,
+    shows: bool,
+) -> Result<String, AllocError> {
     match fault {
         TextFault::TooLong => format!(in alloc;
             "{} bytes or more, at most 4194304 are read",
@@ -53,72 +58,67 @@ pub fn told(alloc: Global, text: &[u8], fault: TextFault) -> Result<String, Allo
         ),
         TextFault::NotUtf8 => {
             let at = not_utf8(text);
-            format!(in alloc;
-                "{}: expected UTF-8, found {}",
-                spot_at(text, at),
-                found_at(text, at)
-            )
+            let found = found_at(text, at);
+            let spot = spot_at(text, at);
+            let shown = shown_if(shows, alloc, text, at)?;
+            format!(in alloc; "{spot}: expected UTF-8, found {found}{shown}")
         }
         TextFault::Memory => Ok(String::new(alloc)),
         _ => match std::str::from_utf8(text) {
-            Ok(whole) => told_of_utf8(alloc, whole, fault),
+            Ok(whole) => told_of_utf8(alloc, whole, fault, shows),
             Err(_) => Ok(String::new(alloc)),
         },
     }
 }
 
-fn told_of_utf8(alloc: Global, text: &str, fault: TextFault) -> Result<String, AllocError> {
-    match fault {
-        TextFault::NotJson => told_of_no_json(alloc, text),
-        TextFault::TooDeep => {
-            told_at(
-                alloc,
-                text,
-                too_deep(alloc, text)?,
-                "level 257, at most 256 are read",
-            )
-        }
-        TextFault::NumberLimit => told_at(
-            alloc,
-            text,
+fn told_of_utf8(
+    alloc: Global,
+    text: &str,
+    fault: TextFault,
+    shows: bool,
+) -> Result<String, AllocError> {
+    let (at, what) = match fault {
+        TextFault::NotJson => return told_of_no_json(alloc, text, shows),
+        TextFault::DuplicateName => return told_of_twins(alloc, text, shows),
+        TextFault::TooDeep => (too_deep(alloc, text)?, "level 257, at most 256 are read"),
+        TextFault::NumberLimit => (
             number_limit(alloc, text)?,
             "a number of more than 256 bytes, or with an exponent above 999999999",
         ),
-        TextFault::LoneSurrogate => told_at(
-            alloc,
-            text,
+        TextFault::LoneSurrogate => (
             lone_surrogate(alloc, text)?,
             "a surrogate without its partner",
         ),
-        TextFault::DuplicateName => told_of_twins(alloc, text),
-        TextFault::TooLong | TextFault::NotUtf8 | TextFault::Memory => Ok(String::new(alloc)),
-    }
-}
-
-fn told_at(alloc: Global, text: &str, at: Option<usize>, what: &str) -> Result<String, AllocError> {
+        TextFault::TooLong | TextFault::NotUtf8 | TextFault::Memory => (None, ""),
+    };
     match at {
-        Some(at) => format!(in alloc; "{}: {what}", spot_at(text.as_bytes(), at)),
+        Some(at) => {
+            let spot = spot_at(text.as_bytes(), at);
+            let shown = shown_if(shows, alloc, text.as_bytes(), at)?;
+            format!(in alloc; "{spot}: {what}{shown}")
+        }
         None => Ok(String::new(alloc)),
     }
 }
 
-fn told_of_no_json(alloc: Global, text: &str) -> Result<String, AllocError> {
+fn told_of_no_json(alloc: Global, text: &str, shows: bool) -> Result<String, AllocError> {
     let place = not_json(alloc, text)?;
     let bytes = text.as_bytes();
     let spot = spot_at(bytes, place.at);
     let found = found_at(bytes, place.at);
+    let shown = shown_if(shows, alloc, bytes, place.at)?;
     match hint(bytes, place) {
         Some(hint) => {
             format!(in alloc;
-                "{spot}: expected {}, found {found}\nhint: {hint}",
+                "{spot}: expected {}, found {found}{shown}\nhint: {hint}",
                 place.expected
             )
         }
-        None => format!(in alloc; "{spot}: expected {}, found {found}", place.expected),
+        None => format!(in alloc; "{spot}: expected {}, found {found}{shown}", place.expected),
     }
 }
 
-fn told_of_twins(alloc: Global, text: &str) -> Result<String, AllocError> {
+fn told_of_twins(alloc: Global, text: &str, shows: bool) -> Result<String, AllocError> {
     let Some(twins) = duplicate_name(alloc, text)? else {
         return Ok(String::new(alloc));
     };
@@ -126,5 +126,6 @@ fn told_of_twins(alloc: Global, text: &str) -> Result<String, AllocError> {
     let second = spot_at(bytes, twins.second);
     let first = spot_at(bytes, twins.first);
     let name = text.get(twins.second..twins.end).unwrap_or("");
-    format!(in alloc; "{second}: the name {name} again, first at {first}")
+    let shown = shown_if(shows, alloc, bytes, twins.second)?;
+    format!(in alloc; "{second}: the name {name} again, first at {first}{shown}")
 }

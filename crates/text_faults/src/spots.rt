@@ -1,5 +1,6 @@
 //! A place as people count it.
 
+use std::alloc::{AllocError, Global};
 use std::fmt;
 
 /// A place in a text: its line and column, counted from 1, and the bytes before it. A column is a character.
@@ -61,5 +62,94 @@ impl fmt::Display for Found {
             Found::Byte(byte) if 0x20 <= *byte && *byte < 0x7F => write!(f, "'{}'", *byte as char),
             Found::Byte(byte) => write!(f, "byte 0x{byte:02x}"),
         }
+    }
+}
+
+/// The most characters of a line before a place, and from it on, that are shown.
+const SHOWN: usize = 36;
+
+fn is_first_of_character(byte: u8) -> bool {
+    byte & 0xC0 != 0x80
+}
+
+// The bytes behind the last line feed.
+fn last_line(text: &[u8]) -> &[u8] {
+    let mut start = 0;
+    for (at, byte) in text.iter().enumerate() {
+        if *byte == b'\n' {
+            start = at + 1;
+        }
+    }
+    text.get(start..).unwrap_or(text)
+}
+
+// How many characters these bytes begin.
+fn width(bytes: &[u8]) -> usize {
+    bytes.iter().filter(|b| is_first_of_character(**b)).count()
+}
+
+// The last of these bytes, which begin at most so many characters.
+fn last_characters(bytes: &[u8]) -> &[u8] {
+    let mut left = width(bytes);
+    for (at, byte) in bytes.iter().enumerate() {
+        if is_first_of_character(*byte) {
+            if left <= SHOWN {
+                return bytes.get(at..).unwrap_or(bytes);
+            }
+            left -= 1;
+        }
+    }
+    bytes
+}
+
+// The first of these bytes up to a line feed, which begin at most so many characters.
+fn first_characters(bytes: &[u8]) -> &[u8] {
+    let mut begun = 0usize;
+    for (at, byte) in bytes.iter().enumerate() {
+        if *byte == b'\n' || (is_first_of_character(*byte) && begun == SHOWN) {
+            return bytes.get(..at).unwrap_or(bytes);
+        }
+        if is_first_of_character(*byte) {
+            begun = begun.saturating_add(1);
+        }
+    }
+    bytes
+}
+
+// Appends bytes, with blanks for control characters.
+fn append(bytes: &[u8], out: &mut Vec<u8>) -> Result<(), AllocError> {
+    for byte in bytes {
+        let byte = if *byte < 0x20 || *byte == 0x7F {
+            b' '
+        } else {
+            *byte
+        };
+        out.extend_from_slice(&[byte])?;
+    }
+    Ok(())
+}
+
+/// The line of a place, at most 72 characters of it, and below it a caret. Each of the two begins with a line feed.
+pub fn shown_at(alloc: Global, text: &[u8], at: usize) -> Result<String, AllocError> {
+    let before = last_characters(last_line(text.get(..at).unwrap_or(text)));
+    let from = first_characters(text.get(at..).unwrap_or(&text[..0]));
+    let mut out = Vec::new(alloc);
+    out.extend_from_slice(b"\n")?;
+    append(before, &mut out)?;
+    append(from, &mut out)?;
+    out.extend_from_slice(b"\n")?;
+    for _ in 0..width(before) {
+        out.extend_from_slice(b" ")?;
+    }
+    out.extend_from_slice(b"^")?;
+    String::from_utf8_lossy(alloc, out.as_slice())
+}
+
+/// The same if it is to be shown, and nothing otherwise.
+pub fn shown_if(shows: bool, alloc: Global, text: &[u8], at: usize) -> Result<String, AllocError> {
+    if shows {
+        shown_at(alloc, text, at)
+    } else {
+        Ok(String::new(alloc))
     }
 }
