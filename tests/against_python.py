@@ -40,7 +40,7 @@ def placed():
 
 def program_verdict(source):
     done = subprocess.run([PROGRAM, "query", "$.none"], input=source, capture_output=True)
-    return None if done.returncode == 0 else done.stderr.decode().strip().replace("path_server: ", "", 1)
+    return None if done.returncode == 0 else done.stderr.split(b"\n")[0].decode().replace("path_server: ", "", 1)
 
 
 def string(chance):

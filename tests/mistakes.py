@@ -1,7 +1,7 @@
 #!/usr/bin/env python3
 """Where usual mistakes in texts and queries are, and what may stand there: tests/mistakes.py [NUMBER]
 
-Of each line of tests/mistakes.cases, the program `refusal_places` (the one that `rt ci` makes, or the one that the
+Of each line of tests/mistakes.cases, the program `path_server query`, the program `refusal_places` (the one that `rt ci` makes, or the one that the
 environment's REFUSAL_PLACES names), the Python client's places and, if there is Node, the Node client's say the same. So they do of texts and queries
 cut at each byte, with each byte replaced by others, and of NUMBER random changes (2,000 by default). The place of what does not follow a grammar is
 compared with a parser over the RFC's ABNF (tests/lib/earley.py), and of texts with that of Python's json where it refuses the same.
@@ -17,7 +17,7 @@ import time
 
 from lib import earley
 from lib.json_verdict import verdict
-from lib.running_server import PATIENCE, TOP, Report
+from lib.running_server import PATIENCE, PROGRAM, TOP, Report
 from path_client.places import find_place
 
 PLACES = os.environ.get("REFUSAL_PLACES") or str(TOP / "crates/refusal_places/out/refusal_places")
@@ -161,6 +161,13 @@ def try_table(report):
         of_texts = [got.split(" | ")[0] for (name, *_), got in zip(cases, told) if name not in QUERIES]
         for (name, data), line, other in zip(texts, of_texts, node_answers(texts)):
             report.case(f"{name} of the table, in Node", data, line, other)
+    for (name, _, _, data), line in zip(cases, told):
+        words, text = (data, b"1") if name in QUERIES else (b"$", data)
+        # a word of a command line is UTF-8
+        if "UTF-8" not in line or name == "NotUtf8":
+            ran = subprocess.run([PROGRAM, "query", words], input=text, stdout=subprocess.PIPE, stderr=subprocess.PIPE, timeout=PATIENCE)
+            lines = ran.stderr.decode("utf-8", "replace").split("\n")
+            report.case(f"{name} of the table, by the program", data, [f"path_server: {name}", *line.split(" | "), ""], lines)
 
 
 def try_long(report):

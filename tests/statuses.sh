@@ -1,6 +1,6 @@
 #!/usr/bin/env bash
-# Runs the program on inputs of each exit status and each name that it prints, and compares the status, the output and the line on
-# standard error. The program is the one that bin/build makes, or the one that the environment's PATH_SERVER names.
+# Runs the program on inputs of each exit status and each name that it prints, and compares the status, the output and the first line on
+# standard error. What a second line says of the place is for tests/mistakes.py. The program is the one that bin/build makes, or the one that the environment's PATH_SERVER names.
 set -u
 cd "$(dirname "$0")/.."
 [ -n "${PATH_SERVER:-}" ] || bin/path_server --proved --help >/dev/null || exit 2
@@ -17,7 +17,7 @@ compare() {
     local got
     got=$("$program" "$@" <"$room/input" 2>"$room/errors"; echo "$?")
     tried=$((tried + 1))
-    if [ "$got" != "$output$status" ] || { [ "$line" != any ] && [ "$(cat "$room/errors")" != "$line" ]; }; then
+    if [ "$got" != "$output$status" ] || { [ "$line" != any ] && [ "$(head -n "$(printf '%s\n' "$line" | wc -l)" "$room/errors")" != "$line" ]; }; then
         printf 'path_server %.100s: %.200s %s\n' "$*" "$got" "$(cat "$room/errors")" >&2
         failed=$((failed + 1))
     fi

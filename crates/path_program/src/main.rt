@@ -7,22 +7,35 @@ mod many;
 use command_line::{Failure, Request, read_request};
 use connection_lines::EndLines;
 use path_hub::Hub;
-use path_server::{call_stream, query_stream, read_call, read_keys, replay_stream};
+use path_server::{
+    QueryStreamFault, TEXT_LIMIT, call_stream, query_to, read_call, read_keys, replay_stream,
+};
 use socket_wire::{StreamListener, StreamWire, serve_streams};
+use standard_streams::read_past;
+use std::io::IsTerminal;
 use std::net::{Net, OpenListener, OpenStream, TcpListener, TcpStream};
 use std::process::ExitCode;
 use std::rt::{Clock, Env, Files};
 use std::{env, io};
 
-// Answers `path_server query QUERY`.
-fn query<R: Input + Print + AllocGlobal>(rt: &R, query: &str) -> Result<(), Failure> {
-    query_stream(
-        rt.alloc(),
+// Answers `path_server query QUERY`. Where standard error is a terminal, the line of a place is shown.
+fn query<R: Input + Print + AllocGlobal>(
+    rt: &R,
+    query: &str,
+    is_terminal: bool,
+) -> Result<(), Failure> {
+    let alloc = rt.alloc();
+    let read = read_past(alloc, rt.reader(), TEXT_LIMIT as u64);
+    let text = read.map_err(|fault| Failure::Query(QueryStreamFault::Read(fault)))?;
+    let answered = query_to(
+        alloc,
         query.as_bytes(),
-        rt.reader(),
+        text.as_slice(),
         &mut io::writer(rt),
-    )
-    .map_err(Failure::Query)
+    );
+    answered.map_err(|fault| {
+        Failure::of_query(alloc, query.as_bytes(), text.as_slice(), fault, is_terminal)
+    })
 }
 
 // Answers `path_server replay KEYS`.
@@ -84,6 +97,7 @@ fn call<R: Input + Print + Net + AllocGlobal>(rt: &R, address: &str) -> Result<(
 
 fn run<R: Input + Print + Eprint + Env + Net + Files + Clock + AllocGlobal>(
     rt: &R,
+    is_terminal: bool,
 ) -> Result<(), Failure> {
     let mut words = Vec::new(rt.alloc());
     for word in env::args(rt).map_err(|error| Failure::of_words(&error))? {
@@ -92,7 +106,7 @@ fn run<R: Input + Print + Eprint + Env + Net + Files + Clock + AllocGlobal>(
         }
     }
     match read_request(rt.alloc(), words.as_slice())? {
-        Request::Query(text) => query(rt, text),
+        Request::Query(text) => query(rt, text, is_terminal),
         Request::Replay(keys) => replay(rt, keys),
         Request::Serve {
             address,
@@ -105,7 +119,8 @@ fn run<R: Input + Print + Eprint + Env + Net + Files + Clock + AllocGlobal>(
 }
 
 fn main(rt: HostRuntime) -> ExitCode {
-    match run(&rt) {
+    let is_terminal = rt.stderr().is_terminal();
+    match run(&rt, is_terminal) {
         Ok(()) => ExitCode::SUCCESS,
         Err(failure) => ExitCode::from(failure.report(&rt)),
     }
