@@ -23,6 +23,7 @@ import { BrokenConnection, LostConnection, Refused, TimedOut } from './refusals.
 
 export { QUERY_LIMIT, TEXT_LIMIT, request } from './frames.js';
 export { ExactNumber } from './json_texts.js';
+export { Place, findPlace } from './places.js';
 export * from './refusals.js';
 
 /** Requests of a pipeline that may wait for a reply at a time. */

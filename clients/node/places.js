@@ -13,6 +13,7 @@ const NUMBER = /^-?(?:0|[1-9][0-9]*)(?:\.[0-9]+)?(?:[eE][+-]?[0-9]+)?$/;
 const UNIT = /\\u([0-9A-Fa-f]{4})|\\[^]|[^\\]/g;
 const SHORT = { b: '\b', f: '\f', n: '\n', r: '\r', t: '\t' };
 const DEPTH_LIMIT = 256;
+const PLACED = ['NotUtf8', 'NotJson', 'TooDeep', 'NumberLimit', 'LoneSurrogate', 'DuplicateName'];
 const NUMBER_RULE = 'a number of more than 256 bytes, or with an exponent above 999999999';
 
 // The bytes before a place, its line and column (counted from 1, a column is a character), what is said of it, and what may stand there, if
@@ -202,6 +203,7 @@ function utf8Front(bytes) {
 
 // The place at which a text, a string or bytes, is refused for this reason, by the status's name. undefined if it is not, or where there is no place.
 export function findPlace(text, refusal) {
+  if (!PLACED.includes(refusal)) return undefined;
   const bytes = typeof text === 'string' ? Buffer.from(text, 'utf8') : Buffer.from(text);
   const front = utf8Front(bytes);
   if (front < bytes.length || refusal === 'NotUtf8') {

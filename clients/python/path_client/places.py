@@ -21,7 +21,9 @@ NUMBER_FRONT = re.compile(rf"-?(?:(?:0|[1-9][0-9]*)(?:\.(?:[0-9]+(?:{EXPONENT})?
 NUMBER = re.compile(r"-?(?:0|[1-9][0-9]*)(?:\.[0-9]+)?(?:[eE][+-]?[0-9]+)?")
 UNIT = re.compile(r"\\u([0-9A-Fa-f]{4})|\\.|[^\\]", re.DOTALL)
 SHORT = {"b": "\b", "f": "\f", "n": "\n", "r": "\r", "t": "\t"}
-TEXT_LIMIT, DEPTH_LIMIT = 4_194_304, 256
+DEPTH_LIMIT = 256
+PLACED = ("NotUtf8", "NotJson", "TooDeep", "NumberLimit", "LoneSurrogate", "DuplicateName")
+"""The refusals that have a place."""
 NUMBER_RULE = "a number of more than 256 bytes, or with an exponent above 999999999"
 
 
@@ -171,6 +173,8 @@ def spot(data: bytes, at: int) -> Tuple[int, int, int]:
 
 def find_place(text: Union[str, bytes], refusal: str) -> Optional[Place]:
     """The place at which a text is refused for this reason, by the status's name. None if it is not, or where there is no place."""
+    if refusal not in PLACED:
+        return None
     data = text.encode("utf-8", "surrogatepass") if isinstance(text, str) else bytes(text)
     try:
         whole = data.decode("utf-8")
