@@ -45,9 +45,12 @@ export const request = {
 
 /** The commands that change nothing, and may be sent again: GET, LIST, QUERY and USAGE. */
 const READS = [2, 4, 5, 7];
+/** The commands that put a text: PUT and PUT_NEW. */
+const PUTS = [1, 8];
 
 function command(code, name, fields, read, collection = '', document = '') {
-  return { code, name, fields: Buffer.concat(fields), read, collection, document };
+  const text = PUTS.includes(code) ? fields[fields.length - 1] : undefined;
+  return { code, name, fields: Buffer.concat(fields), read, collection, document, text };
 }
 
 /** Whether a command changes nothing, so that it may be sent again. */
@@ -55,10 +58,10 @@ export function isRead({ code }) {
   return READS.includes(code);
 }
 
-/** The command of a request and the names in it, for people. */
-export function shown({ name, collection, document }) {
+/** The command of a request, the names in it, and the text that it puts, for people. */
+export function shown({ name, collection, document, text: put }) {
   const text = (given) => (typeof given === 'string' ? given : Buffer.from(given).toString());
-  return { command: name, collection: text(collection), document: text(document) };
+  return { command: name, collection: text(collection), document: text(document), text: put };
 }
 
 function question(collection, query, read) {

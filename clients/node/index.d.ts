@@ -133,7 +133,19 @@ export declare abstract class Refused extends Error {
   readonly command: string;
   readonly collection: string;
   readonly document: string;
+  readonly place?: Place;
 }
+
+/** Where a text is refused: the bytes before the place, its line and column from 1, what is said of it, and what may stand there. */
+export declare class Place {
+  readonly byte: number;
+  readonly line: number;
+  readonly column: number;
+  readonly message: string;
+  readonly expected?: string;
+}
+
+export declare function findPlace(text: string | Uint8Array, refusal: string): Place | undefined;
 
 export declare class Short extends Refused {}
 export declare class NoTenant extends Refused {}

@@ -23,6 +23,7 @@ import { BrokenConnection, LostConnection, Refused, TimedOut } from './refusals.
 
 export { QUERY_LIMIT, TEXT_LIMIT, request } from './frames.js';
 export { ExactNumber } from './json_texts.js';
+export { Place, findPlace } from './places.js';
 export {
   BadCommand, BadFields, BrokenConnection, Costly, DuplicateName, Exists, LoneSurrogate, LostConnection, NoMemory, NoTenant, NotFound, NotJson,
   NotUtf8, NotValid, NotWellFormed, NumberLimit, QueryTooLong, Refused, ReplyTooLarge, Short, TimedOut, TooCostly, TooDeep, TooLong, TooManyBytes,

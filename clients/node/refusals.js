@@ -1,5 +1,7 @@
 // What goes wrong: the statuses of docs/PROTOCOL.md with a class for each, connections that break, and calls that take too long.
 
+import { findPlace } from './places.js';
+
 /** The server answered with a status other than Ok. Each status has a class of its name below this one. */
 export class Refused extends Error {
   /** The number of the status. */
@@ -11,11 +13,15 @@ export class Refused extends Error {
   collection;
   document;
 
-  constructor(status, name, sentence, { command = '', collection = '', document = '' } = {}) {
-    const place = [collection, document].filter(Boolean).join('/');
-    const about = [command, place].filter(Boolean).join(' ');
-    super(about ? `${sentence} (${about})` : sentence);
-    Object.assign(this, { status, name, sentence, command, collection, document });
+  /** Where the text that was put is refused, if it is refused for what stands in it: byte, line, column, expected, message. */
+  place;
+
+  constructor(status, name, sentence, { command = '', collection = '', document = '', text } = {}) {
+    const target = [collection, document].filter(Boolean).join('/');
+    const about = [command, target].filter(Boolean).join(' ');
+    const place = text && findPlace(text, name);
+    super((about ? `${sentence} (${about})` : sentence) + (place ? `\n${place}` : ''));
+    Object.assign(this, { status, name, sentence, command, collection, document, place });
   }
 }
 

@@ -133,6 +133,15 @@ test('refusals', async () => {
   stranger.close();
 });
 
+test('places', async () => {
+  await assert.rejects(client.put('shop', 'order-1', '{"a": 1,\n "b": 2,\n}'), ({ place, message }) => {
+    assert.deepEqual([place.byte, place.line, place.column, place.expected], [18, 3, 1, 'a name in double quotes']);
+    assert.ok(message.endsWith("\nline 3, column 1 (byte 18): expected a name in double quotes, found '}'"));
+    return true;
+  });
+  await assert.rejects(client.get('shop', 'order-2'), ({ place }) => place === undefined);
+});
+
 test('requests that are none', async () => {
   for (const call of [
     () => client.get('', 'd'),

@@ -38,6 +38,7 @@ from .frames import (
     Usage,
 )
 from .opening import parse_address, read_key
+from .places import Place, find_place
 from .refusals import (
     BadCommand,
     BadFields,
@@ -94,6 +95,7 @@ __all__ = [
     "NotValid",
     "NotWellFormed",
     "NumberLimit",
+    "Place",
     "Pool",
     "QUERY_LIMIT",
     "QueryTooLong",
@@ -120,4 +122,5 @@ __all__ = [
     "pool",
     "pool_async",
     "read_key",
+    "find_place",
 ]

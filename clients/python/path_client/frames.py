@@ -31,6 +31,8 @@ NAME = re.compile(rb"[A-Za-z0-9._-]+")
 COMMANDS = {1: "PUT", 2: "GET", 3: "REMOVE", 4: "LIST", 5: "QUERY", 6: "DROP", 7: "USAGE", 8: "PUT_NEW"}
 READS = (2, 4, 5, 7)
 """The commands that change nothing: GET, LIST, QUERY and USAGE."""
+PUTS = (1, 8)
+"""The commands that put a text: PUT and PUT_NEW."""
 
 
 class Hit(NamedTuple):
@@ -145,7 +147,19 @@ class Request(Generic[Result]):
             return self.read(reply.payload)
         if reply.payload:
             raise BrokenConnection("a refusal has a payload")
-        return refusal(reply.status, COMMANDS.get(self.command, ""), self.collection, self.document)
+        refused = refusal(reply.status, COMMANDS.get(self.command, ""), self.collection, self.document)
+        refused.text = self.text
+        return refused
+
+    @property
+    def text(self) -> Optional[bytes]:
+        """The text that is put, if the command puts one: what follows two names, each behind its length."""
+        if self.command not in PUTS:
+            return None
+        at = 0
+        for _ in range(2):
+            at += 1 + (self.fields[at] if at < len(self.fields) else 0)
+        return self.fields[at:]
 
 
 _counts: Dict[int, Iterator[int]] = {}

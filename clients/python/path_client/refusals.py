@@ -2,7 +2,9 @@
 from __future__ import annotations
 
 import enum
-from typing import Any, Dict, List, Type
+from typing import Any, Dict, List, Optional, Type
+
+from .places import Place, find_place
 
 
 class Status(enum.IntEnum):
@@ -41,6 +43,8 @@ class Refused(Exception):
     """The number of the status."""
     sentence: str = "the server is newer than this client"
     """What the status says, and what to do about it."""
+    text: Optional[bytes] = None
+    """The text that was put, if the command puts one."""
 
     def __init__(self, command: str = "", collection: str = "", document: str = "") -> None:
         self.command = command
@@ -58,8 +62,35 @@ class Refused(Exception):
         """The name of the status; `Status77` for one that this client does not know."""
         return status_name(self.status)
 
+    @property
+    def place(self) -> Optional[Place]:
+        """Where the text is refused, if it is refused for what stands in it."""
+        return None if self.text is None else find_place(self.text, self.name)
+
+    @property
+    def line(self) -> Optional[int]:
+        """The line of the place, counted from 1."""
+        place = self.place
+        return place and place.line
+
+    @property
+    def column(self) -> Optional[int]:
+        """The column of the place in characters, counted from 1."""
+        place = self.place
+        return place and place.column
+
+    @property
+    def expected(self) -> Optional[str]:
+        """What may stand at the place."""
+        place = self.place
+        return place and place.expected
+
+    def __str__(self) -> str:
+        place = self.place
+        return super().__str__() + ("\n{}".format(place) if place else "")
+
     def __reduce__(self) -> Any:
-        return refusal, (self.status, self.command, self.collection, self.document)
+        return refusal, (self.status, self.command, self.collection, self.document), {"text": self.text}
 
 
 class Short(Refused):

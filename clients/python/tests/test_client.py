@@ -80,6 +80,17 @@ class OneThread(Served):
         self.assertEqual(str(pickle.loads(pickle.dumps(found))), str(found))
         self.assertEqual(self.client.get("shop", "order-1"), b"[1]")
 
+    def test_places(self):
+        with self.assertRaises(NotJson) as refused:
+            self.client.put("shop", "order-1", '{"a": 1,\n "b": 2,\n}')
+        found = refused.exception
+        self.assertEqual((found.place.byte, found.line, found.column, found.expected), (18, 3, 1, "a name in double quotes"))
+        self.assertTrue(str(found).endswith("\nline 3, column 1 (byte 18): expected a name in double quotes, found '}'"))
+        self.assertEqual(str(pickle.loads(pickle.dumps(found))), str(found))
+        with self.assertRaises(NotFound) as refused:
+            self.client.get("shop", "order-2")
+        self.assertIsNone(refused.exception.place)
+
     def test_documents_with_a_hit(self):
         for name, total in (("a", 10), ("b", 30), ("c", 24)):
             self.client.put_json("shop", name, {"id": name, "total": total, "items": [1, 2]})
