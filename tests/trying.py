@@ -1,6 +1,6 @@
 #!/usr/bin/env python3
 """Tests `bin/edits try` on a made crate, with the prover: an edit that turns a body or a definition is refused, at the function that it is about,
-though others have no proof; one that is still proved, as to any function that it names, that cannot be read, or that says nothing is told; what was refused is not tried again; and
+though others have no proof, and at the clause that it names; one that is still proved, as to any function that it names, that cannot be read, or that says nothing is told; what was refused is not tried again; and
 where a function is not proved as it stands, no edit counts as refused."""
 import os
 import re
@@ -12,7 +12,7 @@ from pathlib import Path
 EDITS_TOOL = Path(__file__).resolve().parent.parent / "bin/edits"
 SOURCE = """//! Made for a test.
 #![tactic(auto)]
-ghost use Rattle.std.specs.Prelude.{◌≡◌};
+ghost use Rattle.std.specs.Prelude.{◌≡◌, ◌≤◌};
 ghost use Rattle.made.specs.Numbers.{three};
 
 /// One more than another, of which no proof is there.
@@ -28,6 +28,14 @@ pub fn two() -> u8
     ensures { result ≡ 2 }
 {
     next(1)
+}
+
+/// Four.
+pub fn fourth() -> u8
+    ensures value { result ≡ 4 }
+    ensures small { result ≤ 9 }
+{
+    4
 }
 
 /// Three.
@@ -47,6 +55,9 @@ EDITS = {
     "defined": ("# by: third\nfile: specs/Numbers.antt\nold: three = 3\nnew: three = 4\n", "refused: "),
     "halved": ("# by: third two\nfile: specs/Numbers.antt\nold: three = 3\nnew: three = 6\n", "NOT REFUSED: two is proved"),
     "same": ("file: src/lib.rt\nold:     3\nnew:     1 + 2\n", "NOT REFUSED: it is proved"),
+    "valued": ("# at: value\nfile: src/lib.rt\nold:     4\nnew:     5\n", "refused: at a clause, `returns-clause-value`: "),
+    "enlarged": ("# at: small\nfile: src/lib.rt\nold:     4\nnew:     6\n", "NOT REFUSED: it is refused, but not at its clause small: at a clause: "),
+    "alone": ("# at: returns\nfile: src/lib.rt\nold:     next(1)\nnew:     next(1) - 1\n", "refused: at a clause, `returns`: "),
     "unread": ("file: src/lib.rt\nold:     next(1)\nnew:     next(none)\n", "NOT REFUSED: it cannot be read"),
     "unjudged": ("file: specs/Numbers.antt\nold: three = 3\nnew: three = 5\n", "NOT REFUSED: it changes no function"),
 }
@@ -92,7 +103,7 @@ def main():
         for name, (_, said) in EDITS.items():
             expect(f"{name} is told", said in line_of(name, lines), lines)
         expect("turned is refused at its function", re.search(r"src/lib\.rt:\d+", line_of("turned", lines)), lines)
-        expect("all are counted", lines[-1] == "2 passed, 4 failed" and status == 1, lines)
+        expect("all are counted", lines[-1] == "4 passed, 5 failed" and status == 1, lines)
         status, lines = tried(root, "--only", "turned")
         expect("a refused one is kept", "refused before" in line_of("turned", lines) and status == 0, lines)
         write(root, SOURCE.replace("result ≡ 2 }\n{\n    next", "result ≡ 7 }\n{\n    next"))

@@ -7,6 +7,10 @@
 An edit is judged by the functions that it changes. One of anything else, as of a definition, names those that have to refuse it in a line of its own:
 
     # by: laws::one_tree    the paths of functions in the crate
+
+One that is about a clause may name it, and is refused only where that clause of its function is open:
+
+    # at: accepted_text    the clause's name, or `returns` for a clause that is alone
 """
 import re
 from pathlib import Path
@@ -42,7 +46,7 @@ def pairs_of(lines):
         elif line.startswith("new:") and old is not None:
             found.append((file, old, text))
             old = None
-        elif line.strip() and not line.startswith("# by: "):
+        elif line.strip() and not line.startswith(("# by: ", "# at: ")):
             raise Misfit(f"line {number} is no 'file:', 'old:' or 'new:' in its place: {line[:60]}")
     if old is not None:
         raise Misfit("its last 'old:' has no 'new:'")
@@ -90,6 +94,32 @@ def joined(lines):
 def is_open(line):
     """Whether a line of a check tells of an open goal, and not of a proof that names what an edit took away."""
     return bool(OPEN.match(line)) and not NAMES.match(line)
+
+
+STOPPED = "`search` gave up at one of its limits"
+AT_CLAUSE, IN_AN_ANSWER, STOPPED_SEARCH = "at a clause", "in an answer", "where a search stopped"
+KINDS = (AT_CLAUSE, IN_AN_ANSWER, STOPPED_SEARCH)
+
+
+def goal_of(line):
+    """The name of the goal that a line of a check tells of."""
+    found = re.search(r"\(`([^`]+)`\)|note: `([^`]+)` of proofs/|error: `([^`]+)`", line)
+    return next((it for it in found.groups() if it), "") if found else ""
+
+
+def kind_of(line):
+    """How an open goal refuses: the prover found it open, what was written as its proof does not fit any more, or the search for a proof stopped, so that
+    it may hold."""
+    if STOPPED in line:
+        return STOPPED_SEARCH
+    found = OPEN.match(line)
+    return AT_CLAUSE if found and found[1] else IN_AN_ANSWER
+
+
+def is_about(line, clauses):
+    """Whether the goal of a line is one of these clauses. A clause that is alone has no name in its function's goals."""
+    goal = goal_of(line)
+    return any(goal.endswith(f"clause-{it}") or it == "returns" and goal.startswith("returns") and "-clause-" not in goal for it in clauses)
 
 
 class Function:
@@ -222,7 +252,9 @@ class Edit:
 
     def __init__(self, path, crate):
         self.name, self.pairs = path.name, pairs_in(path)
-        named = [line.split()[2:] for line in path.read_text(encoding="utf-8").splitlines() if line.startswith("# by: ")]
+        lines = path.read_text(encoding="utf-8").splitlines()
+        named = [line.split()[2:] for line in lines if line.startswith("# by: ")]
+        self.clauses = [it for line in lines if line.startswith("# at: ") for it in line.split()[2:]]
         places, texts, homes = [], {}, homes_of(sources_of(crate))
         for file, old, new in self.pairs:
             before = texts.get(file)

@@ -10,7 +10,7 @@ import threading
 import time
 from pathlib import Path
 
-from edits import OPEN, Edit, apply, in_groups, is_open, joined
+from edits import AT_CLAUSE, KINDS, Edit, apply, goal_of, in_groups, is_about, is_open, joined, kind_of
 from holes import PARTS, HoledCopy, front_end
 from proving import QUICK_RT, Task, run_all
 
@@ -103,7 +103,7 @@ class Trial:
 
     def __init__(self, crates, name, files, kit, libraries, kept, are_timed):
         self.crates, self.name, self.files, self.kit, self.libraries, self.kept, self.are_timed = crates, name, files, kit, libraries, kept, are_timed
-        self.said, self.refused, self.copy, self.places, self.checks, self.spent = [], 0, None, {}, 0, 0.0
+        self.said, self.refused, self.copy, self.places, self.checks, self.spent = [], dict.fromkeys(KINDS, 0), None, {}, 0, 0.0
 
     def run(self, *_):
         started = time.monotonic()
@@ -113,8 +113,12 @@ class Trial:
         else:
             with tempfile.TemporaryDirectory(prefix="try-edits-") as at:
                 self.try_all(Path(at))
-        self.said.append(f"{self.name}: {self.refused} of {len(self.files)} refused, {self.checks} checks, {self.spent:.0f} s of a processor, {span(time.monotonic() - started)}")
+        how = ", ".join(f"{count} {kind}" for kind, count in self.refused.items() if count)
+        self.said.append(f"{self.name}: {self.count()} of {len(self.files)} refused{f' ({how})' if how else ''}, {self.checks} checks, {self.spent:.0f} s of a processor, {span(time.monotonic() - started)}")
         return True
+
+    def count(self):
+        return sum(self.refused.values())
 
     def try_all(self, at):
         folder = self.crates.folder(self.name)
@@ -123,7 +127,8 @@ class Trial:
         for file in self.files:
             told = self.kept.told(self.places[file.name])
             if told:
-                self.tell(file.name, told, "refused before")
+                kind, _, line = told.partition("\n")
+                self.tell(file.name, kind, line, "refused before")
         left = [Edit(it, folder) for it in self.files if not self.kept.told(self.places[it.name])]
         for edit in [it for it in left if not it.judges]:
             self.said.append(f"{self.name}/{edit.name}: NOT REFUSED: it changes no function, and names none that judges it")
@@ -176,12 +181,12 @@ class Trial:
         left = []
         for edit in group:
             edit.lines = lines
-            told = self.told_of(edit, lines, now) if was_judged(lines) else []
+            edit.told = self.told_of(edit, lines, now) if was_judged(lines) else []
+            told = [it for it in edit.told if kind_of(it) == AT_CLAUSE and is_about(it, edit.clauses)] if edit.clauses else edit.told
             if told:
-                # a goal in the source says more than the proof that did not fit it
-                line = min(told, key=lambda it: not OPEN.match(it)[1])
-                self.tell(edit.name, line, "refused")
-                self.kept.keep(self.places[edit.name], line)
+                line = min(told, key=lambda it: KINDS.index(kind_of(it)))
+                self.tell(edit.name, kind_of(line), line, "refused")
+                self.kept.keep(self.places[edit.name], f"{kind_of(line)}\n{line}")
             else:
                 left.append(edit)
         return left
@@ -201,15 +206,17 @@ class Trial:
             why = f"its check did not end within {span(SECONDS)}"
         elif unread or not was_judged(edit.lines):
             why = f"it cannot be read: {unread or edit.lines[-1]}"
+        elif edit.told:
+            why = f"it is refused, but not at its clause {' or '.join(edit.clauses)}: {kind_of(edit.told[0])}: {edit.told[0]}"
         elif not whole:
             why = "only a proof no longer fits, which says little of the contract: " + next((line for line in edit.lines if ": error: " in line), "")
         else:
             why = "it is proved" if len(whole) == len(edit.judges) else f"{whole[0]} is proved"
         self.said.append(f"{self.name}/{edit.name}: NOT REFUSED: {why[:300]}")
 
-    def tell(self, name, line, how):
-        self.refused += 1
-        self.said.append(f"{self.name}/{name}: {how}: {line[:200]}")
+    def tell(self, name, kind, line, how):
+        self.refused[kind] += 1
+        self.said.append(f"{self.name}/{name}: {how}: {kind}, `{goal_of(line)}`: {line[:200]}")
 
 
 def was_judged(lines):
@@ -245,5 +252,5 @@ def try_edits(crates, kind, names, word, folder, are_named, is_anew, are_timed, 
         print(*lines, sep="\n", flush=True)
 
     run_all([Task(name, [], it.run) for name, it in trials.items()], many, tell, SILENCE)
-    passed = sum(it.refused for it in trials.values())
+    passed = sum(it.count() for it in trials.values())
     return passed, total - passed
