@@ -142,6 +142,18 @@ test('places', async () => {
   await assert.rejects(client.get('shop', 'order-2'), ({ place }) => place === undefined);
 });
 
+test('the place in a long text is sought for who asks for it, once', async () => {
+  const fault = await client.put('shop', 'order-1', `[${'1,'.repeat(1_900_000)}]`).catch((found) => found);
+  assert.ok(fault instanceof NotJson && !fault.message.includes('\n'));
+  const took = [() => fault.message, () => fault.place, () => fault.place].map((ask) => {
+    const began = performance.now();
+    ask();
+    return performance.now() - began;
+  });
+  assert.deepEqual([fault.place.byte, fault.place.line, fault.place.column], [3_800_001, 1, 3_800_002]);
+  assert.ok(Math.max(took[0], took[2]) < took[1] / 10, String(took));
+});
+
 test('requests that are none', async () => {
   for (const call of [
     () => client.get('', 'd'),

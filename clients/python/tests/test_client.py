@@ -11,6 +11,7 @@ import pickle
 import re
 import sys
 import tempfile
+import time
 import tracemalloc
 import unittest
 import unittest.mock
@@ -90,6 +91,18 @@ class OneThread(Served):
         with self.assertRaises(NotFound) as refused:
             self.client.get("shop", "order-2")
         self.assertIsNone(refused.exception.place)
+
+    def test_the_place_in_a_long_text(self):
+        """It takes long to find, so that only who asks for it waits, and once."""
+        with self.assertRaises(NotJson) as refused:
+            self.client.put("shop", "order-1", b"[" + b"1," * 1_900_000 + b"]")
+        found, moments = refused.exception, []
+        for ask in (lambda: str(found), lambda: found.place.byte, lambda: (found.line, found.column, found.expected)):
+            began = time.monotonic()
+            moments.append((ask(), time.monotonic() - began))
+        (told, short), (byte, long), (rest, again) = moments
+        self.assertEqual((told.count("\n"), byte, rest), (0, 3_800_001, (1, 3_800_002, "a value")))
+        self.assertLess(max(short, again), long / 10)
 
     def test_documents_with_a_hit(self):
         for name, total in (("a", 10), ("b", 30), ("c", 24)):
