@@ -88,6 +88,11 @@ function checkTimeout(timeout) {
   throw new RangeError(`a timeout is a number of milliseconds from 1 to ${LONGEST}, not ${timeout}`);
 }
 
+function checkRequest(it) {
+  if (it?.fields instanceof Uint8Array) return it;
+  throw new TypeError(`a pipeline takes requests, such as request.get(..), not ${Array.isArray(it) ? 'an array' : typeof it}`);
+}
+
 /** A tenant's connection, opened when it is first needed. Calls that overlap are sent one behind the other over it, without waiting. */
 export class Client extends Calls {
   #link;
@@ -154,7 +159,7 @@ export class Client extends Calls {
     let fault;
     try {
       for await (const it of requests) {
-        sent.push({ it, end: link.send(this.#key, it, timeout, signal, true) });
+        sent.push({ it, end: link.send(this.#key, checkRequest(it), timeout, signal, true) });
         if (sent.length > WINDOW) await settle(sent.length - WINDOW);
       }
     } catch (found) {

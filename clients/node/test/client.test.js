@@ -191,6 +191,19 @@ test('pipeline', async () => {
   assert.deepEqual(found.slice(901), [[], Buffer.from('899')]);
 });
 
+test('a pipeline of what are no requests', async () => {
+  for (const it of [['put', 'shop', 'a', '1'], undefined, 'get', {}]) {
+    await assert.rejects(client.pipeline([request.put('shop', 'a', '1'), it]), (fault) => {
+      assert.deepEqual([fault.name, fault.results], ['TypeError', [undefined]]);
+      return true;
+    });
+    // the connection goes on
+    const before = client.usage();
+    assert.equal((await client.get('shop', 'a')).toString(), '1');
+    await before;
+  }
+});
+
 test('a pipeline of large texts, and calls that overlap', async () => {
   const text = `"${'x'.repeat(1_000_000)}"`;
   const found = await client.pipeline(Array(10).fill([request.put('shop', 'large', text), request.get('shop', 'large')]).flat());

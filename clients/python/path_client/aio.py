@@ -10,7 +10,7 @@ from typing import Any, AsyncIterable, AsyncIterator, Awaitable, Callable, Deque
 
 from .calls import AsyncCalls
 from .connection import PIECE_BYTES
-from .frames import Replies, Reply, Request, next_number
+from .frames import Replies, Reply, Request, as_request, next_number
 from .opening import Address, Key, check_key, check_timeout, parse_address
 from .refusals import BrokenConnection, LostConnection, Refused, TimedOut
 
@@ -105,7 +105,7 @@ class AsyncClient(AsyncCalls):
             source = _each(requests)
             while fault is None:
                 try:
-                    request = await source.__anext__()
+                    request = as_request(await source.__anext__())
                     waiting.append(link.send(self.key, request))
                 except StopAsyncIteration:
                     break

@@ -10,7 +10,7 @@ from typing import Any, Deque, Iterable, Iterator, List, Optional, Tuple, TypeVa
 
 from .calls import Calls
 from .connection import PIECE_BYTES, Connection
-from .frames import Request, next_number
+from .frames import Request, as_request, next_number
 from .opening import Address, Key, OfProcess, check_key, check_timeout, parse_address
 from .refusals import BrokenConnection, LostConnection, Refused, TimedOut
 
@@ -273,7 +273,7 @@ class _Outgoing:
         try:
             for request in self.requests:
                 number = next_number()
-                frames += request.frame(self.key, number)
+                frames += as_request(request).frame(self.key, number)
                 self.waiting.append((number, request))
                 if len(frames) >= PIECE_BYTES:
                     break

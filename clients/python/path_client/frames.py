@@ -162,6 +162,13 @@ class Request(Generic[Result]):
         return self.fields[at:]
 
 
+def as_request(it: Request[Result]) -> Request[Result]:
+    """A request of a pipeline. Raises TypeError for what is none."""
+    if not isinstance(it, Request):
+        raise TypeError("a pipeline takes requests, such as Request.get(..), not {}".format(type(it).__name__))
+    return it
+
+
 _counts: Dict[int, Iterator[int]] = {}
 
 

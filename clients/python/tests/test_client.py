@@ -95,13 +95,13 @@ class OneThread(Served):
     def test_the_place_in_a_long_text(self):
         """It takes long to find, so that only who asks for it waits, and once."""
         with self.assertRaises(NotJson) as refused:
-            self.client.put("shop", "order-1", b"[" + b"1," * 1_900_000 + b"]")
+            self.client.put("shop", "order-1", b"[" + b"1," * 400_000 + b"]")
         found, moments = refused.exception, []
         for ask in (lambda: str(found), lambda: found.place.byte, lambda: (found.line, found.column, found.expected)):
             began = time.monotonic()
             moments.append((ask(), time.monotonic() - began))
         (told, short), (byte, long), (rest, again) = moments
-        self.assertEqual((told.count("\n"), byte, rest), (0, 3_800_001, (1, 3_800_002, "a value")))
+        self.assertEqual((told.count("\n"), byte, rest), (0, 800_001, (1, 800_002, "a value")))
         self.assertLess(max(short, again), long / 10)
 
     def test_documents_with_a_hit(self):
@@ -191,6 +191,13 @@ class OneThread(Served):
             self.client.pipeline(requests())
         self.assertEqual(fault.exception.results, [None, b"1"])
         self.assertEqual(self.client.get("shop", "a"), b"1")
+
+    def test_a_pipeline_of_what_are_no_requests(self):
+        for it in (("put", "shop", "a", "1"), None, "get"):
+            with self.assertRaisesRegex(TypeError, "a pipeline takes requests") as found:
+                self.client.pipeline([Request.put("shop", "a", "1"), it])
+            self.assertEqual(found.exception.results, [None])
+            self.assertEqual(self.client.get("shop", "a"), b"1")
 
     def test_a_call_within_a_pipeline(self):
         self.client.put("shop", "a", "1")
