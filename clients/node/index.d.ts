@@ -67,6 +67,7 @@ export interface Request<Result> {
 export declare const request: {
   put(collection: Text, document: Text, text: Text): Request<void>;
   putNew(collection: Text, document: Text, text: Text): Request<void>;
+  putJson(collection: Text, document: Text, value: unknown): Request<void>;
   get(collection: Text, document: Text): Request<Buffer>;
   remove(collection: Text, document: Text): Request<void>;
   list(collection: Text): Request<string[]>;
@@ -133,6 +134,7 @@ export declare abstract class Refused extends Error {
   readonly command: string;
   readonly collection: string;
   readonly document: string;
+  /** Where the text that was put is refused. It is sought when it is first asked for. */
   readonly place?: Place;
 }
 

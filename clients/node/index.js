@@ -88,6 +88,11 @@ function checkTimeout(timeout) {
   throw new RangeError(`a timeout is a number of milliseconds from 1 to ${LONGEST}, not ${timeout}`);
 }
 
+function checkOptions(options = {}) {
+  if (options !== null && typeof options === 'object') return options;
+  throw new TypeError(`options are an object, such as { at: '127.0.0.1:7000', key }, not ${options === null ? 'null' : `a ${typeof options}`}`);
+}
+
 function checkRequest(it) {
   if (it?.fields instanceof Uint8Array) return it;
   throw new TypeError(`a pipeline takes requests, such as request.get(..), not ${Array.isArray(it) ? 'an array' : typeof it}`);
@@ -106,8 +111,9 @@ export class Client extends Calls {
   #isClosed = false;
   #isUnref = false;
 
-  constructor({ at, key, timeout = 30_000, tls } = {}) {
+  constructor(options) {
     super();
+    const { at, key, timeout = 30_000, tls } = checkOptions(options);
     this.#address = parseAddress(at);
     this.#key = givenKey(key);
     this.#timeout = checkTimeout(timeout);
@@ -225,8 +231,9 @@ export class Pool extends Calls {
   #waiting = new Queue();
   #timeout;
 
-  constructor({ size = 4, ...options } = {}) {
+  constructor(given) {
     super();
+    const { size = 4, ...options } = checkOptions(given);
     if (!Number.isInteger(size) || size < 1) throw new RangeError(`a pool has at least 1 connection, not ${size}`);
     this.#clients = Array.from({ length: size }, () => new Client(options));
     this.#idle = [...this.#clients];

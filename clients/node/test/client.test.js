@@ -180,6 +180,10 @@ test('requests that are none', async () => {
     await assert.rejects(connect({ at: server.at, key: KEY, timeout }), /a timeout is a number of milliseconds from 1 to 2147483647/);
     await assert.rejects(client.usage({ timeout }), RangeError);
   }
+  for (const options of [server.at, null, 7]) {
+    for (const open of [connect, pool]) await assert.rejects(open(options), { name: 'TypeError', message: /^options are an object/ });
+  }
+  await assert.rejects(client.get('c c', 'd'), /not 'c c'$/);
   for (const size of [0, 1.5, '4']) await assert.rejects(pool({ at: server.at, key: KEY, size }), RangeError);
 });
 
@@ -295,6 +299,8 @@ test('JSON', async () => {
   assert.deepEqual([value.a.text, value.c[0].text, Number(value.a)], ['1.10', '1E400', 1.1]);
   await client.putJson('shop', 'again', value);
   assert.equal((await client.get('shop', 'again')).toString(), text);
+  assert.deepEqual(await client.pipeline([request.putJson('shop', 'big', { big: 2n ** 60n })]), [undefined]);
+  assert.equal((await client.get('shop', 'big')).toString(), '{"big":1152921504606846976}');
   await client.putJson('shop', 'plain', { a: [1, 'é', 0.1, 2n ** 60n, new Date(0)], b: undefined });
   assert.equal((await client.get('shop', 'plain')).toString(), '{"a":[1,"é",0.1,1152921504606846976,"1970-01-01T00:00:00.000Z"]}');
   assert.deepEqual(await client.getJson('shop', 'exact'), JSON.parse(text));

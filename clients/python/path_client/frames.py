@@ -4,8 +4,9 @@ from __future__ import annotations
 import itertools
 import os
 import re
-from typing import Callable, Dict, Generic, Iterator, List, NamedTuple, Optional, TypeVar, Union
+from typing import Any, Callable, Dict, Generic, Iterator, List, NamedTuple, Optional, TypeVar, Union
 
+from .json_texts import to_json
 from .refusals import BrokenConnection, Refused, Status, refusal
 
 Text = Union[str, bytes, bytearray, memoryview]
@@ -84,6 +85,11 @@ class Request(Generic[Result]):
     def put(collection: Text, document: Text, text: Text) -> Request[None]:
         """Keeps a text under a collection and a document, in the place of one that is there."""
         return Request(1, _place(collection, document) + _bounded("text", text, TEXT_LIMIT), read_nothing, collection, document)
+
+    @staticmethod
+    def put_json(collection: Text, document: Text, value: Any) -> Request[None]:
+        """Keeps the JSON text of a value. Raises TypeError or ValueError for what has no JSON."""
+        return Request.put(collection, document, to_json(value))
 
     @staticmethod
     def get(collection: Text, document: Text) -> Request[bytes]:

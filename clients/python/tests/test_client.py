@@ -133,7 +133,7 @@ class OneThread(Served):
         self.assertEqual(value["a"], decimal.Decimal("1.10"))
         self.client.put_json("shop", "again", value)
         self.assertEqual(self.client.get("shop", "again"), text.replace(b"1E400", b"1E+400"))
-        self.client.put_json("shop", "plain", {"a": [1, "é", 0.1]})
+        self.assertEqual(self.client.pipeline([Request.put_json("shop", "plain", {"a": [1, "é", 0.1]})]), [None])
         self.assertEqual(self.client.get("shop", "plain"), '{"a":[1,"é",0.1]}'.encode())
         self.assertEqual(self.client.get_json("shop", "plain"), {"a": [1, "é", 0.1]})
         for value in (float("nan"), decimal.Decimal("Infinity"), {"a": datetime.date(2026, 11, 28)}, {1: decimal.Decimal(1)}):
@@ -220,7 +220,7 @@ class OneThread(Served):
                 self.assertEqual(client.get("shop", "order-1"), b"1")
                 server.stop()
                 wait_for_the_end(client)
-                self.assertRaisesRegex(BrokenConnection, "no new connection", client.usage)
+                self.assertRaisesRegex(BrokenConnection, "no new connection to 127.0.0.1:", client.usage)
             self.assertRaisesRegex(BrokenConnection, "the client is closed", client.usage)
             server.errors.close()
 
@@ -324,13 +324,17 @@ class ManyTasks(Served):
 class Opening(Served):
     def test_what_is_invalid(self):
         for address in ("127.0.0.1", "127.0.0.1:65536", "127.0.0.1:0", "127.0.0.1:-1", "127.0.0.1:http", ":7000", "::1:7000",
-                        "http://127.0.0.1:7000", "tcp://127.0.0.1:7000/", "127.0.0.1:7000/x", ("127.0.0.1", 99_999), ""):
+                        "http://127.0.0.1:7000", "tcp://127.0.0.1:7000/", "127.0.0.1:7000/x", ("127.0.0.1", 99_999), "", ("127.0.0.1", "7000"), b"127.0.0.1:7000",
+                        ("127.0.0.1",), 7000):
             self.assertRaises(ValueError, path_client.connect, address, KEY)
             self.assertRaises(ValueError, path_client.connect_async, address, KEY)
         for key in (KEY[1:], "0123456789abcdef", "0" * 31, "g" * 32, 7):
             self.assertRaises(ValueError, path_client.connect, self.address, key)
         for timeout in (0, -1, None, float("nan"), float("inf"), "30", 1e12):
             self.assertRaises(ValueError, path_client.connect, self.address, KEY, timeout)
+        for context in (True, "tls"):
+            for opener in (path_client.connect, path_client.connect_async, path_client.pool):
+                self.assertRaisesRegex(ValueError, "SSLContext", opener, self.address, KEY, ssl=context)
         for size in (0, -1, None, 1.5):
             self.assertRaises(ValueError, path_client.pool, self.address, KEY, size)
 
