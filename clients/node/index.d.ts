@@ -176,6 +176,8 @@ export { Costly as TooCostly };
 /** The connection ended, or what came is not a reply. Of a pipeline, `results` has those of the replies that came. */
 export declare class BrokenConnection extends Error {
   results?: unknown[];
+  /** Where no connection could be opened: the code of Node's error, such as ECONNREFUSED. */
+  code?: string;
 }
 export declare class LostConnection extends BrokenConnection {}
 export declare class TimedOut extends BrokenConnection {}

@@ -39,7 +39,8 @@ const LONGEST = 2 ** 31 - 1;
 /**
  * Opens a connection to `at` (`HOST:PORT`; `[::1]:7000` for IPv6) for the tenant of `key` (32 hexadecimal digits, or 16 bytes). Without them,
  * PATH_SERVER_AT and the file PATH_SERVER_KEY_FILE have them. `timeout` in milliseconds bounds the opening and, after it, each call. With `tls`
- * (true, or options of tls.connect) it speaks TLS. Rejects if there is no server, or an option is invalid.
+ * (true, or options of tls.connect) it speaks TLS. Rejects with BrokenConnection if there is no server (`code` is that of Node's error), with
+ * RangeError or TypeError if an option is invalid. It sends nothing: a key that the server does not know is refused at the first call.
  */
 export async function connect(options) {
   const client = new Client(options);
@@ -157,7 +158,7 @@ export class Client extends Calls {
    */
   async pipeline(requests, options) {
     const { timeout, signal } = this.#options(options);
-    const link = await this.#openedForACall();
+    const link = await this.#opened();
     const [sent, results] = [[], []];
     const settle = async (count) => {
       for (let at = results.length; at < count; at += 1) results.push(resultOf(await sent[at].end, sent[at].it));
@@ -184,9 +185,9 @@ export class Client extends Calls {
   async _call(make, options) {
     const it = make();
     const { timeout, signal } = options === undefined ? this.#defaults : this.#options(options);
-    let end = await (this.#live ?? (await this.#openedForACall())).send(this.#key, it, timeout, signal, false);
+    let end = await (this.#live ?? (await this.#opened())).send(this.#key, it, timeout, signal, false);
     if (end.error === LostConnection && isRead(it)) {
-      end = await (await this.#openedForACall()).send(this.#key, it, timeout, signal, false);
+      end = await (await this.#opened()).send(this.#key, it, timeout, signal, false);
     }
     const result = resultOf(end, it);
     if (end.status !== undefined) throw result;
@@ -209,17 +210,15 @@ export class Client extends Calls {
     this.#link ??= Link.open(this.#address, this.#tls, this.#timeout, this.#isUnref, () => {
       this.#link = this.#live = undefined;
     });
-    const link = await this.#link;
-    if (!link.hasEnded) this.#live = link;
-    return link;
-  }
-
-  async #openedForACall() {
     try {
-      return await this.#opened();
+      const link = await this.#link;
+      if (!link.hasEnded) this.#live = link;
+      return link;
     } catch (fault) {
       if (fault instanceof BrokenConnection) throw fault;
-      throw new BrokenConnection(`no new connection: ${fault.message}`, { cause: fault });
+      // several addresses that all refuse have no message of their own
+      const why = fault.message || `${fault.code} at ${this.#address.host}:${this.#address.port}`;
+      throw Object.assign(new BrokenConnection(`no new connection: ${why.trim()}`, { cause: fault }), { code: fault.code });
     }
   }
 }

@@ -224,9 +224,15 @@ test('a new connection where the server closed one', async () => {
   await new Promise((resolve) => setTimeout(resolve, 3_500));
   assert.equal((await it.get('shop', 'order-1')).toString(), '1');
   await brief.stop();
-  await assert.rejects(it.usage());
+  await assert.rejects(it.usage(), BrokenConnection);
   it.close();
   await assert.rejects(it.usage(), { message: 'the client is closed' });
+});
+
+test('no server', async () => {
+  const wanted = { name: 'BrokenConnection', code: 'ECONNREFUSED', message: 'no new connection: connect ECONNREFUSED 127.0.0.1:1' };
+  for (const open of [connect, pool]) await assert.rejects(open({ at: '127.0.0.1:1', key: KEY }), wanted);
+  await assert.rejects(new all.Client({ at: '127.0.0.1:1', key: KEY }).usage(), wanted);
 });
 
 test('replies in single bytes', async (t) => {
