@@ -138,6 +138,20 @@ func TestCommands(t *testing.T) {
 	}
 }
 
+// TestValuesInQueries puts the JSON text of a value into a query, whatever is in it.
+func TestValuesInQueries(t *testing.T) {
+	client := connected(t, Options{Address: listen(t)})
+	values := []any{"it's", `a "quote"`, `back\slash`, "', $..*", "\n\t\x00\x7f/<>&", "\u2028é\U0001f600", "", 4, -1.5e-7, 1e22, true, nil}
+	for place, value := range values {
+		want(t, "put", nil, client.PutJSON(ctx, "shop", fmt.Sprint(place), []any{value}))
+	}
+	for place, value := range values {
+		text, _ := json.Marshal(value)
+		found, err := client.Documents(ctx, "shop", fmt.Sprintf("$[?@==%s]", text))
+		want(t, string(text), []any{[]string{fmt.Sprint(place)}, nil}, []any{found, err})
+	}
+}
+
 func TestRefusals(t *testing.T) {
 	client := connected(t, Options{Address: listen(t)})
 	want(t, "put", nil, client.Put(ctx, "shop", "order-1", []byte("[1]")))

@@ -229,6 +229,14 @@ test('a new connection where the server closed one', async () => {
   await assert.rejects(it.usage(), { message: 'the client is closed' });
 });
 
+test('the JSON text of a value is a literal of a query', async () => {
+  const values = ["it's", 'a "quote"', 'back\\slash', "', $..*", '\n\t\0\x7f/', '\u2028é\u{1f600}', '', 4, -1.5e-7, 1e22, true, null];
+  for (const [place, value] of values.entries()) await client.putJson('more', `${place}`, { tags: [value] });
+  for (const [place, value] of values.entries()) {
+    assert.deepEqual(await client.documents('more', `$.tags[?@==${JSON.stringify(value)}]`), [`${place}`]);
+  }
+});
+
 test('no server', async () => {
   const wanted = { name: 'BrokenConnection', code: 'ECONNREFUSED', message: 'no new connection: connect ECONNREFUSED 127.0.0.1:1' };
   for (const open of [connect, pool]) await assert.rejects(open({ at: '127.0.0.1:1', key: KEY }), wanted);

@@ -6,6 +6,7 @@ The program is the one that bin/build makes, or the one that the environment's P
 import asyncio
 import datetime
 import decimal
+import json
 import os
 import pickle
 import re
@@ -110,6 +111,16 @@ class OneThread(Served):
         self.assertEqual(self.client.documents("shop", "$[?$.total<25]"), ["a", "c"])
         self.assertEqual(self.client.documents("shop", "$[?$.total<0]"), [])
         self.assertEqual(len(self.client.query("shop", "$[?$.total<25]")), 6)
+
+    def test_a_value_in_a_query(self):
+        """The JSON text of a string or a number is a literal of a query, whatever is in it."""
+        values = ["it's", 'a "quote"', "back\\slash", "', $..*", "\n\t\x00\x7f/", "\u2028é\U0001f600", "", 4, -1.5e-7, 1e22, True, None]
+        for place, value in enumerate(values):
+            self.client.put_json("shop", "{:02}".format(place), {"tags": [value]})
+        for ascii_only in (True, False):
+            for place, value in enumerate(values):
+                query = "$.tags[?@=={}]".format(json.dumps(value, ensure_ascii=ascii_only))
+                self.assertEqual(self.client.documents("shop", query), ["{:02}".format(place)], query)
 
     def test_hits_one_by_one(self):
         """A reply of 8 MB is not copied to go over its hits."""
