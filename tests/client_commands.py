@@ -327,12 +327,12 @@ def check_page(report, room):
     with connect(room.address, KEY) as client:
         for place, block in enumerate(blocks):
             behind = blocks[place + 1] if place + 1 < len(blocks) else ""
-            wanted = "" if re.match("bin/|echo|printf|for |from |const ", behind) else behind
+            wanted = "" if re.match("bin/|echo|printf|for |from |import |const ", behind) else behind
             if re.match("bin/|echo|printf", block):
                 script = block.replace("bin/path_client", PROGRAM)
                 ran = subprocess.run(["bash", "-c", script], stdout=subprocess.PIPE, stderr=subprocess.STDOUT, env=environment, cwd=room.folder, timeout=60)
                 report.case("lines of docs/CLIENTS.md", block, wanted, ran.stdout.decode())
-            elif block.startswith(("for ", "from ")):
+            elif block.startswith(("for ", "from ", "import ")):
                 names = {"client": client, "orders": [("a", "[1]")]}
                 with redirect_stdout(io.StringIO()) as printed:
                     exec(block, names)
