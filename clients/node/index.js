@@ -182,13 +182,16 @@ export class Client extends Calls {
     throw fault;
   }
 
-  async _call(make, options) {
+  async _call(make, options, told) {
     const it = make();
     const { timeout, signal } = options === undefined ? this.#defaults : this.#options(options);
+    const until = performance.now() + timeout;
     let end = await (this.#live ?? (await this.#opened())).send(this.#key, it, timeout, signal, false);
     if (end.error === LostConnection && isRead(it)) {
-      end = await (await this.#opened()).send(this.#key, it, timeout, signal, false);
+      end = await (await this.#opened()).send(this.#key, it, left(until, timeout), signal, false);
     }
+    // of a call that waited before, or was sent again, the rest of its time is over: who called gave the whole
+    if (end.error === TimedOut) end.message = `no answer within ${told ?? timeout} ms`;
     const result = resultOf(end, it);
     if (end.status !== undefined) throw result;
     return result;
@@ -270,7 +273,7 @@ export class Pool extends Calls {
     const { timeout = this.#timeout } = options ?? {};
     const until = performance.now() + timeout;
     // what it waited for a connection is of its own time
-    return await this.#lend((client) => client._call(make, { ...options, timeout: left(until, timeout) }), options);
+    return await this.#lend((client) => client._call(make, { ...options, timeout: left(until, timeout) }, timeout), options);
   }
 
   async #lend(use, { timeout = this.#timeout, signal } = {}) {

@@ -229,6 +229,19 @@ test('a new connection where the server closed one', async () => {
   await assert.rejects(it.usage(), { message: 'the client is closed' });
 });
 
+test('what is sent again, or waits for a connection, has one timeout for all', async (t) => {
+  const slow = await answering(t, (socket, asked, place) => place % 2 === 0 && setTimeout(() => socket.destroy(), 600));
+  const wanted = { name: 'TimedOut', message: 'no answer within 1000 ms' };
+  for (const open of [connect, pool]) {
+    const it = await open({ at: slow.at, key: KEY, timeout: 1_000, size: 1 });
+    const began = performance.now();
+    await assert.rejects(it.usage(), wanted);
+    const took = performance.now() - began;
+    assert.ok(took > 900 && took < 1_500, String(took));
+    it.close();
+  }
+});
+
 test('the JSON text of a value is a literal of a query', async () => {
   const values = ["it's", 'a "quote"', 'back\\slash', "', $..*", '\n\t\0\x7f/', '\u2028é\u{1f600}', '', 4, -1.5e-7, 1e22, true, null];
   for (const [place, value] of values.entries()) await client.putJson('more', `${place}`, { tags: [value] });
