@@ -327,16 +327,16 @@ def check_page(report, room):
     with connect(room.address, KEY) as client:
         for place, block in enumerate(blocks):
             behind = blocks[place + 1] if place + 1 < len(blocks) else ""
-            wanted = "" if re.match("bin/|echo|printf|for |from |const ", behind) else behind
+            wanted = "" if re.match("bin/|echo|printf|for |from |import |const ", behind) else behind
             if re.match("bin/|echo|printf", block):
                 script = block.replace("bin/path_client", PROGRAM)
                 ran = subprocess.run(["bash", "-c", script], stdout=subprocess.PIPE, stderr=subprocess.STDOUT, env=environment, cwd=room.folder, timeout=60)
                 report.case("lines of docs/CLIENTS.md", block, wanted, ran.stdout.decode())
-            elif block.startswith(("for ", "from ")):
+            elif block.startswith(("for ", "from ", "import ")):
                 names = {"client": client, "orders": [("a", "[1]")]}
                 with redirect_stdout(io.StringIO()) as printed:
                     exec(block, names)
-                report.case("lines of Python of docs/CLIENTS.md", block, (wanted, [None] * block.startswith("from ")), (printed.getvalue(), names.get("results", [])))
+                report.case("lines of Python of docs/CLIENTS.md", block, (wanted, [None] * ("results" in block)), (printed.getvalue(), names.get("results", [])))
             elif block.startswith("const ") and has("lines of Node of docs/CLIENTS.md", "node"):
                 orders = "import { connect, request } from 'path-client'; const client = await connect({ at: '127.0.0.1:7000', key: '%s' }); const orders = [['b', '[1]']];"
                 report.case("lines of Node of docs/CLIENTS.md", block, (0, "1\n", ""), run_node(room, f"{orders % KEY.hex()}\n{block}\nconsole.log(results.length); client.close();"))
@@ -364,6 +364,18 @@ def check_examples(report, room):
         with redirect_stdout(io.StringIO()) as printed:
             exec(example.replace("127.0.0.1:7000", room.address).replace('"acme.key"', repr(str(room.folder / "key"))), {})
         report.case("the example of clients/python/README.md", example, wanted, printed.getvalue())
+    if has("the example of clients/go/README.md", "go"):
+        page = (TOP / "clients/go/README.md").read_text(encoding="utf-8")
+        edit, (example, wanted) = blocks_of(page)[0], page[page.index("    package main"):].split("\nprints\n\n")
+        example, wanted = re.sub("(?m)^    ", "", example), blocks_of(wanted)[0]
+        folder = room.folder / "go"
+        folder.mkdir()
+        (folder / "go.mod").write_text("module user\n\ngo 1.19\n")
+        (folder / "main.go").write_text(example.replace("127.0.0.1:7000", room.address).replace("acme.key", str(room.folder / "key")))
+        script = edit.replace("/path/of/clients/go", str(TOP / "clients/go")) + "go run ."
+        offline = {**os.environ, "GOCACHE": str(folder / "cache"), "GOPROXY": "off", "GOFLAGS": "", "CGO_ENABLED": "0"}
+        ran = subprocess.run(["bash", "-ec", script], cwd=folder, env=offline, stdout=subprocess.PIPE, stderr=subprocess.STDOUT, timeout=300)
+        report.case("the example of clients/go/README.md", example, wanted, ran.stdout.decode())
     with connect(room.address, KEY) as client:
         client.drop("shop")
 

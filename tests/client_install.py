@@ -13,7 +13,7 @@ from pathlib import Path
 from lib.running_server import TOP, Report
 
 OFFLINE = {**os.environ, "PIP_NO_INDEX": "1", "PIP_DISABLE_PIP_VERSION_CHECK": "1", "npm_config_offline": "true", "npm_config_audit": "false",
-           "npm_config_fund": "false", "npm_config_update_notifier": "false", "GOPROXY": "off", "GOFLAGS": "", "CGO_ENABLED": "0"}
+           "npm_config_fund": "false", "PYTHONPATH": "", "npm_config_update_notifier": "false", "GOPROXY": "off", "GOFLAGS": "", "CGO_ENABLED": "0"}
 GO = """package main
 
 import (

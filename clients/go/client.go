@@ -6,8 +6,9 @@
 //
 // Goroutines may share a client: each call takes one of its connections for itself. A call ends with *Refused if the server answers with a status
 // other than Ok (errors.Is(err, pathclient.NotFound)), with *Invalid if the request is invalid (nothing was sent), and with *Broken if the
-// connection was lost, no reply came in time, or what came is no reply (the request may have been carried out). A call that only reads is sent
-// again once if its connection is lost. What writes is never sent again.
+// connection was lost, no reply came in time, or what came is no reply (the request may have been carried out). If its context ends first, it ends
+// with the context's error (the request may have been carried out). A call that only reads is sent again once if its connection is lost. What
+// writes is never sent again.
 package pathclient
 
 import (
@@ -49,8 +50,11 @@ type Refused struct {
 }
 
 func (it *Refused) Error() string {
-	place := strings.Trim(it.Collection+"/"+it.Document, "/")
-	return fmt.Sprintf("%s: %s (%s)", it.Name, it.Sentence, strings.TrimSpace(it.Command+" "+place))
+	about := strings.TrimSpace(it.Command + " " + strings.Trim(it.Collection+"/"+it.Document, "/"))
+	if about != "" {
+		about = " (" + about + ")"
+	}
+	return it.Name + ": " + it.Sentence + about
 }
 
 // Is says whether the target is the refusal of the same status, so that errors.Is(err, NotFound) works.
@@ -98,19 +102,20 @@ type Invalid struct{ Why string }
 
 func (it *Invalid) Error() string { return it.Why }
 
-// Broken is the error of a call whose reply did not come. The request may have been carried out.
+// Broken is the error of a call whose reply did not come: the request may have been carried out. Connect gives it if no server answers.
 type Broken struct {
 	Why string
 	// IsLost: the connection ended before the reply.
 	IsLost bool
 	// IsLate: no reply came in time.
 	IsLate bool
+	cause  error
 }
 
 func (it *Broken) Error() string { return it.Why }
 
-// Timeout says whether no reply came in time, as net.Error does.
-func (it *Broken) Timeout() bool { return it.IsLate }
+// Unwrap gives what the network said, if it said something, so that errors.Is(err, os.ErrDeadlineExceeded) works and errors.As finds a net.Error.
+func (it *Broken) Unwrap() error { return it.cause }
 
 // Hit is a hit of a query: the document's name, the normalized path, and the value's bytes as they stand in the text.
 type Hit struct {
@@ -159,6 +164,14 @@ func (it Request) named(what, name string, limit int) Request {
 	return it
 }
 
+// check says why a request may not be sent.
+func (it Request) check() error {
+	if it.read == nil {
+		return &Invalid{"a request is made by Put, Get or another function of the package"}
+	}
+	return it.fault
+}
+
 func (it Request) with(what string, data []byte, limit int) Request {
 	if len(data) > limit && it.fault == nil {
 		it.fault = &Invalid{fmt.Sprintf("a %s has at most %d bytes, not %d", what, limit, len(data))}
@@ -170,6 +183,16 @@ func (it Request) with(what string, data []byte, limit int) Request {
 // Put keeps a JSON text under a collection and a document, in the place of one that is there.
 func Put(collection, document string, text []byte) Request {
 	return command(1, "PUT", false, readNothing).of(collection).at(document).with("text", text, TextLimit)
+}
+
+// PutJSON keeps the JSON text of a value.
+func PutJSON(collection, document string, value any) Request {
+	text, err := json.Marshal(value)
+	found := Put(collection, document, text)
+	if err != nil {
+		found.fault = err
+	}
+	return found
 }
 
 // PutNew keeps a JSON text where no document is there; the refusal is Exists.
@@ -328,10 +351,13 @@ func checked(options Options) (Options, error) {
 	if options.Address == "" {
 		options.Address = os.Getenv("PATH_SERVER_AT")
 	}
+	if options.Address == "" {
+		return options, &Invalid{"give the server's address, or set PATH_SERVER_AT"}
+	}
 	host, port, err := net.SplitHostPort(options.Address)
 	number, fault := strconv.ParseUint(port, 10, 16)
 	if err != nil || fault != nil || number == 0 || host == "" || strings.Contains(host, "/") {
-		return options, &Invalid{fmt.Sprintf("an address is HOST:PORT without a scheme, or in PATH_SERVER_AT, not %q", options.Address)}
+		return options, &Invalid{fmt.Sprintf("an address is HOST:PORT without a scheme or a path, not %q", options.Address)}
 	}
 	if options.Key == nil {
 		path := options.KeyFile
@@ -351,20 +377,23 @@ func checked(options Options) (Options, error) {
 	if options.Size == 0 {
 		options.Size = 4
 	}
-	if len(options.Key) != 16 || options.Timeout < 0 || options.Size < 0 {
-		return options, &Invalid{"a key has 16 bytes, and timeout and size are above 0"}
+	if len(options.Key) != 16 {
+		return options, &Invalid{fmt.Sprintf("a key has 16 bytes, not %d: ReadKey makes them of 32 hexadecimal digits", len(options.Key))}
+	}
+	if options.Timeout < 0 || options.Size < 0 {
+		return options, &Invalid{fmt.Sprintf("a timeout and a size are above 0, not %v and %d", options.Timeout, options.Size)}
 	}
 	return options, nil
 }
 
-// Connect opens a client and its first connection.
+// Connect opens a client and its first connection. It sends nothing: a key that the server does not know is refused at the first call.
 func Connect(options Options) (*Client, error) {
 	options, err := checked(options)
 	if err != nil {
 		return nil, err
 	}
 	client := &Client{options: options, places: make(chan struct{}, options.Size)}
-	first, err := client.open(time.Now().Add(options.Timeout))
+	first, err := client.open(context.Background(), time.Now().Add(options.Timeout))
 	if err != nil {
 		return nil, err
 	}
@@ -402,20 +431,21 @@ func (it *Client) give(found *connection) {
 	it.idle = append(it.idle, found)
 }
 
-func (it *Client) open(deadline time.Time) (*connection, error) {
-	dialer := &net.Dialer{Deadline: deadline}
+func (it *Client) open(ctx context.Context, deadline time.Time) (*connection, error) {
+	bounded, stop := context.WithDeadline(ctx, deadline)
+	defer stop()
+	dial := (&net.Dialer{}).DialContext
 	if it.options.TLS != nil {
-		found, err := tls.DialWithDialer(dialer, "tcp", it.options.Address, it.options.TLS)
-		if err != nil {
-			return nil, err
-		}
+		dial = (&tls.Dialer{Config: it.options.TLS}).DialContext
+	}
+	found, err := dial(bounded, "tcp", it.options.Address)
+	if err == nil {
 		return &connection{found}, nil
 	}
-	found, err := dialer.Dial("tcp", it.options.Address)
-	if err != nil {
-		return nil, err
+	if ctx.Err() != nil {
+		return nil, ctx.Err()
 	}
-	return &connection{found}, nil
+	return nil, &Broken{Why: "no new connection: " + err.Error(), IsLate: bounded.Err() != nil, cause: err}
 }
 
 var last = func() *atomic.Uint32 {
@@ -482,15 +512,14 @@ func outcome(request Request, number uint32, body []byte) (any, error) {
 func broken(err error) error {
 	var late net.Error
 	if errors.As(err, &late) && late.Timeout() {
-		return &Broken{Why: "no answer in time", IsLate: true}
+		return &Broken{Why: "no answer in time", IsLate: true, cause: err}
 	}
-	return &Broken{Why: "the connection ended: " + err.Error(), IsLost: true}
+	return &Broken{Why: "the connection ended: " + err.Error(), IsLost: true, cause: err}
 }
 
 // lend gives a connection to a call for itself, and takes it back if it can be used again.
-func (it *Client) lend(ctx context.Context, use func(*connection, time.Time) error) error {
-	deadline := time.Now().Add(it.options.Timeout)
-	timer := time.NewTimer(it.options.Timeout)
+func (it *Client) lend(ctx context.Context, deadline time.Time, use func(*connection) error) error {
+	timer := time.NewTimer(time.Until(deadline))
 	defer timer.Stop()
 	if it.closed.Load() {
 		return &Broken{Why: "the client is closed"}
@@ -503,7 +532,7 @@ func (it *Client) lend(ctx context.Context, use func(*connection, time.Time) err
 		if it.closed.Load() {
 			return &Broken{Why: "the client is closed"}
 		}
-		return &Broken{Why: "no connection of the client came free in time", IsLate: true}
+		return &Broken{Why: "no connection of the client came free in time", IsLate: true, cause: os.ErrDeadlineExceeded}
 	}
 	defer func() { <-it.places }()
 	found := it.take()
@@ -513,8 +542,8 @@ func (it *Client) lend(ctx context.Context, use func(*connection, time.Time) err
 	}
 	if found == nil {
 		var err error
-		if found, err = it.open(deadline); err != nil {
-			return &Broken{Why: "no new connection: " + err.Error()}
+		if found, err = it.open(ctx, deadline); err != nil {
+			return err
 		}
 	}
 	err := found.run(ctx, deadline, use)
@@ -548,7 +577,7 @@ func (it *connection) isUsable() bool {
 	return err == nil && isUsable
 }
 
-func (it *connection) run(ctx context.Context, deadline time.Time, use func(*connection, time.Time) error) error {
+func (it *connection) run(ctx context.Context, deadline time.Time, use func(*connection) error) error {
 	it.SetDeadline(deadline)
 	ended, over := make(chan struct{}), make(chan struct{})
 	go func() {
@@ -559,7 +588,7 @@ func (it *connection) run(ctx context.Context, deadline time.Time, use func(*con
 		case <-ended:
 		}
 	}()
-	err := use(it, deadline)
+	err := use(it)
 	close(ended)
 	<-over
 	if err != nil && ctx.Err() != nil {
@@ -569,19 +598,20 @@ func (it *connection) run(ctx context.Context, deadline time.Time, use func(*con
 }
 
 func (it *Client) call(ctx context.Context, request Request) (any, error) {
-	if request.fault != nil {
-		return nil, request.fault
+	if err := request.check(); err != nil {
+		return nil, err
 	}
-	value, err := it.once(ctx, request)
+	deadline := time.Now().Add(it.options.Timeout)
+	value, err := it.once(ctx, deadline, request)
 	var lost *Broken
 	if request.isRead && errors.As(err, &lost) && lost.IsLost {
-		value, err = it.once(ctx, request)
+		value, err = it.once(ctx, deadline, request)
 	}
 	return value, err
 }
 
-func (it *Client) once(ctx context.Context, request Request) (value any, err error) {
-	err = it.lend(ctx, func(found *connection, _ time.Time) error {
+func (it *Client) once(ctx context.Context, deadline time.Time, request Request) (value any, err error) {
+	err = it.lend(ctx, deadline, func(found *connection) error {
 		data, number := it.frame(request)
 		if _, fault := found.Write(data); fault != nil {
 			return broken(fault)
@@ -599,15 +629,15 @@ type Result struct {
 }
 
 // Pipeline sends requests over one connection without waiting for each reply, and gives a result for each. The timeout bounds the wait for each
-// reply. If it ends with an error, the results are those of the replies that came.
+// reply. If it ends with an error, the results are those of the replies that came. If a request is invalid, nothing was sent.
 func (it *Client) Pipeline(ctx context.Context, requests []Request) ([]Result, error) {
 	for _, request := range requests {
-		if request.fault != nil {
-			return nil, request.fault
+		if err := request.check(); err != nil {
+			return nil, err
 		}
 	}
 	results := make([]Result, 0, len(requests))
-	err := it.lend(ctx, func(found *connection, deadline time.Time) error {
+	err := it.lend(ctx, time.Now().Add(it.options.Timeout), func(found *connection) error {
 		frames, numbers := make([][]byte, len(requests)), make([]uint32, len(requests))
 		for place, request := range requests {
 			frames[place], numbers[place] = it.frame(request)
@@ -653,11 +683,8 @@ func (it *Client) PutNew(ctx context.Context, collection, document string, text 
 
 // PutJSON puts the JSON text of a value.
 func (it *Client) PutJSON(ctx context.Context, collection, document string, value any) error {
-	text, err := json.Marshal(value)
-	if err != nil {
-		return err
-	}
-	return it.Put(ctx, collection, document, text)
+	_, err := it.call(ctx, PutJSON(collection, document, value))
+	return err
 }
 
 // Get gives the text of a document as it was put, byte for byte.

@@ -20,6 +20,7 @@ import (
 	"regexp"
 	"strings"
 	"sync"
+	"syscall"
 	"testing"
 	"time"
 )
@@ -137,6 +138,20 @@ func TestCommands(t *testing.T) {
 	}
 }
 
+// TestValuesInQueries puts the JSON text of a value into a query, whatever is in it.
+func TestValuesInQueries(t *testing.T) {
+	client := connected(t, Options{Address: listen(t)})
+	values := []any{"it's", `a "quote"`, `back\slash`, "', $..*", "\n\t\x00\x7f/<>&", "\u2028é\U0001f600", "", 4, -1.5e-7, 1e22, true, nil}
+	for place, value := range values {
+		want(t, "put", nil, client.PutJSON(ctx, "shop", fmt.Sprint(place), []any{value}))
+	}
+	for place, value := range values {
+		text, _ := json.Marshal(value)
+		found, err := client.Documents(ctx, "shop", fmt.Sprintf("$[?@==%s]", text))
+		want(t, string(text), []any{[]string{fmt.Sprint(place)}, nil}, []any{found, err})
+	}
+}
+
 func TestRefusals(t *testing.T) {
 	client := connected(t, Options{Address: listen(t)})
 	want(t, "put", nil, client.Put(ctx, "shop", "order-1", []byte("[1]")))
@@ -187,7 +202,14 @@ func TestOptions(t *testing.T) {
 		want(t, address, true, errors.As(err, &invalid))
 	}
 	_, err := Connect(Options{Address: "127.0.0.1:1", Key: key[1:]})
-	want(t, "a short key", "a key has 16 bytes, and timeout and size are above 0", err.Error())
+	want(t, "a short key", "a key has 16 bytes, not 15: ReadKey makes them of 32 hexadecimal digits", err.Error())
+	_, err = Connect(Options{Address: "127.0.0.1:1", Key: key, Timeout: -time.Second})
+	want(t, "a negative timeout", "a timeout and a size are above 0, not -1s and 4", err.Error())
+	_, err = Connect(Options{Key: key})
+	want(t, "no address", "give the server's address, or set PATH_SERVER_AT", err.Error())
+	var broken *Broken
+	_, err = Connect(Options{Address: "127.0.0.1:1", Key: key})
+	want(t, "no server", []bool{true, true}, []bool{errors.As(err, &broken), errors.Is(err, syscall.ECONNREFUSED)})
 	path := filepath.Join(t.TempDir(), "acme.key")
 	os.WriteFile(path, []byte(strings.ToUpper(hex.EncodeToString(key))+"\n"), 0o600)
 	t.Setenv("PATH_SERVER_AT", listen(t))
@@ -228,6 +250,13 @@ func TestGoroutines(t *testing.T) {
 
 func TestPipeline(t *testing.T) {
 	client := connected(t, Options{Address: listen(t)})
+	var invalid *Invalid
+	_, err := client.Pipeline(ctx, []Request{Put("c", "d", []byte("1")), {}})
+	want(t, "a request that none of the functions made", true, errors.As(err, &invalid))
+	values, err := client.Pipeline(ctx, []Request{PutJSON("c", "json", map[string]int{"a": 1}), Get("c", "json"), Get("c", "d")})
+	want(t, "a value", []any{nil, `{"a":1}`, true}, []any{err, string(values[1].Value.([]byte)), errors.Is(values[2].Err, NotFound)})
+	_, err = client.Pipeline(ctx, []Request{PutJSON("c", "none", make(chan int))})
+	want(t, "a value that has no JSON", true, err != nil)
 	text := []byte(`"` + strings.Repeat("x", 1_000_000) + `"`)
 	requests := []Request{}
 	for turn := 0; turn < 20; turn++ {
@@ -335,11 +364,21 @@ func TestNonsenseAndSilence(t *testing.T) {
 	_, err := connected(t, Options{Address: silent, Timeout: 100 * time.Millisecond}).Usage(ctx)
 	var late net.Error
 	want(t, "silence", "no answer in time", err.Error())
-	want(t, "a timeout", false, errors.As(err, &late) && !late.Timeout())
+	want(t, "a timeout", true, errors.As(err, &late) && late.Timeout() && errors.Is(err, os.ErrDeadlineExceeded))
 	short, cancel := context.WithTimeout(ctx, 100*time.Millisecond)
 	defer cancel()
 	_, err = connected(t, Options{Address: silent}).Usage(short)
 	want(t, "a context", context.DeadlineExceeded, err)
+	// what never shakes hands holds no call longer than its context, or than the timeout
+	options, _ := checked(Options{Address: silent, Key: key, TLS: &tls.Config{}})
+	opening := &Client{options: options, places: make(chan struct{}, 1)}
+	begun, cancel := context.WithTimeout(ctx, 100*time.Millisecond)
+	defer cancel()
+	_, err = opening.Usage(begun)
+	want(t, "a context of an opening", context.DeadlineExceeded, err)
+	_, err = Connect(Options{Address: silent, Key: key, TLS: &tls.Config{}, Timeout: 100 * time.Millisecond})
+	var broken *Broken
+	want(t, "a timeout of an opening", true, errors.As(err, &broken) && broken.IsLate)
 }
 
 // TestTLS runs where tests/client_tls.py says where.

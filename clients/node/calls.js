@@ -1,7 +1,7 @@
 // The commands as methods, over one function that sends the request that it is told how to make.
 
 import { request } from './frames.js';
-import { fromJson, toJson } from './json_texts.js';
+import { fromJson } from './json_texts.js';
 
 /**
  * The commands. Each gives a promise of its value. The last argument of each may have `timeout` (milliseconds, in the place of the client's) and
@@ -20,7 +20,7 @@ export class Calls {
 
   /** Puts the JSON text of a value. BigInts and ExactNumbers keep their digits. */
   putJson(collection, document, value, options) {
-    return this._call(() => request.put(collection, document, toJson(value)), options);
+    return this._call(() => request.putJson(collection, document, value), options);
   }
 
   /** The text's bytes as they were put. Refused as NotFound if there is none. */

@@ -1,5 +1,6 @@
 // Requests and replies as bytes: the frames of docs/PROTOCOL.md, and nothing of connections.
 
+import { toJson } from './json_texts.js';
 import { BrokenConnection } from './refusals.js';
 
 /** Bytes of a reply's body, at most. */
@@ -22,6 +23,8 @@ export const request = {
   /** Keeps a text under a collection and a document, in the place of one that is there. */
   put: (collection, document, text) =>
     command(1, 'PUT', [...place(collection, document), bounded('text', text, TEXT_LIMIT)], readNothing, collection, document),
+  /** Keeps the JSON text of a value. */
+  putJson: (collection, document, value) => request.put(collection, document, toJson(value)),
   /** The text of a document. */
   get: (collection, document) => command(2, 'GET', place(collection, document), (payload) => Buffer.from(payload), collection, document),
   /** Removes a document. */
@@ -49,8 +52,9 @@ const READS = [2, 4, 5, 7];
 const PUTS = [1, 8];
 
 function command(code, name, fields, read, collection = '', document = '') {
-  const text = PUTS.includes(code) ? fields[fields.length - 1] : undefined;
-  return { code, name, fields: Buffer.concat(fields), read, collection, document, text };
+  const bytes = Buffer.concat(fields);
+  const text = PUTS.includes(code) ? bytes.subarray(bytes.length - fields.at(-1).length) : undefined;
+  return { code, name, fields: bytes, read, collection, document, text };
 }
 
 /** Whether a command changes nothing, so that it may be sent again. */
@@ -75,7 +79,7 @@ export function keyBytes(key) {
   if (typeof key === 'string' && /^[0-9a-f]{32}$/i.test(key)) return Buffer.from(key, 'hex');
   if (key instanceof Uint8Array && key.length === KEY_BYTES) return Buffer.from(key);
   const what = typeof key === 'string' ? `a string of ${key.length} characters` : key instanceof Uint8Array ? `${key.length} bytes` : typeof key;
-  throw new RangeError(`a key is ${2 * KEY_BYTES} hexadecimal digits, or ${KEY_BYTES} bytes, not ${what}`);
+  throw new RangeError(`a key is ${2 * KEY_BYTES} hexadecimal digits, or ${KEY_BYTES} bytes, not ${what}: readKey(file) reads one`);
 }
 
 /** The bytes of a request's frame. */
@@ -139,7 +143,7 @@ function asBytes(what, text) {
 function name(what, text, limit) {
   const bytes = asBytes(`${what}'s name`, text);
   if (bytes.length > limit || !/^[A-Za-z0-9._-]+$/.test(bytes.toString('latin1')) || bytes.includes(10)) {
-    throw new RangeError(`the name of a ${what} has 1 to ${limit} ASCII letters, digits, '.', '-' or '_'`);
+    throw new RangeError(`the name of a ${what} has 1 to ${limit} ASCII letters, digits, '.', '-' or '_', not '${bytes}'`);
   }
   return Buffer.concat([Buffer.of(bytes.length), bytes]);
 }

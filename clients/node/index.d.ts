@@ -67,6 +67,7 @@ export interface Request<Result> {
 export declare const request: {
   put(collection: Text, document: Text, text: Text): Request<void>;
   putNew(collection: Text, document: Text, text: Text): Request<void>;
+  putJson(collection: Text, document: Text, value: unknown): Request<void>;
   get(collection: Text, document: Text): Request<Buffer>;
   remove(collection: Text, document: Text): Request<void>;
   list(collection: Text): Request<string[]>;
@@ -133,6 +134,7 @@ export declare abstract class Refused extends Error {
   readonly command: string;
   readonly collection: string;
   readonly document: string;
+  /** Where the text that was put is refused. It is sought when it is first asked for. */
   readonly place?: Place;
 }
 
@@ -174,6 +176,8 @@ export { Costly as TooCostly };
 /** The connection ended, or what came is not a reply. Of a pipeline, `results` has those of the replies that came. */
 export declare class BrokenConnection extends Error {
   results?: unknown[];
+  /** Where no connection could be opened: the code of Node's error, such as ECONNREFUSED. */
+  code?: string;
 }
 export declare class LostConnection extends BrokenConnection {}
 export declare class TimedOut extends BrokenConnection {}

@@ -39,7 +39,8 @@ const LONGEST = 2 ** 31 - 1;
 /**
  * Opens a connection to `at` (`HOST:PORT`; `[::1]:7000` for IPv6) for the tenant of `key` (32 hexadecimal digits, or 16 bytes). Without them,
  * PATH_SERVER_AT and the file PATH_SERVER_KEY_FILE have them. `timeout` in milliseconds bounds the opening and, after it, each call. With `tls`
- * (true, or options of tls.connect) it speaks TLS. Rejects if there is no server, or an option is invalid.
+ * (true, or options of tls.connect) it speaks TLS. Rejects with BrokenConnection if there is no server (`code` is that of Node's error), with
+ * RangeError or TypeError if an option is invalid. It sends nothing: a key that the server does not know is refused at the first call.
  */
 export async function connect(options) {
   const client = new Client(options);
@@ -88,6 +89,16 @@ function checkTimeout(timeout) {
   throw new RangeError(`a timeout is a number of milliseconds from 1 to ${LONGEST}, not ${timeout}`);
 }
 
+function checkOptions(options = {}) {
+  if (options !== null && typeof options === 'object') return options;
+  throw new TypeError(`options are an object, such as { at: '127.0.0.1:7000', key }, not ${options === null ? 'null' : `a ${typeof options}`}`);
+}
+
+function checkRequest(it) {
+  if (it?.fields instanceof Uint8Array) return it;
+  throw new TypeError(`a pipeline takes requests, such as request.get(..), not ${Array.isArray(it) ? 'an array' : typeof it}`);
+}
+
 /** A tenant's connection, opened when it is first needed. Calls that overlap are sent one behind the other over it, without waiting. */
 export class Client extends Calls {
   #link;
@@ -101,8 +112,9 @@ export class Client extends Calls {
   #isClosed = false;
   #isUnref = false;
 
-  constructor({ at, key, timeout = 30_000, tls } = {}) {
+  constructor(options) {
     super();
+    const { at, key, timeout = 30_000, tls } = checkOptions(options);
     this.#address = parseAddress(at);
     this.#key = givenKey(key);
     this.#timeout = checkTimeout(timeout);
@@ -146,7 +158,7 @@ export class Client extends Calls {
    */
   async pipeline(requests, options) {
     const { timeout, signal } = this.#options(options);
-    const link = await this.#openedForACall();
+    const link = await this.#opened();
     const [sent, results] = [[], []];
     const settle = async (count) => {
       for (let at = results.length; at < count; at += 1) results.push(resultOf(await sent[at].end, sent[at].it));
@@ -154,7 +166,7 @@ export class Client extends Calls {
     let fault;
     try {
       for await (const it of requests) {
-        sent.push({ it, end: link.send(this.#key, it, timeout, signal, true) });
+        sent.push({ it, end: link.send(this.#key, checkRequest(it), timeout, signal, true) });
         if (sent.length > WINDOW) await settle(sent.length - WINDOW);
       }
     } catch (found) {
@@ -170,13 +182,16 @@ export class Client extends Calls {
     throw fault;
   }
 
-  async _call(make, options) {
+  async _call(make, options, told) {
     const it = make();
     const { timeout, signal } = options === undefined ? this.#defaults : this.#options(options);
-    let end = await (this.#live ?? (await this.#openedForACall())).send(this.#key, it, timeout, signal, false);
+    const until = performance.now() + timeout;
+    let end = await (this.#live ?? (await this.#opened())).send(this.#key, it, timeout, signal, false);
     if (end.error === LostConnection && isRead(it)) {
-      end = await (await this.#openedForACall()).send(this.#key, it, timeout, signal, false);
+      end = await (await this.#opened()).send(this.#key, it, left(until, timeout), signal, false);
     }
+    // of a call that waited before, or was sent again, the rest of its time is over: who called gave the whole
+    if (end.error === TimedOut) end.message = `no answer within ${told ?? timeout} ms`;
     const result = resultOf(end, it);
     if (end.status !== undefined) throw result;
     return result;
@@ -198,17 +213,15 @@ export class Client extends Calls {
     this.#link ??= Link.open(this.#address, this.#tls, this.#timeout, this.#isUnref, () => {
       this.#link = this.#live = undefined;
     });
-    const link = await this.#link;
-    if (!link.hasEnded) this.#live = link;
-    return link;
-  }
-
-  async #openedForACall() {
     try {
-      return await this.#opened();
+      const link = await this.#link;
+      if (!link.hasEnded) this.#live = link;
+      return link;
     } catch (fault) {
       if (fault instanceof BrokenConnection) throw fault;
-      throw new BrokenConnection(`no new connection: ${fault.message}`, { cause: fault });
+      // several addresses that all refuse have no message of their own
+      const why = fault.message || `${fault.code} at ${this.#address.host}:${this.#address.port}`;
+      throw Object.assign(new BrokenConnection(`no new connection: ${why.trim()}`, { cause: fault }), { code: fault.code });
     }
   }
 }
@@ -220,8 +233,9 @@ export class Pool extends Calls {
   #waiting = new Queue();
   #timeout;
 
-  constructor({ size = 4, ...options } = {}) {
+  constructor(given) {
     super();
+    const { size = 4, ...options } = checkOptions(given);
     if (!Number.isInteger(size) || size < 1) throw new RangeError(`a pool has at least 1 connection, not ${size}`);
     this.#clients = Array.from({ length: size }, () => new Client(options));
     this.#idle = [...this.#clients];
@@ -259,7 +273,7 @@ export class Pool extends Calls {
     const { timeout = this.#timeout } = options ?? {};
     const until = performance.now() + timeout;
     // what it waited for a connection is of its own time
-    return await this.#lend((client) => client._call(make, { ...options, timeout: left(until, timeout) }), options);
+    return await this.#lend((client) => client._call(make, { ...options, timeout: left(until, timeout) }, timeout), options);
   }
 
   async #lend(use, { timeout = this.#timeout, signal } = {}) {

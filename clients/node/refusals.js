@@ -2,6 +2,9 @@
 
 import { findPlace } from './places.js';
 
+/** Bytes of a text, at most, whose place stands in the message too: finding that of a text of megabytes takes long. */
+const TOLD_BYTES = 65_536;
+
 /** The server answered with a status other than Ok. Each status has a class of its name below this one. */
 export class Refused extends Error {
   /** The number of the status. */
@@ -13,22 +16,32 @@ export class Refused extends Error {
   collection;
   document;
 
-  /** Where the text that was put is refused, if it is refused for what stands in it: byte, line, column, expected, message. */
-  place;
+  /** The text that was put, and where it is refused once that was asked for. */
+  #text;
+  #place;
 
   constructor(status, name, sentence, { command = '', collection = '', document = '', text } = {}) {
     const target = [collection, document].filter(Boolean).join('/');
     const about = [command, target].filter(Boolean).join(' ');
-    const place = text && findPlace(text, name);
+    const place = text?.length <= TOLD_BYTES ? findPlace(text, name) : undefined;
     super((about ? `${sentence} (${about})` : sentence) + (place ? `\n${place}` : ''));
-    Object.assign(this, { status, name, sentence, command, collection, document, place });
+    Object.assign(this, { status, name, sentence, command, collection, document });
+    this.#place = place;
+    this.#text = text?.length > TOLD_BYTES ? text : undefined;
+  }
+
+  /** Where the text that was put is refused, if it is refused for what stands in it: byte, line, column, expected, message. */
+  get place() {
+    if (this.#text) this.#place = findPlace(this.#text, this.name);
+    this.#text = undefined;
+    return this.#place;
   }
 }
 
 function refusal(status, name, sentence) {
   const kind = class extends Refused {
-    constructor(place) {
-      super(status, name, sentence, place);
+    constructor(asked) {
+      super(status, name, sentence, asked);
     }
   };
   Object.defineProperty(kind, 'name', { value: name });

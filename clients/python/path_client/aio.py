@@ -10,8 +10,8 @@ from typing import Any, AsyncIterable, AsyncIterator, Awaitable, Callable, Deque
 
 from .calls import AsyncCalls
 from .connection import PIECE_BYTES
-from .frames import Replies, Reply, Request, next_number
-from .opening import Address, Key, check_key, check_timeout, parse_address
+from .frames import Replies, Reply, Request, as_request, next_number
+from .opening import Address, Key, check_context, check_key, check_timeout, parse_address
 from .refusals import BrokenConnection, LostConnection, Refused, TimedOut
 
 Result = TypeVar("Result")
@@ -68,7 +68,7 @@ class AsyncClient(AsyncCalls):
         """The tenant's key of the calls that follow; may be set anew between calls."""
         self.timeout = check_timeout(timeout)
         """Seconds that each call takes at most."""
-        self.ssl = ssl
+        self.ssl = check_context(ssl)
         self._home: Optional[_Home] = None
         self._is_closed = False
 
@@ -105,7 +105,7 @@ class AsyncClient(AsyncCalls):
             source = _each(requests)
             while fault is None:
                 try:
-                    request = await source.__anext__()
+                    request = as_request(await source.__anext__())
                     waiting.append(link.send(self.key, request))
                 except StopAsyncIteration:
                     break
@@ -189,7 +189,7 @@ class AsyncClient(AsyncCalls):
         except (BrokenConnection, TimedOut):
             raise
         except OSError as fault:
-            raise BrokenConnection("no new connection: {}".format(fault)) from fault
+            raise BrokenConnection("no new connection to {}:{}: {}".format(*self.address, fault)) from fault
 
 
 class AsyncPool(AsyncCalls):

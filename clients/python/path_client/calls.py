@@ -5,7 +5,7 @@ import time
 from typing import Any, List, TypeVar
 
 from .frames import Hit, Hits, Request, Text, Usage
-from .json_texts import from_json, to_json
+from .json_texts import from_json
 
 Result = TypeVar("Result")
 
@@ -26,7 +26,7 @@ class Calls:
 
     def put_json(self, collection: Text, document: Text, value: Any) -> None:
         """Puts the JSON text of a value. A decimal.Decimal keeps its digits."""
-        return self.put(collection, document, to_json(value))
+        return self._call(Request.put_json(collection, document, value))
 
     def get(self, collection: Text, document: Text) -> bytes:
         """The text as it was put, byte for byte. Refused as NotFound if there is none."""
@@ -87,7 +87,7 @@ class AsyncCalls:
 
     async def put_json(self, collection: Text, document: Text, value: Any) -> None:
         """Puts the JSON text of a value. A decimal.Decimal keeps its digits."""
-        return await self.put(collection, document, to_json(value))
+        return await self._call(Request.put_json(collection, document, value))
 
     async def get(self, collection: Text, document: Text) -> bytes:
         """The text as it was put, byte for byte. Refused as NotFound if there is none."""

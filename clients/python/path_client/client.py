@@ -10,8 +10,8 @@ from typing import Any, Deque, Iterable, Iterator, List, Optional, Tuple, TypeVa
 
 from .calls import Calls
 from .connection import PIECE_BYTES, Connection
-from .frames import Request, next_number
-from .opening import Address, Key, OfProcess, check_key, check_timeout, parse_address
+from .frames import Request, as_request, next_number
+from .opening import Address, Key, OfProcess, check_context, check_key, check_timeout, parse_address
 from .refusals import BrokenConnection, LostConnection, Refused, TimedOut
 
 Result = TypeVar("Result")
@@ -47,7 +47,7 @@ class Client(Calls):
         """The tenant's key of the calls that follow; may be set anew between calls."""
         self.timeout = check_timeout(timeout)
         """Seconds that each call takes at most."""
-        self.ssl = ssl
+        self.ssl = check_context(ssl)
         self._links = OfProcess(_Link, _Link.drop)
         self._is_closed = False
 
@@ -153,7 +153,7 @@ class Client(Calls):
         except (BrokenConnection, TimedOut):
             raise
         except OSError as fault:
-            raise BrokenConnection("no new connection: {}".format(fault)) from fault
+            raise BrokenConnection("no new connection to {}:{}: {}".format(*self.address, fault)) from fault
 
 
 class Pool(Calls):
@@ -273,7 +273,7 @@ class _Outgoing:
         try:
             for request in self.requests:
                 number = next_number()
-                frames += request.frame(self.key, number)
+                frames += as_request(request).frame(self.key, number)
                 self.waiting.append((number, request))
                 if len(frames) >= PIECE_BYTES:
                     break

@@ -4,8 +4,9 @@ from __future__ import annotations
 import itertools
 import os
 import re
-from typing import Callable, Dict, Generic, Iterator, List, NamedTuple, Optional, TypeVar, Union
+from typing import Any, Callable, Dict, Generic, Iterator, List, NamedTuple, Optional, TypeVar, Union
 
+from .json_texts import to_json
 from .refusals import BrokenConnection, Refused, Status, refusal
 
 Text = Union[str, bytes, bytearray, memoryview]
@@ -86,6 +87,11 @@ class Request(Generic[Result]):
         return Request(1, _place(collection, document) + _bounded("text", text, TEXT_LIMIT), read_nothing, collection, document)
 
     @staticmethod
+    def put_json(collection: Text, document: Text, value: Any) -> Request[None]:
+        """Keeps the JSON text of a value. Raises TypeError or ValueError for what has no JSON."""
+        return Request.put(collection, document, to_json(value))
+
+    @staticmethod
     def get(collection: Text, document: Text) -> Request[bytes]:
         """The text of a document."""
         return Request(2, _place(collection, document), bytes, collection, document)
@@ -160,6 +166,13 @@ class Request(Generic[Result]):
         for _ in range(2):
             at += 1 + (self.fields[at] if at < len(self.fields) else 0)
         return self.fields[at:]
+
+
+def as_request(it: Request[Result]) -> Request[Result]:
+    """A request of a pipeline. Raises TypeError for what is none."""
+    if not isinstance(it, Request):
+        raise TypeError("a pipeline takes requests, such as Request.get(..), not {}".format(type(it).__name__))
+    return it
 
 
 _counts: Dict[int, Iterator[int]] = {}

@@ -4,6 +4,7 @@ from __future__ import annotations
 import contextlib
 import math
 import os
+import ssl
 from pathlib import Path
 from typing import Callable, Dict, Generic, Optional, Tuple, TypeVar, Union
 
@@ -25,7 +26,7 @@ def parse_address(address: Optional[Address]) -> Tuple[str, int]:
         address = os.environ.get("PATH_SERVER_AT") or None
         if address is None:
             raise ValueError("give the server's address, or set PATH_SERVER_AT")
-    host, port = _host_and_port(address) if isinstance(address, str) else (address[0], address[1])
+    host, port = _host_and_port(address) if isinstance(address, str) else _checked(address)
     if not 1 <= port <= 65_535:
         raise ValueError("a port is a number from 1 to 65535, not {}".format(port))
     return host, port
@@ -39,6 +40,19 @@ def _host_and_port(address: str) -> Tuple[str, int]:
     if not colon or not host or (":" in host and not is_bracketed) or not (port.isascii() and port.isdigit()):
         raise ValueError("an address is HOST:PORT, not {!r}".format(address))
     return host[1:-1] if is_bracketed else host, int(port)
+
+
+def _checked(address: Tuple[str, int]) -> Tuple[str, int]:
+    if not isinstance(address, (tuple, list)) or len(address) < 2 or not isinstance(address[0], str) or not isinstance(address[1], int):
+        raise ValueError("an address is HOST:PORT as a str, or a tuple of a str and an int, not {!r}".format(address))
+    return address[0], address[1]
+
+
+def check_context(context: Optional[ssl.SSLContext]) -> Optional[ssl.SSLContext]:
+    """What TLS is spoken with, or None. Raises ValueError where it is neither."""
+    if context is not None and not isinstance(context, ssl.SSLContext):
+        raise ValueError("ssl is an ssl.SSLContext, such as ssl.create_default_context(), not {!r}".format(context))
+    return context
 
 
 def read_key(path: Union[str, Path]) -> bytes:
@@ -67,7 +81,7 @@ def check_key(key: Optional[Key]) -> bytes:
     if isinstance(key, str) and len(key) == 2 * KEY_BYTES and all(it in "0123456789abcdefABCDEF" for it in key):
         return bytes.fromhex(key)
     what = "{} with a length of {}".format(type(key).__name__, len(key)) if isinstance(key, (bytes, bytearray, str)) else type(key).__name__
-    raise ValueError("a key is {} bytes, or a str of {} hexadecimal digits, not {}".format(KEY_BYTES, 2 * KEY_BYTES, what))
+    raise ValueError("a key is {} bytes, or a str of {} hexadecimal digits, not {}: read_key(file) reads one".format(KEY_BYTES, 2 * KEY_BYTES, what))
 
 
 def check_timeout(seconds: float) -> float:

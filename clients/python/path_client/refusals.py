@@ -2,7 +2,7 @@
 from __future__ import annotations
 
 import enum
-from typing import Any, Dict, List, Optional, Type
+from typing import Any, Dict, List, Optional, Tuple, Type
 
 from .places import Place, find_place
 
@@ -36,6 +36,10 @@ class Status(enum.IntEnum):
     FrameFault = 255
 
 
+TOLD_BYTES = 65_536
+"""Bytes of a text, at most, whose place stands in the message too: finding that of a text of megabytes takes seconds."""
+
+
 class Refused(Exception):
     """The server answered with a status other than Ok. Each status has a class of its name below this one."""
 
@@ -45,6 +49,7 @@ class Refused(Exception):
     """What the status says, and what to do about it."""
     text: Optional[bytes] = None
     """The text that was put, if the command puts one."""
+    _places: Tuple[Optional[Place], ...] = ()
 
     def __init__(self, command: str = "", collection: str = "", document: str = "") -> None:
         self.command = command
@@ -64,8 +69,10 @@ class Refused(Exception):
 
     @property
     def place(self) -> Optional[Place]:
-        """Where the text is refused, if it is refused for what stands in it."""
-        return None if self.text is None else find_place(self.text, self.name)
+        """Where the text is refused, if it is refused for what stands in it. It is sought when it is first asked for."""
+        if self.text is not None and not self._places:
+            self._places = (find_place(self.text, self.name),)
+        return self._places[0] if self._places else None
 
     @property
     def line(self) -> Optional[int]:
@@ -86,7 +93,7 @@ class Refused(Exception):
         return place and place.expected
 
     def __str__(self) -> str:
-        place = self.place
+        place = self.place if self.text is not None and len(self.text) <= TOLD_BYTES else None
         return super().__str__() + ("\n{}".format(place) if place else "")
 
     def __reduce__(self) -> Any:

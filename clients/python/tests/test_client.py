@@ -6,11 +6,13 @@ The program is the one that bin/build makes, or the one that the environment's P
 import asyncio
 import datetime
 import decimal
+import json
 import os
 import pickle
 import re
 import sys
 import tempfile
+import time
 import tracemalloc
 import unittest
 import unittest.mock
@@ -91,12 +93,34 @@ class OneThread(Served):
             self.client.get("shop", "order-2")
         self.assertIsNone(refused.exception.place)
 
+    def test_the_place_in_a_long_text(self):
+        """It takes long to find, so that only who asks for it waits, and once."""
+        with self.assertRaises(NotJson) as refused:
+            self.client.put("shop", "order-1", b"[" + b"1," * 400_000 + b"]")
+        found, moments = refused.exception, []
+        for ask in (lambda: str(found), lambda: found.place.byte, lambda: (found.line, found.column, found.expected)):
+            began = time.monotonic()
+            moments.append((ask(), time.monotonic() - began))
+        (told, short), (byte, long), (rest, again) = moments
+        self.assertEqual((told.count("\n"), byte, rest), (0, 800_001, (1, 800_002, "a value")))
+        self.assertLess(max(short, again), long / 10)
+
     def test_documents_with_a_hit(self):
         for name, total in (("a", 10), ("b", 30), ("c", 24)):
             self.client.put_json("shop", name, {"id": name, "total": total, "items": [1, 2]})
         self.assertEqual(self.client.documents("shop", "$[?$.total<25]"), ["a", "c"])
         self.assertEqual(self.client.documents("shop", "$[?$.total<0]"), [])
         self.assertEqual(len(self.client.query("shop", "$[?$.total<25]")), 6)
+
+    def test_a_value_in_a_query(self):
+        """The JSON text of a string or a number is a literal of a query, whatever is in it."""
+        values = ["it's", 'a "quote"', "back\\slash", "', $..*", "\n\t\x00\x7f/", "\u2028é\U0001f600", "", 4, -1.5e-7, 1e22, True, None]
+        for place, value in enumerate(values):
+            self.client.put_json("shop", "{:02}".format(place), {"tags": [value]})
+        for ascii_only in (True, False):
+            for place, value in enumerate(values):
+                query = "$.tags[?@=={}]".format(json.dumps(value, ensure_ascii=ascii_only))
+                self.assertEqual(self.client.documents("shop", query), ["{:02}".format(place)], query)
 
     def test_hits_one_by_one(self):
         """A reply of 8 MB is not copied to go over its hits."""
@@ -120,7 +144,7 @@ class OneThread(Served):
         self.assertEqual(value["a"], decimal.Decimal("1.10"))
         self.client.put_json("shop", "again", value)
         self.assertEqual(self.client.get("shop", "again"), text.replace(b"1E400", b"1E+400"))
-        self.client.put_json("shop", "plain", {"a": [1, "é", 0.1]})
+        self.assertEqual(self.client.pipeline([Request.put_json("shop", "plain", {"a": [1, "é", 0.1]})]), [None])
         self.assertEqual(self.client.get("shop", "plain"), '{"a":[1,"é",0.1]}'.encode())
         self.assertEqual(self.client.get_json("shop", "plain"), {"a": [1, "é", 0.1]})
         for value in (float("nan"), decimal.Decimal("Infinity"), {"a": datetime.date(2026, 11, 28)}, {1: decimal.Decimal(1)}):
@@ -179,6 +203,13 @@ class OneThread(Served):
         self.assertEqual(fault.exception.results, [None, b"1"])
         self.assertEqual(self.client.get("shop", "a"), b"1")
 
+    def test_a_pipeline_of_what_are_no_requests(self):
+        for it in (("put", "shop", "a", "1"), None, "get"):
+            with self.assertRaisesRegex(TypeError, "a pipeline takes requests") as found:
+                self.client.pipeline([Request.put("shop", "a", "1"), it])
+            self.assertEqual(found.exception.results, [None])
+            self.assertEqual(self.client.get("shop", "a"), b"1")
+
     def test_a_call_within_a_pipeline(self):
         self.client.put("shop", "a", "1")
         with self.assertRaisesRegex(RuntimeError, "another client"):
@@ -200,7 +231,7 @@ class OneThread(Served):
                 self.assertEqual(client.get("shop", "order-1"), b"1")
                 server.stop()
                 wait_for_the_end(client)
-                self.assertRaisesRegex(BrokenConnection, "no new connection", client.usage)
+                self.assertRaisesRegex(BrokenConnection, "no new connection to 127.0.0.1:", client.usage)
             self.assertRaisesRegex(BrokenConnection, "the client is closed", client.usage)
             server.errors.close()
 
@@ -304,13 +335,17 @@ class ManyTasks(Served):
 class Opening(Served):
     def test_what_is_invalid(self):
         for address in ("127.0.0.1", "127.0.0.1:65536", "127.0.0.1:0", "127.0.0.1:-1", "127.0.0.1:http", ":7000", "::1:7000",
-                        "http://127.0.0.1:7000", "tcp://127.0.0.1:7000/", "127.0.0.1:7000/x", ("127.0.0.1", 99_999), ""):
+                        "http://127.0.0.1:7000", "tcp://127.0.0.1:7000/", "127.0.0.1:7000/x", ("127.0.0.1", 99_999), "", ("127.0.0.1", "7000"), b"127.0.0.1:7000",
+                        ("127.0.0.1",), 7000):
             self.assertRaises(ValueError, path_client.connect, address, KEY)
             self.assertRaises(ValueError, path_client.connect_async, address, KEY)
         for key in (KEY[1:], "0123456789abcdef", "0" * 31, "g" * 32, 7):
             self.assertRaises(ValueError, path_client.connect, self.address, key)
         for timeout in (0, -1, None, float("nan"), float("inf"), "30", 1e12):
             self.assertRaises(ValueError, path_client.connect, self.address, KEY, timeout)
+        for context in (True, "tls"):
+            for opener in (path_client.connect, path_client.connect_async, path_client.pool):
+                self.assertRaisesRegex(ValueError, "SSLContext", opener, self.address, KEY, ssl=context)
         for size in (0, -1, None, 1.5):
             self.assertRaises(ValueError, path_client.pool, self.address, KEY, size)
 
