@@ -120,10 +120,11 @@ fn looks() -> Trial {
 fn looked(alloc: Global, text: &str) -> Option<(usize, Option<u64>)>
     requires { length text.now ≤ text_limit }
 {
-    let Ok(found) = index(alloc, text.as_bytes()) else {
+    let bytes = text.as_bytes();
+    let Ok((found, _)) = index_and_copy(alloc, bytes) else {
         return None;
     };
-    let mut looks = Looks::new(text.as_bytes());
+    let mut looks = Looks::new(bytes);
     let is_accepted = build(alloc, &found, &mut looks).is_ok();
     let count = found.places.len();
     Some((

@@ -116,9 +116,10 @@ fn read_owned_twice<R: Print + AllocGlobal>(rt: &R) -> io::Result<()> {
 
 // Nothing: a tape has no readers of its own.
 fn build_twice<R: Print + AllocGlobal>(rt: &R) -> io::Result<()> {
-    let index = index(rt.alloc(), ARRAYS.as_bytes())?;
+    let text = ARRAYS.as_bytes();
+    let (index, _) = index_and_copy(rt.alloc(), text)?;
     for _ in 0..2 {
-        let mut looks = Looks::new(ARRAYS.as_bytes());
+        let mut looks = Looks::new(text);
         begins(rt);
         let came = build(rt.alloc(), &index, &mut looks);
         ends(rt);
