@@ -114,6 +114,9 @@ def fits(kind, wanted, got):
         return True
     if kind == "write" and (status, output) == wanted[:2]:
         return wanted[2].startswith(errors)
+    if kind == "memory" and errors and (status, output, errors) == (*wanted[:2], wanted[2][:wanted[2].find(b"\n") + 1]):
+        # the refusal's name, without the place, for which there was no memory
+        return True
     partly = wanted[1].startswith(output) and (kind == "write" or len(wanted[1]) > PIECE or output == b"")
     return status == 4 and partly and (errors == FAULTS[kind] or kind == "write" and errors == b"")
 

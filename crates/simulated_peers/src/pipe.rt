@@ -192,6 +192,14 @@ impl<'w> End<'w> {
         }
     }
 
+    // If there is no memory for the record, nothing moves, and the pipe is reported once more.
+    fn report_again(&self) {
+        if let Ok(mut pipe) = self.pipe.try_borrow_mut() {
+            pipe.is_readable = true;
+            pipe.is_writable = true;
+        }
+    }
+
     // Takes all that is there and fits off the pipe: a read that is shorter than its buffer tells that no more is there.
     fn take(&self, buffer: &mut [u8]) -> Given
         ensures { HasGiven result buffer.new }
@@ -265,7 +273,8 @@ impl Wire for End<'_> {
 
     fn read(&mut self, buffer: &mut [u8]) -> Given {
         if self.read.reserve(buffer.len()).is_err() {
-            return Given::Failed;
+            self.report_again();
+            return Given::Blocked;
         }
         let given = self.take(&mut *buffer);
         if let Given::Bytes(count) = given {
@@ -279,7 +288,8 @@ impl Wire for End<'_> {
 
     fn write(&mut self, bytes: &[u8]) -> Taken {
         if self.written.reserve(bytes.len()).is_err() {
-            return Taken::Failed;
+            self.report_again();
+            return Taken::Blocked;
         }
         let taken = self.put(bytes);
         if let Taken::Bytes(count) = taken {
