@@ -9,7 +9,8 @@ use crate::measured_hub::MeasuredHub;
 use event_loop::{Journal, LoopFault, Server, System, Time};
 
 /// Serves as [`Server::serve`] does. Whatever peers send and however connections come and go, each tenant's replies are those of its own requests alone.
-/// The bytes written to a peer are a prefix of the replies to the first requests in the bytes read of it.
+/// Take a connection that is accepted here and open at the end. The bytes written to it are a prefix of the replies to the first requests in the bytes
+/// read of it.
 ///
 /// # Errors
 ///
