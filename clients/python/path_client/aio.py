@@ -95,7 +95,7 @@ class AsyncClient(AsyncCalls):
         Refused that the call would have raised. The requests may come from an async iterable. `timeout` bounds the wait for each reply.
 
         If the requests raise, those before are carried out, and it raises the same. What it raises has the results of the replies that came,
-        as its attribute `results`.
+        as its attribute `results`. Where the connection is reset, asyncio gives up what it has not read: replies that came with the reset are missing.
         """
         link = await self._open_for_a_call(self._deadline())
         waiting: List[asyncio.Future[Any]] = []

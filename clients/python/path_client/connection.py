@@ -30,6 +30,7 @@ class Connection:
             raise TimedOut("no connection to {}:{} in time".format(*address)) from None
         self.replies = Replies()
         self._socket = plain
+        self._lost: Optional[LostConnection] = None
         self._selector: selectors.BaseSelector = Selector()
         self._events = READ
         try:
@@ -56,19 +57,22 @@ class Connection:
                 self.wait(isinstance(wanted, ssl.SSLWantWriteError), seconds)
 
     def send(self, data: memoryview) -> int:
-        """Sends what goes out at once, and says how many bytes that were."""
+        """Sends what goes out at once, and says how many bytes that were. Of a lost connection `receive` tells, behind what has come."""
         try:
             return self._socket.send(data)
         except (BlockingIOError, *WANTS):
             return 0
         except OSError as fault:
-            raise LostConnection(str(fault)) from fault
+            self._lost = LostConnection(str(fault))
+            return 0
 
     def receive(self) -> bytes:
         """What has come, or nothing. Raises LostConnection behind its end."""
         try:
             piece = self._socket.recv(PIECE_BYTES)
         except (BlockingIOError, *WANTS):
+            if self._lost is not None:
+                raise self._lost
             return b""
         except OSError as fault:
             raise LostConnection(str(fault)) from fault

@@ -6,6 +6,7 @@ makes, or the one that the environment's PATH_SERVER names.
 """
 import asyncio
 import glob
+import itertools
 import os
 import resource
 import shutil
@@ -21,7 +22,7 @@ TOP = Path(__file__).resolve().parents[3]
 sys.path[:0] = [str(TOP / "clients/python"), str(TOP / "tests"), str(TOP / "clients/python/tests")]
 
 import path_client
-from lib.running_server import Listening
+from lib.running_server import Listening, reset
 from path_client import BrokenConnection, LostConnection, Request, TimedOut, Usage
 from peers import Peer, number, reply
 
@@ -236,10 +237,9 @@ class LostConnections(unittest.TestCase):
 
     def test_a_pipeline_keeps_its_results(self):
         def serve(connection, _):
-            for place, request in enumerate(peer.requests(connection)):
+            """Reads all requests before it closes: bytes that nobody read make of an end a reset."""
+            for request in [*itertools.islice(peer.requests(connection), 5)][:3]:
                 connection.sendall(reply(request, USAGE))
-                if place == 2:
-                    return
 
         async def use():
             async with path_client.connect_async(peer.address, KEY) as client:
@@ -249,6 +249,26 @@ class LostConnections(unittest.TestCase):
                 with self.assertRaises(LostConnection) as fault:
                     run()
                 self.assertEqual(fault.exception.results, [Usage(0, 0, 1)] * 3)
+
+    def test_a_pipeline_that_is_reset_keeps_its_results(self):
+        """A request that cannot be sent any more does not hide the replies that came before."""
+        def serve(connection, _):
+            for request in itertools.islice(peer.requests(connection), 3):
+                connection.sendall(reply(request))
+            reset(connection)
+            is_reset.set()
+
+        def requests():
+            for _ in range(3):
+                yield Request.put("c", "d", LARGE[-70_000:])
+            self.assertTrue(is_reset.wait(30))
+            yield Request.put("c", "d", "1")
+
+        is_reset = threading.Event()
+        with Peer(serve) as peer, path_client.connect(peer.address, KEY) as client:
+            with self.assertRaises(LostConnection) as fault:
+                client.pipeline(requests())
+            self.assertEqual(fault.exception.results, [None] * 3)
 
     def test_a_server_that_closes_behind_each_reply(self):
         def serve(connection, _):
