@@ -5,7 +5,7 @@ more than 200 characters, and each table with more than five columns, as docs/ST
 end with a semicolon.
 
 A sentence ends at a full stop, a question mark or an exclamation mark before a blank or the paragraph's end. Code between backquotes, a number or a
-path is one word. Blocks of code are left out, and so is docs/TRIED.md, whose notes are as they were taken.
+path is one word. Blocks of code are left out.
 """
 import re
 import sys
@@ -14,7 +14,6 @@ from lib.running_server import TOP, Report
 from pages import pages, parts
 
 WORDS, CELL, COLUMNS = 30, 200, 5
-LEFT_OUT = ("docs/TRIED.md",)
 COMMAND_LINES = ("command_line", "client_commands")
 STRING = re.compile(r'"((?:[^"\\]|\\.)*)"')
 COMMENT = re.compile(r"\s*//[/!] ?(.*)")
@@ -108,7 +107,7 @@ def main():
     report, given = Report(), [it for it in sys.argv[1:] if it != "--split"]
     for page in pages():
         name = str(page.relative_to(TOP))
-        if name in LEFT_OUT or given and name not in given:
+        if given and name not in given:
             continue
         if "--split" in sys.argv:
             page.write_text(split_rows(page.read_text(encoding="utf-8")), encoding="utf-8")
