@@ -1,8 +1,9 @@
 #!/usr/bin/env python3
 """Counts words: tests/plain_sentences.py [--split] [PAGE..] reports each sentence of the pages with more than 30 words, each cell of a table with
 more than 200 characters, and each table with more than five columns, as docs/STYLE.md asks. So it does with the sentences of doc comments, and with those of
-`--help` and of messages, the strings in the sources of the command lines. With --split it first makes several rows of one with such a cell, if the cell is a list whose items
-end with a semicolon.
+`--help` and of messages, the strings in the sources of the command lines. In README.md, CONTRIBUTING.md and docs/, but for HELD_BACK, it reports sentences
+that begin with "What" or "Nothing of" (VAGUE): a noun is clearer. With --split it first makes several rows of one with such a cell, if the cell is a
+list whose items end with a semicolon.
 
 A sentence ends at a full stop, a question mark or an exclamation mark before a blank or the paragraph's end. Code between backquotes, a number or a
 path is one word. Blocks of code are left out.
@@ -17,6 +18,9 @@ WORDS, CELL, COLUMNS = 30, 200, 5
 COMMAND_LINES = ("command_line", "client_commands")
 STRING = re.compile(r'"((?:[^"\\]|\\.)*)"')
 COMMENT = re.compile(r"\s*//[/!] ?(.*)")
+# how a sentence begins that has a pronoun where a noun is clearer. A question may begin so, and a heading
+VAGUE = re.compile(r"(?:What|Nothing of)\b(?!.*\?$)")
+HELD_BACK = ("docs/DECISIONS.md",)
 STARTS_ITEM = re.compile(r"(?:[-*]|\d+\.|#+|>) ")
 
 
@@ -88,7 +92,18 @@ def judge(report, name, text):
             for cell in found:
                 if len(shown(cell)) > CELL:
                     report.case(f"{name}: characters of a cell", cell[:100], f"at most {CELL}", len(shown(cell)))
-        count_words(report, name, paragraphs([line for line in lines if line not in of_table]))
+        texts = paragraphs([line for line in lines if line not in of_table])
+        count_words(report, name, texts)
+        if re.fullmatch(r"README\.md|CONTRIBUTING\.md|docs/\w+\.md", name) and name not in HELD_BACK:
+            find_vague(report, name, texts)
+
+
+def find_vague(report, name, texts):
+    """Reports the sentences that begin with a pronoun."""
+    for text in texts:
+        item = STARTS_ITEM.match(text)
+        for sentence in sentences(text[item.end():] if item else text) if not text.startswith("#") else []:
+            report.case(f"{name}: the subject of a sentence", sentence, "a noun", "a pronoun" if VAGUE.match(sentence) else "a noun")
 
 
 def doc_comments(source):
