@@ -1,7 +1,7 @@
 #!/usr/bin/env python3
 """Counts words: tests/plain_sentences.py [--split] [PAGE..] reports each sentence of the pages with more than 30 words, each cell of a table with
 more than 200 characters, and each table with more than five columns, as docs/STYLE.md asks. So it does with the sentences of doc comments, and with those of
-`--help` and of messages, the strings in the sources of the command lines. In README.md, CONTRIBUTING.md and docs/, but for HELD_BACK, it reports sentences
+`--help` and of messages, the strings in the sources of the command lines. In README.md, CONTRIBUTING.md and docs/ it reports sentences
 that begin with "What" or "Nothing of" (VAGUE): a noun is clearer. With --split it first makes several rows of one with such a cell, if the cell is a
 list whose items end with a semicolon.
 
@@ -20,7 +20,6 @@ STRING = re.compile(r'"((?:[^"\\]|\\.)*)"')
 COMMENT = re.compile(r"\s*//[/!] ?(.*)")
 # how a sentence begins that has a pronoun where a noun is clearer. A question may begin so, and a heading
 VAGUE = re.compile(r"(?:What|Nothing of)\b(?!.*\?$)")
-HELD_BACK = ("docs/DECISIONS.md",)
 STARTS_ITEM = re.compile(r"(?:[-*]|\d+\.|#+|>) ")
 
 
@@ -94,7 +93,7 @@ def judge(report, name, text):
                     report.case(f"{name}: characters of a cell", cell[:100], f"at most {CELL}", len(shown(cell)))
         texts = paragraphs([line for line in lines if line not in of_table])
         count_words(report, name, texts)
-        if re.fullmatch(r"README\.md|CONTRIBUTING\.md|docs/\w+\.md", name) and name not in HELD_BACK:
+        if re.fullmatch(r"README\.md|CONTRIBUTING\.md|docs/\w+\.md", name):
             find_vague(report, name, texts)
 
 
