@@ -272,8 +272,8 @@ def about(figures):
 
 def benchmarks(figures):
     blocks = ["# Benchmarks",
-              filled("For whoever wants to know what path_server costs. `bench/report.py` measures all of this in one run and writes this page. What was tried, and what "
-                     "other days gave, is in [TRIED.md](TRIED.md)."),
+              filled("For whoever wants to know what path_server costs. `bench/report.py` measures all of this in one run and writes this page. Forms of code that were "
+                     "tried are in [TRIED.md](TRIED.md)."),
               *about(figures),
               filled("Everything runs on this one machine, over the loopback address and with default settings; Redis keeps nothing on disk. Figures differ "
                      "by half between machines and by a tenth between runs, so compare within a table.")]

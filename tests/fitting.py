@@ -1,7 +1,7 @@
 #!/usr/bin/env python3
-"""Tests `bin/edits fit` on a made crate: an edit that fits passes, and each that does not is named with its reason. And of bin/tools/edits.py
-what judges an edit, that edits are tried together only where none changes what another one is judged by, and that an open goal counts for its
-own function alone."""
+"""Tests `bin/edits fit` on a made crate: an edit that fits passes, and each that does not is named with its reason. `bin/edits list` prints the edits
+of each function. And tests of bin/tools/edits.py what judges an edit, that edits are tried together only where none changes what another one is judged
+by, and that an open goal counts for its own function alone."""
 import subprocess
 import sys
 import tempfile
@@ -34,8 +34,11 @@ MISFITS = {
 }
 
 
-def said_of(root):
-    done = subprocess.run([sys.executable, BIN / "edits", "--root", root, "fit"], stdout=subprocess.PIPE, universal_newlines=True)
+LISTED = {"must-fail": ["made::one: turned", "made::two: emptied"], "planted": ["made::one: named, one_after_the_other", "made::two: named"]}
+
+
+def said_of(root, *words):
+    done = subprocess.run([sys.executable, BIN / "edits", "--root", root, *words], stdout=subprocess.PIPE, universal_newlines=True)
     return done.returncode, done.stdout.splitlines()
 
 
@@ -133,9 +136,12 @@ def main():
         test_groups(Path(folder) / "made")
     with tempfile.TemporaryDirectory() as root:
         write(root, FITTING)
-        assert said_of(root) == (0, [f"{len(FITTING)} edits, 0 of them do not fit"]), said_of(root)
+        assert said_of(root, "fit") == (0, [f"{len(FITTING)} edits, 0 of them do not fit"]), said_of(root, "fit")
+        (Path(root) / "crates.txt").write_text("made:\n")
+        for kind, wanted in LISTED.items():
+            assert said_of(root, "list", kind, "made") == (0, wanted), said_of(root, "list", kind, "made")
         write(root, {name: text for name, (text, _) in MISFITS.items()})
-        status, lines = said_of(root)
+        status, lines = said_of(root, "fit")
         assert status == 1 and lines[-1] == f"{len(FITTING) + len(MISFITS)} edits, {len(MISFITS)} of them do not fit", lines
         for name, (_, why) in MISFITS.items():
             line = [it for it in lines if it.startswith(f"crates/made/{name}.edit: ")]

@@ -1,11 +1,12 @@
 #!/usr/bin/env python3
 """Counts words: tests/plain_sentences.py [--split] [PAGE..] reports each sentence of the pages with more than 30 words, each cell of a table with
 more than 200 characters, and each table with more than five columns, as docs/STYLE.md asks. So it does with the sentences of doc comments, and with those of
-`--help` and of messages, the strings in the sources of the command lines. With --split it first makes several rows of one with such a cell, if the cell is a list whose items
-end with a semicolon.
+`--help` and of messages, the strings in the sources of the command lines. In README.md, CONTRIBUTING.md and docs/ it reports sentences
+that begin with "What" or "Nothing of" (VAGUE), since a noun is clearer, and phrases that docs/STYLE.md rewrites (REWRITTEN). With --split it first
+makes several rows of one with such a cell, if the cell is a list whose items end with a semicolon.
 
 A sentence ends at a full stop, a question mark or an exclamation mark before a blank or the paragraph's end. Code between backquotes, a number or a
-path is one word. Blocks of code are left out, and so is docs/TRIED.md, whose notes are as they were taken.
+path is one word. Blocks of code are left out.
 """
 import re
 import sys
@@ -14,10 +15,13 @@ from lib.running_server import TOP, Report
 from pages import pages, parts
 
 WORDS, CELL, COLUMNS = 30, 200, 5
-LEFT_OUT = ("docs/TRIED.md",)
 COMMAND_LINES = ("command_line", "client_commands")
 STRING = re.compile(r'"((?:[^"\\]|\\.)*)"')
 COMMENT = re.compile(r"\s*//[/!] ?(.*)")
+# how a sentence begins that has a pronoun where a noun is clearer. A question may begin so, and a heading
+VAGUE = re.compile(r"(?:What|Nothing of)\b(?!.*\?$)")
+# phrases of the first column of docs/STYLE.md; "there is none" is plain
+REWRITTEN = re.compile(r"\btold of\b|(?<!there )\bis none\b")
 STARTS_ITEM = re.compile(r"(?:[-*]|\d+\.|#+|>) ")
 
 
@@ -89,7 +93,26 @@ def judge(report, name, text):
             for cell in found:
                 if len(shown(cell)) > CELL:
                     report.case(f"{name}: characters of a cell", cell[:100], f"at most {CELL}", len(shown(cell)))
-        count_words(report, name, paragraphs([line for line in lines if line not in of_table]))
+        texts = paragraphs([line for line in lines if line not in of_table])
+        count_words(report, name, texts)
+        if re.fullmatch(r"README\.md|CONTRIBUTING\.md|docs/\w+\.md", name):
+            find_vague(report, name, texts)
+            find_rewritten(report, name, [*texts, *(cell for line in of_table for cell in cells(line))])
+
+
+def find_vague(report, name, texts):
+    """Reports the sentences that begin with a pronoun."""
+    for text in texts:
+        item = STARTS_ITEM.match(text)
+        for sentence in sentences(text[item.end():] if item else text) if not text.startswith("#") else []:
+            report.case(f"{name}: the subject of a sentence", sentence, "a noun", "a pronoun" if VAGUE.match(sentence) else "a noun")
+
+
+def find_rewritten(report, name, texts):
+    """Reports the phrases that stand on no page but docs/STYLE.md."""
+    for text in texts if name != "docs/STYLE.md" else []:
+        found = REWRITTEN.search(plain(text))
+        report.case(f"{name}: a phrase that docs/STYLE.md rewrites", text[:200], "none", found[0] if found else "none")
 
 
 def doc_comments(source):
@@ -108,7 +131,7 @@ def main():
     report, given = Report(), [it for it in sys.argv[1:] if it != "--split"]
     for page in pages():
         name = str(page.relative_to(TOP))
-        if name in LEFT_OUT or given and name not in given:
+        if given and name not in given:
             continue
         if "--split" in sys.argv:
             page.write_text(split_rows(page.read_text(encoding="utf-8")), encoding="utf-8")
