@@ -292,6 +292,38 @@ def side_by_side(report, tenants):
         server.finish(report)
 
 
+def beside_many_tenants(report, tenants):
+    """Each of so many tenants has a long query under way, and none of them is answered in one piece: a GET waits for shares alone."""
+    keys = [bytes([97 + place]) * 16 for place in range(tenants)]
+    text = b"[" + b",".join(b'{"a":%d}' % at for at in range(600)) + b"]"
+    dear = b"$[?" + b"||".join([b"count(@.*)>9"] * 26) + b"]"
+    with Listening([KEY, *keys]) as server, open_connection(server.address) as other:
+        report.case("a put", "", PUT_REPLY, exchange(other, PUT, 9))
+        for key in keys:
+            with open_connection(server.address) as connection:
+                texts = [put(b"%d" % at, text, key) for at in range(30)]
+                report.case("texts for many tenants", "", PUT_REPLY * 30, exchange(connection, b"".join(texts), 9 * 30))
+        with open_connection(server.address) as connection:
+            began = time.monotonic()
+            report.case("a long query alone", "", NO_HITS, exchange(connection, query(dear, keys[0]), len(NO_HITS)))
+            alone = time.monotonic() - began
+        for tries in range(3):
+            opened = [open_connection(server.address) for _ in keys]
+            for connection, key in zip(opened, keys):
+                connection.sendall(query(dear, key))
+            waits = []
+            for _ in range(20):
+                began = time.monotonic()
+                report.case("a reply beside many tenants", GET, GET_REPLY, exchange(other, GET, len(GET_REPLY)))
+                waits.append(time.monotonic() - began)
+            for connection in opened:
+                reset(connection)
+            if max(waits) <= alone / 2:
+                break
+        at_most(report, f"the seconds of a reply beside {tenants} tenants with a query of {alone:.3f} s", alone / 2, max(waits))
+        print(f"beside {tenants} tenants with a query of {alone:.2f} s each a reply came within {max(waits) * 1000:.1f} ms", flush=True)
+
+
 def held_without_others(report):
     """One that holds memory and stalls, where nobody waits, is let be."""
     with Listening([KEY], "--stall", "1", "--frame-time", "1") as server:
@@ -580,6 +612,7 @@ def cases(is_short):
     yield deaf_strangers, 20 if is_short else 100
     yield (stalled,)
     yield side_by_side, 14
+    yield beside_many_tenants, 80
     yield (held_without_others,)
     yield (gone_queries,)
     yield (gone_waiters,)

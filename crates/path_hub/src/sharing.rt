@@ -23,7 +23,6 @@ use request_replies::{
     NO_MEMORY, SHORT_REPLY, begin, finish, serve_body, status_of_query, take_back, write_small,
 };
 use std::alloc::{AllocError, Global};
-use tape_select::BUDGET;
 use tenant_store::{CollName, Progress, QueryTask, StoreFault, Tenant, Tenants};
 use wire_frames::{Command, Framer, Front, read_request};
 
@@ -155,9 +154,8 @@ fn share_query(
 {
     let map = tenants.tenant(place);
     let task = task_of(tasks.take(conn), place, collection.bytes, query);
-    let most = if tasks.is_full() { BUDGET } else { units };
     match answer_query_some(
-        map, cache, alloc, number, collection, query, most, task, out,
+        map, cache, alloc, number, collection, query, units, task, out,
     ) {
         Ok(charge) => Share::Replied { charge },
         Err(task) => match tasks.keep(alloc, conn, place, collection.bytes, query, task) {

@@ -9,9 +9,6 @@ use std::alloc::{AllocError, Global};
 use std::collections::BTreeMap;
 use tenant_store::QueryTask;
 
-/// The most queries that are under way at once. Each has a payload and lists of nodes.
-const MOST_TASKS: usize = 64;
-
 /// What came of a share of work on a connection.
 #[derive(Clone, Copy, Debug, PartialEq, Eq)]
 pub enum Share {
@@ -35,7 +32,7 @@ pub struct Asked {
     pub task: QueryTask,
 }
 
-/// The queries under way, one of each connection at most.
+/// The queries under way, one of each tenant at most: its other connections wait. Each has a payload and lists of nodes.
 #[derive(Drop)]
 pub struct Tasks {
     asked: BTreeMap<u32, Asked>,
@@ -58,11 +55,6 @@ impl Tasks {
         ensures on_way { (t : Tenancy) → AreOnWay t self.old → AreOnWay t self.new }
     {
         self.take(conn);
-    }
-
-    /// Whether no more can be under way.
-    pub(crate) fn is_full(&self) -> bool {
-        self.asked.len() >= MOST_TASKS
     }
 
     /// Whether another connection has a query of the tenant under way.
