@@ -109,11 +109,11 @@ fn strings_of_whole_blocks(alloc: Global) -> Trial {
 
 fn looks() -> Trial {
     let mut looks = Looks::new(b"abc");
-    Trial::of(&[
-        looks.at(1) == b'b',
-        looks.length() == 3,
-        looks.looked() == 1,
-    ])
+    let mut batch = looks.batch();
+    let is_second = batch.at(1) == b'b';
+    let length = batch.length();
+    looks.settle(batch);
+    Trial::of(&[is_second, length == 3, looks.looked() == 1])
 }
 
 // The number of places of a text, and of the looks that `build` takes where it accepts the text.

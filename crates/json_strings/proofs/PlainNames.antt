@@ -32,6 +32,13 @@ slashless_front [] (suc n) h = refl
 slashless_front (b ∷ bs) (suc n) h = let e : nat_eq b 92 ≡ false = (let no = h zero (omega arith) in grind (arith, nat_tests)) in
     rw e (slashless_front bs n (λ k l. h (suc k) (omega arith)))
 
+-- bytes of UTF-8 order what they spell, and tell it apart
+pub spelt_order : (a b : List ℕ) → IsUtf8 a → IsUtf8 b → slice_cmp nat_cmp a b ≡ slice_cmp nat_cmp (chars a) (chars b)
+spelt_order a b u v = ap (λ x. slice_cmp nat_cmp x b) (sym (encodes-chars a u)) ∙ ap (slice_cmp nat_cmp (encodes (chars a))) (sym (encodes-chars b v)) ∙ encodes_order (chars a) (chars b)
+
+pub spelt_same : (a b : List ℕ) → IsUtf8 a → IsUtf8 b → pointwise nat_eq a b ≡ pointwise nat_eq (chars a) (chars b)
+spelt_same a b u v = texts_ties a b ∙ ap is_eq (spelt_order a b u v) ∙ sym (texts_ties (chars a) (chars b))
+
 module _ (a b x y : List ℕ) (p q : Bool) (is_x : scalars_in (chars a) ≡ x) (is_y : scalars_in (chars b) ≡ y)
     (a_is : IsUtf8 a × (p ≡ not (has_backslash a))) (b_is : IsUtf8 b × (q ≡ not (has_backslash b))) (plain_a : p ≡ true) (plain_b : q ≡ true) where
   none : (t : Bool) → true ≡ not t → t ≡ false

@@ -1,19 +1,21 @@
 // Members by the order of their names.
 
-ghost use Rattle.std.specs.Prelude.{◌≡◌, Some, nat_eq, refl};
+ghost use Rattle.std.specs.Prelude.{◌≡◌, IfOk, IsUtf8, Some, nat_eq, refl};
 ghost use Rattle.std.specs.Ordering.{on};
 ghost use Rattle.std.specs.Cmp;
 ghost use Rattle.std.specs.Cmp.Lexicographic.{pointwise};
 ghost use Rattle.std.specs.Str.{chars};
+ghost use Rattle.std.specs.Cow.{cow_str_bytes};
 ghost use Rattle.json_text.specs.Limits.{bytes_at};
 ghost use Rattle.json_strings.specs.Spelling.{scalars_in, unquoted as inside, IsQuoted};
 ghost use Rattle.json_strings.specs.Keys.{name_hash, name_cmp, key_name};
 ghost use Rattle.json_strings.specs.KeyOrder.{keys_equiv, keys_total, keys_tie, keys_po};
 
 use crate::hashes::{hash, mixed};
-use crate::names::Name;
-use crate::scalars::unquoted;
+use crate::scalars::{Scalars, unquoted};
 use json_text::Extent;
+use std::alloc::{AllocError, Global};
+use std::borrow::CowStr;
 use std::cmp::Ordering;
 use std::marker::Model;
 
@@ -22,34 +24,55 @@ use std::marker::Model;
 pub struct Key<'a> {
     hash: u32,
     number: u32,
-    inside: &'a str,
+    // decoded once, since a sort compares it often
+    name: CowStr<'a>,
 }
 
 impl<'a> Model for Key<'a> {
     ghost use Rattle.std.specs.Prelude.{◌≡◌, IsUtf8};
     ghost use Rattle.std.specs.Str.{chars};
-    ghost use Rattle.json_strings.specs.Spelling.{scalars_in};
+    ghost use Rattle.std.specs.Cow.{cow_str_bytes};
     ghost use Rattle.json_strings.specs.Keys.{Keyed, name_hash};
 
     ghost Value = { Keyed };
 
-    ghost view = { λ k. record { number = k.number; name = scalars_in (chars k.inside.now) } };
+    ghost view = { λ k. record { number = k.number; name = chars (cow_str_bytes k.name) } };
 
-    ghost invariant = { λ k. IsUtf8 k.inside.now × (k.hash ≡ name_hash (scalars_in (chars k.inside.now))) };
+    ghost invariant = { λ k. IsUtf8 (cow_str_bytes k.name) × (k.hash ≡ name_hash (chars (cow_str_bytes k.name))) };
+}
+
+// What characters mean, as a text of its own only where one of them is escaped.
+fn meaning(alloc: Global, inside: &str) -> Result<CowStr<'_>, AllocError>
+    ensures utf8 { IfOk result (λ name. IsUtf8 (cow_str_bytes name)) }
+    ensures means { IfOk result (λ name. chars (cow_str_bytes name) ≡ scalars_in (chars inside.now)) }
+{
+    if !inside.as_bytes().contains(&b'\\') {
+        return Ok(CowStr::Borrowed(inside));
+    }
+    let mut name = String::new(alloc);
+    for c in Scalars::new(inside) {
+        name.push(c)?;
+    }
+    Ok(CowStr::Owned(name))
 }
 
 impl<'a> Key<'a> {
     /// The member with this number, whose name stands there.
-    pub fn new(number: u32, text: &'a str, name: Extent) -> Key<'a>
+    pub fn new(
+        alloc: Global,
+        number: u32,
+        text: &'a str,
+        name: Extent,
+    ) -> Result<Key<'a>, AllocError>
         requires { IsQuoted text.now name }
-        ensures number { result.number ≡ number }
-        ensures name { result.name ≡ scalars_in (chars (inside (bytes_at text.now name))) }
+        ensures number { IfOk result (λ key. key.number ≡ number) }
+        ensures name { IfOk result (λ key. key.name ≡ scalars_in (chars (inside (bytes_at text.now name)))) }
     {
-        Key {
+        Ok(Key {
             hash: mixed(hash(text, name)),
             number,
-            inside: unquoted(text, name),
-        }
+            name: meaning(alloc, unquoted(text, name))?,
+        })
     }
 
     /// The number of its value.
@@ -72,8 +95,9 @@ impl<'a> PartialEq for Key<'a> {
 
     ghost laws = { Cmp.partial_equiv_from_equiv keys_equiv };
 
+    #[tactic(auto, using(crate::proofs::PlainNames::spelt_same))]
     fn eq(&self, other: &Key<'a>) -> bool {
-        self.hash == other.hash && Name::new(self.inside) == Name::new(other.inside)
+        self.hash == other.hash && self.name.as_str() == other.name.as_str()
     }
 }
 
@@ -100,9 +124,10 @@ impl<'a> Ord for Key<'a> {
 
     ghost matches_eq = { keys_tie };
 
+    #[tactic(auto, using(crate::proofs::PlainNames::spelt_order))]
     fn cmp(&self, other: &Key<'a>) -> Ordering {
         match self.hash.cmp(&other.hash) {
-            Ordering::Equal => Name::new(self.inside).cmp(&Name::new(other.inside)),
+            Ordering::Equal => self.name.as_str().cmp(other.name.as_str()),
             Ordering::Less => Ordering::Less,
             Ordering::Greater => Ordering::Greater,
         }

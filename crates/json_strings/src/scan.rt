@@ -4,7 +4,7 @@ ghost use Rattle.std.specs.Prelude.{◌≡◌, ◌+◌, ◌<◌, ◌≤◌, leng
 ghost use Rattle.json_text.specs.Scanning.{turn as turn_of, string_end};
 
 use json_text::{Mode, Turn};
-use structural_index::{Looks, Stopped, is_hex, is_short};
+use structural_index::{Batch, Stopped, is_hex, is_short};
 
 fn next_turn(mode: Mode, b: u8) -> Turn
     ensures { result ≡ turn_of mode b }
@@ -45,7 +45,7 @@ fn next_turn(mode: Mode, b: u8) -> Turn
 // The byte that decides what comes next, where a scan of a string stands so at this place: bytes between characters that stand for themselves
 // are passed.
 #[inline(always)]
-fn next_byte(looks: &mut Looks<'_>, mode: Mode, k: usize) -> Stopped
+fn next_byte(looks: &mut Batch<'_>, mode: Mode, k: usize) -> Stopped
     requires { k < length looks.old.0 }
     ensures lower_bound { k ≤ result.at }
     ensures upper_bound { result.at < length looks.old.0 }
@@ -65,7 +65,7 @@ fn next_byte(looks: &mut Looks<'_>, mode: Mode, k: usize) -> Stopped
 
 // The same where the text may end here.
 #[inline(always)]
-fn byte_behind(looks: &mut Looks<'_>, mode: Mode, k: usize) -> Stopped
+fn byte_behind(looks: &mut Batch<'_>, mode: Mode, k: usize) -> Stopped
     requires { k ≤ length looks.old.0 }
     ensures lower_bound { k ≤ result.at }
     ensures upper_bound { result.at ≤ length looks.old.0 }
@@ -83,7 +83,7 @@ fn byte_behind(looks: &mut Looks<'_>, mode: Mode, k: usize) -> Stopped
 /// The place past the quote that closes a string whose characters begin here, each byte looked at once.
 #[inline(always)]
 #[tactic(auto, using(crate::proofs::Steps::quote_step, crate::proofs::Steps::quote_over))]
-pub fn quote_past(looks: &mut Looks<'_>, start: usize) -> Option<usize>
+pub fn quote_past(looks: &mut Batch<'_>, start: usize) -> Option<usize>
     requires { start ≤ length looks.old.0 }
     ensures value { result ≡ string_end Mode.Between start (drop start looks.old.0) }
     ensures bound { IfSome result (λ end. (start < end) × (end ≤ length looks.old.0)) }

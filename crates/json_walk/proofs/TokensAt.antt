@@ -1,8 +1,12 @@
 -- The tokens that stand at a byte: strings by where they end, words by their run, and what no token is.
-use Rattle.json_text.proofs.Names.{◌≡◌, ◌≢◌, ℕ, ◌+◌, ◌-◌, ◌<◌, Bool, true, false, List, [], ◌∷◌, ◌++◌, length, take, drop, get_or, Some, None, refl}
+use Rattle.json_text.proofs.Names.{◌≡◌, ◌≢◌, ℕ, ◌+◌, ◌-◌, ◌<◌, ◌≤◌, inl, inr, cases_lt, Bool, true, false, List, [], ◌∷◌, ◌++◌, length, take, drop, get_or, Some, None, refl}
 use Rattle.json_text.proofs.Names.{sym, ap, subst, ◌∙◌, arith, Ok, nat_tests, drop_more, Token, Text, Word, run_at, is_atom, AreAtoms, sign_at}
 use Rattle.json_text.proofs.Names.{IsToken, sign, text, IsWord}
 use Rattle.json_walk.proofs.Names.{IsAtomRun, Kind, Lexed, Marked, StringEnds, ClosesBefore, TokenAt, begins_value, is_text, token_of, end_of}
+use Rattle.byte_masks.specs.Classes.{blank_byte}
+use Rattle.decimal_order.specs.Number.{IsNumber}
+use Rattle.json_text.specs.declared.tape.Kind.TheVariants.{Number}
+use Rattle.structural_index.specs.Places.{byte}
 use Rattle.structural_index.specs.Runs.{EndsAtBlank}
 use Rattle.json_text.specs.Tokens.{WordIs}
 use Rattle.json_walk.specs.Walked.{NoneAt}
@@ -46,6 +50,26 @@ word_at bytes bs i next k h c e ends w = let r = word_run bytes i next h c bs e 
     let size : length a.vs ≡ length bs = omega arith in let back : i + length bs - i ≡ length bs = omega arith in
     let same : bs ≡ a.vs = e ∙ ap (λ n. take n (drop i bytes)) (sym back) ∙ a.taken in
     record { bytes = a.vs; rest = a.rest; stands = a.stands; is_token = subst (λ n. IsToken i a.vs (Word (run_at i n) k) a.rest) size (word_is i a.vs a.rest k a.are a.over (subst (λ l. IsWord l k) same w) a.some) }
+
+-- a digit right before the next place is a number
+module _ (bytes : List ℕ) (i next : ℕ) (inside : i < length bytes) where
+  abbrev d : ℕ
+  d = get_or bytes i 0
+
+  pub byte_taken : d ∷ [] ≡ take 1 (drop i bytes)
+  byte_taken = sym (ap (take 1) (drop_more bytes i 0 inside))
+
+  no_blank : (b : ℕ) → 48 ≤ b → blank_byte b ≡ false
+  no_blank b low = grind (arith, nat_tests)
+
+  digit_ends : 48 ≤ d → next ≡ i + 1 → EndsAtBlank bytes i next (i + 1)
+  digit_ends low n = record { from = omega arith; to = omega (arith, n); solid = λ k a b. (let f : i ≡ k = omega arith in no_blank (byte bytes k) (subst (λ x. 48 ≤ x) (same_default bytes i inside ∙ ap (byte bytes) f) low)); over = λ l. absurd (omega (arith, n, l)) }
+
+  digit_number : 48 ≤ d → d ≤ 57 → IsNumber (d ∷ [])
+  digit_number low high = record { minus = []; int = d ∷ []; frac = []; exp = []; is_minus = inl refl; is_int = elim (cases_lt 48 d) [ inl l ↦ inr (omega arith, high, tt) | inr l ↦ inl (omega arith, refl) ]; is_frac = inl refl; is_exp = inl refl; whole = refl }
+
+  pub digit_at : 48 ≤ d → d ≤ 57 → ClosesBefore bytes i next → next ≡ i + 1 → TokenAt bytes i (Word (run_at i 1) Number)
+  digit_at low high c n = word_at bytes (d ∷ []) i next Number inside c byte_taken (digit_ends low n) (digit_number low high)
 
 sign_begins : (p b : ℕ) (tok : Token) → sign_at p b ≡ Some tok → b ≢ 91 → b ≢ 123 → begins_value tok ≡ false
 sign_begins p b tok h m n = grind (arith, nat_tests)

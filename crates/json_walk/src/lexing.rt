@@ -18,7 +18,7 @@ use json_strings::quote_past;
 use json_text::{Extent, Kind, Shape};
 use name_stamps::Quoted;
 use std::simd::prelude::*;
-use structural_index::{Looks, Run};
+use structural_index::{Batch, Run};
 
 /// What a value begins with: all of it, or the bracket or brace that opens it. Strings and numbers are kinds of their own, so that
 /// the compiler knows their kinds where their entries are made.
@@ -142,7 +142,7 @@ fn word_kind(bytes: &[u8], others: u64) -> WordKind
 
 // Whether a quote other than the one at i stands right before this place.
 #[inline(always)]
-fn has_quote_before(looks: &mut Looks<'_>, i: usize, next: usize) -> bool
+fn has_quote_before(looks: &mut Batch<'_>, i: usize, next: usize) -> bool
     requires in_text { i < length looks.old.0 }
     requires near { next ≤ length looks.old.0 }
     requires short { length looks.old.0 ≤ text_limit }
@@ -160,7 +160,7 @@ fn has_quote_before(looks: &mut Looks<'_>, i: usize, next: usize) -> bool
 // The place past the string that begins at i, where the place behind it is this one, and whether its bytes were passed without a look.
 #[tactic(auto, using(crate::proofs::Placing::closed_before))]
 #[inline(always)]
-fn string_end(looks: &mut Looks<'_>, i: usize, next: usize) -> Option<(usize, bool)>
+fn string_end(looks: &mut Batch<'_>, i: usize, next: usize) -> Option<(usize, bool)>
     requires in_text { i < length looks.old.0 }
     requires near { next ≤ length looks.old.0 }
     requires short { length looks.old.0 ≤ text_limit }
@@ -185,7 +185,7 @@ fn string_end(looks: &mut Looks<'_>, i: usize, next: usize) -> Option<(usize, bo
 
 // The string that begins at i.
 #[inline(always)]
-fn string(looks: &mut Looks<'_>, i: usize, next: usize) -> Option<Quoted>
+fn string(looks: &mut Batch<'_>, i: usize, next: usize) -> Option<Quoted>
     requires in_text { i < length looks.old.0 }
     requires near { next ≤ length looks.old.0 }
     requires short { length looks.old.0 ≤ text_limit }
@@ -214,7 +214,7 @@ fn string(looks: &mut Looks<'_>, i: usize, next: usize) -> Option<Quoted>
 
 /// The name at place i, where the place behind it is this one.
 #[inline(always)]
-pub fn name(looks: &mut Looks<'_>, i: usize, next: usize) -> Option<Quoted>
+pub fn name(looks: &mut Batch<'_>, i: usize, next: usize) -> Option<Quoted>
     requires in_text { i < length looks.old.0 }
     requires near { next ≤ length looks.old.0 }
     requires short { length looks.old.0 ≤ text_limit }
@@ -237,7 +237,7 @@ pub fn name(looks: &mut Looks<'_>, i: usize, next: usize) -> Option<Quoted>
 // A word or a number. Marks where it may be beyond the limits of numbers.
 #[tactic(auto, using(crate::proofs::Runs::some_bytes, crate::proofs::Known::limited_marked, crate::proofs::TokensAt::word_at))]
 #[inline(always)]
-fn word(looks: &mut Looks<'_>, i: usize, next: usize, may_exceed: &mut bool) -> Option<Lexed>
+fn word(looks: &mut Batch<'_>, i: usize, next: usize, may_exceed: &mut bool) -> Option<Lexed>
     requires in_text { i < length looks.old.0 }
     requires near { next ≤ length looks.old.0 }
     requires short { length looks.old.0 ≤ text_limit }
@@ -273,7 +273,7 @@ fn word(looks: &mut Looks<'_>, i: usize, next: usize, may_exceed: &mut bool) -> 
 
 /// What the value at place i begins with, where the place behind it is this one. Marks where a number may be beyond the limits.
 #[inline(always)]
-pub fn value(looks: &mut Looks<'_>, i: usize, next: usize, may_exceed: &mut bool) -> Option<Lexed>
+pub fn value(looks: &mut Batch<'_>, i: usize, next: usize, may_exceed: &mut bool) -> Option<Lexed>
     requires in_text { i < length looks.old.0 }
     requires near { next ≤ length looks.old.0 }
     requires short { length looks.old.0 ≤ text_limit }
@@ -293,6 +293,14 @@ pub fn value(looks: &mut Looks<'_>, i: usize, next: usize, may_exceed: &mut bool
         },
         b'{' => Some(Lexed::Opens(Shape::Object)),
         b'[' => Some(Lexed::Opens(Shape::Array)),
+        // a number of one digit
+        b'0'..=b'9' if next == i + 1 => {
+            late_exponents_keep_limits();
+            Some(Lexed::Number(Extent {
+                start: i as u32,
+                len: 1,
+            }))
+        }
         _ => word(looks, i, next, may_exceed),
     }
 }

@@ -19,7 +19,7 @@ use crate::lexing::{Lexed, name, value};
 use json_text::{BuildFault, Extent, Kind, Level, Shape, Want};
 use name_stamps::{SeenNames, Slot, StampedName, stamped};
 use std::alloc::Global;
-use structural_index::{Index, Looks};
+use structural_index::{Batch, Index, Looks};
 use tape_cells::{Builder, Tape};
 
 /// How far a walk has come: the number of the next place, and whether a value stands before it. If none does, it is that of a first child.
@@ -117,7 +117,7 @@ fn put(
 // The name at place number k and the colon behind it.
 #[tactic(auto, using(crate::proofs::Listed::in_text, crate::proofs::WalkSteps::no_name_halts))]
 #[inline(always)]
-fn named(looks: &mut Looks<'_>, places: &[u32], k: usize) -> Option<StampedName>
+fn named(looks: &mut Batch<'_>, places: &[u32], k: usize) -> Option<StampedName>
     requires listed { IsListed looks.old.0 places.now }
     requires inside { k + 1 < length places.now }
     ensures named { (b : Built) (w : Want) (exceeds : Bool) → AsksName looks.old.0 places.now k w
@@ -138,7 +138,7 @@ fn named(looks: &mut Looks<'_>, places: &[u32], k: usize) -> Option<StampedName>
 #[tactic(auto, using(crate::proofs::WalkSteps::no_value_halts, crate::proofs::Listed::in_text))]
 #[inline(always)]
 fn valued<const OBJECT: bool>(
-    looks: &mut Looks<'_>,
+    looks: &mut Batch<'_>,
     places: &[u32],
     k: usize,
     name: Option<Extent>,
@@ -180,7 +180,7 @@ fn valued<const OBJECT: bool>(
 // The child at place number k, which has as many places as one needs, and one behind them.
 #[inline(always)]
 fn child<const OBJECT: bool>(
-    looks: &mut Looks<'_>,
+    looks: &mut Batch<'_>,
     places: &[u32],
     k: usize,
     builder: &mut Builder,
@@ -293,7 +293,7 @@ fn ended<const OBJECT: bool>(
 // nothing where the container ends here.
 #[inline(always)]
 fn entered<const OBJECT: bool>(
-    looks: &mut Looks<'_>,
+    looks: &mut Batch<'_>,
     places: &[u32],
     spot: Spot,
     builder: &mut Builder,
@@ -350,7 +350,7 @@ fn take_slot<const OBJECT: bool>(
 #[tactic(auto, using(crate::proofs::Listed::number_below, crate::proofs::WalkContainer::small_state, crate::proofs::WalkContainer::walked_small, crate::proofs::WalkContainer::walked_onward, crate::proofs::Listed::near))]
 #[inline(always)]
 fn run<const OBJECT: bool>(
-    looks: &mut Looks<'_>,
+    looks: &mut Batch<'_>,
     places: &[u32],
     spot: Spot,
     builder: &mut Builder,
@@ -403,7 +403,7 @@ fn run<const OBJECT: bool>(
 // The same for the shape that the container has.
 #[inline(always)]
 fn children(
-    looks: &mut Looks<'_>,
+    looks: &mut Batch<'_>,
     places: &[u32],
     spot: Spot,
     shape: Shape,
@@ -430,7 +430,7 @@ fn children(
 // What lies in the containers that are open here, up to the end of the outermost one.
 #[inline(always)]
 fn containers(
-    looks: &mut Looks<'_>,
+    looks: &mut Batch<'_>,
     places: &[u32],
     spot: Spot,
     builder: &mut Builder,
@@ -486,7 +486,7 @@ fn is_whole(lexed: Lexed) -> bool
 #[tactic(auto, using(crate::proofs::WalkContainer::nothing_halts, crate::proofs::WalkSteps::no_value_halts))]
 #[inline(always)]
 fn whole(
-    looks: &mut Looks<'_>,
+    looks: &mut Batch<'_>,
     places: &[u32],
     builder: &mut Builder,
     may_exceed: &mut bool,
@@ -546,12 +546,16 @@ pub fn walk(alloc: Global, index: &Index, looks: &mut Looks<'_>) -> Result<Readi
     let mut builder = Builder::new(alloc, places.len() / 2 + 1)?;
     let mut may_exceed = false;
     let mut seen = SeenNames::new(alloc);
-    let first = match whole(looks, places, &mut builder, &mut may_exceed) {
+    let mut batch = looks.batch();
+    let first = match whole(&mut batch, places, &mut builder, &mut may_exceed) {
         Ok(first) => first,
-        Err(fault) => return Err(fault),
+        Err(fault) => {
+            looks.settle(batch);
+            return Err(fault);
+        }
     };
     let last = match containers(
-        looks,
+        &mut batch,
         places,
         first,
         &mut builder,
@@ -559,8 +563,12 @@ pub fn walk(alloc: Global, index: &Index, looks: &mut Looks<'_>) -> Result<Readi
         &mut seen,
     ) {
         Ok(last) => last,
-        Err(fault) => return Err(fault),
+        Err(fault) => {
+            looks.settle(batch);
+            return Err(fault);
+        }
     };
+    looks.settle(batch);
     if last.number < places.len() {
         return Err(BuildFault::NotJson);
     }

@@ -91,7 +91,7 @@ fn sorted_keys<'a>(
     let mut k = n + 1;
     while k < end {
         let entry = tape.entry(k);
-        keys.push(Key::new(k, text, entry.label))?;
+        keys.push(Key::new(alloc, k, text, entry.label)?)?;
         k = entry.after;
     }
     keys.as_mut_slice().sort_unstable();

@@ -8,7 +8,7 @@ ghost use Rattle.json_text.specs.Suspects.{narrow};
 use json_strings::{bytes_word, mixed};
 use json_text::Extent;
 use std::alloc::{AllocError, Global};
-use structural_index::Looks;
+use structural_index::Batch;
 use tape_cells::{Builder, push};
 
 /// How many stamps there are.
@@ -64,7 +64,7 @@ pub fn stamp_of(half: u32) -> usize
 
 /// A name with its stamp, whose bytes are looked at if they were not before.
 #[inline(always)]
-pub fn stamped(looks: &mut Looks<'_>, name: Quoted) -> StampedName
+pub fn stamped(looks: &mut Batch<'_>, name: Quoted) -> StampedName
     requires within { IsTrue name.passed → (2 ≤ name.source.len) × (name.source.start + name.source.len ≤ length looks.old.0) }
     ensures source { result.source ≡ name.source }
     ensures stamp { IsStamped looks.old.0 name.source result.stamp }

@@ -29,9 +29,9 @@ pub loop-k-preserved : goal.loop-k-preserved
 loop-k-preserved c = let o = c.requires.object in let b = c.loop-k.invariant o.0 o.1 in
     let q = get_or_read c.args.tape.now c.loop-k.k c.entry-entry.result (next_left c.args.text.now c.args.tape.now c.args.n c.loop-k.k _ b.0 b.1 c.loop-k-test.true).inside c.entry-entry.ensures no_entry in
     subst (IsGiven (λ x. x) c.args.text.now c.args.tape.now c.args.n _ _) (sym c.in_ok-push.ensures.items)
-    (subst (λ (e : Entry). IsGiven (λ x. x) c.args.text.now c.args.tape.now c.args.n e.after c.entry-end.result.after (c.loop-k.keys.items ++ c.new.result ∷ [])) (sym q)
-    (given_more (λ x. x) c.args.text.now c.args.tape.now c.args.n c.loop-k.k _ c.loop-k.keys.items c.new.result c.loop-k-test.true
-    (λ ms o left x. key_is c.new.result c.loop-k.k _ c.new.ensures.number (c.new.ensures.name ∙ scalars_at c.args.text.now c.args.text.now _ x.name.source x.name.characters refl (ap (λ (e : Entry). e.label) q ∙ x.label) x.lies x.string))
+    (subst (λ (e : Entry). IsGiven (λ x. x) c.args.text.now c.args.tape.now c.args.n e.after c.entry-end.result.after (c.loop-k.keys.items ++ c.in_ok-new.field-0 ∷ [])) (sym q)
+    (given_more (λ x. x) c.args.text.now c.args.tape.now c.args.n c.loop-k.k _ c.loop-k.keys.items c.in_ok-new.field-0 c.loop-k-test.true
+    (λ ms o left x. key_is c.in_ok-new.field-0 c.loop-k.k _ c.in_ok-new.ensures.number (c.in_ok-new.ensures.name ∙ scalars_at c.args.text.now c.args.text.now _ x.name.source x.name.characters refl (ap (λ (e : Entry). e.label) q ∙ x.label) x.lies x.string))
     c.loop-k.invariant))
 
 pub returns-clause-all : goal.returns-clause-all
