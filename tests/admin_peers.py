@@ -20,9 +20,9 @@ from collections import Counter
 from pathlib import Path
 
 from admin_replies import ALLOWED, HOST, TOO_LONG, WHOLE, read
-from administration import STATUSES, Administered, is_refused, read_all
+from administration import STATUSES, Administered, read_all
 from lib.plain_model import Server, number
-from lib.running_server import GIVE_BACK, PATIENCE, PROGRAM, Report, frames_of, has, open_connection, talk
+from lib.running_server import GIVE_BACK, PATIENCE, PROGRAM, Report, frames_of, has, is_turned_away, open_connection, talk
 from lib.traffic import KEYS, Traffic
 from many_connections import KEY, LARGE, MEBIBYTE, PUT_LARGE, fill, greedy
 from path_client import REQUEST_LIMIT, connect, parse_address
@@ -134,7 +134,7 @@ def readiness_and_drains(report):
             report.case(f"{method} {target}", "", wanted, server.ask(method, target)[0])
         time.sleep(2)
         report.case("a connection that is open is served", "", b"1", client.get(b"c", b"d"))
-        report.case("a further one is not", "", True, is_refused(server.address))
+        report.case("a further one is not", "", True, is_turned_away(server.address))
         began = time.monotonic()
         report.case("a second drain", "", 202, server.ask("POST", "/drain?grace=0")[0])
         report.case("has the server end at once", "", ((0, True), True), (server.ended(), time.monotonic() - began < 4))

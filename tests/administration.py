@@ -15,7 +15,7 @@ from collections import Counter
 
 from lib.plain_model import STATUS, Server, counts, field
 from lib.plain_queries import charge
-from lib.running_server import PATIENCE, Listening, Report, frames_of, open_connection, talk
+from lib.running_server import PATIENCE, Listening, Report, frames_of, is_turned_away, open_connection, talk
 from lib.traffic import KEYS, Traffic
 from path_client import connect, parse_address
 
@@ -216,25 +216,14 @@ def read_all(connection):
     return b"".join(iter(lambda: connection.recv(65_536), b""))
 
 
-def is_refused(address):
-    deadline = time.monotonic() + PATIENCE
-    while time.monotonic() < deadline:
-        try:
-            open_connection(address).close()
-        except OSError:
-            return True
-        time.sleep(0.01)
-    return False
-
-
 def drains(report):
     with Administered() as server:
         with connect(server.address, KEYS[0]) as client:
             client.put(b"c", b"d", b"1")
             server.ask("POST", "/ready")
             report.case("a drain", "", 202, server.ask("POST", "/drain?grace=60")[0])
-            report.case("takes in no more", "", True, is_refused(server.address))
-            report.case("is ready no more", "", 503, server.ask("GET", "/ready")[0])
+            report.case("is ready no more", "", (503, 0), (server.ask("GET", "/ready")[0], server.numbers()["ready"]))
+            report.case("closes those that come, without a byte", "", True, is_turned_away(server.address))
             time.sleep(2)
             report.case("serves what is open", "", b"1", client.get(b"c", b"d"))
         report.case("ends once all are closed", "", (0, True), server.ended())
@@ -243,6 +232,15 @@ def drains(report):
             report.case("a short drain", "", 202, server.ask("POST", "/drain?grace=1")[0])
             report.case("ends what is open then", "", b"", connection.recv(1))
         report.case("and ends", "", (0, True), server.ended())
+    with Administered() as server:
+        with connect(server.address, KEYS[0]) as client:
+            client.put(b"c", b"d", b"1")
+            server.ask("POST", "/ready")
+            server.process.stdin.close()
+            report.case("the end of standard input closes those that come", "", True, is_turned_away(server.address))
+            report.case("and it is ready no more, whatever is said", "", (503, 200, 503), tuple(server.ask(it, "/ready")[0] for it in ("GET", "POST", "GET")))
+            report.case("and what is open is served", "", b"1", client.get(b"c", b"d"))
+        report.case("and it ends behind the last", "", (0, True), server.ended())
     with Administered() as server:
         report.case("a drain of an idle server is answered", "", (202, b"draining\n"), server.ask("POST", "/drain"))
         report.case("and it ends", "", (0, True), server.ended())

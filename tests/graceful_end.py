@@ -1,6 +1,6 @@
 #!/usr/bin/env python3
 """How bin/path_server_run ends `path_server listen`: the first SIGTERM or SIGINT lets the open connections go on to their ends, a second ends it at once,
-and SIGHUP ends nothing.
+and SIGHUP ends nothing. Connections that come meanwhile are closed without a byte. At the end of a drain's grace no reply is cut.
 
 It does so below a shell and as process 1 of a container, whatever its own standard input is. Where the system doesn't let this user make a space of
 processes (unshare), the cases of process 1 are not run, and the script says so. The program is the one that bin/build makes, or the one that the
@@ -17,9 +17,10 @@ import tempfile
 import time
 from pathlib import Path
 
-from lib.running_server import PATIENCE, PROGRAM, TOP, Report, Running, not_run, open_connection
+from administration import Administered
+from lib.running_server import PATIENCE, PROGRAM, TOP, Report, Running, is_turned_away, not_run, open_connection
 from lib.traffic import KEYS
-from path_client import connect
+from path_client import connect, parse_address
 
 RUN = TOP / "bin/path_server_run"
 ALONE = ["unshare", "--user", "--map-root-user", "--pid", "--fork", "--mount-proc", "--kill-child"]
@@ -61,32 +62,18 @@ def children(process):
     return [int(it) for it in Path(f"/proc/{process}/task/{process}/children").read_text().split()]
 
 
-def is_refused(address):
-    """Whether new connections come to be refused."""
-    until = time.monotonic() + PATIENCE
-    while time.monotonic() < until:
-        try:
-            open_connection(address).close()
-        except ConnectionRefusedError:
-            return True
-        except ConnectionResetError:
-            pass
-        time.sleep(0.01)
-    return False
-
-
 def serves_to_the_end(report, name, number, prefix=(), stdin=subprocess.DEVNULL):
     with Below(prefix, stdin) as server:
         report.case(f"{name}: what it left in its folder", "", [], os.listdir(server.folder.name))
         with connect(server.address, KEYS[0]) as client:
             client.put("c", "d", b'{"a":1}')
             os.kill(server.shell, number)
-            report.case(f"{name}: a new connection", "", True, is_refused(server.address))
+            report.case(f"{name}: a new connection", "", True, is_turned_away(server.address))
             report.case(f"{name}: a request on the open one", "", b'{"a":1}', client.get("c", "d"))
             report.case(f"{name}: while a connection is open", "", None, server.process.poll())
         status, output = server.ended() or (None, b"")
         report.case(f"{name}: status", "", 0, status)
-        # connections that came before the listener was closed count too
+        # connections that came before it took in none count too
         report.case(f"{name}: last line", "", True, bool(re.fullmatch(rb"served \d+ connections, 2 requests\n", output)) or output)
 
 
@@ -97,7 +84,7 @@ def ends_at_the_second(report, number):
         connection.sendall(EMPTY)
         report.case(f"{number}, twice: a reply before", EMPTY, 9, len(connection.recv(9, socket.MSG_WAITALL)))
         os.kill(server.shell, number)
-        report.case(f"{number}, twice: a new connection", "", True, is_refused(server.address))
+        report.case(f"{number}, twice: a new connection", "", True, is_turned_away(server.address))
         os.kill(server.shell, number)
         status, output = server.ended() or (None, b"")
         report.case(f"{number}, twice: status", "", 128 + signal.SIGTERM, status)
@@ -146,6 +133,56 @@ def tells_of_keys(report):
                 report.case(f"a key file of mode {mode:o}", words, (3, told), (ran.returncode, "".join(ran.stderr.splitlines(True)[:-2])))
 
 
+def slow_reader(address):
+    """A connection whose peer's side has room for little of a long reply."""
+    connection = socket.socket()
+    connection.setsockopt(socket.SOL_SOCKET, socket.SO_RCVBUF, 65_536)
+    connection.connect(parse_address(address))
+    connection.settimeout(PATIENCE)
+    return connection
+
+
+def rest_of(connection):
+    """What comes to the end."""
+    return b"".join(iter(lambda: connection.recv(1 << 20), b""))
+
+
+def drained(report):
+    """At the end of a drain's grace a connection at rest is closed. On others each request that came whole is answered, and no reply is cut."""
+    text, ask = b'{"b":"' + 3_999_998 * b"y" + b'"}', b"\x05" + bytes(4) + KEYS[0] + b"\x01c$['b','b']"
+    query = len(ask).to_bytes(4, "big") + ask
+    with Administered() as server:
+        with connect(server.address, KEYS[0]) as client:
+            client.put("c", "d", text)
+        with open_connection(server.address) as connection:
+            connection.sendall(query)
+            connection.shutdown(socket.SHUT_WR)
+            reply = rest_of(connection)
+        report.case("a reply of 8 MB", "", True, len(reply) > 8_000_000)
+        with slow_reader(server.address) as one, slow_reader(server.address) as several, open_connection(server.address) as quiet, open_connection(server.address) as half:
+            one.sendall(query)
+            several.sendall(query + query + query[:-1])
+            half.sendall(query[:-1])
+            heads = [it.recv(4, socket.MSG_WAITALL) for it in (one, several)]
+            report.case("replies that are being written", "", [reply[:4]] * 2, heads)
+            report.case("a drain", "", 202, server.ask("POST", "/drain?grace=1")[0])
+            report.case("one at rest is closed behind the grace", "", b"", quiet.recv(1))
+            report.case("so is one with half a request", "", b"", half.recv(1))
+            report.case("a reply that was being written comes whole", "", True, rest_of(one) == reply[4:])
+            report.case("each whole request is answered, and then comes the end", "", True, rest_of(several) == reply[4:] + reply)
+        report.case("the server behind them", "", (0, True), server.ended())
+        report.case("how they ended", "", ["Drained"] * 4, sorted(server.ends().values()))
+    with Administered() as server:
+        with connect(server.address, KEYS[0]) as client:
+            client.put("c", "d", text)
+        with slow_reader(server.address) as deaf:
+            deaf.sendall(query)
+            report.case("a reply that nobody reads", "", reply[:4], deaf.recv(4, socket.MSG_WAITALL))
+            server.ask("POST", "/drain?grace=0")
+            report.case("keeps no server for ever", "", (0, True), server.ended())
+            report.case("how it ended", "", ["Drained"], sorted(server.ends().values()))
+
+
 def at_every_moment(report, count=40):
     """A signal at any moment of the start is not lost: it ends, by the signal or with 0."""
     for place in range(count):
@@ -177,6 +214,7 @@ def main():
         serves_to_the_end(report, number.name, number)
         ends_at_the_second(report, number)
     serves_on(report)
+    drained(report)
     outlives_its_terminal(report)
     tells_of_keys(report)
     at_every_moment(report)

@@ -18,7 +18,7 @@ import time
 import urllib.request
 
 from deployment import CLIENT, ENDED, FRAME_FAULT, GET, NO_TENANT, NOT_FOUND, OK, PUT, SHORT, TOP, USAGE, Deployment, ask, frame, free_ports, read_reply, wait_until
-from lib.running_server import PATIENCE, PROGRAM, Report, open_connection, want
+from lib.running_server import PATIENCE, PROGRAM, Report, is_turned_away, open_connection, want
 from path_client import BrokenConnection, connect
 
 TEXT = b'{"a":1}'
@@ -194,6 +194,7 @@ def ended(it):
             shard.process.terminate()
         else:
             urllib.request.urlopen(urllib.request.Request(f"http://{shard.options[shard.options.index('--admin') + 1]}/drain?grace=30", method="POST")).close()
+        report.case(f"{how}: a new connection to the shard is closed, and not refused", "", True, is_turned_away(shard.address))
         until = time.monotonic() + 5
         while time.monotonic() < until and set(statuses) == {OK}:
             statuses += [ask(connection, frame(USAGE, key)) for connection, key in connections]

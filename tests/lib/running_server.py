@@ -12,6 +12,7 @@ import socket
 import subprocess
 import sys
 import tempfile
+import time
 from pathlib import Path
 
 from path_client import parse_address
@@ -173,6 +174,24 @@ def open_connection(address):
     connection = socket.create_connection(parse_address(address), PATIENCE)
     connection.setsockopt(socket.IPPROTO_TCP, socket.TCP_NODELAY, 1)
     return connection
+
+
+def is_turned_away(address):
+    """Whether connections that are made come to be closed at once, without a byte. None may be refused meanwhile."""
+    until = time.monotonic() + PATIENCE
+    while time.monotonic() < until:
+        try:
+            with open_connection(address) as connection:
+                connection.settimeout(0.1)
+                return connection.recv(1) == b""
+        except ConnectionRefusedError:
+            return False
+        except socket.timeout:
+            # it is served still
+            pass
+        except ConnectionError:
+            return True
+    return False
 
 
 def talk(connection, pieces, patience=PATIENCE):

@@ -1,5 +1,5 @@
 //! The few connections of the administration address.
-ghost use Rattle.std.specs.Prelude.{◌≡◌, ◌≤◌, None, IfSome, false, nat_lt};
+ghost use Rattle.std.specs.Prelude.{◌≡◌, ◌≤◌, None, IfSome, true, false, nat_lt};
 ghost use Rattle.slab.specs.Slab.{get, slab_len, Updates};
 ghost use Rattle.admin_pages.specs.Standings.{at_start};
 ghost use Rattle.admin_desk.specs.Desks.{IsLate, IsSilent, KeepsAnswered, SaysAt, SaysBy, is_own};
@@ -60,6 +60,13 @@ impl<S: Peer> Desk<S> {
         ensures { result.now ≡ self.now.standing }
     {
         &self.standing
+    }
+
+    /// The server takes in no connections any more.
+    pub fn end(&mut self)
+        ensures { self.new.standing ≡ record self.old.standing { is_ending = true } }
+    {
+        self.standing.is_ending = true;
     }
 
     /// Whether none is open.

@@ -1,6 +1,6 @@
 -- What a connection of the loop is owed, and the bytes that moved on its stream: this project's own.
-use Rattle.std.specs.Prelude.{Bool, false, Option, Some, None}
-use Rattle.outbox.specs.Lines.{Line}
+use Rattle.std.specs.Prelude.{Bool, false, not, ◌&&◌, Option, Some, None}
+use Rattle.outbox.specs.Lines.{Line, owes}
 use Rattle.outbox.specs.Told.{Told}
 use Rattle.connection_turns.specs.declared.connection.Phase.{Phase}
 use Rattle.connection_turns.specs.declared.connection.Phase.TheVariants.{Served, Lingering}
@@ -17,6 +17,18 @@ line_of c = line_in c.phase c.outbox
 -- what its stream shows
 abbrev pub wire_of : {S : Type 0} → (S → Option Told) → Connection S → Option Told
 wire_of told c = told c.socket.stream
+
+-- it is read no more
+abbrev pub has_left : {S : Type 0} → Connection S → Bool
+has_left c = c.socket.is_left
+
+-- one rests that is served, if nothing of it came that is not answered, and nothing is owed
+abbrev pub rests_in : Phase → Bool → Bool
+rests_in Served is_quiet = is_quiet
+rests_in Lingering is_quiet = false
+
+abbrev pub rests : {S : Type 0} → Connection S → Bool
+rests c = rests_in c.phase (not c.is_due && (not c.has_part && (not c.ready.readable && (not c.ready.waiting && not (owes c.outbox)))))
 
 -- one is lost that is served although its peer is gone
 abbrev pub lost_in : Phase → Bool → Bool

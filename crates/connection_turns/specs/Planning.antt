@@ -1,6 +1,6 @@
 -- What the next turn of a connection does, whether it does anything, and what comes of it: this project's own.
 use Rattle.std.specs.Prelude.{ℕ, length, nat_lt, Option, Some, None, Bool, true, false, not, ◌==◌, ◌&&◌, ◌||◌, if◌then◌else◌}
-use Rattle.outbox.specs.Lines.{Line, reads}
+use Rattle.outbox.specs.Lines.{Line, reads, is_over}
 use Rattle.outbox.specs.Turns as turns
 use Rattle.outbox.specs.declared.readiness.Readiness.{Readiness}
 use Rattle.socket_poll.specs.declared.system.Report.{Report}
@@ -14,6 +14,10 @@ use Rattle.connection_turns.specs.declared.connection.Plan.TheVariants.{Write, R
 use Rattle.connection_turns.specs.declared.connection.Outcome.{Outcome}
 use Rattle.connection_turns.specs.declared.connection.Outcome.TheVariants as outcome
 use Rattle.connection_turns.specs.declared.connection.Connection.{Connection}
+use Rattle.connection_turns.specs.declared.ending.End.{End}
+use Rattle.connection_turns.specs.declared.ending.End.TheVariants as end
+use Rattle.connection_turns.specs.declared.socket.Fate.{Fate}
+use Rattle.connection_turns.specs.declared.socket.Fate.TheVariants as fate
 use Rattle.connection_turns.specs.Owed.{is_lost}
 
 -- what is reported stays known, beside what was
@@ -62,6 +66,18 @@ goes_in Served readable served = served
 -- whether a turn does anything: one whose peer is gone is ended by it
 abbrev pub can_go_on : {S : Type 0} → (has_room : Bool) → Connection S → Bool
 can_go_on has_room c = is_lost c || goes_in c.phase c.ready.readable (can_go_by (plan_of has_room c) c.ready c.outbox)
+
+-- how one ends that is over, by what became of its stream
+abbrev pub end_of : Fate → (has_faulted : Bool) → End
+end_of fate.Lives has_faulted = if has_faulted then end.FrameFault else end.Memory
+end_of fate.Ended has_faulted = end.Done
+end_of fate.Unread has_faulted = end.ReadFault
+end_of fate.Unwritten has_faulted = end.WriteFault
+end_of fate.Left has_faulted = end.Drained
+
+-- it ends once it is not read any more and owes nothing
+abbrev pub outcome_of : {S : Type 0} → Connection S → Outcome
+outcome_of c = if is_over c.outbox then outcome.Over (end_of c.socket.fate c.has_faulted) else outcome.Open
 
 -- whether it is served no further
 abbrev pub ends : Outcome → Bool

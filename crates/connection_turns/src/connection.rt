@@ -1,18 +1,18 @@
 //! One connection and what is known of it.
-ghost use Rattle.std.specs.Prelude.{◌≡◌, ℕ, List, ◌<◌, ◌≤◌, ◌||◌, length, is_some, Some, None, false};
+ghost use Rattle.std.specs.Prelude.{◌≡◌, ℕ, List, ◌<◌, ◌≤◌, ◌||◌, length, Some, None, false, IsTrue};
 ghost use Rattle.outbox.specs.Lines.{fresh, is_over};
 ghost use Rattle.outbox.specs.Told.{IsReadOn};
 ghost use Rattle.outbox.specs.Turns as turns;
 ghost use Rattle.outbox.specs.Turns.{Flushes};
 ghost use Rattle.connection_turns.specs.Held.{renewed};
-ghost use Rattle.connection_turns.specs.Owed.{line_of, wire_of, is_lost};
+ghost use Rattle.connection_turns.specs.Owed.{line_of, wire_of, is_lost, has_left, rests};
 ghost use Rattle.connection_turns.specs.Planning as planning;
-ghost use Rattle.connection_turns.specs.Planning.{raised, ends, plan_of, next_of, plan_in};
+ghost use Rattle.connection_turns.specs.Planning.{raised, ends, end_of, outcome_of, plan_of, next_of, plan_in};
 ghost use Rattle.connection_turns.specs.Turning.{TakesTurn};
 
 use crate::claim::{Claim, Pool, Purpose};
 use crate::counted::Counted;
-use crate::ending::End;
+use crate::ending::{End, Ending};
 use crate::limits::Limits;
 use crate::socket::{Fate, Socket};
 use outbox::{Core, Given, Outbox, Readiness, Wire, feed, flush, turn};
@@ -328,29 +328,63 @@ impl<S: Peer> Connection<S> {
     }
 
     // How it ended, where it is over.
-    fn end(&self) -> Option<End>
-        ensures { is_some result ≡ is_over self.now.outbox }
+    fn end(&self) -> End
+        ensures { result ≡ end_of self.now.socket.fate self.now.has_faulted }
     {
-        if !self.outbox.is_over() {
-            return None;
-        }
         match self.socket.fate {
-            Fate::Unread => Some(End::ReadFault),
-            Fate::Unwritten => Some(End::WriteFault),
-            Fate::Ended => Some(End::Done),
-            Fate::Lives if self.has_faulted => Some(End::FrameFault),
-            Fate::Lives => Some(End::Memory),
+            Fate::Unread => End::ReadFault,
+            Fate::Unwritten => End::WriteFault,
+            Fate::Ended => End::Done,
+            Fate::Left => End::Drained,
+            Fate::Lives if self.has_faulted => End::FrameFault,
+            Fate::Lives => End::Memory,
         }
     }
 
     /// What comes of a turn at it.
     pub fn outcome(&self) -> Outcome
-        ensures { ends result ≡ is_over self.now.outbox }
+        ensures over { ends result ≡ is_over self.now.outbox }
+        ensures how { result ≡ outcome_of self.now }
     {
-        match self.end() {
-            Some(how) => Outcome::Over(how),
-            None => Outcome::Open,
+        if self.outbox.is_over() {
+            Outcome::Over(self.end())
+        } else {
+            Outcome::Open
         }
+    }
+
+    /// How it ended, as a journal is told.
+    pub fn ending(&self, how: End) -> Ending {
+        Ending {
+            number: self.number,
+            peer: self.peer,
+            how,
+        }
+    }
+
+    /// Whether it is served and at rest: nothing came that is not answered, and nothing is owed.
+    pub fn rests(&self) -> bool
+        ensures { result ≡ rests self.now }
+    {
+        match self.phase {
+            Phase::Served => {
+                !self.is_due
+                    && !self.has_part
+                    && !self.ready.readable
+                    && !self.ready.waiting
+                    && !self.outbox.owes()
+            }
+            Phase::Lingering => false,
+        }
+    }
+
+    /// From now on it is read no more, as if its input had ended: what was read whole is answered, and what is owed is written.
+    pub fn leave(&mut self)
+        ensures line { line_of self.new ≡ line_of self.old }
+        ensures wire { wire_of S.told self.new ≡ wire_of S.told self.old }
+        ensures left { IsTrue (has_left self.new) }
+    {
+        self.socket.leave();
     }
 
     /// Serves it no further. The writing side ends, so that what was written arrives although bytes are unread.
@@ -370,18 +404,18 @@ impl<S: Peer> Connection<S> {
         now.saturating_sub(self.moved) >= LINGER
     }
 
-    /// Reads once and throws away what comes. Whether more may come.
-    pub fn drain(&mut self, buffer: &mut [u8]) -> bool
+    /// Reads once and throws away what comes, and tells whether more may come.
+    pub fn drain(&mut self, buffer: &mut [u8]) -> Outcome
         ensures line { line_of self.new ≡ line_of self.old }
         ensures wire { IsReadOn (wire_of S.told self.old) (wire_of S.told self.new) }
     {
         match self.socket.stream.read(buffer) {
-            Given::Bytes(_) => true,
+            Given::Bytes(_) => Outcome::Open,
             Given::Blocked => {
                 self.ready.readable = false;
-                true
+                Outcome::Open
             }
-            Given::Ended | Given::Failed => false,
+            Given::Ended | Given::Failed => Outcome::Closed,
         }
     }
 

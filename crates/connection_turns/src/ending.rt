@@ -23,7 +23,7 @@ pub enum End {
     Slow,
     /// It was idle, and made room for a new one at the limit on connections.
     Displaced,
-    /// The server drained, and its seconds for that passed.
+    /// The server drained, and its seconds for that passed. What was read whole was answered and written, if the peer took it in time.
     Drained,
 }
 

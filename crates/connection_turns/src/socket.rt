@@ -1,5 +1,6 @@
 //! A connection's stream, and what its turns are told of it.
-ghost use Rattle.std.specs.Prelude.{◌≡◌};
+ghost use Rattle.std.specs.Prelude.{◌≡◌, IsTrue};
+ghost use Rattle.outbox.specs.Moves.{Gives};
 
 use outbox::{Given, Taken, Wire};
 
@@ -14,6 +15,8 @@ pub(crate) enum Fate {
     Unread,
     /// A write failed.
     Unwritten,
+    /// It is read no more, although its input goes on.
+    Left,
 }
 
 /// A wire over a stream, which shows what the stream shows.
@@ -28,6 +31,8 @@ pub(crate) struct Socket<S> {
     is_drained: bool,
     // The peer ended its side, so that a short read is no sign that nothing is left.
     is_ending: bool,
+    // It is read no more: a read gives the end.
+    pub(crate) is_left: bool,
 }
 
 impl<S: Wire> Socket<S> {
@@ -42,6 +47,7 @@ impl<S: Wire> Socket<S> {
             fate: Fate::Lives,
             is_drained: false,
             is_ending: false,
+            is_left: false,
         }
     }
 
@@ -70,12 +76,27 @@ impl<S: Wire> Socket<S> {
         self.is_drained = false;
         self.is_ending = self.is_ending || is_ending;
     }
+
+    /// From now on each read gives the end.
+    pub fn leave(&mut self)
+        ensures stream { self.new.stream ≡ self.old.stream }
+        ensures left { IsTrue self.new.is_left }
+    {
+        self.is_left = true;
+    }
 }
 
 impl<S: Wire> Wire for Socket<S> {
     ghost told = { λ s. S.told s.stream };
 
-    fn read(&mut self, buffer: &mut [u8]) -> Given {
+    fn read(&mut self, buffer: &mut [u8]) -> Given
+        ensures gives { Gives (S.told self.old.stream) result buffer.new (S.told self.new.stream) }
+        ensures left { IsTrue self.old.is_left → (result ≡ Given.Ended) × (self.new.stream ≡ self.old.stream) }
+    {
+        if self.is_left {
+            self.fate = Fate::Left;
+            return Given::Ended;
+        }
         if self.is_drained {
             return Given::Blocked;
         }

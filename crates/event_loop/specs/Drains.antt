@@ -1,11 +1,30 @@
--- When a server that drains ends the connections that are open: this project's own.
-use Rattle.std.specs.Prelude.{ℕ, ◌+◌, ◌≤◌, Option, Some, None}
+-- What a server that drains does to the connections that are open: this project's own.
+use Rattle.std.specs.Prelude.{ℕ, ◌+◌, nat_lt, Option, Some, None, Result, OnOk, IsFalse, if◌then◌else◌}
+use Rattle.outbox.specs.Told.{Told}
+use Rattle.open_connections.specs.declared.open.Open.{Open}
+use Rattle.open_connections.specs.Looping.{Stays}
+use Rattle.open_connections.specs.Opened.{lanes_of, rests_at, HasLeft}
+use Rattle.event_loop.specs.declared.fault.LoopFault.{LoopFault}
+use Rattle.event_loop.specs.declared.parting.Parting.{Parting}
+use Rattle.event_loop.specs.declared.parting.Parting.TheVariants.{Served, Leaves, Cut}
 
--- it drains, and the seconds for that have passed
-abbrev pub IsOut : (since grace : Option ℕ) → (now : ℕ) → Type 0
-IsOut None grace now = ⊥
-IsOut (Some since) None now = ⊥
-IsOut (Some since) (Some grace) now = since + grace ≤ now
+-- until the grace is over each is served on; from then on it leaves; 10 seconds later it is cut
+abbrev pub parting_at : (since grace now : ℕ) → Parting
+parting_at since grace now = if nat_lt now (since + grace) then Served else (if nat_lt now (since + grace + 10) then Leaves else Cut)
 
-abbrev pub IsNotOut : (since grace : Option ℕ) → (now : ℕ) → Type 0
-IsNotOut since grace now = IsOut since grace now → ⊥
+-- by the second in which the drain began, and the grace that was asked for last; where there is none, the server does not drain
+abbrev pub parting_of : (since grace : Option ℕ) → (now : ℕ) → Parting
+parting_of None grace now = Served
+parting_of (Some since) None now = Served
+parting_of (Some since) (Some grace) now = parting_at since grace now
+
+-- one that leaves is read no more, and all else stays
+pub record LeavesAt {S C T : Type 0} (told : S → Option Told) (key : ℕ) (result : Result (Unit {0}) LoopFault) (old new : Open S C T) : Type 0 where
+  pub stays : Stays (lanes_of told old) (lanes_of told new)
+  pub left : OnOk result (HasLeft key new)
+
+-- One that is served on stays as it is. One that leaves is closed if it rests. One that is cut may be closed, whatever it does.
+abbrev pub Parts : {S C T : Type 0} → (S → Option Told) → Parting → (key : ℕ) → Result (Unit {0}) LoopFault → Open S C T → Open S C T → Type 0
+Parts told Served key result old new = Stays (lanes_of told old) (lanes_of told new)
+Parts told Leaves key result old new = IsFalse (rests_at key old) → LeavesAt told key result old new
+Parts told Cut key result old new = Unit {0}

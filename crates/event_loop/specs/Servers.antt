@@ -4,12 +4,13 @@ use Rattle.outbox.specs.Lines.{Line}
 use Rattle.outbox.specs.Told.{Told}
 use Rattle.connection_turns.specs.declared.limits.Limits.{Limits}
 use Rattle.open_connections.specs.declared.budgets.Budgets.{Budgets}
-use Rattle.open_connections.specs.Looping.{Lanes}
+use Rattle.open_connections.specs.Looping.{Lanes, ServesNoNew}
 use Rattle.open_connections.specs.Shares.{limits_in}
 
--- whether it takes in connections, how many are open and were taken in, the bytes read and written, its limits, the budgets of memory, the core that answers, and by key what each connection that is served is owed, and what the stream of each that is open shows
+-- whether it takes in connections, the seconds of grace once a drain was asked for, how many are open and were taken in, the bytes read and written, its limits, the budgets of memory, the core that answers, and by key what each connection that is served is owed, and what the stream of each that is open shows
 pub record Serving (C : Type 0) : Type 0 where
   pub listens : Bool
+  pub grace : Option ℕ
   pub connected : ℕ
   pub taken : ℕ
   pub read : ℕ
@@ -23,6 +24,11 @@ pub record Serving (C : Type 0) : Type 0 where
 -- as the steps of the loop see it
 abbrev pub lanes_in : {C : Type 0} → Serving C → Lanes C
 lanes_in server = record { core = server.core; lines = λ q. slice_index_or server.lines q None; wires = λ q. slice_index_or server.wires q None; limits = limits_in server.budgets; bytes = (server.read, server.written) }
+
+-- A server that takes in no connection takes in none from then on: what it serves was served before.
+pub record StaysDeaf {C : Type 0} (old new : Serving C) : Type 0 where
+  pub deaf : IsFalse new.listens
+  pub none_new : ServesNoNew (lanes_in old) (lanes_in new)
 
 -- it takes in no connection any more, and none is open
 pub record IsOver {C : Type 0} (server : Serving C) : Type 0 where

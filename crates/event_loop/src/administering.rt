@@ -1,14 +1,12 @@
 //! What a round does for the administration address.
-ghost use Rattle.std.specs.Prelude.{◌≡◌, ◌+◌, ◌≤◌, IsTrue};
-ghost use Rattle.open_connections.specs.Looping.{Stays, DoesAtMost, LetGo};
+ghost use Rattle.std.specs.Prelude.{◌≡◌, is_some, IsTrue, IsFalse};
+ghost use Rattle.admin_pages.specs.Standings.{takes_in};
+ghost use Rattle.open_connections.specs.Looping.{Stays};
 ghost use Rattle.open_connections.specs.Opened.{lanes_of, connected_in};
-ghost use Rattle.event_loop.specs.Drains.{IsOut, IsNotOut};
 
-use crate::fault::LoopFault;
 use crate::rounds::Rounds;
 use admin_desk::PLACES;
 use admin_pages::Gauges;
-use connection_turns::End;
 use open_connections::{Journal, LoopCore};
 use socket_poll::{Accepted, System, Time};
 use tenant_map::TENANT_LIMIT;
@@ -25,7 +23,8 @@ struct Held {
 impl<S: System + Drop, C: LoopCore, T: Time + Drop> Rounds<S, C, T> {
     /// Does a step of each connection of the address, accepts new ones, and begins a drain that was asked for.
     pub fn administer<J: Journal>(&mut self, journal: &J)
-        ensures { Stays (lanes_of S.Stream.told self.old.opened) (lanes_of S.Stream.told self.new.opened) }
+        ensures lanes { Stays (lanes_of S.Stream.told self.old.opened) (lanes_of S.Stream.told self.new.opened) }
+        ensures drains { IsTrue (is_some self.new.desk.standing.grace) → IsFalse self.new.acceptor.listens }
     {
         'places: for place in 0..PLACES {
             self.serve_caller(place, journal);
@@ -92,7 +91,7 @@ impl<S: System + Drop, C: LoopCore, T: Time + Drop> Rounds<S, C, T> {
 
     // What is so at the moment.
     fn gauges(&self, dropped: u64) -> Gauges
-        ensures ready { result.is_ready ≡ self.now.desk.standing.is_ready }
+        ensures ready { result.is_ready ≡ takes_in self.now.desk.standing }
         ensures open_ones { result.open ≡ connected_in self.now.opened }
         ensures accepted { result.connections ≡ self.now.acceptor.taken }
         ensures bytes_read { result.read ≡ self.now.opened.read }
@@ -109,7 +108,7 @@ impl<S: System + Drop, C: LoopCore, T: Time + Drop> Rounds<S, C, T> {
         let waiting_of = waiting.by_tenant;
         Gauges {
             uptime: self.seconds.last(),
-            is_ready: self.desk.standing().is_ready,
+            is_ready: self.desk.standing().takes_in(),
             open: self.opened.count() as u64,
             open_limit: self.limits.connections as u64,
             is_refused: self.acceptor.is_refused,
@@ -147,57 +146,5 @@ impl<S: System + Drop, C: LoopCore, T: Time + Drop> Rounds<S, C, T> {
             }
         }
         held
-    }
-
-    // If a drain was asked for, the server accepts no connection from now on.
-    fn heed_drain(&mut self)
-        ensures { Stays (lanes_of S.Stream.told self.old.opened) (lanes_of S.Stream.told self.new.opened) }
-    {
-        if self.drained.is_some() || self.desk.standing().grace.is_none() {
-            return;
-        }
-        self.drained = Some(self.seconds.last());
-        self.acceptor.listens = false;
-        self.system.close();
-    }
-
-    /// Ends a connection that is served, once the server has drained for as long as was asked.
-    pub fn drain<J: Journal>(&mut self, key: usize, journal: &mut J) -> Result<(), LoopFault>
-        ensures lanes { DoesAtMost C.steps (LetGo key) (lanes_of S.Stream.told self.old.opened) (lanes_of S.Stream.told self.new.opened) }
-        ensures graced { IsNotOut self.old.drained self.old.desk.standing.grace self.old.seconds.last → Stays (lanes_of S.Stream.told self.old.opened) (lanes_of S.Stream.told self.new.opened) }
-    {
-        if !self.is_drained() {
-            return Ok(());
-        }
-        self.cut(key, journal)
-    }
-
-    fn cut<J: Journal>(&mut self, key: usize, journal: &mut J) -> Result<(), LoopFault>
-        ensures { DoesAtMost C.steps (LetGo key) (lanes_of S.Stream.told self.old.opened) (lanes_of S.Stream.told self.new.opened) }
-    {
-        if !self.opened.is_served(key) {
-            return Ok(());
-        }
-        self.finish(key, End::Drained, journal)
-    }
-
-    // Whether the seconds of a drain have passed.
-    fn is_drained(&self) -> bool
-        ensures { IsTrue result → IsOut self.now.drained self.now.desk.standing.grace self.now.seconds.last }
-    {
-        match (self.drained, self.desk.standing().grace) {
-            (Some(began), Some(grace)) => has_passed(began, grace, self.seconds.last()),
-            _ => false,
-        }
-    }
-}
-
-// Whether so many seconds have passed since one.
-fn has_passed(since: u64, seconds: u32, now: u64) -> bool
-    ensures { IsTrue result → since + seconds ≤ now }
-{
-    match now.checked_sub(since) {
-        Some(passed) => passed >= u64::from(seconds),
-        None => false,
     }
 }

@@ -5,6 +5,7 @@
 
 mod administering;
 mod fault;
+mod parting;
 mod rounds;
 mod seconds;
 mod server;

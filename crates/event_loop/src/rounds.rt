@@ -1,7 +1,7 @@
 //! The rounds of a loop: each waits for what is ready, takes connections in, and gives turns.
-ghost use Rattle.std.specs.Prelude.{◌≡◌, ℕ, None, IfOk, OnOk, IsFalse, IsTrue};
+ghost use Rattle.std.specs.Prelude.{◌≡◌, ℕ, None, is_some, IfOk, OnOk, IsFalse, IsTrue};
 ghost use Rattle.outbox.specs.Told.{IsUnused};
-ghost use Rattle.open_connections.specs.Looping.{Stays, DoesSome, DoesAtMost, TurnsAtMost, LetGo};
+ghost use Rattle.open_connections.specs.Looping.{Stays, DoesSome, DoesOn, DoesAtMost, TurnsAtMost, LetGo};
 ghost use Rattle.open_connections.specs.Opened.{lanes_of, connected_in, has_time, IsPutOff};
 ghost use Rattle.open_connections.specs.Shares.{fresh_budgets};
 ghost use Rattle.event_loop.specs.Clocked.{IsNoted, NotesMoved};
@@ -18,7 +18,7 @@ use std::net::SocketAddr;
 use std::time::Duration;
 
 /// The most connections that are taken in between two waits.
-const ACCEPTS: u32 = 256;
+pub(crate) const ACCEPTS: u32 = 256;
 
 /// The least number of reports that a wait gives where so many connections are ready.
 const REPORTS: usize = 1_024;
@@ -32,10 +32,10 @@ const TICK: u64 = 1_000;
 /// What accepts connections.
 #[derive(Clone, Copy)]
 pub(crate) struct Acceptor {
-    // It takes in connections.
+    // It takes in connections. If not, it closes those that come.
     pub listens: bool,
-    // A connection may wait to be taken in.
-    is_asked: bool,
+    // A connection may wait to be accepted.
+    pub is_asked: bool,
     // The last accept failed.
     pub is_refused: bool,
     // How many were taken in.
@@ -134,12 +134,38 @@ impl<S: System + Drop, C: LoopCore, T: Time + Drop> Rounds<S, C, T> {
     ///
     /// `Net` where the system does not say what is ready, `Memory` where a growth was refused that no connection asked for.
     pub fn step<J: Journal>(&mut self, journal: &mut J) -> Result<(), LoopFault>
-        ensures { DoesSome C.steps (lanes_of S.Stream.told self.old.opened) (lanes_of S.Stream.told self.new.opened) }
+        ensures lanes { DoesSome C.steps (lanes_of S.Stream.told self.old.opened) (lanes_of S.Stream.told self.new.opened) }
+        ensures deaf { IsFalse self.old.acceptor.listens → IsFalse self.new.acceptor.listens }
+        ensures on { IsFalse self.old.acceptor.listens → DoesOn C.steps (lanes_of S.Stream.told self.old.opened) (lanes_of S.Stream.told self.new.opened) }
+        ensures drains { OnOk result (IsTrue (is_some self.new.desk.standing.grace) → IsFalse self.new.acceptor.listens) }
+    {
+        let listens = self.acceptor.listens;
+        let done = self.go_round(listens, journal);
+        self.stay_deaf(listens);
+        done
+    }
+
+    // A server that did not listen listens no more.
+    fn stay_deaf(&mut self, listens: bool)
+        ensures lanes { Stays (lanes_of S.Stream.told self.old.opened) (lanes_of S.Stream.told self.new.opened) }
+        ensures deaf { IsFalse listens → IsFalse self.new.acceptor.listens }
+        ensures fewer { IsFalse self.old.acceptor.listens → IsFalse self.new.acceptor.listens }
+        ensures asked { self.new.desk.standing ≡ self.old.desk.standing }
+    {
+        self.acceptor.listens = self.acceptor.listens && listens;
+    }
+
+    // One round of a server that listens, or does not.
+    fn go_round<J: Journal>(&mut self, listens: bool, journal: &mut J) -> Result<(), LoopFault>
+        ensures lanes { DoesSome C.steps (lanes_of S.Stream.told self.old.opened) (lanes_of S.Stream.told self.new.opened) }
+        ensures on { IsFalse listens → DoesOn C.steps (lanes_of S.Stream.told self.old.opened) (lanes_of S.Stream.told self.new.opened) }
+        ensures drains { OnOk result (IsTrue (is_some self.new.desk.standing.grace) → IsFalse self.new.acceptor.listens) }
     {
         // the clock is read before the wait: what it says of idle connections is so only if nothing was reported since
         let is_later = self.is_later();
         self.wait(is_later)?;
         self.look(is_later, journal)?;
+        self.stay_deaf(listens);
         self.accept(journal)?;
         self.take_turns(journal)?;
         self.administer(journal);
@@ -186,7 +212,7 @@ impl<S: System + Drop, C: LoopCore, T: Time + Drop> Rounds<S, C, T> {
     fn most(&self) -> Duration {
         if self.opened.has_due() || self.desk.has_due() {
             Duration::from_millis(0)
-        } else if self.acceptor.is_asked && self.acceptor.listens && !self.is_full() {
+        } else if self.acceptor.is_asked && !(self.acceptor.listens && self.is_full()) {
             Duration::from_millis(if self.acceptor.is_refused { RETRY } else { 0 })
         } else {
             Duration::from_millis(TICK)
@@ -203,11 +229,10 @@ impl<S: System + Drop, C: LoopCore, T: Time + Drop> Rounds<S, C, T> {
         ensures { Stays (lanes_of S.Stream.told self.old.opened) (lanes_of S.Stream.told self.new.opened) }
     {
         self.acceptor.is_asked = self.acceptor.is_asked || woken.is_asked;
-        if !woken.is_closed {
-            return;
+        if woken.is_closed {
+            self.acceptor.listens = false;
+            self.desk.end();
         }
-        self.acceptor.listens = false;
-        self.system.close();
     }
 
     // Notes what was reported.
@@ -225,13 +250,14 @@ impl<S: System + Drop, C: LoopCore, T: Time + Drop> Rounds<S, C, T> {
         Ok(())
     }
 
-    // Takes in connections that wait, as long as the limits allow. A server that does not listen takes in none.
+    // Takes in connections that wait, as long as the limits allow. A server that does not listen closes them.
     fn accept<J: Journal>(&mut self, journal: &mut J) -> Result<(), LoopFault>
         ensures lanes { DoesSome C.steps (lanes_of S.Stream.told self.old.opened) (lanes_of S.Stream.told self.new.opened) }
         ensures deaf { IsFalse self.old.acceptor.listens → Stays (lanes_of S.Stream.told self.old.opened) (lanes_of S.Stream.told self.new.opened) }
     {
         self.acceptor.is_refused = false;
         if !self.acceptor.listens {
+            self.turn_away();
             return Ok(());
         }
         self.accept_some(journal)
@@ -253,7 +279,7 @@ impl<S: System + Drop, C: LoopCore, T: Time + Drop> Rounds<S, C, T> {
         Ok(())
     }
 
-    fn may_accept(&self) -> bool {
+    pub(crate) fn may_accept(&self) -> bool {
         self.acceptor.is_asked && !self.acceptor.is_refused
     }
 
@@ -366,7 +392,7 @@ impl<S: System + Drop, C: LoopCore, T: Time + Drop> Rounds<S, C, T> {
 
     // One turn for each connection that is due.
     fn take_turns<J: Journal>(&mut self, journal: &mut J) -> Result<(), LoopFault>
-        ensures { DoesSome C.steps (lanes_of S.Stream.told self.old.opened) (lanes_of S.Stream.told self.new.opened) }
+        ensures { DoesOn C.steps (lanes_of S.Stream.told self.old.opened) (lanes_of S.Stream.told self.new.opened) }
     {
         let list = self.opened.take_due()?;
         'turns: for due in &list {
@@ -378,7 +404,7 @@ impl<S: System + Drop, C: LoopCore, T: Time + Drop> Rounds<S, C, T> {
 
     // One turn for a connection that is due, where there is time for it in this round.
     fn serve<J: Journal>(&mut self, due: Due, journal: &mut J) -> Result<(), LoopFault>
-        ensures lanes { DoesSome C.steps (lanes_of S.Stream.told self.old.opened) (lanes_of S.Stream.told self.new.opened) }
+        ensures lanes { DoesOn C.steps (lanes_of S.Stream.told self.old.opened) (lanes_of S.Stream.told self.new.opened) }
         ensures kept { IsFalse (has_time due self.old.opened) → OnOk result (IsPutOff due self.old.opened self.new.opened) }
     {
         if self.opened.has_time(due) {
@@ -398,7 +424,7 @@ impl<S: System + Drop, C: LoopCore, T: Time + Drop> Rounds<S, C, T> {
 
     // One turn for a connection, and what follows from it.
     fn take_turn<J: Journal>(&mut self, key: usize, journal: &mut J) -> Result<(), LoopFault>
-        ensures { DoesSome C.steps (lanes_of S.Stream.told self.old.opened) (lanes_of S.Stream.told self.new.opened) }
+        ensures { DoesOn C.steps (lanes_of S.Stream.told self.old.opened) (lanes_of S.Stream.told self.new.opened) }
     {
         let outcome = self.turn(key);
         self.follow(key, outcome, journal)
@@ -472,12 +498,17 @@ impl<S: System + Drop, C: LoopCore, T: Time + Drop> Rounds<S, C, T> {
     ) -> Result<(), LoopFault>
         ensures { DoesAtMost C.steps (LetGo key) (lanes_of S.Stream.told self.old.opened) (lanes_of S.Stream.told self.new.opened) }
     {
+        self.tell_end(key, how, journal);
+        match how {
+            End::FrameFault | End::Memory | End::Drained => self.linger(key),
+            _ => self.close(key),
+        }
+    }
+
+    // Tells the journal how a connection ended.
+    pub(crate) fn tell_end<J: Journal>(&self, key: usize, how: End, journal: &mut J) {
         if let Some(ending) = self.opened.ending(key, how) {
             journal.ended(&ending);
-        }
-        match how {
-            End::FrameFault | End::Memory => self.linger(key),
-            _ => self.close(key),
         }
     }
 
@@ -487,7 +518,7 @@ impl<S: System + Drop, C: LoopCore, T: Time + Drop> Rounds<S, C, T> {
         Ok(self.opened.linger(key, self.seconds.last())?)
     }
 
-    fn close(&mut self, key: usize) -> Result<(), LoopFault>
+    pub(crate) fn close(&mut self, key: usize) -> Result<(), LoopFault>
         ensures { DoesAtMost C.steps (LetGo key) (lanes_of S.Stream.told self.old.opened) (lanes_of S.Stream.told self.new.opened) }
     {
         Ok(self.opened.close(key, self.seconds.last())?)
@@ -495,7 +526,7 @@ impl<S: System + Drop, C: LoopCore, T: Time + Drop> Rounds<S, C, T> {
 
     // Where a second passed, connections whose time is up are closed, and the journal is told what there is to tell.
     fn look<J: Journal>(&mut self, is_later: bool, journal: &mut J) -> Result<(), LoopFault>
-        ensures { DoesSome C.steps (lanes_of S.Stream.told self.old.opened) (lanes_of S.Stream.told self.new.opened) }
+        ensures { DoesOn C.steps (lanes_of S.Stream.told self.old.opened) (lanes_of S.Stream.told self.new.opened) }
     {
         if !is_later {
             return Ok(());
@@ -507,7 +538,7 @@ impl<S: System + Drop, C: LoopCore, T: Time + Drop> Rounds<S, C, T> {
 
     // Closes the connections whose time is up.
     fn tick<J: Journal>(&mut self, journal: &mut J) -> Result<(), LoopFault>
-        ensures { DoesSome C.steps (lanes_of S.Stream.told self.old.opened) (lanes_of S.Stream.told self.new.opened) }
+        ensures { DoesOn C.steps (lanes_of S.Stream.told self.old.opened) (lanes_of S.Stream.told self.new.opened) }
     {
         'keys: for key in 0..self.opened.bound() {
             self.expire(key, journal)?;

@@ -1,6 +1,6 @@
 //! A server of many connections.
-ghost use Rattle.std.specs.Prelude.{◌≡◌, ℕ, None, OnOk, IfOk, IsTrue};
-ghost use Rattle.event_loop.specs.Servers.{IsOver, lanes_in};
+ghost use Rattle.std.specs.Prelude.{◌≡◌, ℕ, None, is_some, OnOk, IfOk, IsTrue, IsFalse};
+ghost use Rattle.event_loop.specs.Servers.{IsOver, StaysDeaf, lanes_in};
 ghost use Rattle.open_connections.specs.Looping.{DoesSome};
 ghost use Rattle.open_connections.specs.Shares.{fresh_budgets, limits_in, IsWithin};
 
@@ -15,8 +15,9 @@ use std::marker::Model;
 use std::net::{Net, SocketAddr};
 use std::time::Clock;
 
-/// A server of many connections. Its value has whether it listens, its limits, the budgets of memory, and the core with the bytes that each served
-/// connection is owed. It also has the bytes that moved on each stream, as far as that shows them. It also has how many connections are open and were accepted, and how many bytes were read and written.
+/// A server of many connections. Its value has whether it takes in connections, the grace of a drain that was asked for, its limits, and the budgets of
+/// memory. It has the core, with the bytes that each served connection is owed. It also has the bytes that moved on each stream, as far as that shows them.
+/// It also has how many connections are open and were accepted, and how many bytes were read and written.
 #[derive(Drop)]
 pub struct Server<S: System + Drop, C: LoopCore, T: Time + Drop> {
     rounds: Rounds<S, C, T>,
@@ -28,7 +29,7 @@ impl<S: System + Drop, C: LoopCore, T: Time + Drop> Model for Server<S, C, T> {
 
     ghost Value = { Serving C };
 
-    ghost view = { λ s. record { listens = s.rounds.acceptor.listens; connected = connected_in s.rounds.opened; taken = s.rounds.acceptor.taken; read = s.rounds.opened.read; written = s.rounds.opened.written; limits = s.rounds.limits; budgets = s.rounds.opened.budgets; core = s.rounds.opened.core; lines = listed s.rounds.opened.connections; wires = shown S.Stream.told s.rounds.opened.connections } };
+    ghost view = { λ s. record { listens = s.rounds.acceptor.listens; grace = s.rounds.desk.standing.grace; connected = connected_in s.rounds.opened; taken = s.rounds.acceptor.taken; read = s.rounds.opened.read; written = s.rounds.opened.written; limits = s.rounds.limits; budgets = s.rounds.opened.budgets; core = s.rounds.opened.core; lines = listed s.rounds.opened.connections; wires = shown S.Stream.told s.rounds.opened.connections } };
 }
 
 impl<'r, R: Net + Clock + AllocGlobal, C: LoopCore> Server<Sockets, C, Since<'r, R>> {
@@ -103,7 +104,7 @@ impl<S: System + Drop, C: LoopCore, T: Time + Drop> Server<S, C, T> {
     ///
     /// # Errors
     ///
-    /// `Net` if the system does not tell it, or the server has stopped listening.
+    /// `Net` if the system does not tell it, or the server takes in no connection any more.
     pub fn local_addr(&self) -> Result<SocketAddr, LoopFault>
         ensures listening { OnOk result (IsTrue self.now.listens) }
     {
@@ -128,8 +129,8 @@ impl<S: System + Drop, C: LoopCore, T: Time + Drop> Server<S, C, T> {
         self.rounds.totals()
     }
 
-    /// Serves until standard input is closed or a drain is asked for, and then each open connection to its end. It reports each end of a connection to the journal, and
-    /// the totals each minute.
+    /// Serves until standard input is closed or a drain is asked for, and then each open connection to its end. Connections that come meanwhile are closed
+    /// without a byte. It reports each end of a connection to the journal, and the totals each minute.
     ///
     /// # Errors
     ///
@@ -137,6 +138,7 @@ impl<S: System + Drop, C: LoopCore, T: Time + Drop> Server<S, C, T> {
     pub fn serve<J: Journal>(&mut self, journal: &mut J) -> Result<(), LoopFault>
         ensures over { OnOk result (IsOver self.new) }
         ensures steps { DoesSome C.steps (lanes_in self.old) (lanes_in self.new) }
+        ensures deaf { IsFalse self.old.listens → StaysDeaf self.old self.new }
         ensures limits { limits_in self.new.budgets ≡ limits_in self.old.budgets }
         ensures within { IsWithin self.new.budgets }
     {
@@ -156,6 +158,7 @@ impl<S: System + Drop, C: LoopCore, T: Time + Drop> Server<S, C, T> {
     fn run<J: Journal>(&mut self, journal: &mut J) -> Result<(), LoopFault>
         ensures over { OnOk result (IsOver self.new) }
         ensures steps { DoesSome C.steps (lanes_in self.old) (lanes_in self.new) }
+        ensures deaf { IsFalse self.old.listens → StaysDeaf self.old self.new }
     {
         'rounds: for _ in 0..u64::MAX {
             if self.is_over() {
@@ -166,7 +169,7 @@ impl<S: System + Drop, C: LoopCore, T: Time + Drop> Server<S, C, T> {
         Err(LoopFault::Net(ErrorKind::Other))
     }
 
-    /// Whether it accepts no more connections, and none is open.
+    /// Whether it takes in no connection any more, and none is open.
     pub fn is_over(&self) -> bool
         ensures { IsTrue result → IsOver self.now }
     {
@@ -175,13 +178,16 @@ impl<S: System + Drop, C: LoopCore, T: Time + Drop> Server<S, C, T> {
             && self.rounds.desk.is_empty()
     }
 
-    /// One round: waits until something is ready, accepts connections, and gives a turn to each that can make progress.
+    /// One round: waits until something is ready, accepts connections, and gives a turn to each that can make progress. Once it takes in none, it never does
+    /// again, and closes those that come.
     ///
     /// # Errors
     ///
     /// Those of [`Server::serve`].
     pub fn step<J: Journal>(&mut self, journal: &mut J) -> Result<(), LoopFault>
         ensures steps { DoesSome C.steps (lanes_in self.old) (lanes_in self.new) }
+        ensures deaf { IsFalse self.old.listens → StaysDeaf self.old self.new }
+        ensures drains { OnOk result (IsTrue (is_some self.new.grace) → IsFalse self.new.listens) }
         ensures limits { limits_in self.new.budgets ≡ limits_in self.old.budgets }
         ensures within { IsWithin self.new.budgets }
     {
@@ -191,7 +197,9 @@ impl<S: System + Drop, C: LoopCore, T: Time + Drop> Server<S, C, T> {
     }
 
     fn round<J: Journal>(&mut self, journal: &mut J) -> Result<(), LoopFault>
-        ensures { DoesSome C.steps (lanes_in self.old) (lanes_in self.new) }
+        ensures steps { DoesSome C.steps (lanes_in self.old) (lanes_in self.new) }
+        ensures deaf { IsFalse self.old.listens → StaysDeaf self.old self.new }
+        ensures drains { OnOk result (IsTrue (is_some self.new.grace) → IsFalse self.new.listens) }
     {
         self.rounds.step(journal)
     }

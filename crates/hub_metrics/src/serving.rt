@@ -1,6 +1,6 @@
 //! A server of many connections over a hub.
-ghost use Rattle.std.specs.Prelude.{◌≡◌, OnOk};
-ghost use Rattle.event_loop.specs.Servers.{IsOver, lanes_in};
+ghost use Rattle.std.specs.Prelude.{◌≡◌, is_some, OnOk, IsTrue, IsFalse};
+ghost use Rattle.event_loop.specs.Servers.{IsOver, StaysDeaf, lanes_in};
 ghost use Rattle.hub_metrics.specs.Looping.{AreServed};
 ghost use Rattle.open_connections.specs.Shares.{limits_in, IsWithin};
 
@@ -10,7 +10,7 @@ use event_loop::{Journal, LoopFault, Server, System, Time};
 
 /// Serves as [`Server::serve`] does. Whatever peers send and however connections come and go, each tenant's replies are those of its own requests alone.
 /// Take a connection that is accepted here and open at the end. The bytes written to it are a prefix of the replies to the first requests in the bytes
-/// read of it.
+/// read of it. A server that takes in no connection serves only what it served before.
 ///
 /// # Errors
 ///
@@ -21,6 +21,7 @@ pub fn serve<S: System + Drop, T: Time + Drop, J: Journal>(
 ) -> Result<(), LoopFault>
     ensures over { OnOk result (IsOver server.new) }
     ensures served { AreServed (lanes_in server.old) (lanes_in server.new) }
+    ensures deaf { IsFalse server.old.listens → StaysDeaf server.old server.new }
     ensures limits { limits_in server.new.budgets ≡ limits_in server.old.budgets }
     ensures within { IsWithin server.new.budgets }
 {
@@ -38,6 +39,8 @@ pub fn step<S: System + Drop, T: Time + Drop, J: Journal>(
     journal: &mut J,
 ) -> Result<(), LoopFault>
     ensures served { AreServed (lanes_in server.old) (lanes_in server.new) }
+    ensures deaf { IsFalse server.old.listens → StaysDeaf server.old server.new }
+    ensures drains { OnOk result (IsTrue (is_some server.new.grace) → IsFalse server.new.listens) }
     ensures limits { limits_in server.new.budgets ≡ limits_in server.old.budgets }
     ensures within { IsWithin server.new.budgets }
 {

@@ -1,10 +1,11 @@
 -- Steps one after the other.
-use Rattle.std.proofs.Common.{◌≡◌, ℕ, Bool, true, false, List, [], ◌∷◌, ◌++◌, Option, sym, ◌∙◌, subst, refl, inl, inr}
-use Rattle.std.specs.Prelude.{MatchBool}
+use Rattle.std.proofs.Common.{◌≡◌, ℕ, Bool, true, false, List, [], ◌∷◌, ◌++◌, Option, Some, None, sym, ap, ◌∙◌, subst, refl, inl, inr}
+use Rattle.std.specs.Prelude.{MatchBool, ◌≢◌, ◌==◌}
+use Rattle.std.proofs.lemmas.Bool.{cases_Bool, eqb-true, eqb-false}
 use Rattle.outbox.specs.Lines.{Line}
 use Rattle.outbox.specs.Told.{Told, IsUnused, IsReadOn}
 use Rattle.connection_turns.specs.Turning.{TakesTurn}
-use Rattle.open_connections.specs.Looping.{CoreSteps, Lanes, Step, TakenIn, HasTurn, LetGo, Drained, OthersStay, Does, DoesEach, DoesSome, DoesAtMost, TurnsAtMost, Stays}
+use Rattle.open_connections.specs.Looping.{CoreSteps, Lanes, Step, TakenIn, HasTurn, LetGo, Drained, OthersStay, Does, DoesEach, DoesSome, DoesAtMost, TurnsAtMost, Stays, TakesNone, DoesOn, ServesNoNew}
 
 pub stays : {C : Type 0} (a : Lanes C) → Stays a a
 stays a = record { core_stays = refl; lines_stay = λ q. refl; wires_stay = λ q. refl; limits_stay = refl; bytes_stay = refl }
@@ -137,3 +138,50 @@ limits_after s (step ∷ steps) a b d = limits_after s steps d.0 b d.2 ∙ limit
 
 pub limits_kept : {C : Type 0} (s : CoreSteps C) (a b : Lanes C) → DoesSome s a b → b.limits ≡ a.limits
 limits_kept s a b d = limits_after s d.0 a b d.1
+
+-- steps of which none takes a connection in
+none_in : (steps more : List Step) → TakesNone steps → TakesNone more → TakesNone (steps ++ more)
+none_in [] more h k = k
+none_in (TakenIn conn ∷ steps) more h k = absurd h
+none_in (HasTurn conn ∷ steps) more h k = none_in steps more h k
+none_in (LetGo conn ∷ steps) more h k = none_in steps more h k
+none_in (Drained conn ∷ steps) more h k = none_in steps more h k
+
+pub on_then : {C : Type 0} (s : CoreSteps C) (a b c : Lanes C) → DoesOn s a b → DoesOn s b c → DoesOn s a c
+on_then s a b c h d = (h.0 ++ d.0, none_in h.0 d.0 h.1 d.1, each_then s h.0 d.0 a b c h.2 d.2)
+
+pub no_step_on : {C : Type 0} (s : CoreSteps C) (a b : Lanes C) → Stays a b → DoesOn s a b
+no_step_on s a b h = ([], tt, h)
+
+pub gone_on : {C : Type 0} (s : CoreSteps C) (conn : ℕ) (a b : Lanes C) → DoesAtMost s (LetGo conn) a b → DoesOn s a b
+gone_on s conn a b d = elim d [ inl x ↦ (LetGo conn ∷ [], tt, (b, x, stays b)) | inr k ↦ no_step_on s a b k ]
+
+pub turn_on : {C : Type 0} (s : CoreSteps C) (conn : ℕ) (a b : Lanes C) → TurnsAtMost s conn a b → DoesOn s a b
+turn_on s conn a b d = elim d [
+  | inl x ↦ (HasTurn conn ∷ [], tt, (b, x, stays b))
+  | inr k ↦ elim k [ inl x ↦ (Drained conn ∷ [], tt, (b, x, stays b)) | inr h ↦ no_step_on s a b h ]
+]
+
+pub on_some : {C : Type 0} (s : CoreSteps C) (a b : Lanes C) → DoesOn s a b → DoesSome s a b
+on_some s a b d = (d.0, d.2)
+
+-- a connection that is not served before such a step is not served behind it
+none_at : {C : Type 0} (conn : ℕ) (a b : Lanes C) (q : ℕ) → (q ≡ conn → b.lines q ≡ None) → ((q : ℕ) → q ≢ conn → b.lines q ≡ a.lines q) → a.lines q ≡ None → b.lines q ≡ None
+none_at conn a b q here there h = elim (cases_Bool (q == conn)) [
+  | inl e ↦ here (eqb-true q conn e)
+  | inr e ↦ there q (eqb-false q conn e) ∙ h
+]
+
+served_not : (x : Option Line) (line : Line) → x ≡ None → x ≡ Some line → ⊥
+served_not x line h k = absurd cc
+
+not_served : {C : Type 0} (s : CoreSteps C) (steps : List Step) (a b : Lanes C) → TakesNone steps → DoesEach s steps a b → ServesNoNew a b
+not_served s [] a b k d q h = d.lines_stay q ∙ h
+not_served s (TakenIn conn ∷ steps) a b k d q h = absurd k
+not_served s (HasTurn conn ∷ steps) a b k d q h =
+    not_served s steps d.0 b k d.2 q (none_at conn a d.0 q (λ e. absurd (served_not (a.lines q) d.1.line h (ap a.lines e ∙ d.1.was))) d.1.others.lines_stay h)
+not_served s (LetGo conn ∷ steps) a b k d q h = not_served s steps d.0 b k d.2 q (none_at conn a d.0 q (λ e. ap d.0.lines e ∙ d.1.is_gone) d.1.others.lines_stay h)
+not_served s (Drained conn ∷ steps) a b k d q h = not_served s steps d.0 b k d.2 q (none_at conn a d.0 q (λ e. ap d.0.lines e ∙ d.1.is_gone) d.1.others.lines_stay h)
+
+pub serves_no_new : {C : Type 0} (s : CoreSteps C) (a b : Lanes C) → DoesOn s a b → ServesNoNew a b
+serves_no_new s a b d = not_served s d.0 a b d.1 d.2

@@ -89,6 +89,22 @@ DoesEach {C} s (step ∷ steps) old new = (mid : Lanes C) × Does s step old mid
 abbrev pub DoesSome : {C : Type 0} → CoreSteps C → Lanes C → Lanes C → Type 0
 DoesSome s old new = (steps : List Step) × DoesEach s steps old new
 
+-- none of the steps takes a connection in
+abbrev pub TakesNone : List Step → Type 0
+TakesNone [] = Unit {0}
+TakesNone (TakenIn conn ∷ steps) = ⊥
+TakesNone (HasTurn conn ∷ steps) = TakesNone steps
+TakesNone (LetGo conn ∷ steps) = TakesNone steps
+TakesNone (Drained conn ∷ steps) = TakesNone steps
+
+-- some steps of which none takes a connection in
+abbrev pub DoesOn : {C : Type 0} → CoreSteps C → Lanes C → Lanes C → Type 0
+DoesOn s old new = (steps : List Step) × TakesNone steps × DoesEach s steps old new
+
+-- what is served was served before
+abbrev pub ServesNoNew : {C : Type 0} → Lanes C → Lanes C → Type 0
+ServesNoNew old new = (q : ℕ) → old.lines q ≡ None → new.lines q ≡ None
+
 abbrev pub DoesAtMost : {C : Type 0} → CoreSteps C → Step → Lanes C → Lanes C → Type 0
 DoesAtMost s step old new = Does s step old new ⊎ Stays old new
 

@@ -7,7 +7,7 @@ use Rattle.outbox.specs.Told.{Told}
 use Rattle.connection_turns.specs.declared.connection.Connection.{Connection}
 use Rattle.open_connections.specs.declared.open.Open.{Open}
 use Rattle.open_connections.specs.declared.due.Due.{Due}
-use Rattle.connection_turns.specs.Owed.{line_of, wire_of, is_lost}
+use Rattle.connection_turns.specs.Owed.{line_of, wire_of, is_lost, has_left, rests}
 use Rattle.open_connections.specs.Looping.{Lanes}
 use Rattle.open_connections.specs.Rounds.{IsLast, due_at}
 use Rattle.open_connections.specs.Shares.{limits_in}
@@ -36,6 +36,14 @@ IsPutOff due old new = new.due.first.items ≡ old.due.first.items ++ (due ∷ [
 -- the connection with this key is served although its peer is gone
 abbrev pub lost_at : {S C T : Type 0} → (key : ℕ) → Open S C T → Bool
 lost_at key o = option_map_or (λ c. is_lost c) (get o.connections key) false
+
+-- the one with this key is served and at rest
+abbrev pub rests_at : {S C T : Type 0} → (key : ℕ) → Open S C T → Bool
+rests_at key o = option_map_or (λ c. rests c) (get o.connections key) false
+
+-- the one with this key is read no more, if it is there
+abbrev pub HasLeft : {S C T : Type 0} → (key : ℕ) → Open S C T → Type 0
+HasLeft key o = IfSome (get o.connections key) (λ c. IsTrue (has_left c))
 
 -- how many are open
 abbrev pub connected_in : {S C T : Type 0} → Open S C T → ℕ

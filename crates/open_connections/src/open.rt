@@ -3,9 +3,8 @@ ghost use Rattle.std.specs.Prelude.{◌≡◌, ◌<◌, ◌≤◌, ◌^◌, ◌+
 ghost use Rattle.slab.specs.Slab.{get, slab_len};
 ghost use Rattle.open_connections.specs.Looping.{Stays, Does, DoesAtMost, TurnsAtMost, TakenIn, LetGo};
 ghost use Rattle.std.specs.Bool.{MatchBool};
-ghost use Rattle.outbox.specs.Told.{IsReadOn, IsUnused};
-ghost use Rattle.connection_turns.specs.Owed.{line_of, wire_of};
-ghost use Rattle.open_connections.specs.Opened.{lanes_of, bytes_of, has_time, IsMarked, IsPutOff, IsStanding, IsListed, IsAsDue, lost_at};
+ghost use Rattle.outbox.specs.Told.{IsUnused};
+ghost use Rattle.open_connections.specs.Opened.{lanes_of, bytes_of, has_time, IsMarked, IsPutOff, IsStanding, IsListed, IsAsDue, HasLeft, lost_at, rests_at};
 ghost use Rattle.open_connections.specs.Shares.{fresh_budgets, IsWithin, StayFree, IsGivenBack, claim_at};
 
 use crate::budgets::Budgets;
@@ -369,7 +368,7 @@ impl<S: Peer, C: LoopCore, T: Time + Drop> Open<S, C, T> {
             return (Outcome::Closed, false);
         };
         match connection.phase {
-            Phase::Lingering => (drained(connection, &mut *self.buffer), false),
+            Phase::Lingering => (connection.drain(&mut *self.buffer), false),
             Phase::Served => {
                 let most = piece_of(connection, plan, self.core.inner(), conn);
                 let (read, written) = connection.turn(
@@ -627,12 +626,29 @@ impl<S: Peer, C: LoopCore, T: Time + Drop> Open<S, C, T> {
 
     /// A connection that ended, as a journal is told of it.
     pub fn ending(&self, key: usize, how: End) -> Option<Ending> {
-        let connection = self.connections.get(key)?;
-        Some(Ending {
-            number: connection.number,
-            peer: connection.peer,
-            how,
-        })
+        Some(self.connections.get(key)?.ending(how))
+    }
+
+    /// Whether a connection is served and at rest: nothing came that is not answered, and nothing is owed.
+    pub fn rests(&self, key: usize) -> bool
+        ensures { result ≡ rests_at key self.now }
+    {
+        match self.connections.get(key) {
+            Some(connection) => connection.rests(),
+            None => false,
+        }
+    }
+
+    /// A connection is read no more, as if its peer had ended its side: what was read whole is answered, and what is owed is written.
+    pub fn leave(&mut self, key: usize) -> Result<(), AllocError>
+        ensures lanes { Stays (lanes_of S.told self.old) (lanes_of S.told self.new) }
+        ensures left { OnOk result (HasLeft key self.new) }
+    {
+        self.note(Report::ended(key))?;
+        if let Some(connection) = self.connections.get_mut(key) {
+            connection.leave();
+        }
+        Ok(())
     }
 
     /// Ends a connection's session, and reads what still comes for a little while.
@@ -776,17 +792,5 @@ impl<S: Peer, C: LoopCore, T: Time + Drop> Open<S, C, T> {
         }
         self.idle.sort_unstable();
         self.idle.reverse();
-    }
-}
-
-// Reads once what still comes on a connection that is served no further.
-fn drained<S: Peer>(connection: &mut Connection<S>, buffer: &mut [u8]) -> Outcome
-    ensures line { line_of connection.new ≡ line_of connection.old }
-    ensures wire { IsReadOn (wire_of S.told connection.old) (wire_of S.told connection.new) }
-{
-    if connection.drain(buffer) {
-        Outcome::Open
-    } else {
-        Outcome::Closed
     }
 }

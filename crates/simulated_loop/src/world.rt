@@ -212,8 +212,6 @@ impl<'w> System for Pipes<'w> {
         true
     }
 
-    fn close(&mut self) {}
-
     fn local_addr(&self) -> Result<SocketAddr, ErrorKind> {
         Err(ErrorKind::Unsupported)
     }

@@ -31,8 +31,7 @@ impl Peer for Stream<TcpStream> {
 pub struct Sockets {
     poll: Poll,
     events: Events,
-    // None once none is accepted any more.
-    listener: Option<TcpListener>,
+    listener: TcpListener,
     // That of the administration address.
     administration: Option<TcpListener>,
     // A connection of that address may wait.
@@ -74,7 +73,7 @@ impl Sockets {
         Ok(Sockets {
             poll,
             events,
-            listener: Some(listener),
+            listener,
             administration: None,
             is_called: false,
             reports,
@@ -148,7 +147,10 @@ impl System for Sockets {
         if !self.is_called {
             return Accepted::Blocked;
         }
-        let accepted = accept_at(&self.administration);
+        let Some(administration) = &self.administration else {
+            return Accepted::Blocked;
+        };
+        let accepted = accept_at(administration);
         if let Accepted::Blocked = &accepted {
             self.is_called = false;
         }
@@ -163,26 +165,16 @@ impl System for Sockets {
             .is_ok()
     }
 
-    fn close(&mut self) {
-        self.listener = None;
-    }
-
     fn local_addr(&self) -> Result<SocketAddr, ErrorKind> {
-        match &self.listener {
-            Some(listener) => match listener.local_addr() {
-                Ok(addr) => Ok(addr),
-                Err(error) => Err(error.kind()),
-            },
-            None => Err(ErrorKind::NotConnected),
+        match self.listener.local_addr() {
+            Ok(addr) => Ok(addr),
+            Err(error) => Err(error.kind()),
         }
     }
 }
 
 // Accepts a connection, which never waits.
-fn accept_at(listener: &Option<TcpListener>) -> Accepted<Stream<TcpStream>> {
-    let Some(listener) = listener else {
-        return Accepted::Blocked;
-    };
+fn accept_at(listener: &TcpListener) -> Accepted<Stream<TcpStream>> {
     match listener.accept() {
         Ok((stream, peer)) => {
             // without it no reply is wrong, and some come later

@@ -1,6 +1,7 @@
 //! What a loop needs of the operating system: what is ready, who connects, and the time.
 ghost use Rattle.std.specs.Prelude.{◌≡◌};
 ghost use Rattle.socket_poll.specs.Streams.{IsNew};
+ghost use Rattle.socket_poll.specs.Reports.{ended_at};
 
 use outbox::Wire;
 use std::io::ErrorKind;
@@ -29,12 +30,27 @@ pub struct Report {
     pub is_gone: bool,
 }
 
+impl Report {
+    /// The peer of the connection with this key ended its side.
+    pub fn ended(key: usize) -> Report
+        ensures { result ≡ ended_at key }
+    {
+        Report {
+            key,
+            is_readable: true,
+            is_writable: false,
+            is_ending: true,
+            is_gone: false,
+        }
+    }
+}
+
 /// The result of a wait, beside the reports.
 #[derive(Clone, Copy, Debug, PartialEq, Eq)]
 pub struct Woken {
     /// A connection may wait to be accepted.
     pub is_asked: bool,
-    /// The server should accept no more connections.
+    /// The server should take in no more connections.
     pub is_closed: bool,
 }
 
@@ -76,9 +92,6 @@ pub trait System {
     /// Has a stream reported under this key when it is ready. `false` if the system refuses.
     fn watch(&mut self, stream: &mut Self::Stream, key: usize) -> bool
         ensures { Self.Stream.told stream.new ≡ Self.Stream.told stream.old };
-
-    /// Stops listening.
-    fn close(&mut self);
 
     /// The address that connections come to. An error is the system's reason.
     fn local_addr(&self) -> Result<SocketAddr, ErrorKind>;

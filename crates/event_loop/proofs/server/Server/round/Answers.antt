@@ -1,12 +1,22 @@
+use Rattle.std.proofs.Common.{sym, ◌∙◌}
 use Rattle.open_connections.specs.Opened.{bytes_of}
 use Rattle.open_connections.specs.Shares.{limits_in}
-use Rattle.open_connections.proofs.Looping.{no_step, some_then}
-use Rattle.open_connections.proofs.Steps.{from_lists, to_lists}
+use Rattle.open_connections.proofs.Looping.{no_step, serves_no_new, some_then}
+use Rattle.open_connections.proofs.Steps.{from_lists, listed_at, to_lists}
 use Rattle.event_loop.proofs.server.Server.round.Goals as goal
 
-pub returns : goal.returns
-returns g c =
+pub returns-clause-steps : goal.returns-clause-steps
+returns-clause-steps g c =
     let was = c.self.inside.rounds.opened in
     let is = c.step.new.self.opened in
     rw (← c.self.view_is) (some_then g.C.LoopCore.steps _ _ _ (no_step g.C.LoopCore.steps _ _ (from_lists _ (limits_in was.budgets) (bytes_of was) was.core was.connections))
-    (some_then g.C.LoopCore.steps _ _ _ c.step.ensures (no_step g.C.LoopCore.steps _ _ (to_lists _ (limits_in is.budgets) (bytes_of is) is.core is.connections))))
+    (some_then g.C.LoopCore.steps _ _ _ c.step.ensures.lanes (no_step g.C.LoopCore.steps _ _ (to_lists _ (limits_in is.budgets) (bytes_of is) is.core is.connections))))
+
+pub returns-clause-deaf : goal.returns-clause-deaf
+returns-clause-deaf g c =
+    let was = c.self.inside.rounds.opened in
+    let is = c.step.new.self.opened in
+    rw (← c.self.view_is) (λ h. record {
+      deaf = c.step.ensures.deaf h;
+      none_new = λ q e. listed_at is.connections q ∙ serves_no_new g.C.LoopCore.steps _ _ (c.step.ensures.on h) q (sym (listed_at was.connections q) ∙ e);
+    })

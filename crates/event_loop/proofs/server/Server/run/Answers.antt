@@ -1,11 +1,18 @@
 use Rattle.open_connections.proofs.Looping.{no_step, some_then, stays}
+use Rattle.event_loop.proofs.Deaf.{deaf_still, deaf_then}
 use Rattle.event_loop.proofs.server.Server.run.Goals as goal
 
 pub rounds-init : goal.rounds-init
-rounds-init g c = no_step g.C.LoopCore.steps _ _ (stays _)
+rounds-init g c = record { steps = no_step g.C.LoopCore.steps _ _ (stays _); deaf = λ h. deaf_still _ h }
 
 pub rounds-preserved : goal.rounds-preserved
-rounds-preserved g c = some_then g.C.LoopCore.steps _ _ _ c.rounds.invariant c.round.ensures
+rounds-preserved g c = record {
+  steps = some_then g.C.LoopCore.steps _ _ _ c.rounds.invariant.steps c.round.ensures.steps;
+  deaf = λ h. let d = c.rounds.invariant.deaf h in deaf_then _ _ _ d (c.round.ensures.deaf d.deaf);
+}
 
 pub returns-in_err-round-clause-steps : goal.returns-in_err-round-clause-steps
-returns-in_err-round-clause-steps g c = some_then g.C.LoopCore.steps _ _ _ c.rounds.invariant c.round.ensures
+returns-in_err-round-clause-steps g c = some_then g.C.LoopCore.steps _ _ _ c.rounds.invariant.steps c.round.ensures.steps
+
+pub returns-in_err-round-clause-deaf : goal.returns-in_err-round-clause-deaf
+returns-in_err-round-clause-deaf g c = λ h. let d = c.rounds.invariant.deaf h in deaf_then _ _ _ d (c.round.ensures.deaf d.deaf)

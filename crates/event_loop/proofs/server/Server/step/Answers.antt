@@ -2,4 +2,4 @@ use Rattle.open_connections.proofs.Looping.{limits_kept}
 use Rattle.event_loop.proofs.server.Server.step.Goals as goal
 
 pub returns-clause-limits : goal.returns-clause-limits
-returns-clause-limits g c = limits_kept g.C.LoopCore.steps _ _ c.round-done.ensures
+returns-clause-limits g c = limits_kept g.C.LoopCore.steps _ _ c.round-done.ensures.steps

@@ -6,7 +6,7 @@ use Rattle.open_connections.proofs.open.Open.work.Goals as goal
 
 pub returns-in-Lingering-clause-lanes : goal.returns-in-Lingering-clause-lanes
 returns-in-Lingering-clause-lanes g c =
-    drained_at g.C.LoopCore.steps g.S.Wire.told (limits_in c.args.self.now.budgets) (bytes_of c.args.self.now) c.args.self.now.core c.args.self.now.connections c.args.key c.in-Some-get_mut.connection.now c.drained.new.connection (sym c.in-Some-get_mut.ensures.value) c.in-Lingering.is c.drained.ensures.line c.drained.ensures.wire
+    drained_at g.C.LoopCore.steps g.S.Wire.told (limits_in c.args.self.now.budgets) (bytes_of c.args.self.now) c.args.self.now.core c.args.self.now.connections c.args.key c.in-Some-get_mut.connection.now c.drain.new.self (sym c.in-Some-get_mut.ensures.value) c.in-Lingering.is c.drain.ensures.line c.drain.ensures.wire
 
 pub returns-in-Served-clause-lanes : goal.returns-in-Served-clause-lanes
 returns-in-Served-clause-lanes g c =
