@@ -55,14 +55,14 @@ def bytes_of(field):
 
 
 def table():
-    """The lines of the table: the refusal, the place, what is said, and the bytes."""
+    """The lines of the table: the refusal, the place, what is said, the bytes, and the hint or nothing."""
     for line in (TOP / "tests/mistakes.cases").read_text(encoding="utf-8").split("\n"):
         if line and not line.startswith("#"):
-            name, at, said, field = line.split("\t")
+            name, at, said, field, *hint = line.split("\t")
             data = bytes_of(field)
             if name in GRAMMARS and not said.startswith(("level", "expected")):
                 said = f"expected {said}, found {found_at(data, int(at))}"
-            yield name, None if at == "-" else int(at), said, data
+            yield name, None if at == "-" else int(at), said, data, f"hint: {hint[0]}" if hint else None
 
 
 def found_at(data, at):
@@ -148,20 +148,21 @@ def refused(text, is_query):
 
 def try_table(report):
     cases = list(table())
-    told = answers([(name, data) for name, _, _, data in cases])
-    for (name, at, said, data), got in zip(cases, told):
-        line = got.split(" | ")[0]
+    told = answers([(name, data) for name, _, _, data, _ in cases])
+    for (name, at, said, data, hint), got in zip(cases, told):
+        line, _, behind = got.partition(" | ")
+        report.case(f"the hint of {name} of the table", data, hint or "", behind)
         report.case(f"{name} of the table", data, (at, said), (place_of(line), line if at is None else line.split("): ", 1)[-1]))
         if name in GRAMMARS and not said.startswith(("level", "expected UTF-8")):
             report.case(f"{name} of the table, by the grammar", data, at, by_grammar(name, data.decode()))
         if name not in QUERIES:
             report.case(f"{name} of the table, in Python", data, line, str(find_place(data, name) or ""))
     if shutil.which("node"):
-        texts = [(name, data) for name, _, _, data in cases if name not in QUERIES]
+        texts = [(name, data) for name, _, _, data, _ in cases if name not in QUERIES]
         of_texts = [got.split(" | ")[0] for (name, *_), got in zip(cases, told) if name not in QUERIES]
         for (name, data), line, other in zip(texts, of_texts, node_answers(texts)):
             report.case(f"{name} of the table, in Node", data, line, other)
-    for (name, _, _, data), line in zip(cases, told):
+    for (name, _, _, data, _), line in zip(cases, told):
         words, text = (data, b"1") if name in QUERIES else (b"$", data)
         # a word of a command line is UTF-8
         if "UTF-8" not in line or name == "NotUtf8":
@@ -175,6 +176,13 @@ def try_long(report):
     size = 4_194_304
     cases = [("NotJson", b"[" * size, size), ("NotJson", b" " * (size - 1) + b"x", size - 1), ("NotJson", b'"' + b"a" * (size - 2) + b"\n", size - 1),
              ("NotJson", b"[" + b"1," * (size // 2 - 1), size - 1), ("TooDeep", b"[" * (size // 2) + b"]" * (size // 2), 256)]
+    ones, names = b"[" + b"1," * 2_090_000, b"{" + b",".join(b'"%016x":0' % place for place in range(155_659))
+    alike = b"{" + b",".join(b'"' + b"x" * 4_000 + b'%d":0' % place for place in range(1_000))
+    escaped = b"{" + b",".join(b'"\\u0061%d":0' % place for place in range(200_000))
+    cases += [("TooDeep", ones + b"[" * 256 + b"]" * 257, len(ones) + 255), ("NumberLimit", ones + b"1e9999999999,1e9999999999]", len(ones)),
+              ("LoneSurrogate", ones + b'"\\ud800\\ud800"]', len(ones) + 1), ("DuplicateName", names + b',"%016x":0,"%016x":0}' % (7, 6), len(names) + 1),
+              ("DuplicateName", alike + b',"' + b"x" * 4_000 + b'7":0}', len(alike) + 1), ("DuplicateName", escaped + b',"a7":0}', len(escaped) + 1),
+              ("DuplicateName", b"[" + b'{"a":1},' * 500_000 + b'{"a":1,"a":2}]', 4_000_008)]
     for name, data, at in cases:
         started = time.monotonic()
         said = answers([(name, data)])[0]

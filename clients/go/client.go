@@ -40,6 +40,8 @@ const (
 	CollectionLimit = 64
 	DocumentLimit   = 128
 	replyLimit      = 8_388_608
+	// the longest text whose place stands in the message too
+	toldBytes = 65_536
 )
 
 // Refused is the error of a call that the server answered with a status other than Ok.
@@ -47,12 +49,23 @@ type Refused struct {
 	Status                        byte
 	Name, Sentence                string
 	Command, Collection, Document string
+	text                          []byte
+}
+
+// Place is where the text that was put is refused, or nil. In a text of megabytes, finding it takes a moment.
+func (it *Refused) Place() *Place {
+	return FindPlace(it.text, it.Name)
 }
 
 func (it *Refused) Error() string {
 	about := strings.TrimSpace(it.Command + " " + strings.Trim(it.Collection+"/"+it.Document, "/"))
 	if about != "" {
 		about = " (" + about + ")"
+	}
+	if len(it.text) <= toldBytes {
+		if place := it.Place(); place != nil {
+			about += "\n" + place.String()
+		}
 	}
 	return it.Name + ": " + it.Sentence + about
 }
@@ -132,6 +145,7 @@ type Request struct {
 	command              string
 	collection, document string
 	fields               []byte
+	text                 []byte
 	isRead               bool
 	read                 func(*payload) any
 	fault                error
@@ -177,6 +191,9 @@ func (it Request) with(what string, data []byte, limit int) Request {
 		it.fault = &Invalid{fmt.Sprintf("a %s has at most %d bytes, not %d", what, limit, len(data))}
 	}
 	it.fields = append(it.fields, data...)
+	if what == "text" {
+		it.text = it.fields[len(it.fields)-len(data):]
+	}
 	return it
 }
 
@@ -506,6 +523,7 @@ func outcome(request Request, number uint32, body []byte) (any, error) {
 		refused = *found
 	}
 	refused.Command, refused.Collection, refused.Document = request.command, request.collection, request.document
+	refused.text = request.text
 	return nil, &refused
 }
 

@@ -136,6 +136,10 @@ export declare abstract class Refused extends Error {
   readonly document: string;
   /** Where the text that was put is refused. It is sought when it is first asked for. */
   readonly place?: Place;
+  /** The line and the column of the place, counted from 1, and what may stand there. */
+  readonly line?: number;
+  readonly column?: number;
+  readonly expected?: string;
 }
 
 /** Where a text is refused: the bytes before the place, its line and column from 1, what is said of it, and what may stand there. */

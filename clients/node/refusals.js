@@ -36,6 +36,21 @@ export class Refused extends Error {
     this.#text = undefined;
     return this.#place;
   }
+
+  /** The line of the place, counted from 1. */
+  get line() {
+    return this.place?.line;
+  }
+
+  /** The column of the place in characters, counted from 1. */
+  get column() {
+    return this.place?.column;
+  }
+
+  /** What may stand at the place. */
+  get expected() {
+    return this.place?.expected;
+  }
 }
 
 function refusal(status, name, sentence) {

@@ -134,8 +134,9 @@ test('refusals', async () => {
 });
 
 test('places', async () => {
-  await assert.rejects(client.put('shop', 'order-1', '{"a": 1,\n "b": 2,\n}'), ({ place, message }) => {
+  await assert.rejects(client.put('shop', 'order-1', '{"a": 1,\n "b": 2,\n}'), ({ place, line, column, expected, message }) => {
     assert.deepEqual([place.byte, place.line, place.column, place.expected], [18, 3, 1, 'a name in double quotes']);
+    assert.deepEqual([line, column, expected], [3, 1, 'a name in double quotes']);
     assert.ok(message.endsWith("\nline 3, column 1 (byte 18): expected a name in double quotes, found '}'"));
     return true;
   });

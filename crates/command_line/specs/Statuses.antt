@@ -20,7 +20,7 @@ use Rattle.path_server.specs.declared.keys.KeysFault.TheVariants as keys
 use Rattle.tenant_map.specs.declared.tenants.TenantsFault.{TenantsFault}
 use Rattle.tenant_map.specs.declared.tenants.TenantsFault.TheVariants as tenants
 use Rattle.command_line.specs.declared.failure.Failure.{Failure}
-use Rattle.command_line.specs.declared.failure.Failure.TheVariants.{CommandLine, Words, Query, Refused, Keys, Replay, Tenants, Net, Address, KeyLine, Write, Read, Call, Memory}
+use Rattle.command_line.specs.declared.failure.Failure.TheVariants.{CommandLine, Words, Value, Query, Refused, Keys, Replay, Tenants, Net, Address, KeyLine, File, Write, Read, Call, Memory}
 
 abbrev pub status_of_kind : ErrorKind → ℕ
 status_of_kind DisplayHelp = 0
@@ -83,6 +83,7 @@ status_of_call_stream (calling.Write _) = 4
 abbrev pub status_of : Failure → ℕ
 status_of (CommandLine error) = status_of_kind (kind_of error)
 status_of Words = 3
+status_of (Value _) = 3
 status_of (Query fault) = status_of_query fault
 status_of (Refused at) = status_of_refusal at.fault
 status_of (Keys fault) = status_of_keys fault
@@ -91,6 +92,7 @@ status_of (Tenants fault) = status_of_tenants fault
 status_of Net = 4
 status_of (Address _) = 4
 status_of (KeyLine _) = 3
+status_of (File _) = 4
 status_of Write = 4
 status_of (Read _) = 4
 status_of (Call fault) = status_of_call_stream fault

@@ -25,6 +25,8 @@ pub enum Failure {
     CommandLine(clap::Error),
     /// A word of the command line is not UTF-8.
     Words,
+    /// The value of an option is not what this says.
+    Value(&'static str),
     /// The query on the text on standard input was not answered.
     Query(QueryStreamFault),
     /// The same, with what is said of the place.
@@ -41,6 +43,8 @@ pub enum Failure {
     Address(AddressFault),
     /// A line of the key file is not in the written form of keys.
     KeyLine(KeyLine),
+    /// A file could not be read.
+    File(FileFault),
     /// The line with the bound address could not be printed.
     Write,
     /// The request frames on standard input could not be read.
@@ -61,6 +65,19 @@ pub struct AddressFault {
 impl fmt::Display for AddressFault {
     fn fmt<W: fmt::Write>(&self, f: &mut fmt::Formatter<W>) -> fmt::Result {
         write!(f, "{}: {}", self.address, self.reason)
+    }
+}
+
+/// A file, and why the system did not read it.
+#[derive(Debug, Drop)]
+pub struct FileFault {
+    pub file: String,
+    pub reason: ErrorKind,
+}
+
+impl fmt::Display for FileFault {
+    fn fmt<W: fmt::Write>(&self, f: &mut fmt::Formatter<W>) -> fmt::Result {
+        write!(f, "{}: {}", self.file, self.reason)
     }
 }
 
@@ -134,6 +151,28 @@ impl Failure {
         }
     }
 
+    /// The failure of an address, which is told without it where there is no memory.
+    pub fn of_address(alloc: Global, address: &str, reason: ErrorKind) -> Failure
+        ensures { status_of result ≡ 4 }
+    {
+        match String::from_str(alloc, address) {
+            Ok(address) => Failure::Address(AddressFault { address, reason }),
+            Err(_) => Failure::Net,
+        }
+    }
+
+    /// The failure of a file that could not be read.
+    pub fn of_file(alloc: Global, file: &str, error: &io::Error) -> Failure
+        ensures { status_of result ≡ 4 }
+    {
+        let reason = error.kind();
+        match (reason, String::from_str(alloc, file)) {
+            (ErrorKind::OutOfMemory, _) => Failure::Memory,
+            (_, Ok(file)) => Failure::File(FileFault { file, reason }),
+            (_, Err(_)) => Failure::Read(ReadFault::Failed),
+        }
+    }
+
     /// The exit status.
     pub fn status(&self) -> u8
         ensures { result ≡ status_of self.now }
@@ -141,6 +180,7 @@ impl Failure {
         match self {
             Failure::CommandLine(error) => status_at(error.kind()),
             Failure::Words => 3,
+            Failure::Value(_) => 3,
             Failure::Query(fault) => query_status(*fault),
             Failure::Refused(at) => refusal_status(at.fault),
             Failure::Keys(fault) => keys_status(*fault),
@@ -149,6 +189,7 @@ impl Failure {
             Failure::Net => 4,
             Failure::Address(_) => 4,
             Failure::KeyLine(_) => 3,
+            Failure::File(_) => 4,
             Failure::Write => 4,
             Failure::Read(_) => 4,
             Failure::Call(fault) => call_stream_status(*fault),
@@ -182,6 +223,7 @@ impl fmt::Display for Failure {
         match self {
             Failure::CommandLine(error) => write!(f, "{error}"),
             Failure::Words => writeln!(f, "path_server: BadCommandLine"),
+            Failure::Value(what) => writeln!(f, "path_server: BadCommandLine\n{what}"),
             Failure::Query(fault) => writeln!(f, "path_server: {fault}"),
             Failure::Refused(at) => writeln!(f, "path_server: {at}"),
             Failure::Keys(fault) => writeln!(f, "path_server: {fault}"),
@@ -190,6 +232,7 @@ impl fmt::Display for Failure {
             Failure::Net => writeln!(f, "path_server: NetFault"),
             Failure::Address(fault) => writeln!(f, "path_server: NetFault\n{fault}"),
             Failure::KeyLine(line) => writeln!(f, "path_server: BadKeys\n{line}"),
+            Failure::File(fault) => writeln!(f, "path_server: ReadFault\n{fault}"),
             Failure::Write => writeln!(f, "path_server: WriteFault"),
             Failure::Read(fault) => writeln!(f, "path_server: {fault}"),
             Failure::Call(fault) => writeln!(f, "path_server: {fault}"),
@@ -207,23 +250,23 @@ fn told(
     shows: bool,
 ) -> Result<String, AllocError> {
     match fault {
-        QueryTextFault::TooLong => text_faults::told(alloc, text, TextFault::TooLong, shows),
-        QueryTextFault::NotUtf8 => text_faults::told(alloc, text, TextFault::NotUtf8, shows),
-        QueryTextFault::NotJson => text_faults::told(alloc, text, TextFault::NotJson, shows),
-        QueryTextFault::TooDeep => text_faults::told(alloc, text, TextFault::TooDeep, shows),
-        QueryTextFault::NumberLimit => text_faults::told(
+        QueryTextFault::TooLong => text_places::told(alloc, text, TextFault::TooLong, shows),
+        QueryTextFault::NotUtf8 => text_places::told(alloc, text, TextFault::NotUtf8, shows),
+        QueryTextFault::NotJson => text_places::told(alloc, text, TextFault::NotJson, shows),
+        QueryTextFault::TooDeep => text_places::told(alloc, text, TextFault::TooDeep, shows),
+        QueryTextFault::NumberLimit => text_places::told(
             alloc,
             text,
             TextFault::NumberLimit,
             shows,
         ),
-        QueryTextFault::LoneSurrogate => text_faults::told(
+        QueryTextFault::LoneSurrogate => text_places::told(
             alloc,
             text,
             TextFault::LoneSurrogate,
             shows,
         ),
-        QueryTextFault::DuplicateName => text_faults::told(
+        QueryTextFault::DuplicateName => text_places::told(
             alloc,
             text,
             TextFault::DuplicateName,

@@ -26,6 +26,10 @@ const MOST_SECONDS: u64 = 31_536_000;
 /// The longest time in milliseconds, a little more than an hour.
 const MOST_MILLISECONDS: u64 = 4_000_000;
 
+/// What `--memory` takes.
+const MEMORY_VALUE: &str =
+    "--memory takes bytes from 14680072 to 1125899906842624, such as 64M or 2G";
+
 const KEYS_HELP: &str = "The tenants' keys, 32 hexadecimal digits each, separated by commas";
 
 const ADDRESS_HELP: &str = "Host and port, such as 127.0.0.1:7000 or [::1]:7000";
@@ -138,10 +142,9 @@ fn listen<'a>(alloc: Global) -> Result<Command<'a>, AllocError> {
             alloc,
             "memory",
             "BYTES",
-            "The most bytes buffered for long requests and replies, at least 14680072",
+            "The most bytes buffered for long requests and replies, at least 14680072, such as 64M",
         )
-        .default_value("1073741824")
-        .value_parser(ValueParser::Unsigned(LEAST_BYTES, MOST_BYTES)),
+        .default_value("1073741824"),
         option(
             alloc,
             "idle",
@@ -256,15 +259,30 @@ fn parsed<'a>(alloc: Global, words: &'a [String]) -> Result<ArgMatches<'a>, Erro
 /// The request of a command line, whose first word is the program's name.
 pub fn read_request<'a>(alloc: Global, words: &'a [String]) -> Result<Request<'a>, Failure> {
     let matches = parsed(alloc, words).map_err(Failure::of_command_line)?;
-    match request_of(&matches) {
+    request_of(&matches)
+}
+
+// What the subcommand and the words behind it ask for. Each subcommand has all of its words where the parse went well.
+fn request_of<'a>(matches: &ArgMatches<'a>) -> Result<Request<'a>, Failure> {
+    let Some((name, words)) = matches.subcommand() else {
+        return Err(Failure::Words);
+    };
+    if name == "listen" {
+        let Some(memory) = bytes_of(words.get_str("memory").unwrap_or_default()) else {
+            return Err(Failure::Value(MEMORY_VALUE));
+        };
+        return match listen_of(words, memory) {
+            Some(listening) => Ok(Request::Listen(listening)),
+            None => Err(Failure::Words),
+        };
+    }
+    match other_of(name, words) {
         Some(request) => Ok(request),
         None => Err(Failure::Words),
     }
 }
 
-// What the subcommand and the words behind it ask for. Each subcommand has all of its words where the parse went well.
-fn request_of<'a>(matches: &ArgMatches<'a>) -> Option<Request<'a>> {
-    let (name, words) = matches.subcommand()?;
+fn other_of<'a>(name: &str, words: &ArgMatches<'a>) -> Option<Request<'a>> {
     match name {
         "query" => Some(Request::Query(words.get_str("QUERY")?)),
         "replay" => Some(Request::Replay(words.get_str("KEYS")?)),
@@ -273,18 +291,49 @@ fn request_of<'a>(matches: &ArgMatches<'a>) -> Option<Request<'a>> {
             keys: words.get_str("KEYS")?,
             count: words.get_one("COUNT")?,
         }),
-        "listen" => Some(Request::Listen(listen_of(words)?)),
         _ => Some(Request::Call(words.get_str("ADDR")?)),
     }
 }
 
-fn listen_of<'a>(words: &ArgMatches<'a>) -> Option<Listening<'a>> {
+// A number of bytes, where K, M or G behind it stands for 1,024 bytes, their square or their cube.
+fn bytes_of(text: &str) -> Option<usize> {
+    let bytes = text.as_bytes();
+    let (digits, unit) = match bytes {
+        [digits @ .., b'K' | b'k'] => (digits, 1u64 << 10),
+        [digits @ .., b'M' | b'm'] => (digits, 1u64 << 20),
+        [digits @ .., b'G' | b'g'] => (digits, 1u64 << 30),
+        _ => (bytes, 1u64),
+    };
+    let all = number_of(digits)?.checked_mul(unit)?;
+    if LEAST_BYTES <= all && all <= MOST_BYTES {
+        usize::try_from(all).ok()
+    } else {
+        None
+    }
+}
+
+fn number_of(digits: &[u8]) -> Option<u64> {
+    if digits.is_empty() {
+        return None;
+    }
+    let mut number = 0u64;
+    for digit in digits {
+        let value = match *digit {
+            b'0'..=b'9' => u64::from(*digit - b'0'),
+            _ => return None,
+        };
+        number = number.checked_mul(10)?.checked_add(value)?;
+    }
+    Some(number)
+}
+
+fn listen_of<'a>(words: &ArgMatches<'a>, memory: usize) -> Option<Listening<'a>> {
     Some(Listening {
         address: words.get_str("ADDR")?,
         keys: words.get_str("KEYS"),
         file: words.get_str("keys"),
         connections: words.get_one("connections")?,
-        memory: words.get_one("memory")?,
+        memory,
         idle: words.get_one("idle"),
         stall: words.get_one("stall")?,
         frame_time: words.get_one("frame-time")?,

@@ -8,6 +8,6 @@ mod reading;
 mod rules;
 mod states;
 
-pub use messages::{Refusal, told};
+pub use messages::{Refusal, find, told};
 pub use reading::Reading;
 pub use rules::Rule;

@@ -1,11 +1,14 @@
 //! What is said of a refused query beside the refusal's name.
 
+ghost use Rattle.std.specs.Prelude.{ℕ, ◌≤◌, length, IfOk};
+ghost use Rattle.query_faults.specs.Places.{IsWithin};
+
 use crate::hints::hint;
 use crate::reading::{LEVEL_LIMIT, Reading, is_bound};
 use crate::rules::Rule;
 use crate::states::{Decimal, Frame, Inside, Now, Operand, Part, Side, Whole};
 use std::alloc::{AllocError, Global};
-use text_faults::{found_at, not_utf8, shown_if, spot_at};
+use text_faults::{Finding, found_at, not_utf8};
 
 /// Why a query is refused.
 #[derive(Clone, Copy, Debug, PartialEq, Eq)]
@@ -96,69 +99,110 @@ fn expected(reading: &Reading<'_>) -> &'static str {
     }
 }
 
-/// What is said of a refused query: where it is refused, in a form that people count, and why there. If `shows`, two lines show the place in its
-/// line. A last line is a hint. Where there is nothing to say, it is empty.
+/// What is said of a refused query, as lines. If `shows`, two of them show the place in its line. Where there is nothing to say, it is empty.
 pub fn told(
     alloc: Global,
     query: &[u8],
     refusal: Refusal,
     shows: bool,
 ) -> Result<String, AllocError> {
-    let mut reading = Reading::new(alloc, query);
-    if refusal == Refusal::TooLong {
-        return format!(in alloc; "{} bytes, at most 4096 are read", query.len());
-    }
-    let utf8 = not_utf8(query);
-    for (at, byte) in query.iter().enumerate() {
-        if at == utf8 && refusal == Refusal::NotWellFormed {
-            let found = found_at(query, at);
-            let spot = spot_at(query, at);
-            let shown = shown_if(shows, alloc, query, at)?;
-            return format!(in alloc; "{spot}: expected UTF-8, found {found}{shown}");
-        }
-        if !reading.take(at, *byte)? {
-            return told_at(alloc, query, &reading, at, shows);
-        }
-    }
-    if refusal == Refusal::NotValid {
-        return told_of_rule(alloc, query, reading.broken, shows);
-    }
-    told_at(alloc, query, &reading, query.len(), shows)
-}
-
-fn told_of_rule(
-    alloc: Global,
-    query: &[u8],
-    broken: Option<(usize, Rule)>,
-    shows: bool,
-) -> Result<String, AllocError> {
-    match broken {
-        Some((at, rule)) => {
-            let shown = shown_if(shows, alloc, query, at)?;
-            format!(in alloc; "{}: {rule}{shown}", spot_at(query, at))
-        }
+    match find(alloc, query, refusal)? {
+        Some(finding) => finding.lines(alloc, query, shows),
         None => Ok(String::new(alloc)),
     }
 }
 
-fn told_at(
+/// Where a query is refused for this reason, and why there. The place is no further than its end.
+pub fn find(alloc: Global, query: &[u8], refusal: Refusal) -> Result<Option<Finding>, AllocError>
+    ensures { IfOk result (λ found. IsWithin found (length query.now)) }
+{
+    if refusal == Refusal::TooLong {
+        return of_length(alloc, query.len());
+    }
+    let mut reading = Reading::new(alloc, query);
+    let utf8 = not_utf8(query);
+    for (at, byte) in query.iter().enumerate() {
+        if at == utf8 && refusal == Refusal::NotWellFormed {
+            return of_bytes(alloc, query, at);
+        }
+        if !reading.take(at, *byte)? {
+            return of_place(alloc, query, &reading, at);
+        }
+    }
+    if refusal == Refusal::NotValid {
+        return of_rule(alloc, query, reading.broken);
+    }
+    of_place(alloc, query, &reading, query.len())
+}
+
+fn of_length(alloc: Global, length: usize) -> Result<Option<Finding>, AllocError>
+    ensures { IfOk result (λ found. (n : ℕ) → IsWithin found n) }
+{
+    Ok(Some(Finding {
+        at: None,
+        expected: String::new(alloc),
+        message: format!(in alloc; "{length} bytes, at most 4096 are read")?,
+        hint: None,
+        first: None,
+    }))
+}
+
+fn of_bytes(alloc: Global, query: &[u8], at: usize) -> Result<Option<Finding>, AllocError>
+    ensures { IfOk result (λ found. at ≤ length query.now → IsWithin found (length query.now)) }
+{
+    let found = found_at(query, at);
+    Ok(Some(Finding {
+        at: Some(at),
+        expected: String::from_str(alloc, "UTF-8")?,
+        message: format!(in alloc; "expected UTF-8, found {found}")?,
+        hint: None,
+        first: None,
+    }))
+}
+
+fn of_rule(
+    alloc: Global,
+    query: &[u8],
+    broken: Option<(usize, Rule)>,
+) -> Result<Option<Finding>, AllocError>
+    ensures { IfOk result (λ found. IsWithin found (length query.now)) }
+{
+    match broken {
+        Some((at, rule)) => Ok(Some(Finding {
+            at: Some(at.min(query.len())),
+            expected: String::new(alloc),
+            message: format!(in alloc; "{rule}")?,
+            hint: None,
+            first: None,
+        })),
+        None => Ok(None),
+    }
+}
+
+fn of_place(
     alloc: Global,
     query: &[u8],
     reading: &Reading<'_>,
     at: usize,
-    shows: bool,
-) -> Result<String, AllocError> {
-    let spot = spot_at(query, at);
-    let shown = shown_if(shows, alloc, query, at)?;
+) -> Result<Option<Finding>, AllocError>
+    ensures { IfOk result (λ found. at ≤ length query.now → IsWithin found (length query.now)) }
+{
     if reading.is_too_deep {
-        return format!(in alloc; "{spot}: level 33, at most {LEVEL_LIMIT} are read{shown}");
+        return Ok(Some(Finding {
+            at: Some(at),
+            expected: String::new(alloc),
+            message: format!(in alloc; "level 33, at most {LEVEL_LIMIT} are read")?,
+            hint: None,
+            first: None,
+        }));
     }
     let found = found_at(query, at);
     let expected = expected(reading);
-    match hint(query, at, reading.now) {
-        Some(hint) => {
-            format!(in alloc; "{spot}: expected {expected}, found {found}{shown}\nhint: {hint}")
-        }
-        None => format!(in alloc; "{spot}: expected {expected}, found {found}{shown}"),
-    }
+    Ok(Some(Finding {
+        at: Some(at),
+        expected: String::from_str(alloc, expected)?,
+        message: format!(in alloc; "expected {expected}, found {found}")?,
+        hint: hint(query, at, reading.now),
+        first: None,
+    }))
 }

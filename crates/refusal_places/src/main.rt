@@ -59,7 +59,7 @@ fn answer(alloc: Global, line: &[u8]) -> Result<String, AllocError> {
         return query_faults::told(alloc, bytes.as_slice(), refusal, false);
     }
     match text_fault(name) {
-        Some(fault) => text_faults::told(alloc, bytes.as_slice(), fault, false),
+        Some(fault) => text_places::told(alloc, bytes.as_slice(), fault, false),
         None => String::from_str(alloc, "no refusal"),
     }
 }

@@ -1,4 +1,3 @@
-pub mod Beyond
 pub mod Expectations
 pub mod Moves
 pub mod Prefixes

@@ -31,6 +31,15 @@ fn is_name(expected: Expected) -> bool {
     matches!(expected, Expected::Name | Expected::NameOrBrace)
 }
 
+// Whether blanks stand between a whole value and this place.
+fn is_second(text: &[u8], place: Place) -> bool {
+    place.expected == Expected::End
+        && matches!(
+            byte_before(text, place.at),
+            Some(b' ' | b'\t' | b'\n' | b'\r')
+        )
+}
+
 /// The habit that led to a text that is no JSON, if it looks like one.
 pub fn hint(text: &[u8], place: Place) -> Option<&'static str> {
     let Some(found) = text.get(place.at) else {
@@ -65,7 +74,10 @@ pub fn hint(text: &[u8], place: Place) -> Option<&'static str> {
         b'A'..=b'Z' | b'a'..=b'z' | b'_' if is_name(place.expected) => {
             Some("names stand in double quotes")
         }
-        _ if place.expected == Expected::End => Some("one text is one value"),
+        b'{' | b'[' | b'"' if place.expected == Expected::End => Some("one text is one value"),
+        b'-' | b'0'..=b'9' | b't' | b'f' | b'n' if is_second(text, place) => {
+            Some("one text is one value")
+        }
         _ => None,
     }
 }

@@ -1,22 +1,20 @@
-//! Where a JSON text is refused, and what was expected there.
+//! Where a text is no longer JSON, what may stand there, and a place as people count it.
 //!
-//! The reader of texts says which refusal applies and not where, so that it reads fast. Whoever holds a refused text asks here.
+//! The reader of texts says which refusal applies and not where, so that it reads fast. Whoever holds a refused text asks here, and the crate
+//! `text_places` for the other refusals.
 #![tactic(auto)]
 
-mod escapes;
 mod finder;
+mod findings;
 mod hints;
-mod limits;
 mod marks;
-mod messages;
 mod moves;
-mod names;
 mod spots;
-mod tokens;
+mod utf8;
 
 pub use finder::not_json;
-pub use limits::{lone_surrogate, number_limit, too_deep};
+pub use findings::Finding;
+pub use hints::hint;
 pub use marks::{Expected, Place};
-pub use messages::{not_utf8, told};
-pub use names::{Twins, duplicate_name};
-pub use spots::{Found, Spot, found_at, shown_at, shown_if, spot_at};
+pub use spots::{Found, Spot, found_at, shown_at, shown_if, spot_at, spot_from};
+pub use utf8::not_utf8;

@@ -1,6 +1,7 @@
 //! What may come next in a text, byte by byte (RFC 8259, sections 2 to 7), and what is said of a place.
 
 use json_text::{Mode, Shape};
+use std::fmt;
 
 /// What a string is: a value, or the name of a member.
 #[derive(Clone, Copy)]
@@ -75,6 +76,26 @@ pub enum Expected {
     Hexadecimal,
     Digit,
     Letter(char),
+}
+
+impl fmt::Display for Expected {
+    fn fmt<W: fmt::Write>(&self, f: &mut fmt::Formatter<W>) -> fmt::Result {
+        match self {
+            Expected::Value => write!(f, "a value"),
+            Expected::ValueOrBracket => write!(f, "a value or ']'"),
+            Expected::Name => write!(f, "a name in double quotes"),
+            Expected::NameOrBrace => write!(f, "a name in double quotes or '}}'"),
+            Expected::Colon => write!(f, "':'"),
+            Expected::CommaOrBracket => write!(f, "',' or ']'"),
+            Expected::CommaOrBrace => write!(f, "',' or '}}'"),
+            Expected::End => write!(f, "the end of the text"),
+            Expected::Character => write!(f, "a character or '\"'"),
+            Expected::Escape => write!(f, "an escape"),
+            Expected::Hexadecimal => write!(f, "four hexadecimal digits"),
+            Expected::Digit => write!(f, "a digit"),
+            Expected::Letter(letter) => write!(f, "'{letter}'"),
+        }
+    }
 }
 
 /// A place in a text: how many bytes stand before it, and what may stand there.

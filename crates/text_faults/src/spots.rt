@@ -40,6 +40,16 @@ pub fn spot_at(text: &[u8], at: usize) -> Spot {
     }
 }
 
+/// The same in a text whose first line has this number.
+pub fn spot_from(text: &[u8], at: usize, first_line: usize) -> Spot {
+    let spot = spot_at(text, at);
+    Spot {
+        line: spot.line.saturating_add(first_line.saturating_sub(1)),
+        column: spot.column,
+        byte: spot.byte,
+    }
+}
+
 /// What stands at a place.
 #[derive(Clone, Copy, Debug, PartialEq, Eq)]
 pub enum Found {

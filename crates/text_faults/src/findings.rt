@@ -1,0 +1,71 @@
+//! What is said of a refusal beside its name.
+
+use crate::spots::{Spot, shown_if, spot_from};
+use std::alloc::{AllocError, Global};
+
+/// Where a text or a query is refused, and why there.
+#[derive(Drop)]
+pub struct Finding {
+    /// How many bytes stand before the place; nothing where the refusal has none.
+    pub at: Option<usize>,
+    /// What may stand there, if anything else was found.
+    pub expected: String,
+    /// What is said of the place.
+    pub message: String,
+    /// The habit that led there.
+    pub hint: Option<&'static str>,
+    /// How many bytes stand before what was there first, where something comes again.
+    pub first: Option<usize>,
+}
+
+impl Finding {
+    /// A place of which no more is said than a rule.
+    pub fn of_rule(alloc: Global, at: usize, rule: &str) -> Result<Finding, AllocError> {
+        Ok(Finding {
+            at: Some(at),
+            expected: String::new(alloc),
+            message: String::from_str(alloc, rule)?,
+            hint: None,
+            first: None,
+        })
+    }
+
+    /// The place as people count it, if there is one, where the text's first line has this number.
+    pub fn spot_from(&self, text: &[u8], first_line: usize) -> Option<Spot> {
+        Some(spot_from(text, self.at?, first_line))
+    }
+
+    /// What was there first, as people count it, where something comes again.
+    pub fn first_from(&self, text: &[u8], first_line: usize) -> Option<Spot> {
+        Some(spot_from(text, self.first?, first_line))
+    }
+
+    /// The lines: the place in a form that people count, with what is said of it, and the hint. If `shows`, two lines between them show the place in
+    /// its line.
+    pub fn lines(&self, alloc: Global, text: &[u8], shows: bool) -> Result<String, AllocError> {
+        self.lines_from(alloc, text, 1, shows)
+    }
+
+    /// The same of a text whose first line has this number.
+    pub fn lines_from(
+        &self,
+        alloc: Global,
+        text: &[u8],
+        first_line: usize,
+        shows: bool,
+    ) -> Result<String, AllocError> {
+        let message = &self.message;
+        let (Some(at), Some(spot)) = (self.at, self.spot_from(text, first_line)) else {
+            return message.clone();
+        };
+        let shown = shown_if(shows, alloc, text, at)?;
+        match (self.hint, self.first) {
+            (Some(hint), _) => format!(in alloc; "{spot}: {message}{shown}\nhint: {hint}"),
+            (None, Some(first)) => {
+                let first = spot_from(text, first, first_line);
+                format!(in alloc; "{spot}: {message}, first at {first}{shown}")
+            }
+            (None, None) => format!(in alloc; "{spot}: {message}{shown}"),
+        }
+    }
+}

@@ -1,0 +1,7 @@
+mod Beyond
+mod Depths
+mod Escaped
+mod Found
+mod Levels
+mod Members
+mod Repeated

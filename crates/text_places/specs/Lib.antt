@@ -1,0 +1,4 @@
+pub mod Firsts
+pub mod Levels
+pub mod Surrogates
+pub mod Twins

@@ -1,0 +1,59 @@
+//! The first name that comes again in its object.
+
+ghost use Rattle.std.specs.Prelude.{◌≡◌, ◌<◌, ◌≤◌, length, None, IfOk, IfSome};
+ghost use Rattle.json_text.specs.Answer.{IsJson, StandsForAll};
+ghost use Rattle.json_text.specs.Verdict.{text_limit, Applies};
+ghost use Rattle.json_text.specs.declared.tape.TextFault.TheVariants.{DuplicateName};
+ghost use Rattle.text_places.specs.Twins.{AreFirstTwins};
+
+use crate::tapes::tape_of;
+use json_strings::Key;
+use json_tape::Tape;
+use json_text::Role;
+use std::alloc::{AllocError, Global};
+use std::collections::BTreeMap;
+
+/// Two names of one object that mean the same: where each begins, and where the second ends.
+#[derive(Clone, Copy, Debug, PartialEq, Eq)]
+pub struct Twins {
+    pub first: usize,
+    pub second: usize,
+    pub end: usize,
+}
+
+/// The first name that means the same as one before it in its object, and that one, if a text has such names.
+pub fn duplicate_name(alloc: Global, text: &str) -> Result<Option<Twins>, AllocError>
+    requires short { length text.now ≤ text_limit }
+    ensures found { IfOk result (λ found. IfSome found (λ twins. AreFirstTwins text.now twins.first twins.second)) }
+    ensures none { IfOk result (λ found. found ≡ None → Applies text.now DuplicateName → ⊥) }
+{
+    match tape_of(alloc, text)? {
+        Some(tape) => first_twins(alloc, text, &tape),
+        None => Ok(None),
+    }
+}
+
+fn first_twins(alloc: Global, text: &str, tape: &Tape) -> Result<Option<Twins>, AllocError>
+    requires spelt { IsJson text.now }
+    requires stands { StandsForAll text.now tape.now }
+    ensures found { IfOk result (λ found. IfSome found (λ twins. AreFirstTwins text.now twins.first twins.second)) }
+    ensures none { IfOk result (λ found. found ≡ None → Applies text.now DuplicateName → ⊥) }
+{
+    let mut seen = BTreeMap::new(alloc);
+    for n in 0..tape.len() {
+        let entry = tape.entry(n);
+        if let Role::Member = entry.role {
+            // a name of its object
+            let name = (entry.up, Key::new(n, text, entry.label));
+            if let Some(first) = seen.get(&name) {
+                return Ok(Some(Twins {
+                    first: tape.entry(*first).label.start as usize,
+                    second: entry.label.start as usize,
+                    end: entry.label.start as usize + entry.label.len as usize,
+                }));
+            }
+            seen.insert(name, n)?;
+        }
+    }
+    Ok(None)
+}
