@@ -59,8 +59,15 @@ class Room:
         self.report.case(f"path_client {' '.join(words)[:200]}", text, (status, output, errors), got)
         return ran
 
-    def refused(self, words, status, line, text=b"", **more):
-        self.case(words, status, b"", f"path_client: {line}\n".encode(), text, **more)
+    def refused(self, words, status, line, text=b"", second=None, **more):
+        """A run that fails with this line, and with this one behind it if there is one."""
+        ran = self.case(words, status, b"", any, text, **more)
+        lines = ran.stderr.decode("utf-8", "replace").split("\n")
+        if "--json" in words:
+            lines[0] = "path_client: {error}: {message}".format(**json.loads(ran.stderr))
+        self.report.case(f"what path_client {' '.join(words)[:200]} says", text, f"path_client: {line}", lines[0])
+        if second is not None:
+            self.report.case(f"what it says of the place, of path_client {' '.join(words)[:200]}", text, second, lines[1])
 
 
 def check_subcommands(report, room):
@@ -86,12 +93,51 @@ def check_subcommands(report, room):
     room.refused(["remove", "shop", "order-3"], 1, "NotFound: there is no such document or collection")
     room.case(["drop", "odd"], 0)
     room.refused(["drop", "odd"], 1, "NotFound: there is no such document or collection")
-    room.refused(["put", "shop", "order-1"], 1, "NotJson: the text is not JSON (RFC 8259)", text=b"{")
-    room.refused(["query", "shop", "$["], 2, "NotWellFormed: the query is not well-formed (RFC 9535, section 2.1)")
+    room.refused(["put", "shop", "order-1"], 1, "NotJson: the text is not JSON (RFC 8259)", text=b"{",
+                 second="line 1, column 2 (byte 1): expected a name in double quotes or '}', found the end of the text")
+    room.refused(["query", "shop", "$["], 2, "NotWellFormed: the query is not well-formed (RFC 9535, section 2.1)",
+                 second="line 1, column 3 (byte 2): expected a name in quotes, a number, ':', '*' or '?', found the end of the text")
     room.refused(["query", "shop", "$[?count(@)]"], 2, "NotValid: the query is not valid (RFC 9535, section 2.1)")
     room.case(["get", "shop", "order-1"], 0, TEXT)
+    check_places(report, room)
     report.case("the time of a ping", "", True, bool(re.fullmatch(rb"\d+\.\d{3} ms\n", room.case(["ping"], 0, any).stdout)))
     room.case(["drop", "shop"], 0)
+
+
+def check_places(report, room):
+    """Where a text or a query is refused, as lines and as JSON, and what the system refused."""
+    text = b'{"a": 1,\n "b": 2,\n}'
+    place = "line 3, column 1 (byte 18): expected a name in double quotes, found '}'"
+    for verb in ("put", "put-new"):
+        ran = room.case([verb, "shop", "broken"], 1, b"", (
+            f"path_client: NotJson: the text is not JSON (RFC 8259)\n{place}\nhint: no comma stands behind the last one\n").encode(), text)
+        ran = room.case([verb, "shop", "broken", "--json"], 1, b"", any, text)
+        report.case(f"{verb} as JSON", text, {
+            "error": "NotJson", "message": "the text is not JSON (RFC 8259)", "byte": 18, "line": 3, "column": 1, "expected": "a name in double quotes",
+            "said": "expected a name in double quotes, found '}'", "hint": "no comma stands behind the last one"}, json.loads(ran.stderr))
+    twice = b'{"a":1,\n"\\u0061":2}'
+    room.refused(["put", "shop", "broken"], 1, "DuplicateName: an object has the same name twice", text=twice,
+                 second='line 2, column 1 (byte 8): the name "\\u0061" again, first at line 1, column 2 (byte 1)')
+    ran = room.case(["put", "shop", "broken", "--json"], 1, b"", any, twice)
+    report.case("a name twice as JSON", twice, {"byte": 1, "line": 1, "column": 2}, json.loads(ran.stderr).get("first"))
+    ran = room.case(["query", "shop", "$[?@.a=1]", "--json"], 2, b"", any)
+    found = json.loads(ran.stderr)
+    report.case("a query as JSON", "", ("NotWellFormed", 7, "'='", "equality is =="), tuple(found.get(it) for it in ("error", "byte", "expected", "hint")))
+    ran = room.case(["get", "shop", "a \"\\", "--json"], 3, b"", any)
+    report.case("a name as JSON", "", "BadName", json.loads(ran.stderr)["error"])
+    ran = room.case(["put", "shop", "o", "no \"file\"", "--json"], 4, b"", any)
+    report.case("a file as JSON", "", ("ReadFault", 'no "file"', True), tuple(json.loads(ran.stderr).get(it) for it in ("error", "of")) + (
+        bool(json.loads(ran.stderr).get("reason")),))
+    near, far = pty.openpty()
+    environment = {**os.environ, "PATH_SERVER_AT": room.address, "PATH_SERVER_KEY_FILE": str(room.folder / "key")}
+    ran = subprocess.run([PROGRAM, "put", "shop", "broken"], input=b"[1,\n 2 3]", stdout=subprocess.PIPE, stderr=far, env=environment, timeout=60)
+    os.close(far)
+    told = os.read(near, 65_536).decode().replace("\r", "").split("\n")
+    os.close(near)
+    report.case("a place on a terminal", "", [
+        "path_client: NotJson: the text is not JSON (RFC 8259)", "line 2, column 4 (byte 7): expected ',' or ']', found '3'", " 2 3]", "   ^", ""], told)
+    room.refused(["put", "shop", "o"], 1, "TooLong: a text has at most 4194304 bytes", text=b" " * 4_194_304 + b"1",
+                 second="4194305 bytes or more, at most 4194304 are read")
 
 
 def check_questions(report, room):
@@ -151,7 +197,12 @@ def check_keys(report, room):
 def check_what_is_invalid(room):
     room.refused(["usage"], 3, "NoAddress: give the server's address by --at ADDR or PATH_SERVER_AT", PATH_SERVER_AT="")
     room.refused(["usage", "--at", "127.0.0.1"], 3, "NoAddress: an address is a host, a colon and a port, not 127.0.0.1")
-    room.refused(["usage", "--at", "127.0.0.1:1"], 4, "NetFault: no server answers at 127.0.0.1:1")
+    room.refused(["usage", "--at", "127.0.0.1:1"], 4, "NetFault: no server answers at 127.0.0.1:1", second="127.0.0.1:1: connection refused")
+    room.refused(["usage", "--at", "no-host.invalid:1"], 4, "NetFault: no address of the host is known: no-host.invalid:1")
+    for seconds in ("0", "1.", ".5", "1.2345", "1e3", "-1", "86400.001", "86401", "", "1,5"):
+        room.case(["usage", "--timeout", seconds], 3, errors=any)
+    for seconds in ("0.001", "1.5", "86400", "30.250"):
+        room.refused(["usage", "--timeout", seconds, "--at", "127.0.0.1:1"], 4, "NetFault: no server answers at 127.0.0.1:1")
     collection = "BadName: a collection's name has 1 to 64 ASCII letters, digits, '.', '-' or '_'"
     document = "BadName: a document's name has 1 to 128 ASCII letters, digits, '.', '-' or '_'"
     for name in ("", "a b", "a/b", "é", "a" * 65, "a\n"):
@@ -159,7 +210,7 @@ def check_what_is_invalid(room):
         room.refused(["get", "c", name + ("b" * 64 if len(name) > 64 else "")], 3, document)
     room.refused(["put", "c", "d"], 1, "TooLong: a text has at most 4194304 bytes", text=b" " * 4_194_304 + b"1")
     room.refused(["query", "c", "$" + " " * 4_096], 2, "QueryTooLong: a query has at most 4096 bytes")
-    room.refused(["put", "c", "d", "none.json"], 4, "ReadFault: cannot read the input")
+    room.refused(["put", "c", "d", "none.json"], 4, "ReadFault: cannot read the input", second="none.json: entity not found")
     room.refused(["load", "c", "--name", "$..id"], 3, "NameQuery: --name takes a singular query, such as $.id")
     for words in ([], ["fetch"], ["get", "c"], ["get", "c", "d", "e"], ["usage", "--timeout", "0"], ["list", "c", "--name", "$.a"]):
         room.case(words, 3, errors=any)
@@ -167,7 +218,12 @@ def check_what_is_invalid(room):
     if os.path.exists("/dev/full"):
         with open("/dev/full", "wb") as full:
             ended = subprocess.run([PROGRAM, "new-key"], stdout=full, stderr=subprocess.PIPE, timeout=60)
-        room.report.case("new-key to a full device", "", (4, b"path_client: WriteFault: cannot write the output\n"), (ended.returncode, ended.stderr))
+        room.report.case("new-key to a full device", "", (4, b"path_client: WriteFault: cannot write the output"), (ended.returncode, ended.stderr.split(b"\n")[0]))
+    reading, writing = os.pipe()
+    os.close(reading)
+    ended = subprocess.run([PROGRAM, "new-key"], stdout=writing, stderr=subprocess.PIPE, timeout=60)
+    os.close(writing)
+    room.report.case("new-key to a closed pipe", "", (0, b""), (ended.returncode, ended.stderr))
 
 
 def check_peers(room):
@@ -253,12 +309,15 @@ def check_load(report, room):
     lines = (b'{"name":"a","text":"{"}\n\nnope\n{"name":"x y","text":"1"}\n{"text":"1"}\r\n{"name":"b"}\n{"name":7,"text":"1"}\n'
              b'\xff\n{"text":"[1]","name":"c","more":null}')
     refused = b"".join(b"path_client: line %s\n" % it for it in (
-        b"3: NotJson", b"4: BadName: x y", b"5: NoName", b"6: NoText", b"7: NoName", b"8: NotUtf8", b"1: NotJson: a"))
+        b"3: NotJson\nline 3, column 2 (byte 1): expected 'u', found 'o'", b"4: BadName: x y", b"5: NoName", b"6: NoText", b"7: NoName",
+        b"8: NotUtf8\nline 8, column 1 (byte 0): expected UTF-8, found byte 0xff",
+        b"1: NotJson: a\nin the text: line 1, column 2 (byte 1): expected a name in double quotes or '}', found the end of the text"))
     refused += b"path_client: Refused: the lines above were not stored\n"
     room.case(["load", "c"], 1, b"loaded 1 documents, 3 bytes\n", refused, text=lines)
     room.case(["get", "c", "c"], 0, b"[1]")
     named = b'{"id":"n1","v": 1}\n{"id":2}\n{"id":"n\\u0032"}\n{"a":1,"a":2}\n[]\n{"id":"n 3"}\n'
-    refused = b"".join(b"path_client: line %s\n" % it for it in (b"2: NoName", b"4: DuplicateName", b"5: NoName", b"6: BadName: n 3"))
+    refused = b"".join(b"path_client: line %s\n" % it for it in (
+        b"2: NoName", b"4: DuplicateName\nline 4, column 8 (byte 7): the name \"a\" again, first at line 4, column 2 (byte 1)", b"5: NoName", b"6: BadName: n 3"))
     refused += b"path_client: Refused: the lines above were not stored\n"
     room.case(["load", "c", room.file("lines", named), "--name", "$.id"], 1, b"loaded 2 documents, 34 bytes\n", refused)
     room.case(["get", "c", "n1"], 0, b'{"id":"n1","v": 1}')
@@ -268,6 +327,10 @@ def check_load(report, room):
     room.case(["load", "c"], 1, b"loaded 1 documents, 1 bytes\n",
               b"path_client: line 1: TooLong: long\npath_client: Refused: the lines above were not stored\n", text=long_line)
     room.case(["load", "c"], 0, b"loaded 0 documents, 0 bytes\n")
+    ran = room.case(["load", "c", "--json"], 1, b"loaded 0 documents, 0 bytes\n", any, text=b'{"name":"a","text":"[1,]"}\n[\n')
+    told = [json.loads(it) for it in ran.stderr.decode().splitlines()]
+    report.case("refused lines as JSON", "", [("NotJson", 2, None, 2), ("NotJson", 1, "a", 1), ("Refused", None, None, None)],
+                [tuple(it.get(name) for name in ("error", "input_line", "document", "line")) for it in told])
     room.case(["drop", "c"], 0)
 
 

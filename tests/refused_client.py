@@ -20,7 +20,8 @@ from lib.running_server import TOP, Listening, Report, want
 PROGRAM = os.environ.get("PATH_CLIENT") or str(TOP / "crates/path_client/out/path_client")
 KEY = bytes(range(16))
 TEXT = b'{"items":[{"name":"tea","price":4},\n{"name":"pot","price":24.5}]}'
-FAULT = re.compile(rb"path_client: (NoMemory|ReadFault|WriteFault|NetFault)\b.*\n")
+# a fault, and behind it the file or the address with the system's reason
+FAULT = re.compile(rb"path_client: (NoMemory|ReadFault|WriteFault|NetFault)\b.*\n|\{\"error\":\"(NoMemory|ReadFault|WriteFault|NetFault)\".*\}\n|(standard input|standard output|[\w.:/-]+): [a-z ]+\n")
 LINES = b'{"name":"a","text":"[1]"}\nnone\n{"name":"b","text":"[2]"}\n'
 
 

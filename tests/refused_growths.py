@@ -107,6 +107,11 @@ def ended(words, text, environment):
 FAULTS = {"memory": b"path_server: NoMemory\n", "read": b"path_server: ReadFault\n", "write": b"path_server: WriteFault\n"}
 
 
+def first_line(errors):
+    """Without what a second line says of the address and the system's reason."""
+    return errors[:errors.find(b"\n") + 1]
+
+
 def fits(kind, wanted, got):
     """Whether a run's end is the one with ample memory, or one that the fault may have."""
     status, output, errors = got
@@ -189,7 +194,7 @@ def call_runs(refusals):
             drop_all(server.address)
             status, output, errors = ended(["call", server.address], lines, environment)
             said = {"memory": [names["memory"], names["net"]], "read": [names["read"]], "write": [names["write"], b""]}[kind]
-            good = (status, output, errors) == (0, wanted, b"") or status == 4 and wanted.startswith(output) and errors in said
+            good = (status, output, errors) == (0, wanted, b"") or status == 4 and wanted.startswith(output) and first_line(errors) in said
             refusals.report.case(name, "", True, good or (status, output, errors))
             return (status, output, errors) != (0, wanted, b"")
 
@@ -237,7 +242,7 @@ class Served:
         said = self.process.stderr.read()
         names = [b"path_server: " + name + b"\n" for name in self.STARTED[self.kind]] + [b""] * (self.kind == "write")
         self.has_failed = True
-        self.report.case(f"{self.name}: a start", "", (b"", 4, True), (line, self.process.returncode, said in names or said))
+        self.report.case(f"{self.name}: a start", "", (b"", 4, True), (line, self.process.returncode, first_line(said) in names or said))
 
     def connection(self, address, frames):
         """Sends one request after the other; gives the connection's end, None where it is the client's own."""

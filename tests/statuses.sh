@@ -168,11 +168,11 @@ expect 3 '' any '' listen 127.0.0.1:0
 expect 3 '' any '' listen 127.0.0.1:0 --log
 expect 3 '' any '' listen 127.0.0.1:0 "$key" "$other"
 expect 3 '' any '' listen 127.0.0.1:0 "$key" --idle
-for words in '--connections 0' '--connections 1000001' '--memory 14680071' '--memory 0' '--memory 1.5' '--idle 0' '--idle 31536001' \
+for words in '--connections 0' '--connections 1000001' '--memory 14680071' '--memory 0' '--memory 1.5' '--memory 13M' '--memory M' '--memory 64MB' '--memory 1.5G' '--memory 1048577G' '--memory 18446744073709551617' '--idle 0' '--idle 31536001' \
     '--stall 0' '--stall 31536001' '--frame-time 0' '--frame-time 31536001' '--spare 0' '--spare 31536001' '--spare -1' '--stall ten'; do
     expect 3 '' any '' listen 127.0.0.1:0 "$key" $words
 done
-for words in '--connections 1' '--memory 14680072' '--idle 31536000' '--stall 1' '--frame-time 31536000' '--spare 1' '--log'; do
+for words in '--connections 1' '--memory 14680072' '--memory 64M' '--memory 15000k' '--memory 1G' '--idle 31536000' '--stall 1' '--frame-time 31536000' '--spare 1' '--log'; do
     expect_listens "$key" $words
 done
 expect 3 '' 'path_server: BadKeys' '' listen 127.0.0.1:0 "$key,"

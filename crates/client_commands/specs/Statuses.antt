@@ -1,4 +1,4 @@
--- The exit statuses of the program path_client (this project's own): 0 for help and the version, 1 where the server refuses a request or a text is too long, 2 where a query is refused or too long, 3 for an invalid command line or key, and 4 where there is no answer: for the streams, the network and memory.
+-- The exit statuses of the program path_client (this project's own): 0 for help and the version and where whoever reads the output closes it, 1 where the server refuses a request or a text is too long, 2 where a query is refused or too long, 3 for an invalid command line or key, and 4 where there is no answer: for the streams, the network and memory.
 use Rattle.std.specs.Prelude.{ℕ, ◌||◌, ◌==◌, if◌then◌else◌}
 use Rattle.clap.specs.Values.{kind_of}
 use Rattle.clap.specs.declared.error.kind.ErrorKind.{ErrorKind}
@@ -7,7 +7,7 @@ use Rattle.client_frames.specs.declared.requests.SendFault.TheVariants as send
 use Rattle.path_types.specs.declared.query_text.QueryFault.{QueryFault}
 use Rattle.path_types.specs.declared.query_text.QueryFault.TheVariants as query
 use Rattle.client_commands.specs.declared.failure.Failure.{Failure}
-use Rattle.client_commands.specs.declared.failure.Failure.TheVariants.{Words, AddressMissing, NoAddress, NoKeyFile, KeyFileUnread, KeyFile, CollectionName, DocumentName, NameQuery, Send, Refused, SomeRefused}
+use Rattle.client_commands.specs.declared.failure.Failure.TheVariants.{Words, AddressMissing, NoAddress, Timeout, NoKeyFile, KeyFileUnread, KeyFile, CollectionName, DocumentName, NameQuery, Send, Refused, SomeRefused, Closed}
 use Rattle.client_commands.specs.declared.options.CommandLineFault.{CommandLineFault}
 use Rattle.client_commands.specs.declared.options.CommandLineFault.TheVariants.{Printed, Failed}
 
@@ -27,7 +27,8 @@ status_of Words = 3
 status_of AddressMissing = 3
 status_of NoAddress = 3
 status_of NoKeyFile = 3
-status_of KeyFileUnread = 3
+status_of Timeout = 3
+status_of (KeyFileUnread _) = 3
 status_of (KeyFile _) = 3
 status_of CollectionName = 3
 status_of DocumentName = 3
@@ -36,6 +37,7 @@ status_of (Send send.TextTooLong) = 1
 status_of (Send send.QueryTooLong) = 2
 status_of (Refused status) = status_of_refusal status
 status_of SomeRefused = 1
+status_of Closed = 0
 status_of _ = 4
 
 abbrev pub status_of_kind : ErrorKind → ℕ

@@ -5,6 +5,7 @@ ghost use Rattle.std.specs.IoError.{error_kind};
 ghost use Rattle.client_commands.specs.Statuses.{status_of, status_of_query, status_of_refusal};
 
 use crate::messages::{Context, tell};
+use crate::notes::Note;
 use client_frames::{AnswerFault, PayloadFault, SendFault};
 use client_lines::{KeyFault, LineFault};
 use path_types::QueryFault;
@@ -19,10 +20,12 @@ pub enum Failure {
     AddressMissing,
     /// The address is not a host, a colon and a port.
     NoAddress,
+    /// The time of `--timeout` is not a number of seconds within its bounds.
+    Timeout,
     /// No file with a key is given.
     NoKeyFile,
     /// The file with the key could not be read.
-    KeyFileUnread,
+    KeyFileUnread(ErrorKind),
     /// The file does not have exactly one key.
     KeyFile(KeyFault),
     /// A word is not the name of a collection.
@@ -37,26 +40,30 @@ pub enum Failure {
     Refused(u8),
     /// Some of the documents were refused.
     SomeRefused,
+    /// The host has no address.
+    NoHost(ErrorKind),
     /// No connection could be opened.
-    NoServer,
+    NoServer(ErrorKind),
     /// The connection broke while the request was sent.
-    Unsent,
+    Unsent(ErrorKind),
     /// The server closed the connection before its reply.
     Ended,
     /// No byte came within the timeout.
-    Timeout,
+    TimedOut,
     /// The connection broke.
-    Broken,
+    Broken(ErrorKind),
     /// The bytes that came are not a reply.
     NoReply,
     /// The reply has the wrong number, or says that the server could not read the request.
     NoAnswer(AnswerFault),
     /// Random bytes could not be read.
-    NoRandom,
+    NoRandom(ErrorKind),
     /// The input could not be read.
-    Read,
+    Read(ErrorKind),
     /// The output could not be written.
-    Write,
+    Write(ErrorKind),
+    /// Whoever read the output closed it, which is no fault.
+    Closed,
     /// An allocation failed.
     Memory,
 }
@@ -126,18 +133,18 @@ impl Failure {
     {
         match error.kind() {
             ErrorKind::OutOfMemory => Failure::Memory,
-            _ => Failure::Read,
+            kind => Failure::Read(kind),
         }
     }
 
     /// The failure of a connection that could not be read.
     pub fn of_read(error: &io::Error) -> Failure
-        ensures timeout { (result ≡ Failure.Timeout) ↔ ((error_kind error.now ≡ ErrorKind.WouldBlock) ⊎ (error_kind error.now ≡ ErrorKind.TimedOut)) }
+        ensures timeout { (result ≡ Failure.TimedOut) ↔ ((error_kind error.now ≡ ErrorKind.WouldBlock) ⊎ (error_kind error.now ≡ ErrorKind.TimedOut)) }
         ensures status { status_of result ≡ 4 }
     {
         match error.kind() {
-            ErrorKind::WouldBlock | ErrorKind::TimedOut => Failure::Timeout,
-            _ => Failure::Broken,
+            ErrorKind::WouldBlock | ErrorKind::TimedOut => Failure::TimedOut,
+            kind => Failure::Broken(kind),
         }
     }
 
@@ -147,21 +154,33 @@ impl Failure {
     {
         match self {
             Failure::Words | Failure::AddressMissing | Failure::NoAddress | Failure::NoKeyFile => 3,
-            Failure::KeyFileUnread | Failure::KeyFile(_) => 3,
+            Failure::KeyFileUnread(_) | Failure::KeyFile(_) | Failure::Timeout => 3,
             Failure::CollectionName | Failure::DocumentName | Failure::NameQuery => 3,
             Failure::Send(SendFault::TextTooLong) => 1,
             Failure::Send(SendFault::QueryTooLong) => 2,
             Failure::Refused(status) => status_of_refusal(status),
             Failure::SomeRefused => 1,
+            Failure::Closed => 0,
             _ => 4,
         }
     }
 
-    /// Prints the message to standard error and gives the exit status.
-    pub fn report<R: Eprint>(self, rt: &R, context: &Context<'_>) -> u8
+    /// The failure of an output that could not be written.
+    pub fn of_output(error: &io::Error) -> Failure
+        ensures closed { (result ≡ Failure.Closed) ↔ (error_kind error.now ≡ ErrorKind.BrokenPipe) }
+        ensures other { (error_kind error.now ≢ ErrorKind.BrokenPipe) → status_of result ≡ 4 }
+    {
+        match error.kind() {
+            ErrorKind::BrokenPipe => Failure::Closed,
+            kind => Failure::Write(kind),
+        }
+    }
+
+    /// Prints the message to standard error, with what is noted of the place of a refusal, and gives the exit status.
+    pub fn report<R: Eprint>(self, rt: &R, context: &Context<'_>, note: &Option<Note>) -> u8
         ensures { result ≡ status_of self }
     {
-        tell(rt, self, context);
+        tell(rt, self, context, note);
         self.status()
     }
 }

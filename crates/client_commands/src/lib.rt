@@ -5,10 +5,12 @@
 
 mod failure;
 mod messages;
+mod notes;
 mod options;
 mod statuses;
 
 pub use failure::Failure;
 pub use messages::Context;
+pub use notes::{Members, Note, Quoted};
 pub use options::{Asked, CommandLineFault, Options, Verb, read_options};
 pub use statuses::status_name;

@@ -1,10 +1,12 @@
 //! The message of a failure: its name, and what to do about it.
 
 use crate::failure::Failure;
+use crate::notes::{JsonFault, Note};
 use crate::statuses::refusal;
 use client_frames::{AnswerFault, SendFault};
 use client_lines::KeyFault;
 use std::fmt;
+use std::io::ErrorKind;
 
 /// The status of a tenant that the server does not know.
 const NO_TENANT: u8 = 2;
@@ -15,11 +17,14 @@ const TOO_LONG: u8 = 5;
 /// The status of a query above its limit.
 const QUERY_TOO_LONG: u8 = 16;
 
-/// What a message may name: the server's address and the key file.
+/// What a message may name: the server's address, the key file and the file that is read.
 #[derive(Clone, Copy)]
 pub struct Context<'a> {
     pub address: &'a str,
     pub key_file: &'a str,
+    pub file: Option<&'a str>,
+    /// Whether a message is an object of JSON.
+    pub json: bool,
     /// Whether standard error is a terminal.
     pub is_terminal: bool,
 }
@@ -29,15 +34,89 @@ impl<'a> Context<'a> {
     pub const NONE: Context<'static> = Context {
         address: "",
         key_file: "",
+        file: None,
+        json: false,
         is_terminal: false,
     };
 }
 
-/// Prints what happened to standard error.
-pub fn tell<R: Eprint>(rt: &R, failure: Failure, context: &Context<'_>) {
+/// Prints what happened to standard error: a line with the failure's name, and what is known besides on the lines behind it. If the output was
+/// closed, nothing is printed.
+pub fn tell<R: Eprint>(rt: &R, failure: Failure, context: &Context<'_>, note: &Option<Note>) {
+    if let Failure::Closed = failure {
+        return;
+    }
     let (name, what) = message(failure);
-    let about = about(failure, context);
-    let _ = eprintln!(rt; "path_client: {name}: {what}{about}");
+    let told = Told {
+        name,
+        what,
+        about: about(failure, context),
+        cause: cause_of(failure, context),
+    };
+    let _ = if context.json {
+        eprintln!(rt; "{}", JsonFault { told, note })
+    } else {
+        eprintln!(rt; "path_client: {told}{}", Behind(note))
+    };
+}
+
+/// What is said of a failure: its name, what is to be done, what it is about, and what failed and why.
+#[derive(Clone, Copy)]
+pub struct Told<'a> {
+    pub name: &'static str,
+    pub what: &'static str,
+    pub about: &'a str,
+    pub cause: Option<Cause<'a>>,
+}
+
+impl<'a> fmt::Display for Told<'a> {
+    fn fmt<W: fmt::Write>(&self, f: &mut fmt::Formatter<W>) -> fmt::Result {
+        write!(f, "{}: {}{}", self.name, self.what, self.about)?;
+        match self.cause {
+            Some(cause) => write!(f, "\n{cause}"),
+            None => Ok(()),
+        }
+    }
+}
+
+/// What the system refused, and why.
+#[derive(Clone, Copy)]
+pub struct Cause<'a> {
+    pub of: &'a str,
+    pub reason: ErrorKind,
+}
+
+impl<'a> fmt::Display for Cause<'a> {
+    fn fmt<W: fmt::Write>(&self, f: &mut fmt::Formatter<W>) -> fmt::Result {
+        write!(f, "{}: {}", self.of, self.reason)
+    }
+}
+
+// The lines of a note behind the first line.
+#[derive(Clone, Copy)]
+struct Behind<'a>(&'a Option<Note>);
+
+impl<'a> fmt::Display for Behind<'a> {
+    fn fmt<W: fmt::Write>(&self, f: &mut fmt::Formatter<W>) -> fmt::Result {
+        match self.0 {
+            Some(note) => write!(f, "\n{}", note.lines),
+            None => Ok(()),
+        }
+    }
+}
+
+// The file or the address that the system refused, and why.
+fn cause_of<'a>(failure: Failure, context: &Context<'a>) -> Option<Cause<'a>> {
+    let (of, reason) = match failure {
+        Failure::KeyFileUnread(reason) => (context.key_file, reason),
+        Failure::Read(reason) => (context.file.unwrap_or("standard input"), reason),
+        Failure::Write(reason) => ("standard output", reason),
+        Failure::NoRandom(reason) => ("/dev/urandom", reason),
+        Failure::NoHost(reason) | Failure::NoServer(reason) => (context.address, reason),
+        Failure::Unsent(reason) | Failure::Broken(reason) => (context.address, reason),
+        _ => return None,
+    };
+    Some(Cause { of, reason })
 }
 
 // The failure's name, and what is to be done.
@@ -88,11 +167,15 @@ fn of_words(failure: Failure) -> (&'static str, &'static str) {
             "NoAddress",
             "an address is a host, a colon and a port, not ",
         ),
+        Failure::Timeout => (
+            "BadCommandLine",
+            "--timeout takes seconds from 0.001 to 86400, such as 1.5",
+        ),
         Failure::NoKeyFile => (
             "NoKeyFile",
             "give the file with the tenant's key by --key-file FILE or PATH_SERVER_KEY_FILE",
         ),
-        Failure::KeyFileUnread => ("ReadFault", "cannot read the key file "),
+        Failure::KeyFileUnread(_) => ("ReadFault", "cannot read the key file "),
         Failure::CollectionName => (
             "BadName",
             "a collection's name has 1 to 64 ASCII letters, digits, '.', '-' or '_'",
@@ -110,8 +193,9 @@ fn of_words(failure: Failure) -> (&'static str, &'static str) {
 fn of_ends(failure: Failure) -> (&'static str, &'static str) {
     match failure {
         Failure::SomeRefused => ("Refused", "the lines above were not stored"),
-        Failure::NoServer => ("NetFault", "no server answers at "),
-        Failure::Unsent => (
+        Failure::NoHost(_) => ("NetFault", "no address of the host is known: "),
+        Failure::NoServer(_) => ("NetFault", "no server answers at "),
+        Failure::Unsent(_) => (
             "WriteFault",
             "the connection broke, but the request may have been carried out: ",
         ),
@@ -119,18 +203,18 @@ fn of_ends(failure: Failure) -> (&'static str, &'static str) {
             "ReadFault",
             "the server closed the connection, but the request may have been carried out: ",
         ),
-        Failure::Timeout => (
+        Failure::TimedOut => (
             "Timeout",
             "the server did not answer in time and may still carry out the request: ",
         ),
-        Failure::Broken => (
+        Failure::Broken(_) => (
             "ReadFault",
             "the connection broke, but the request may have been carried out: ",
         ),
         Failure::NoReply => ("NoReply", "this is not the answer of a path_server: "),
-        Failure::NoRandom => ("ReadFault", "cannot read random bytes from /dev/urandom"),
-        Failure::Read => ("ReadFault", "cannot read the input"),
-        Failure::Write => ("WriteFault", "cannot write the output"),
+        Failure::NoRandom(_) => ("ReadFault", "cannot read random bytes from /dev/urandom"),
+        Failure::Read(_) => ("ReadFault", "cannot read the input"),
+        Failure::Write(_) => ("WriteFault", "cannot write the output"),
         _ => ("NoMemory", "path_client ran out of memory"),
     }
 }
@@ -138,11 +222,11 @@ fn of_ends(failure: Failure) -> (&'static str, &'static str) {
 // The file or the address that a failure is about, or nothing.
 fn about<'a>(failure: Failure, context: &Context<'a>) -> &'a str {
     match failure {
-        Failure::KeyFileUnread | Failure::KeyFile(_) | Failure::Refused(NO_TENANT) =>
+        Failure::KeyFileUnread(_) | Failure::KeyFile(_) | Failure::Refused(NO_TENANT) =>
             context.key_file,
-        Failure::NoAddress | Failure::NoServer | Failure::NoReply | Failure::NoAnswer(_) =>
-            context.address,
-        Failure::Unsent | Failure::Ended | Failure::Timeout | Failure::Broken => context.address,
+        Failure::NoAddress | Failure::NoHost(_) | Failure::NoServer(_) => context.address,
+        Failure::NoReply | Failure::NoAnswer(_) | Failure::Unsent(_) => context.address,
+        Failure::Ended | Failure::TimedOut | Failure::Broken(_) => context.address,
         _ => "",
     }
 }

@@ -14,8 +14,8 @@ use std::alloc::{AllocError, Global};
 /// The version, which `--version` prints after the program's name.
 const VERSION: &str = "0.1.0";
 
-/// The longest `--timeout` in seconds, a day.
-const MOST_SECONDS: u64 = 86_400;
+/// The longest `--timeout` in milliseconds, a day.
+const MOST_MILLISECONDS: u64 = 86_400_000;
 
 /// The largest `--limit`, and that without one: more lines than a reply has.
 const MOST_LINES: u64 = 1_000_000_000;
@@ -56,7 +56,7 @@ pub struct Asked<'a> {
     pub limit: u64,
     /// Whether output is JSON.
     pub json: bool,
-    /// The seconds to wait for a byte from the server.
+    /// The milliseconds to wait for a byte from the server.
     pub timeout: u64,
 }
 
@@ -175,16 +175,15 @@ fn timeout_option<'a>(alloc: Global) -> Arg<'a> {
         alloc,
         "timeout",
         "SECONDS",
-        "How long to wait for a byte from the server",
+        "How long to wait for a byte from the server, such as 1.5",
     )
     .default_value("30")
-    .value_parser(ValueParser::Unsigned(1, MOST_SECONDS))
 }
 
 fn json_option<'a>(alloc: Global) -> Arg<'a> {
     Arg::new(alloc, "json")
         .long("json")
-        .help("Prints hits and usage as JSON")
+        .help("Prints hits, usage and failures as JSON")
         .global(true)
         .action(ArgAction::SetTrue)
 }
@@ -336,7 +335,7 @@ impl CommandLineFault {
     {
         match self {
             CommandLineFault::Printed(error) => print(rt, error),
-            CommandLineFault::Failed(failure) => failure.report(rt, &Context::NONE),
+            CommandLineFault::Failed(failure) => failure.report(rt, &Context::NONE, &None),
         }
     }
 }
@@ -370,11 +369,45 @@ pub fn read_options<'a>(
     words: &'a [String],
 ) -> Result<Options<'a>, CommandLineFault> {
     match parsed(alloc, words) {
-        Ok(matches) => match options_of(&matches) {
-            Some(options) => Ok(options),
-            None => Err(CommandLineFault::Failed(Failure::Words)),
-        },
+        Ok(matches) => options_of(&matches).map_err(CommandLineFault::Failed),
         Err(error) => Err(CommandLineFault::of(error)),
+    }
+}
+
+// Seconds with at most three digits behind the point, as milliseconds.
+fn milliseconds(text: &str) -> Option<u64> {
+    let (whole, part) = text.split_once('.').unwrap_or((text, ""));
+    if part.len() > 3 || (part.is_empty() && text.ends_with('.')) {
+        return None;
+    }
+    let mut all = number(whole)?.checked_mul(1_000)?;
+    let mut unit = 100u64;
+    for digit in part.as_bytes() {
+        all = all.checked_add(number_of(*digit)?.checked_mul(unit)?)?;
+        unit /= 10;
+    }
+    if 0 < all && all <= MOST_MILLISECONDS {
+        Some(all)
+    } else {
+        None
+    }
+}
+
+fn number(digits: &str) -> Option<u64> {
+    if digits.is_empty() {
+        return None;
+    }
+    let mut number = 0u64;
+    for digit in digits.as_bytes() {
+        number = number.checked_mul(10)?.checked_add(number_of(*digit)?)?;
+    }
+    Some(number)
+}
+
+fn number_of(digit: u8) -> Option<u64> {
+    match digit {
+        b'0'..=b'9' => Some(u64::from(digit - b'0')),
+        _ => None,
     }
 }
 
@@ -388,10 +421,18 @@ fn verb_of(name: &str) -> Option<Verb> {
     None
 }
 
-fn options_of<'a>(matches: &ArgMatches<'a>) -> Option<Options<'a>> {
-    let (name, words) = matches.subcommand()?;
+fn options_of<'a>(matches: &ArgMatches<'a>) -> Result<Options<'a>, Failure> {
+    let Some((name, words)) = matches.subcommand() else {
+        return Err(Failure::Words);
+    };
+    let Some(verb) = verb_of(name) else {
+        return Err(Failure::Words);
+    };
+    let Some(timeout) = milliseconds(words.get_str("timeout").unwrap_or_default()) else {
+        return Err(Failure::Timeout);
+    };
     let asked = Asked {
-        verb: verb_of(name)?,
+        verb,
         collection: words.get_str("COLLECTION").unwrap_or_default(),
         document: words.get_str("DOCUMENT").unwrap_or_default(),
         query: words.get_str("QUERY").unwrap_or_default(),
@@ -401,9 +442,9 @@ fn options_of<'a>(matches: &ArgMatches<'a>) -> Option<Options<'a>> {
         names: words.get_flag("names"),
         limit: words.get_one("limit").unwrap_or(MOST_LINES),
         json: words.get_flag("json"),
-        timeout: words.get_one("timeout")?,
+        timeout,
     };
-    Some(Options {
+    Ok(Options {
         address: words.get_str("at"),
         key_file: words.get_str("key-file"),
         asked,

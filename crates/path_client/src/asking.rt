@@ -4,10 +4,10 @@ use crate::connection::{Connection, open};
 use crate::documents::{dump, of_document, query};
 use crate::keys;
 use crate::loading::load;
-use client_commands::{Asked, Context, Failure, Verb};
+use crate::notes::of_query;
+use client_commands::{Asked, Context, Failure, Note, Verb};
 use client_frames::{Usage, read_names, read_usage};
 use client_lines::append_names;
-use standard_streams::write_whole;
 use std::io::{self, Read, Write};
 use std::net::Net;
 use std::rt::{Clock, Files};
@@ -20,6 +20,7 @@ pub fn answer<R: Input + Print + Eprint + Net + Files + Clock + AllocGlobal>(
     rt: &R,
     asked: &Asked<'_>,
     context: &Context<'_>,
+    note: &mut Option<Note>,
 ) -> Result<(), Failure> {
     if context.address.is_empty() {
         return Err(Failure::AddressMissing);
@@ -27,7 +28,7 @@ pub fn answer<R: Input + Print + Eprint + Net + Files + Clock + AllocGlobal>(
     let key = keys::read(rt, context.key_file)?;
     match asked.verb {
         Verb::Usage | Verb::Ping => of_tenant(rt, asked, context, key),
-        _ => of_collection(rt, asked, context, key),
+        _ => of_collection(rt, asked, context, key, note),
     }
 }
 
@@ -51,6 +52,7 @@ fn of_collection<R: Input + Print + Eprint + Net + Files + Clock + AllocGlobal>(
     asked: &Asked<'_>,
     context: &Context<'_>,
     key: [u8; 16],
+    note: &mut Option<Note>,
 ) -> Result<(), Failure> {
     let Some(collection) = CollName::read(asked.collection.as_bytes()) else {
         return Err(Failure::CollectionName);
@@ -58,11 +60,29 @@ fn of_collection<R: Input + Print + Eprint + Net + Files + Clock + AllocGlobal>(
     let mut connection = open(rt, context.address, key, asked.timeout)?;
     match asked.verb {
         Verb::List => list(rt, &mut connection, collection),
-        Verb::Query => query(rt, &mut connection, collection, asked),
+        Verb::Query => match query(rt, &mut connection, collection, asked) {
+            Ok(()) => Ok(()),
+            Err(failure) => {
+                *note = of_query(
+                    rt.alloc(),
+                    asked.query.as_bytes(),
+                    failure,
+                    context.is_terminal,
+                );
+                Err(failure)
+            }
+        },
         Verb::Drop => connection.done(&Command::DropCollection { collection }),
         Verb::Load => load(rt, &mut connection, collection, asked, context.is_terminal),
         Verb::Dump => dump(rt, &mut connection, collection),
-        _ => of_document(rt, &mut connection, collection, asked),
+        _ => of_document(
+            rt,
+            &mut connection,
+            collection,
+            asked,
+            context.is_terminal,
+            note,
+        ),
     }
 }
 
@@ -107,7 +127,7 @@ fn usage<R: Print, S: Read + Write + Drop>(
     } else {
         println!(rt; "collections {collections}, documents {documents}, bytes {bytes}")
     };
-    printed.map_err(|_| Failure::Write)
+    printed.map_err(|error| Failure::of_output(&error))
 }
 
 fn ping<R: Print + Clock, S: Read + Write + Drop>(
@@ -121,7 +141,7 @@ fn ping<R: Print + Clock, S: Read + Write + Drop>(
         Err(_) => 0,
     };
     let (millis, rest) = (micros / 1_000, micros % 1_000);
-    println!(rt; "{millis}.{rest:03} ms").map_err(|_| Failure::Write)
+    println!(rt; "{millis}.{rest:03} ms").map_err(|error| Failure::of_output(&error))
 }
 
 /// The microseconds since then, or 0 if the clock cannot be read.
@@ -134,5 +154,7 @@ pub fn micros_since<R: Clock>(rt: &R, began: &Instant) -> u64 {
 
 /// Writes bytes to standard output.
 pub fn print<R: Print>(rt: &R, bytes: &[u8]) -> Result<(), Failure> {
-    write_whole(&mut io::writer(rt), bytes).map_err(|_| Failure::Write)
+    io::writer(rt)
+        .write_all(bytes)
+        .map_err(|error| Failure::of_output(&error))
 }

@@ -2,10 +2,9 @@
 
 use client_commands::Failure;
 use client_frames::{Answer, Front, Reply, answer_to, front_of, write_request};
-use standard_streams::write_whole;
 use std::alloc::Global;
 use std::io::{ErrorKind, Read, Write};
-use std::net::{Net, OpenStream, TcpStream, ToSocketAddrs};
+use std::net::{Net, OpenStream, SocketAddr, TcpStream, ToSocketAddrs};
 use std::time::Duration;
 use wire_frames::Command;
 
@@ -25,10 +24,19 @@ pub struct Connection<S: Drop> {
     is_told: bool,
 }
 
-fn first_address<R: Net>(rt: &R, address: &str) -> Option<std::net::SocketAddr> {
+fn first_address<R: Net>(rt: &R, address: &str) -> Result<SocketAddr, Failure> {
     match address.to_socket_addrs(rt) {
-        Ok(mut addresses) => addresses.next(),
-        Err(_) => None,
+        Ok(mut addresses) => addresses.next().ok_or(Failure::NoAddress),
+        Err(error) => Err(of_address(error.kind())),
+    }
+}
+
+// A text that is no address, or a host that has none.
+fn of_address(kind: ErrorKind) -> Failure {
+    match kind {
+        ErrorKind::InvalidInput => Failure::NoAddress,
+        ErrorKind::OutOfMemory => Failure::Memory,
+        _ => Failure::NoHost(kind),
     }
 }
 
@@ -39,12 +47,11 @@ pub fn open<R: Net + AllocGlobal>(
     key: [u8; 16],
     timeout: u64,
 ) -> Result<Connection<R::Stream>, Failure> {
-    let Some(found) = first_address(rt, address) else {
-        return Err(Failure::NoAddress);
-    };
-    let limit = Duration::from_secs(timeout);
-    let Ok(stream) = TcpStream::connect_timeout(rt, &found, limit) else {
-        return Err(Failure::NoServer);
+    let found = first_address(rt, address)?;
+    let limit = Duration::from_millis(timeout);
+    let stream = match TcpStream::connect_timeout(rt, &found, limit) {
+        Ok(stream) => stream,
+        Err(error) => return Err(Failure::NoServer(error.kind())),
     };
     // without these no reply is wrong: some come later, and a server that says nothing is waited for
     let _ = stream.set_nodelay(true);
@@ -72,7 +79,9 @@ impl<S: Read + Write + Drop> Connection<S> {
 
     /// Sends bytes.
     pub fn send(&mut self, bytes: &[u8]) -> Result<(), Failure> {
-        write_whole(&mut self.stream, bytes).map_err(|_| Failure::Unsent)
+        self.stream
+            .write_all(bytes)
+            .map_err(|error| Failure::Unsent(error.kind()))
     }
 
     /// Sends a request and waits for its payload.

@@ -2,12 +2,12 @@
 
 use crate::asking::{print, print_names};
 use crate::connection::Connection;
-use client_commands::{Asked, Failure, Verb};
+use crate::notes::{of_text, text_fault};
+use client_commands::{Asked, Failure, Note, Verb};
 use client_frames::{Hit, read_hits, read_names};
 use client_lines::{append_document, append_hits, append_hits_in, append_json_hits, documents_of};
 use json_tape::TEXT_LIMIT;
 use path_types::{ValidQuery, compile};
-use standard_streams::{ReadFault, read_past};
 use std::alloc::Global;
 use std::fs;
 use std::io::{Read, Write};
@@ -16,10 +16,10 @@ use store_names::{CollName, DocName};
 use wire_frames::Command;
 
 fn whole<I: Read + Drop>(alloc: Global, input: I) -> Result<Vec<u8>, Failure> {
-    match read_past(alloc, input, TEXT_LIMIT as u64) {
-        Ok(text) => Ok(text),
-        Err(ReadFault::Memory) => Err(Failure::Memory),
-        Err(ReadFault::Failed) => Err(Failure::Read),
+    let mut text = Vec::new(alloc);
+    match input.take(TEXT_LIMIT as u64 + 1).read_to_end(&mut text) {
+        Ok(_) => Ok(text),
+        Err(error) => Err(Failure::of_input(&error)),
     }
 }
 
@@ -28,7 +28,7 @@ fn text_of<R: Input + Files + AllocGlobal>(rt: &R, file: Option<&str>) -> Result
     match file {
         Some(path) => match fs::open(rt, path) {
             Ok(file) => whole(rt.alloc(), file),
-            Err(_) => Err(Failure::Read),
+            Err(error) => Err(Failure::of_input(&error)),
         },
         None => whole(rt.alloc(), rt.reader()),
     }
@@ -40,6 +40,8 @@ pub fn of_document<R: Input + Print + Files + AllocGlobal, S: Read + Write + Dro
     connection: &mut Connection<S>,
     collection: CollName<'_>,
     asked: &Asked<'_>,
+    shows: bool,
+    note: &mut Option<Note>,
 ) -> Result<(), Failure> {
     let Some(document) = DocName::read(asked.document.as_bytes()) else {
         return Err(Failure::DocumentName);
@@ -50,7 +52,20 @@ pub fn of_document<R: Input + Print + Files + AllocGlobal, S: Read + Write + Dro
             collection,
             document,
         }),
-        verb => put(rt, connection, collection, document, verb, asked.file),
+        _ => {
+            let text = text_of(rt, asked.file)?;
+            let text = text.as_slice();
+            let command = put_of(asked.verb, collection, document, text);
+            match connection.done(&command) {
+                Ok(()) => Ok(()),
+                Err(failure) => {
+                    if let Some(fault) = text_fault(failure) {
+                        *note = of_text(rt.alloc(), text, 1, fault, shows);
+                    }
+                    Err(failure)
+                }
+            }
+        }
     }
 }
 
@@ -67,17 +82,13 @@ fn get<R: Print, S: Read + Write + Drop>(
     print(rt, text)
 }
 
-fn put<R: Input + Files + AllocGlobal, S: Read + Write + Drop>(
-    rt: &R,
-    connection: &mut Connection<S>,
-    collection: CollName<'_>,
-    document: DocName<'_>,
+fn put_of<'a>(
     verb: Verb,
-    file: Option<&str>,
-) -> Result<(), Failure> {
-    let text = text_of(rt, file)?;
-    let text = text.as_slice();
-    let command = match verb {
+    collection: CollName<'a>,
+    document: DocName<'a>,
+    text: &'a [u8],
+) -> Command<'a> {
+    match verb {
         Verb::PutNew => Command::PutNew {
             collection,
             document,
@@ -88,8 +99,7 @@ fn put<R: Input + Files + AllocGlobal, S: Read + Write + Drop>(
             document,
             text,
         },
-    };
-    connection.done(&command)
+    }
 }
 
 /// Prints a line for each hit, or for each document with one.

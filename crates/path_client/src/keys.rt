@@ -2,9 +2,8 @@
 
 use client_commands::Failure;
 use client_lines::read_key;
-use standard_streams::{ReadFault, read_past};
 use std::fs;
-use std::io::Read;
+use std::io::{self, ErrorKind, Read};
 use std::rt::Files;
 
 /// The most bytes of a key file.
@@ -18,13 +17,21 @@ pub fn read<R: Files + AllocGlobal>(rt: &R, path: &str) -> Result<[u8; 16], Fail
     if path.is_empty() {
         return Err(Failure::NoKeyFile);
     }
-    let Ok(file) = fs::open(rt, path) else {
-        return Err(Failure::KeyFileUnread);
+    let file = match fs::open(rt, path) {
+        Ok(file) => file,
+        Err(error) => return Err(unread(&error)),
     };
-    match read_past(rt.alloc(), file, MOST_BYTES) {
-        Ok(text) => read_key(text.as_slice()).map_err(Failure::KeyFile),
-        Err(ReadFault::Memory) => Err(Failure::Memory),
-        Err(ReadFault::Failed) => Err(Failure::KeyFileUnread),
+    let mut text = Vec::new(rt.alloc());
+    match file.take(MOST_BYTES).read_to_end(&mut text) {
+        Ok(_) => read_key(text.as_slice()).map_err(Failure::KeyFile),
+        Err(error) => Err(unread(&error)),
+    }
+}
+
+fn unread(error: &io::Error) -> Failure {
+    match error.kind() {
+        ErrorKind::OutOfMemory => Failure::Memory,
+        kind => Failure::KeyFileUnread(kind),
     }
 }
 
@@ -34,9 +41,9 @@ fn random<R: Files>(rt: &R) -> Result<[u8; 16], Failure> {
     match fs::open(rt, RANDOM) {
         Ok(mut file) => match file.read_exact(&mut key) {
             Ok(()) => Ok(key),
-            Err(_) => Err(Failure::NoRandom),
+            Err(error) => Err(Failure::NoRandom(error.kind())),
         },
-        Err(_) => Err(Failure::NoRandom),
+        Err(error) => Err(Failure::NoRandom(error.kind())),
     }
 }
 
@@ -46,5 +53,5 @@ pub fn print_new<R: Print + Files + AllocGlobal>(rt: &R) -> Result<(), Failure> 
     let Ok(digits) = hex::encode(rt.alloc(), key) else {
         return Err(Failure::Memory);
     };
-    println!(rt; "{digits}").map_err(|_| Failure::Write)
+    println!(rt; "{digits}").map_err(|error| Failure::of_output(&error))
 }

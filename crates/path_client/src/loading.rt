@@ -2,16 +2,18 @@
 
 use crate::asking::micros_since;
 use crate::connection::Connection;
-use client_commands::{Asked, Failure, status_name};
+use crate::notes::{fault_of, of_text};
+use client_commands::{Asked, Failure, Members, Note, Quoted, status_name};
 use client_frames::SendFault;
 use client_lines::{LineFault, NamedText, name_in, read_document, read_name_query};
+use json_tape::TextFault;
 use path_types::ValidQuery;
 use std::alloc::Global;
 use std::collections::VecDeque;
-use std::fs;
 use std::io::{BufRead, BufReader, Read, Write};
 use std::rt::{Clock, Files};
 use std::time::Instant;
+use std::{fmt, fs};
 use store_names::{CollName, DocName};
 use wire_frames::Command;
 
@@ -27,6 +29,9 @@ const PIECE: usize = 65_536;
 /// The most bytes of a line: a byte of a text may take six.
 const LONGEST_LINE: u64 = 25_165_824;
 
+/// The most bytes of texts without a reply, which are kept to find the places of refusals.
+const MOST_KEPT: usize = 8_388_608;
+
 /// The time between two lines of progress, in microseconds.
 const PROGRESS: u64 = 200_000;
 
@@ -36,7 +41,7 @@ struct Waiting {
     line: u64,
     number: u32,
     name: String,
-    bytes: u64,
+    text: Vec<u8>,
 }
 
 /// A line of input, numbered from 1, with its document.
@@ -60,6 +65,27 @@ struct Loading {
     frames: Vec<u8>,
     waiting: VecDeque<Waiting>,
     counts: Counts,
+    // the bytes of the texts without a reply
+    kept: usize,
+    form: Form,
+}
+
+/// How refusals are told: as JSON or as lines, and whether these show the place in its line.
+#[derive(Clone, Copy)]
+struct Form {
+    json: bool,
+    shows: bool,
+}
+
+/// What is told of a line that was not put.
+#[derive(Drop)]
+struct Refused<'a> {
+    line: u64,
+    name: &'a str,
+    document: &'a str,
+    note: Option<Note>,
+    // the place is one of the text within the line
+    is_within: bool,
 }
 
 /// When the load began, and when its progress was last printed.
@@ -67,6 +93,55 @@ struct Loading {
 struct Progress {
     began: Option<Instant>,
     told: u64,
+}
+
+impl<'a> fmt::Display for Refused<'a> {
+    fn fmt<W: fmt::Write>(&self, f: &mut fmt::Formatter<W>) -> fmt::Result {
+        write!(f, "line {}: {}", self.line, self.name)?;
+        if !self.document.is_empty() {
+            write!(f, ": {}", self.document)?;
+        }
+        match &self.note {
+            Some(note) if self.is_within => write!(f, "\nin the text: {}", note.lines),
+            Some(note) => write!(f, "\n{}", note.lines),
+            None => Ok(()),
+        }
+    }
+}
+
+// The same as an object of JSON.
+#[derive(Clone, Copy)]
+struct JsonLine<'a>(&'a Refused<'a>);
+
+impl<'a> fmt::Display for JsonLine<'a> {
+    fn fmt<W: fmt::Write>(&self, f: &mut fmt::Formatter<W>) -> fmt::Result {
+        let refused = self.0;
+        write!(
+            f,
+            "{{\"error\":{},\"input_line\":{}",
+            Quoted(refused.name),
+            refused.line
+        )?;
+        if !refused.document.is_empty() {
+            write!(f, ",\"document\":{}", Quoted(refused.document))?;
+        }
+        match &refused.note {
+            Some(note) => write!(f, "{}}}", Members(note)),
+            None => write!(f, "}}"),
+        }
+    }
+}
+
+// The place in a line at which it is refused, if there is one. It counts lines as the input does.
+fn note_of(alloc: Global, line: Line<'_>, fault: LineFault, shows: bool) -> Option<Note> {
+    let fault = match fault {
+        LineFault::NoDocument(fault) => fault,
+        LineFault::NotUtf8 => TextFault::NotUtf8,
+        LineFault::NotJson => TextFault::NotJson,
+        _ => return None,
+    };
+    let number = usize::try_from(line.number).unwrap_or(usize::MAX);
+    of_text(alloc, line.text, number, fault, shows)
 }
 
 // The query that tells names, where there is one.
@@ -90,19 +165,16 @@ pub fn load<R: Input + Print + Eprint + Files + Clock + AllocGlobal, S: Read + W
     is_terminal: bool,
 ) -> Result<(), Failure> {
     let naming = naming_of(rt.alloc(), asked.name)?;
+    let form = Form {
+        json: asked.json,
+        shows: is_terminal,
+    };
     let counts = match asked.file {
         Some(path) => match fs::open(rt, path) {
-            Ok(file) => load_all(rt, connection, collection, &naming, file, is_terminal)?,
-            Err(_) => return Err(Failure::Read),
+            Ok(file) => load_all(rt, connection, collection, &naming, file, form)?,
+            Err(error) => return Err(Failure::of_input(&error)),
         },
-        None => load_all(
-            rt,
-            connection,
-            collection,
-            &naming,
-            rt.reader(),
-            is_terminal,
-        )?,
+        None => load_all(rt, connection, collection, &naming, rt.reader(), form)?,
     };
     end(rt, counts)
 }
@@ -110,9 +182,9 @@ pub fn load<R: Input + Print + Eprint + Files + Clock + AllocGlobal, S: Read + W
 // Tells how many documents were put.
 fn end<R: Print>(rt: &R, counts: Counts) -> Result<(), Failure> {
     let (documents, bytes) = (counts.documents, counts.bytes);
-    if println!(rt; "loaded {documents} documents, {bytes} bytes").is_err() {
-        return Err(Failure::Write);
-    }
+    println!(rt; "loaded {documents} documents, {bytes} bytes").map_err(|error| Failure::of_output(
+        &error,
+    ))?;
     if counts.refused > 0 {
         return Err(Failure::SomeRefused);
     }
@@ -125,10 +197,10 @@ fn load_all<R: Eprint + Clock + AllocGlobal, S: Read + Write + Drop, I: Read + D
     collection: CollName<'_>,
     naming: &Option<ValidQuery>,
     input: I,
-    is_terminal: bool,
+    form: Form,
 ) -> Result<Counts, Failure> {
-    let mut loading = Loading::new(rt.alloc());
-    let mut progress = Progress::new(rt, is_terminal);
+    let mut loading = Loading::new(rt.alloc(), form);
+    let mut progress = Progress::new(rt, form.shows);
     match BufReader::new(rt.alloc(), input) {
         Ok(mut reader) => loading.load_lines(
             rt,
@@ -151,8 +223,10 @@ fn next_line<I: BufRead + Drop>(reader: &mut I, line: &mut Vec<u8>) -> Result<bo
     match reader.by_ref().take(LONGEST_LINE).read_until(b'\n', line) {
         Ok(0) => Ok(false),
         Ok(_) => {
-            if !line.ends_with(b"\n") && reader.skip_until(b'\n').is_err() {
-                return Err(Failure::Read);
+            if !line.ends_with(b"\n") {
+                reader
+                    .skip_until(b'\n')
+                    .map_err(|error| Failure::of_input(&error))?;
             }
             Ok(true)
         }
@@ -197,7 +271,7 @@ impl Progress {
 }
 
 impl Loading {
-    fn new(alloc: Global) -> Loading {
+    fn new(alloc: Global, form: Form) -> Loading {
         Loading {
             frames: Vec::new(alloc),
             waiting: VecDeque::new(alloc),
@@ -206,11 +280,18 @@ impl Loading {
                 refused: 0,
                 bytes: 0,
             },
+            kept: 0,
+            form,
         }
     }
 
     fn is_full(&self) -> bool {
         self.waiting.len() >= MOST_WAITING || self.frames.len() >= PIECE
+    }
+
+    // How many requests may stay without a reply.
+    fn most_left(&self) -> usize {
+        if self.kept >= MOST_KEPT { 0 } else { HALF }
     }
 
     // Puts the document of each line.
@@ -239,26 +320,26 @@ impl Loading {
     }
 
     // Takes replies where many wait.
-    fn go_on<R: Eprint + Clock, S: Read + Write + Drop>(
+    fn go_on<R: Eprint + Clock + AllocGlobal, S: Read + Write + Drop>(
         &mut self,
         rt: &R,
         connection: &mut Connection<S>,
         progress: &mut Progress,
     ) -> Result<(), Failure> {
         if self.is_full() {
-            self.settle(rt, connection, HALF)?;
+            self.settle(rt, connection, self.most_left())?;
             progress.tell(rt, self.counts, PROGRESS);
         }
         Ok(())
     }
 
     // Tells of a line that was not put, and counts it.
-    fn tell<R: Eprint>(&mut self, rt: &R, line: u64, name: &str, document: &str) {
+    fn tell<R: Eprint>(&mut self, rt: &R, refused: &Refused<'_>) {
         self.counts.refused = self.counts.refused.saturating_add(1);
-        let _ = if document.is_empty() {
-            eprintln!(rt; "path_client: line {line}: {name}")
+        let _ = if self.form.json {
+            eprintln!(rt; "{}", JsonLine(refused))
         } else {
-            eprintln!(rt; "path_client: line {line}: {name}: {document}")
+            eprintln!(rt; "path_client: {refused}")
         };
     }
 
@@ -277,7 +358,7 @@ impl Loading {
         match naming {
             Some(query) => match name_in(rt.alloc(), query, line.text) {
                 Ok(name) => self.add(rt, connection, collection, name, line),
-                Err(fault) => self.refuse(rt, line.number, fault),
+                Err(fault) => self.refuse(rt, line, fault),
             },
             None => match read_document(rt.alloc(), line.text) {
                 Ok(NamedText { name, text }) => {
@@ -287,22 +368,49 @@ impl Loading {
                     };
                     self.add(rt, connection, collection, name, line)
                 }
-                Err(fault) => self.refuse(rt, line.number, fault),
+                Err(fault) => self.refuse(rt, line, fault),
             },
         }
     }
 
-    fn refuse<R: Eprint>(&mut self, rt: &R, line: u64, fault: LineFault) -> Result<(), Failure> {
-        match fault {
-            LineFault::Memory => Err(Failure::Memory),
-            _ => {
-                self.tell(rt, line, fault.name(), "");
-                Ok(())
-            }
+    fn refuse<R: Eprint + AllocGlobal>(
+        &mut self,
+        rt: &R,
+        line: Line<'_>,
+        fault: LineFault,
+    ) -> Result<(), Failure> {
+        if let LineFault::Memory = fault {
+            return Err(Failure::Memory);
         }
+        let note = note_of(rt.alloc(), line, fault, self.form.shows);
+        self.tell(
+            rt,
+            &Refused {
+                line: line.number,
+                name: fault.name(),
+                document: "",
+                note,
+                is_within: false,
+            },
+        );
+        Ok(())
     }
 
-    fn add<R: Eprint, S: Read + Write + Drop>(
+    // Tells of a document that its name or its length shuts out.
+    fn shut_out<R: Eprint>(&mut self, rt: &R, line: u64, name: &str, document: &str) {
+        self.tell(
+            rt,
+            &Refused {
+                line,
+                name,
+                document,
+                note: None,
+                is_within: false,
+            },
+        );
+    }
+
+    fn add<R: Eprint + AllocGlobal, S: Read + Write + Drop>(
         &mut self,
         rt: &R,
         connection: &mut Connection<S>,
@@ -311,18 +419,21 @@ impl Loading {
         line: Line<'_>,
     ) -> Result<(), Failure> {
         match self.frame(connection, collection, name.as_str(), line.text) {
-            Ok(number) => self.wait(Waiting {
-                line: line.number,
-                number,
-                name,
-                bytes: line.text.len() as u64,
-            }),
+            Ok(number) => match Vec::from_slice(rt.alloc(), line.text) {
+                Ok(text) => self.wait(Waiting {
+                    line: line.number,
+                    number,
+                    name,
+                    text,
+                }),
+                Err(_) => Err(Failure::Memory),
+            },
             Err(Failure::DocumentName) => {
-                self.tell(rt, line.number, "BadName", name.as_str());
+                self.shut_out(rt, line.number, "BadName", name.as_str());
                 Ok(())
             }
             Err(Failure::Send(SendFault::TextTooLong)) => {
-                self.tell(rt, line.number, "TooLong", name.as_str());
+                self.shut_out(rt, line.number, "TooLong", name.as_str());
                 Ok(())
             }
             Err(failure) => Err(failure),
@@ -349,11 +460,12 @@ impl Loading {
     }
 
     fn wait(&mut self, waiting: Waiting) -> Result<(), Failure> {
+        self.kept = self.kept.saturating_add(waiting.text.len());
         self.waiting.push_back(waiting).map_err(|_| Failure::Memory)
     }
 
     // Sends what is not sent, and takes replies until no more than so many are waited for.
-    fn settle<R: Eprint, S: Read + Write + Drop>(
+    fn settle<R: Eprint + AllocGlobal, S: Read + Write + Drop>(
         &mut self,
         rt: &R,
         connection: &mut Connection<S>,
@@ -371,17 +483,34 @@ impl Loading {
     }
 
     // Takes the reply to a put.
-    fn take<R: Eprint, S: Read + Write + Drop>(
+    fn take<R: Eprint + AllocGlobal, S: Read + Write + Drop>(
         &mut self,
         rt: &R,
         connection: &mut Connection<S>,
         put: Waiting,
     ) -> Result<(), Failure> {
+        self.kept = self.kept.saturating_sub(put.text.len());
         match connection.take(put.number)? {
-            Some(status) => self.tell(rt, put.line, status_name(status), put.name.as_str()),
+            Some(status) => {
+                let text = put.text.as_slice();
+                let note = match fault_of(status) {
+                    Some(fault) => of_text(rt.alloc(), text, 1, fault, self.form.shows),
+                    None => None,
+                };
+                self.tell(
+                    rt,
+                    &Refused {
+                        line: put.line,
+                        name: status_name(status),
+                        document: put.name.as_str(),
+                        note,
+                        is_within: true,
+                    },
+                );
+            }
             None => {
                 self.counts.documents = self.counts.documents.saturating_add(1);
-                self.counts.bytes = self.counts.bytes.saturating_add(put.bytes);
+                self.counts.bytes = self.counts.bytes.saturating_add(put.text.len() as u64);
             }
         }
         Ok(())

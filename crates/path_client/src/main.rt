@@ -6,8 +6,9 @@ mod connection;
 mod documents;
 mod keys;
 mod loading;
+mod notes;
 
-use client_commands::{Asked, Context, Failure, Options, Verb, read_options};
+use client_commands::{Asked, Context, Failure, Note, Options, Verb, read_options};
 use std::env::{self, VarError};
 use std::io::IsTerminal;
 use std::net::Net;
@@ -52,10 +53,11 @@ fn answer<R: Input + Print + Eprint + Net + Files + Clock + AllocGlobal>(
     rt: &R,
     asked: &Asked<'_>,
     context: &Context<'_>,
+    note: &mut Option<Note>,
 ) -> Result<(), Failure> {
     match asked.verb {
         Verb::NewKey => keys::print_new(rt),
-        _ => asking::answer(rt, asked, context),
+        _ => asking::answer(rt, asked, context, note),
     }
 }
 
@@ -70,11 +72,14 @@ fn carry_out<R: Input + Print + Eprint + Env + Net + Files + Clock + AllocGlobal
     let context = Context {
         address: address.as_str(),
         key_file: key_file.as_str(),
+        file: options.asked.file,
+        json: options.asked.json,
         is_terminal,
     };
-    match answer(rt, &options.asked, &context) {
+    let mut note = None;
+    match answer(rt, &options.asked, &context, &mut note) {
         Ok(()) => Ok(0),
-        Err(failure) => Ok(failure.report(rt, &context)),
+        Err(failure) => Ok(failure.report(rt, &context, &note)),
     }
 }
 
@@ -93,6 +98,6 @@ fn main(rt: HostRuntime) -> ExitCode {
     let is_terminal = rt.stderr().is_terminal();
     match run(&rt, is_terminal) {
         Ok(status) => ExitCode::from(status),
-        Err(failure) => ExitCode::from(failure.report(&rt, &Context::NONE)),
+        Err(failure) => ExitCode::from(failure.report(&rt, &Context::NONE, &None)),
     }
 }
