@@ -44,7 +44,7 @@ fn first_twins(alloc: Global, text: &str, tape: &Tape) -> Result<Option<Twins>, 
         let entry = tape.entry(n);
         if let Role::Member = entry.role {
             // a name of its object
-            let name = (entry.up, Key::new(n, text, entry.label));
+            let name = (entry.up, Key::new(alloc, n, text, entry.label)?);
             if let Some(first) = seen.get(&name) {
                 return Ok(Some(Twins {
                     first: tape.entry(*first).label.start as usize,

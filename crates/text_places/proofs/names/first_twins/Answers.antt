@@ -5,7 +5,7 @@ use Rattle.json_text.proofs.Parts.{placed}
 use Rattle.text_places.specs.Twins.{AreFirstTwins}
 use Rattle.text_places.proofs.Members.{quoted}
 use Rattle.text_places.proofs.Repeated.{Keeps, order, no_twins, passed, added, first_twins}
-use Rattle.text_places.proofs.names.first_twins.Goals.{in-Member+in_default-get+in_ok-insert, in_default}
+use Rattle.text_places.proofs.names.first_twins.Goals.{in-Member+in_ok-new+in_default-get+in_ok-insert, in_default}
 use Rattle.text_places.proofs.names.first_twins.Goals as goal
 
 pub new-requires : goal.new-requires
@@ -13,21 +13,21 @@ new-requires c = let j = c.requires.spelt in quoted c.args.text.now c.args.tape.
 
 pub entry-requires : goal.entry-requires
 entry-requires c = let j = c.requires.spelt in let k = c.loop-n.invariant j.0 j.1 in
-    let y = k.seen (c.entry-entry.result.up, c.new.result) c.in-Some.first.now (sym c.in-Some.ensures.value) in
+    let y = k.seen (c.entry-entry.result.up, c.in_ok-new.field-0) c.in-Some.first.now (sym c.in-Some.ensures.value) in
     let less = y.0 in let m = c.loop-n-test.true in let l = c.len-n-end.ensures.value in omega arith
 
 pub returns-in-Some-clause-found : goal.returns-in-Some-clause-found
 returns-in-Some-clause-found c = let j = c.requires.spelt in
     subst (λ (x : Entry). AreFirstTwins c.args.text.now x.label.start c.entry-entry.result.label.start) (sym c.entry.ensures)
     (first_twins c.args.text.now c.args.tape.now j.0 j.1 (c.requires.stands j.0 j.1) c.loop-n.n c.entry-entry.result (search rules) c.entry-entry.ensures (search rules)
-    (c.entry-entry.result.up, c.new.result) refl c.new.ensures.name (λ q. tree.get order c.loop-n.seen q) (c.loop-n.invariant j.0 j.1) c.in-Some.first.now c.entry.result (sym c.in-Some.ensures.value))
+    (c.entry-entry.result.up, c.in_ok-new.field-0) refl c.in_ok-new.ensures.name (λ q. tree.get order c.loop-n.seen q) (c.loop-n.invariant j.0 j.1) c.in-Some.first.now c.entry.result (sym c.in-Some.ensures.value))
 
 pub loop-n-preserved : goal.loop-n-preserved
 loop-n-preserved c = λ t h. elim c.match-entry.branch [
-  | in-Member+in_default-get+in_ok-insert w ↦
+  | in-Member+in_ok-new+in_default-get+in_ok-insert w ↦
       subst (λ m. Keeps c.args.text.now c.args.tape.now t (c.loop-n.n + 1) (λ q. tree.get order m q)) (sym w.seen-is)
       (added c.args.text.now c.args.tape.now t h (c.requires.stands t h) c.loop-n.n c.entry-entry.result (search rules) c.entry-entry.ensures (search rules)
-      (c.entry-entry.result.up, w.new.result) refl w.new.ensures.name (λ q. tree.get order c.loop-n.seen q) (c.loop-n.invariant t h) (sym w.in_default-get.ensures.value)
+      (c.entry-entry.result.up, w.in_ok-new.field-0) refl w.in_ok-new.ensures.name (λ q. tree.get order c.loop-n.seen q) (c.loop-n.invariant t h) (sym w.in_default-get.ensures.value)
       (λ q. tree.get order w.insert.new.self q) w.in_ok-insert.ensures.updates.0)
   | in_default w ↦
       subst (λ m. Keeps c.args.text.now c.args.tape.now t (c.loop-n.n + 1) (λ q. tree.get order m q)) (sym w.seen-is)
