@@ -6,7 +6,6 @@ no NotFound. A connection may end while its tenant is paused, and then what was 
 """
 import contextlib
 import os
-import random
 import signal
 import socket
 import subprocess
@@ -16,8 +15,9 @@ import time
 from pathlib import Path
 
 from deployment import TOP, Deployment, children, free_ports, wait_until
+from visits import Visits
 from lib.running_server import PROGRAM, Report, want
-from path_client import BrokenConnection, Client, Refused, connect
+from path_client import connect
 
 sys.path.insert(0, str(TOP / "deploy"))
 from shard_moves import Stopped
@@ -32,81 +32,8 @@ class Interrupted(BaseException):
     """As if the command had been killed."""
 
 
-class Traffic(threading.Thread):
-    """Puts, gets and removes of some tenants through HAProxy, each document by this thread alone, with the texts that it may have by now."""
-
-    def __init__(self, it, keys, may_end):
-        super().__init__(daemon=True)
-        self.clients = [Client("%s:%d" % it.plain, key) for key in keys]
-        self.texts = {}
-        self.may_end, self.goes, self.wrong, self.count, self.ended, self.random = may_end, True, [], 0, 0, random.Random(len(keys))
-        self.start()
-
-    def run(self):
-        while self.goes:
-            for client in self.clients:
-                self.ask(client)
-            time.sleep(0.001)
-
-    def ask(self, client, place=None):
-        place = place or (self.random.choice(COLLECTIONS), f"d-{self.random.randrange(9)}")
-        known = self.texts.get((client.key, place), {None})
-        verb = self.random.choice(["put", "get", "get", "remove"])
-        text = b'{"count":%d,"rest":"%s"}' % (self.count, b"x" * self.random.randrange(2_000)) if verb == "put" else None
-        try:
-            got = self.told(client, verb, place, text)
-        except (BrokenConnection, OSError):
-            self.ended += 1
-            if not self.may_end:
-                self.wrong.append((verb, place, "ended"))
-            if verb != "get":
-                self.texts[client.key, place] = known | {text}
-            time.sleep(0.01)
-            return False
-        self.count += 1
-        if verb == "put":
-            known = {text} if got == "Ok" else self.wrong.append((verb, place, got)) or known
-        elif verb == "remove":
-            if got not in (["Ok"] if None not in known else ["NotFound"] if known == {None} else ["Ok", "NotFound"]):
-                self.wrong.append((verb, place, got))
-            known = {None}
-        else:
-            if got not in known:
-                self.wrong.append((verb, place, got, known))
-            known = {got}
-        self.texts[client.key, place] = known
-        return True
-
-    @staticmethod
-    def told(client, verb, place, text):
-        try:
-            if verb == "get":
-                return client.get(*place)
-            getattr(client, verb)(*place, *[text] * (verb == "put"))
-            return "Ok"
-        except Refused as why:
-            return None if verb == "get" and why.name == "NotFound" else why.name
-
-    def finish(self, name):
-        self.goes = False
-        self.join()
-        # now each document once more, by a reader that waits until its tenant is served
-        for client in self.clients:
-            for collection in COLLECTIONS:
-                names = {}
-                def listed():
-                    try:
-                        names["are"] = client.list(collection)
-                        return True
-                    except (BrokenConnection, OSError):
-                        return False
-                report.case(f"{name}: served in the end", "", True, wait_until(listed, 10))
-                for document in sorted({place[1] for key, place in self.texts if key == client.key and place[0] == collection}):
-                    known = self.texts[client.key, (collection, document)]
-                    got = self.told(client, "get", (collection, document), None)
-                    report.case(f"{name}: a document in the end", document, True, got in known or (got, known))
-        report.case(f"{name}: replies", "", ([], True), (self.wrong[:3], self.count > 0))
-        return self.count, self.ended
+def visits(it, keys, may_end):
+    return Visits(report, "%s:%d" % it.plain, keys, COLLECTIONS, may_end)
 
 
 def fleet(it, tell=lambda _: None, **more):
@@ -312,7 +239,7 @@ def by_two(it, key):
     with subprocess.Popen(words, stdin=subprocess.DEVNULL, stdout=subprocess.DEVNULL, stderr=subprocess.DEVNULL) as second:
         try:
             report.case("a second HAProxy", "", True, wait_until(lambda: "shard-2,path_server" in it.states_of("other.sock")))
-            traffic = Traffic(it, [key] * 6, True)
+            traffic = visits(it, [key] * 6, True)
             for new in ("2", "1", "2", "1"):
                 it.shards("move", name_of(key), new)
                 got = {it.say(f"@1 get map {it.folder}/tenants.map {digest_of(key.hex())}", at.name).partition('value="')[2].partition('"')[0] for at in sockets}
@@ -333,7 +260,7 @@ def upgraded(it):
     start = f"start . {it.folder}/$SHARD.env; PATH_SERVER={PROGRAM} {run} </dev/null >/dev/null 2>&1 & echo $! >{it.folder}/$SHARD.pid"
     it.table.write_text(it.table.read_text() + start + "\n")
     key, old, told, step = it.keys["2"][0], "2", [], 1
-    traffic, others = Traffic(it, [key], True), Traffic(it, [it.keys["1"][0]], True)
+    traffic, others = visits(it, [key], True), visits(it, [it.keys["1"][0]], True)
     try:
         while True:
             new, count = f"n{step}", [0]
@@ -403,8 +330,8 @@ def main():
     for is_apart in (False, True):
         with Deployment(5, is_apart=is_apart, collections=",".join(COLLECTIONS)) as it:
             began, kept = time.monotonic(), it.keys["1"][0]
-            moved = Traffic(it, [kept, kept], True)
-            others = Traffic(it, [it.keys["1"][1], it.keys["2"][1]], False)
+            moved = visits(it, [kept, kept], True)
+            others = visits(it, [it.keys["1"][1], it.keys["2"][1]], False)
             each_step(it, kept)
             each_undone(it, kept)
             if is_apart:
@@ -412,7 +339,7 @@ def main():
                 killed_at_random(it, kept, 8)
                 by_two(it, it.keys["1"][4])
             print(f"other tenants: {others.finish('others')[0]} replies, none ended", flush=True)
-            others = Traffic(it, [it.keys["1"][2], it.keys["2"][2]], True)
+            others = visits(it, [it.keys["1"][2], it.keys["2"][2]], True)
             each_step(it, kept, killed)
             counts = [one.finish(name) for one, name in ((moved, "the moved tenant"), (others, "others"))]
             print(f"replies and ended connections: the moved tenant {counts[0]}, others {counts[1]}, {time.monotonic() - began:.0f} s", flush=True)

@@ -2,7 +2,8 @@
 """The package of deploy/package, installed in a root of its own, and docs/OPERATING.md tried there as it says for systemd: tests/deploy/packaged.py
 
 Commands of the page run as they stand, but that the root's folder is in front of absolute paths, that ports are free ones, and that `systemctl` is a
-script that starts what the unit says. Then a shard fails and is loaded again, the package is upgraded below running shards, and removed.
+script that starts what the unit says. Visitors of both tenants compare each reply meanwhile. Then a shard is drained, one fails and is loaded again, the
+package is upgraded below running shards, and removed.
 """
 import os
 import pwd
@@ -14,6 +15,7 @@ import tempfile
 from pathlib import Path
 
 from deployment import CLIENT, TOP, children, wait_until
+from visits import Visits
 from lib.running_server import PATIENCE, PROGRAM, Report, has, not_run, want
 import pages
 from pages import ADDRESS, Shell, fits, free_port, sessions
@@ -146,6 +148,8 @@ def tried(root, room, file):
         text = re.sub(r"apt-get install \./\S+", f"dpkg --root={root.at} --force-not-root --force-script-chrootless --force-depends --log=/dev/null -i {file} >/dev/null", text)
         text = re.sub(r"(?<![\w/])/(etc/path_server|etc/haproxy|run/haproxy)", rf"{root.at}/\1", text)
         text = text.replace("etc/haproxy.sock", f"{root.at}/etc/path_server/haproxy.sock").replace("etc/master.sock", "run/haproxy-master.sock").replace("bin/path_client", "path_client")
+        # a collection more, of the visitors
+        text = text.replace("collections=shop", "collections=shop,visits")
         text = re.sub(r"deploy/shards\.py table (?!write)", f"path_shards {root.at}/etc/path_server/table ", text)
         return ADDRESS.sub(lambda it: it[1] + (ports.get(it[2]) or ports.setdefault(it[2], free_port())), text)
 
@@ -156,12 +160,20 @@ def tried(root, room, file):
         for command, wanted in sessions((TOP / "docs/OPERATING.md").read_text(encoding="utf-8")):
             if not USED.search(command) or "bad" in command:
                 continue
+            if "table move" in command:
+                # from here on, through a move and an upgrade, which end connections: no reply is wrong
+                keys = [bytes.fromhex((room / f"{name}.key").read_text().strip()) for name in ("acme", "globex")]
+                visits = [Visits(report, f"127.0.0.1:{ports['7400']}", [key], ["visits"], True) for key in keys]
             lines = None if wanted is None else [changed(line) for line in wanted]
+            if "ls dumps" in command:
+                lines.append("visits.lines")
             got = shell.run(changed(command), lines)
             if lines is not None:
                 report.case(f"$ {command}", "", lines, lines if fits(lines, got) else got)
             if "systemctl" in command:
                 table = f"{root.at}/etc/path_server/table"
+        counts = [it.finish("a visitor of the trial") for it in visits]
+        print(f"the trial under traffic: {counts} replies and ended connections", flush=True)
         failed_and_removed(root, room, table, f"127.0.0.1:{ports['7400']}")
 
 
