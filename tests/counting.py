@@ -1,5 +1,6 @@
 #!/usr/bin/env python3
 """Tests how bin/check counts: what ends with 77 or says `not run: ..` is neither passed nor failed, and stands with its reason before the last line.
+A script with cases by the clock that fails runs once more.
 And each script that takes a command says so where the command is missing, on a PATH without it.
 """
 import contextlib
@@ -49,6 +50,22 @@ def counted(report):
         report.case("the last lines", script, lines, said.getvalue().splitlines()[-len(lines):])
 
 
+def run_twice(report, room):
+    """A script with cases by the clock that fails runs once more, and counts by its second run alone."""
+    for script, passed, times in (("true", 1, 1), ("exit 77", 0, 1), (f"test -e {room}/ran || {{ touch {room}/ran; exit 1; }}", 1, 2), ("exit 1", 0, 2)):
+        gate, said = check.Gate(), io.StringIO()
+        with contextlib.redirect_stdout(said):
+            gate.run("a script", ["sh", "-c", script], again=True)
+            with contextlib.suppress(SystemExit):
+                gate.end()
+        wanted = (passed, times, [f"{times - 1} run twice", *["    a script"] * (times - 1)])
+        lines = said.getvalue().splitlines()
+        at = next(place for place, line in enumerate(lines) if line.endswith("run twice"))
+        report.case("a script that may run twice", script, wanted, (gate.passed, sum(line.endswith("== a script") for line in lines), lines[at:at + times]))
+    names = {script[0] for script in check.SCRIPTS}
+    report.case("scripts with cases by the clock that there are not", "", set(), check.BY_THE_CLOCK - names)
+
+
 def left_out(report, room):
     """Each script on a PATH that has all commands but the one."""
     for script, tool in TAKEN.items():
@@ -70,6 +87,8 @@ def left_out(report, room):
 def main():
     report = Report()
     counted(report)
+    with tempfile.TemporaryDirectory() as room:
+        run_twice(report, room)
     with tempfile.TemporaryDirectory() as room:
         left_out(report, Path(room))
     used = {line for script in check.SCRIPTS for line in script if line in ("node",)} | set(TAKEN.values())
