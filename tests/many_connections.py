@@ -18,7 +18,7 @@ import tempfile
 import time
 
 from lib.plain_model import Server, number
-from lib.running_server import GIVE_BACK, PATIENCE, Listening, Report, frames_of, open_connection, reset, talk
+from lib.running_server import GIVE_BACK, PATIENCE, Listening, Report, frames_of, is_turned_away, open_connection, reset, talk
 from lib.traffic import KEYS, UNKNOWN, Traffic
 from path_client import REQUEST_LIMIT, Request, connect, parse_address
 
@@ -384,18 +384,14 @@ def keys_in_a_file(report):
 
 
 def end_of_input(report):
-    """Open connections are served on, and no further one is taken in."""
+    """Open connections are served on, and a further one is closed without a byte."""
     with Listening([KEY]) as server:
         opened = [open_connection(server.address) for _ in range(5)]
         for connection in opened:
             exchange(connection, PUT, 9)
         server.process.stdin.close()
         time.sleep(0.5)
-        try:
-            open_connection(server.address).close()
-            report.case("a connection after the end", "", "refused", "taken in")
-        except OSError:
-            report.case("a connection after the end", "", "refused", "refused")
+        report.case("a connection after the end is closed, and not refused", "", True, is_turned_away(server.address))
         for connection in opened:
             report.case("a reply after the end of standard input", GET, GET_REPLY, exchange(connection, GET, len(GET_REPLY)))
             connection.close()
