@@ -112,10 +112,10 @@ expect 3 '' 'path_server: BadKeys' '' serve 127.0.0.1:0 "$key," 1
 expect 3 '' 'path_server: BadKeys' '' serve nowhere '' 1
 expect 3 '' 'path_server: RepeatedKey' '' serve nowhere "$key,$key" 1
 expect 3 '' 'path_server: TooManyKeys' '' serve nowhere "$(printf '%032x,' $(seq 256))$other" 1
-expect 4 '' 'path_server: NetFault' '' serve nowhere "$key" 1
+expect 4 '' "path_server: NetFault${newline}nowhere: invalid input parameter" '' serve nowhere "$key" 1
 expect 4 '' 'path_server: NetFault' '' serve 127.0.0.1:65536 "$key" 1
 expect 4 '' 'path_server: NetFault' '' serve '' "$key" 1
-expect 4 '' 'path_server: NetFault' '' call nowhere
+expect 4 '' "path_server: NetFault${newline}nowhere: invalid input parameter" '' call nowhere
 expect 4 '' 'path_server: NetFault' 'no frame' call 127.0.0.1:
 if [ "$(id -u)" = 0 ]; then
     echo "not run: a port that needs leave: root has it"
@@ -177,7 +177,7 @@ for words in '--connections 1' '--memory 14680072' '--memory 64M' '--memory 1500
 done
 expect 3 '' 'path_server: BadKeys' '' listen 127.0.0.1:0 "$key,"
 expect 4 '' "path_server: NetFault${newline}nowhere: invalid input parameter" '' listen nowhere "$key"
-expect 4 '' 'path_server: ReadFault' '' listen 127.0.0.1:0 --keys "$room/none"
+expect 4 '' "path_server: ReadFault${newline}$room/none: entity not found" '' listen 127.0.0.1:0 --keys "$room/none"
 printf '%s\n' "$key" >"$room/keys"
 expect 3 '' 'path_server: RepeatedKey' '' listen 127.0.0.1:0 "$key" --keys "$room/keys"
 printf '# tenants\r\n\r\n%s\r\n  # more\n\n %s \n' "$key" "$other" >"$room/keys"

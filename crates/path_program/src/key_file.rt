@@ -2,9 +2,9 @@
 
 use command_line::{Failure, KeyLine};
 use path_server::{KeysFault, read_keys};
-use standard_streams::{ReadFault, read_past};
 use std::alloc::Global;
 use std::fs;
+use std::io::Read;
 use std::rt::Files;
 
 /// The most bytes of a file of keys.
@@ -13,10 +13,11 @@ const MOST_BYTES: u64 = 65_536;
 /// The keys of a file, in its order: in each line some keys, joined by commas. Blank lines, and those that begin with `#`, have none. A
 /// file above the limit is one line that is too long.
 pub fn read_key_file<R: Files + AllocGlobal>(rt: &R, path: &str) -> Result<Vec<[u8; 16]>, Failure> {
-    let Ok(file) = fs::open(rt, path) else {
-        return Err(Failure::Read(ReadFault::Failed));
-    };
-    let text = read_past(rt.alloc(), file, MOST_BYTES).map_err(Failure::Read)?;
+    let file = fs::open(rt, path).map_err(|error| Failure::of_file(rt.alloc(), path, &error))?;
+    let mut text = Vec::new(rt.alloc());
+    if let Err(error) = file.take(MOST_BYTES + 1).read_to_end(&mut text) {
+        return Err(Failure::of_file(rt.alloc(), path, &error));
+    }
     if text.len() as u64 > MOST_BYTES {
         return Err(Failure::Keys(KeysFault::BadKeys));
     }

@@ -71,8 +71,12 @@ fn serve<R: Print + Eprint + Net + AllocGlobal>(
 }
 
 // Binds the address, and prints the one that is bound.
-fn listen<R: Print + Net>(rt: &R, address: &str) -> Result<R::Listener, Failure> {
-    let listener = TcpListener::bind(rt, address).map_err(|_| Failure::Net)?;
+fn listen<R: Print + Net + AllocGlobal>(rt: &R, address: &str) -> Result<R::Listener, Failure> {
+    let listener = TcpListener::bind(rt, address).map_err(|error| Failure::of_address(
+        rt.alloc(),
+        address,
+        error.kind(),
+    ))?;
     let bound = listener.local_addr().map_err(|_| Failure::Net)?;
     match println!(rt; "listening {bound}") {
         Ok(()) => Ok(listener),
@@ -83,7 +87,11 @@ fn listen<R: Print + Net>(rt: &R, address: &str) -> Result<R::Listener, Failure>
 // Answers `path_server call ADDR`.
 fn call<R: Input + Print + Net + AllocGlobal>(rt: &R, address: &str) -> Result<(), Failure> {
     let lines = read_call(rt.alloc(), rt.reader()).map_err(Failure::Read)?;
-    let stream = TcpStream::connect(rt, address).map_err(|_| Failure::Net)?;
+    let stream = TcpStream::connect(rt, address).map_err(|error| Failure::of_address(
+        rt.alloc(),
+        address,
+        error.kind(),
+    ))?;
     // without it no reply is wrong, and some come later
     let _ = stream.set_nodelay(true);
     call_stream(

@@ -4,7 +4,7 @@ ghost use Rattle.std.specs.Prelude.{◌≡◌};
 ghost use Rattle.command_line.specs.Statuses.{status_of};
 
 use crate::key_file::read_key_file;
-use command_line::{AddressFault, Failure, Listening};
+use command_line::{Failure, Listening};
 use connection_lines::LoopLines;
 use event_loop::{Gate, Limits, LoopCore, LoopFault, Server, Since, Sockets, Time, Totals};
 use hub_metrics::MeasuredHub;
@@ -152,18 +152,8 @@ fn failure_of(alloc: Global, address: &str, fault: LoopFault) -> Failure
     ensures { status_of result ≡ 4 }
 {
     match fault {
-        LoopFault::Net(reason) => address_fault(alloc, address, reason),
+        LoopFault::Net(reason) => Failure::of_address(alloc, address, reason),
         LoopFault::Memory => Failure::Memory,
-    }
-}
-
-// The fault of an address. Where there is no memory for it, it is told without one.
-fn address_fault(alloc: Global, address: &str, reason: ErrorKind) -> Failure
-    ensures { status_of result ≡ 4 }
-{
-    match String::from_str(alloc, address) {
-        Ok(address) => Failure::Address(AddressFault { address, reason }),
-        Err(_) => Failure::Net,
     }
 }
 
@@ -240,9 +230,9 @@ fn address_of<R: Net + AllocGlobal>(rt: &R, text: &str) -> Result<SocketAddr, Fa
     match text.to_socket_addrs(rt) {
         Ok(mut addresses) => match addresses.next() {
             Some(addr) => Ok(addr),
-            None => Err(address_fault(rt.alloc(), text, ErrorKind::AddrNotAvailable)),
+            None => Err(Failure::of_address(rt.alloc(), text, ErrorKind::AddrNotAvailable)),
         },
-        Err(error) => Err(address_fault(rt.alloc(), text, error.kind())),
+        Err(error) => Err(Failure::of_address(rt.alloc(), text, error.kind())),
     }
 }
 
