@@ -179,8 +179,7 @@ class AsyncClient(AsyncCalls):
             if home.link is None or home.link.has_ended():
                 if home.link is not None:
                     home.link.end(LostConnection("the server ended the connection"))
-                reader, writer = await asyncio.open_connection(*self.address, ssl=self.ssl)
-                home.link = _Link(reader, writer)
+                home.link = _Link(*await _open_streams(self.address, self.ssl))
             return home.link
 
     async def _open_for_a_call(self, deadline: float) -> _Link:
@@ -280,6 +279,32 @@ class _Pace:
 
     def end(self) -> None:
         self._timer.cancel()
+
+
+class _Writer(asyncio.StreamWriter):
+    """A writer that a child of a fork does not close, not even where it lets go of it. On Linux a child has the parent's epoll in common with it. A
+    connection that is taken out of it there is taken out for both, and the parent would wait for its replies until the timeout.
+    """
+
+    def __init__(self, transport: asyncio.Transport, protocol: asyncio.StreamReaderProtocol, reader: asyncio.StreamReader) -> None:
+        super().__init__(transport, protocol, reader, asyncio.get_running_loop())
+        self._process = os.getpid()
+
+    def close(self) -> None:
+        if self._process == os.getpid():
+            super().close()
+
+    def __del__(self, *_: object) -> None:
+        """Since Python 3.11 a writer that is let go of closes itself. This one is closed by the task that reads."""
+
+
+async def _open_streams(address: Tuple[str, int], context: Context) -> Tuple[asyncio.StreamReader, _Writer]:
+    """As asyncio.open_connection, with such a writer."""
+    loop = asyncio.get_running_loop()
+    reader = asyncio.StreamReader(loop=loop)
+    protocol = asyncio.StreamReaderProtocol(reader, loop=loop)
+    transport, _ = await loop.create_connection(lambda: protocol, *address, ssl=context)
+    return reader, _Writer(transport, protocol, reader)
 
 
 class _Link:

@@ -5,6 +5,7 @@ Those of EachVersion run on every Python from 3.8 that is installed, by its name
 makes, or the one that the environment's PATH_SERVER names.
 """
 import asyncio
+import gc
 import glob
 import itertools
 import os
@@ -128,16 +129,21 @@ class SharedByProcesses(unittest.TestCase):
             self.assertEqual(wrong, [])
 
     def test_fork_below_a_loop(self):
+        """The child has the loop's epoll in common with the parent. What it lets go of may not take the parent's connection out of it."""
         with Listening([KEY]) as server:
-            client = path_client.AsyncClient(server.address, KEY)
+            client = path_client.AsyncClient(server.address, KEY, 10.0)
 
             async def use():
                 return await client.usage()
 
+            def child():
+                found = in_a_new_thread(lambda: asyncio.run(use()))
+                gc.collect()
+                return found == Usage(1, 1, 1)
+
             async def parent():
                 await client.put("c", "d", "1")
-                child = self.fork(lambda: in_a_new_thread(lambda: asyncio.run(use())) == Usage(1, 1, 1))
-                status = os.waitpid(child, 0)[1]
+                status = os.waitpid(self.fork(child), 0)[1]
                 return status, await client.usage()
             self.assertEqual(asyncio.run(parent()), (0, Usage(1, 1, 1)))
 
