@@ -1,6 +1,6 @@
 -- What the next turn of a connection does, whether it does anything, and what comes of it: this project's own.
 use Rattle.std.specs.Prelude.{ℕ, length, nat_lt, Option, Some, None, Bool, true, false, not, ◌==◌, ◌&&◌, ◌||◌, if◌then◌else◌}
-use Rattle.outbox.specs.Lines.{Line, reads, is_over}
+use Rattle.outbox.specs.Lines.{Line, is_over}
 use Rattle.outbox.specs.Turns as turns
 use Rattle.outbox.specs.declared.readiness.Readiness.{Readiness}
 use Rattle.socket_poll.specs.declared.system.Report.{Report}
@@ -55,8 +55,8 @@ plan_of has_room c = plan_in has_room c.is_working c.claim c.ready c.outbox
 -- whether a turn by this plan does anything
 abbrev pub can_go_by : Plan → Readiness → Line → Bool
 can_go_by Write ready line = turns.can_write ready line
-can_go_by Read ready line = ready.readable && reads line
-can_go_by Answer ready line = ready.waiting && reads line
+can_go_by Read ready line = turns.can_read ready line
+can_go_by Answer ready line = turns.can_answer ready line
 can_go_by All ready line = turns.can_go_on ready line
 
 abbrev pub goes_in : Phase → (readable served : Bool) → Bool

@@ -1,8 +1,13 @@
 -- What a turn of the loop does to a connection, whatever the others do: this project's own.
-use Rattle.std.specs.Prelude.{◌≡◌, ℕ, List, Option}
+use Rattle.std.specs.Prelude.{◌≡◌, ◌⊎◌, ℕ, ◌<◌, List, length, Option, Bool, true, false}
 use Rattle.outbox.specs.Lines.{Line, Event, run, read, sent}
-use Rattle.outbox.specs.Told.{Told, moved}
-use Rattle.outbox.specs.Turns.{DoesAll}
+use Rattle.outbox.specs.Told.{Told, moved, with_read}
+use Rattle.outbox.specs.Turns.{DoesAll, HasFallen, HasNotRisen, Moment, here, moves}
+use Rattle.outbox.specs.declared.readiness.Readiness.{Readiness}
+use Rattle.connection_turns.specs.Owed.{wire_of}
+use Rattle.connection_turns.specs.declared.connection.Connection.{Connection}
+use Rattle.connection_turns.specs.declared.connection.Outcome.{Outcome}
+use Rattle.connection_turns.specs.declared.connection.Outcome.TheVariants as outcome
 
 -- these events happened: to its output, on its wire, and to the core
 pub record TakesTurn {C : Type 0} (takes answers : C → List ℕ → C → Type 0) (line : Line) (wire : Option Told) (core : C) (line' : Line) (wire' : Option Told) (core' : C) : Type 0 where
@@ -10,3 +15,22 @@ pub record TakesTurn {C : Type 0} (takes answers : C → List ℕ → C → Type
   pub line_is : line' ≡ run line events
   pub wire_is : wire' ≡ moved (read line events) (sent line events) wire
   pub core_is : DoesAll takes answers line events core core'
+
+-- what a turn changes of a connection, and the core
+abbrev pub moment_of : {S C : Type 0} → (S → Option Told) → C → Connection S → Moment C
+moment_of told core c = here c.outbox (wire_of told c) core c.ready
+
+-- one that a read would wait at
+abbrev pub dried : {S : Type 0} → Connection S → Connection S
+dried c = record c { ready = record { readable = false; writable = c.ready.writable; waiting = c.ready.waiting } }
+
+-- These events happened. If the turn could do something, the same events move bytes or answer a request, or what might have been done wants a wait. If they
+-- move nothing, nothing may be done now that might not be before.
+pub record Progresses {C : Type 0} (takes answers : C → List ℕ → C → Type 0) (can : Bool) (old new : Moment C) : Type 0 where
+  pub turn : TakesTurn takes answers old.line old.wire old.core new.line new.wire new.core
+  pub goes_on : can ≡ true → (moves old.line turn.events ≡ true) ⊎ HasFallen old.ready new.ready
+  pub rises : moves old.line turn.events ≡ false → HasNotRisen old.ready new.ready
+
+-- bytes came and are thrown away, or a read would wait, or the connection is to be closed
+abbrev pub DrainsOn : (old new : Option Told) → Readiness → Outcome → Type 0
+DrainsOn old new ready result = ((piece : List ℕ) × (0 < length piece) × (new ≡ with_read piece old)) ⊎ ((ready.readable ≡ false) ⊎ (result ≡ outcome.Closed))

@@ -1,4 +1,6 @@
 //! What a connection holds of the budgets of memory, or waits for.
+ghost use Rattle.std.specs.Prelude.{◌≡◌};
+ghost use Rattle.connection_turns.specs.Held.{claimed};
 
 /// Whose bytes a share is for.
 #[derive(Clone, Copy, Debug, PartialEq, Eq)]
@@ -20,6 +22,36 @@ pub enum Purpose {
     Written,
 }
 
+/// What a connection asks for.
+#[derive(Clone, Copy, Debug)]
+pub struct Need {
+    /// Of whose budget.
+    pub pool: Pool,
+    /// For which party of it.
+    pub party: usize,
+    /// What for.
+    pub purpose: Purpose,
+    /// How many bytes.
+    pub bytes: usize,
+}
+
+impl Need {
+    /// The share with this ticket, which is granted or not in this second.
+    pub fn claim(&self, ticket: u64, is_granted: bool, now: u64) -> Claim
+        ensures { result ≡ claimed self.now ticket is_granted now }
+    {
+        Claim {
+            ticket,
+            bytes: self.bytes,
+            since: now,
+            pool: self.pool,
+            party: self.party,
+            purpose: self.purpose,
+            is_granted,
+        }
+    }
+}
+
 /// A connection's share.
 #[derive(Clone, Copy, Debug)]
 pub struct Claim {
@@ -31,6 +63,8 @@ pub struct Claim {
     pub since: u64,
     /// Whose budget it is of.
     pub pool: Pool,
+    /// Which party of that budget holds it.
+    pub party: usize,
     /// What it is for.
     pub purpose: Purpose,
     /// It is held, and waits no more.

@@ -1,5 +1,5 @@
 //! One connection and what is known of it.
-ghost use Rattle.std.specs.Prelude.{◌≡◌, ℕ, List, ◌<◌, ◌≤◌, ◌||◌, length, Some, None, false, IsTrue};
+ghost use Rattle.std.specs.Prelude.{◌≡◌, ℕ, List, ◌<◌, ◌≤◌, ◌||◌, length, Some, None, false, IsTrue, if◌then◌else◌};
 ghost use Rattle.outbox.specs.Lines.{fresh, is_over};
 ghost use Rattle.outbox.specs.Told.{IsReadOn};
 ghost use Rattle.outbox.specs.Turns as turns;
@@ -7,8 +7,8 @@ ghost use Rattle.outbox.specs.Turns.{Flushes};
 ghost use Rattle.connection_turns.specs.Held.{renewed};
 ghost use Rattle.connection_turns.specs.Owed.{line_of, wire_of, is_lost, has_left, rests};
 ghost use Rattle.connection_turns.specs.Planning as planning;
-ghost use Rattle.connection_turns.specs.Planning.{raised, ends, end_of, outcome_of, plan_of, next_of, plan_in};
-ghost use Rattle.connection_turns.specs.Turning.{TakesTurn};
+ghost use Rattle.connection_turns.specs.Planning.{raised, ends, end_of, outcome_of, plan_of, next_of, plan_in, can_go_by};
+ghost use Rattle.connection_turns.specs.Turning.{DrainsOn, Progresses, dried, moment_of};
 
 use crate::claim::{Claim, Pool, Purpose};
 use crate::counted::Counted;
@@ -137,7 +137,7 @@ impl<S: Peer> Connection<S> {
         ensures ready { self.new.ready ≡ raised report self.old.ready }
     {
         self.is_gone = self.is_gone || report.is_gone;
-        self.socket.report(report.is_ending);
+        self.socket.report(report.is_ending || report.is_urgent);
         self.ready.readable = self.ready.readable || report.is_readable;
         self.ready.writable = self.ready.writable || report.is_writable;
     }
@@ -212,7 +212,7 @@ impl<S: Peer> Connection<S> {
     }
 
     /// One turn by this plan, which reads so many bytes at most, and how many bytes were read and written.
-    #[tactic(auto, using(crate::proofs::Writing::only_written))]
+    #[tactic(auto, using(crate::proofs::Progress::only_written, crate::proofs::Progress::answered))]
     pub fn turn<C: Core, T: Time + Drop>(
         &mut self,
         core: &mut Counted<C, T>,
@@ -223,7 +223,7 @@ impl<S: Peer> Connection<S> {
     ) -> (u64, u64)
         requires some { 0 < most }
         requires within { most ≤ length buffer.old }
-        ensures turn { TakesTurn (C.takes conn) (C.answers conn) self.old.outbox (wire_of S.told self.old) core.old self.new.outbox (wire_of S.told self.new) core.new }
+        ensures turn { Progresses (C.takes conn) (C.answers conn) (can_go_by plan self.old.ready self.old.outbox) (moment_of S.told core.old self.old) (moment_of S.told core.new self.new) }
         ensures writes { plan ≡ Plan.Write → core.new ≡ core.old }
         ensures phase { self.new.phase ≡ self.old.phase }
     {
@@ -236,10 +236,17 @@ impl<S: Peer> Connection<S> {
         }
         self.has_faulted = self.has_faulted || core.has_faulted();
         self.is_known = self.is_known || core.has_heard();
+        self.socket.moved()
+    }
+
+    // Once a read gave less than it had room for, a further one would only say that it would wait.
+    fn note_drained(&mut self)
+        ensures drained { self.new ≡ (if self.old.socket.is_drained then dried self.old else self.old) }
+        ensures phase { self.new.phase ≡ self.old.phase }
+    {
         if self.socket.is_drained() {
             self.ready.readable = false;
         }
-        self.socket.moved()
     }
 
     // Reads a piece, answers and writes.
@@ -250,7 +257,7 @@ impl<S: Peer> Connection<S> {
         buffer: &mut [u8],
     )
         requires { 0 < length buffer.old }
-        ensures turn { TakesTurn (C.takes conn) (C.answers conn) self.old.outbox (wire_of S.told self.old) core.old self.new.outbox (wire_of S.told self.new) core.new }
+        ensures turn { Progresses (C.takes conn) (C.answers conn) (turns.can_go_on self.old.ready self.old.outbox) (moment_of S.told core.old self.old) (moment_of S.told core.new self.new) }
         ensures phase { self.new.phase ≡ self.old.phase }
     {
         turn(
@@ -261,6 +268,7 @@ impl<S: Peer> Connection<S> {
             buffer,
             &mut self.ready,
         );
+        self.note_drained();
     }
 
     // Reads a piece.
@@ -271,7 +279,7 @@ impl<S: Peer> Connection<S> {
         buffer: &mut [u8],
     )
         requires { 0 < length buffer.old }
-        ensures turn { TakesTurn (C.takes conn) (C.answers conn) self.old.outbox (wire_of S.told self.old) core.old self.new.outbox (wire_of S.told self.new) core.new }
+        ensures turn { Progresses (C.takes conn) (C.answers conn) (turns.can_read self.old.ready self.old.outbox) (moment_of S.told core.old self.old) (moment_of S.told core.new self.new) }
         ensures phase { self.new.phase ≡ self.old.phase }
     {
         feed(
@@ -282,6 +290,7 @@ impl<S: Peer> Connection<S> {
             buffer,
             &mut self.ready,
         );
+        self.note_drained();
     }
 
     // Writes.
@@ -321,7 +330,7 @@ impl<S: Peer> Connection<S> {
         }
         match self.plan(has_room) {
             Plan::Write => self.can_write(),
-            Plan::Read => self.ready.readable && self.outbox.reads(),
+            Plan::Read => self.ready.readable && !self.ready.waiting && self.outbox.reads(),
             Plan::Answer => self.ready.waiting && self.outbox.reads(),
             Plan::All => self.ready.can_go_on(&self.outbox),
         }
@@ -408,6 +417,8 @@ impl<S: Peer> Connection<S> {
     pub fn drain(&mut self, buffer: &mut [u8]) -> Outcome
         ensures line { line_of self.new ≡ line_of self.old }
         ensures wire { IsReadOn (wire_of S.told self.old) (wire_of S.told self.new) }
+        ensures goes_on { 0 < length buffer.old → DrainsOn (wire_of S.told self.old) (wire_of S.told self.new) self.new.ready result }
+        ensures phase { self.new.phase ≡ self.old.phase }
     {
         match self.socket.stream.read(buffer) {
             Given::Bytes(_) => Outcome::Open,

@@ -9,12 +9,14 @@ mod connection;
 mod counted;
 mod counts;
 mod ending;
+mod journal;
 mod limits;
 mod socket;
 
-pub use claim::{Claim, Pool, Purpose};
+pub use claim::{Claim, Need, Pool, Purpose};
 pub use connection::{ALLOWANCE, Connection, Outcome, Phase, Plan};
 pub use counted::Counted;
 pub use counts::Counts;
 pub use ending::{End, Ending};
+pub use journal::{Held, Journal, Slow, Totals};
 pub use limits::Limits;

@@ -28,9 +28,9 @@ pub(crate) struct Socket<S> {
     written: u32,
     pub(crate) fate: Fate,
     // The last read gave less than it had room for, and nothing was reported since: a further one would only say that it would wait.
-    is_drained: bool,
-    // The peer ended its side, so that a short read is no sign that nothing is left.
-    is_ending: bool,
+    pub(crate) is_drained: bool,
+    // The peer ended its side, or sent urgent data: a short read is no sign that nothing is left.
+    may_stop_short: bool,
     // It is read no more: a read gives the end.
     pub(crate) is_left: bool,
 }
@@ -46,7 +46,7 @@ impl<S: Wire> Socket<S> {
             written: 0,
             fate: Fate::Lives,
             is_drained: false,
-            is_ending: false,
+            may_stop_short: false,
             is_left: false,
         }
     }
@@ -65,16 +65,18 @@ impl<S: Wire> Socket<S> {
     }
 
     /// Whether a read would only say that it would wait.
-    pub fn is_drained(&self) -> bool {
+    pub fn is_drained(&self) -> bool
+        ensures { result ≡ self.now.is_drained }
+    {
         self.is_drained
     }
 
-    /// The stream was reported ready, or its input as ended.
-    pub fn report(&mut self, is_ending: bool)
+    /// The stream was reported ready. From one report on, reads may stop short of what is there.
+    pub fn report(&mut self, may_stop_short: bool)
         ensures { self.new.stream ≡ self.old.stream }
     {
         self.is_drained = false;
-        self.is_ending = self.is_ending || is_ending;
+        self.may_stop_short = self.may_stop_short || may_stop_short;
     }
 
     /// From now on each read gives the end.
@@ -103,7 +105,7 @@ impl<S: Wire> Wire for Socket<S> {
         let given = self.stream.read(buffer);
         match given {
             Given::Bytes(count) => {
-                self.is_drained = count < buffer.len() && !self.is_ending;
+                self.is_drained = count < buffer.len() && !self.may_stop_short;
                 self.read = sum(self.read, count);
             }
             Given::Ended => self.fate = Fate::Ended,

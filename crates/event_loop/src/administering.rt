@@ -38,15 +38,15 @@ impl<S: System + Drop, C: LoopCore, T: Time + Drop> Rounds<S, C, T> {
         ensures { Stays (lanes_of S.Stream.told self.old.opened) (lanes_of S.Stream.told self.new.opened) }
     {
         if self.desk.wants_page(place) {
-            self.begin_page(place, journal.dropped());
+            self.begin_page(place, journal.dropped(), journal.lost());
         }
         self.desk.step(place, self.seconds.last());
     }
 
-    fn begin_page(&mut self, place: usize, dropped: u64)
+    fn begin_page(&mut self, place: usize, dropped: u64, lost: u64)
         ensures { Stays (lanes_of S.Stream.told self.old.opened) (lanes_of S.Stream.told self.new.opened) }
     {
-        let gauges = self.gauges(dropped);
+        let gauges = self.gauges(dropped, lost);
         self.desk.begin_page(place, self.opened.metrics(), &gauges);
     }
 
@@ -90,7 +90,7 @@ impl<S: System + Drop, C: LoopCore, T: Time + Drop> Rounds<S, C, T> {
     }
 
     // What is so at the moment.
-    fn gauges(&self, dropped: u64) -> Gauges
+    fn gauges(&self, dropped: u64, lost: u64) -> Gauges
         ensures ready { result.is_ready ≡ takes_in self.now.desk.standing }
         ensures open_ones { result.open ≡ connected_in self.now.opened }
         ensures accepted { result.connections ≡ self.now.acceptor.taken }
@@ -119,6 +119,7 @@ impl<S: System + Drop, C: LoopCore, T: Time + Drop> Rounds<S, C, T> {
             read,
             written,
             dropped,
+            lost,
             tenants: self.keys.len().min(TENANT_LIMIT),
             collections,
             documents,

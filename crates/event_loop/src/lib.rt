@@ -11,6 +11,7 @@ mod seconds;
 mod server;
 mod told;
 
+pub use admin_pages::About;
 pub use connection_turns::{Counts, End, Ending, Limits};
 pub use fault::LoopFault;
 pub use open_connections::{Held, Journal, LEAST_MEMORY, LoopCore, Slow, Totals};

@@ -2,7 +2,7 @@
 ghost use Rattle.std.specs.Prelude.{◌≡◌, ℕ, None, is_some, IfOk, OnOk, IsFalse, IsTrue};
 ghost use Rattle.outbox.specs.Told.{IsUnused};
 ghost use Rattle.open_connections.specs.Looping.{Stays, DoesSome, DoesOn, DoesAtMost, TurnsAtMost, LetGo};
-ghost use Rattle.open_connections.specs.Opened.{lanes_of, connected_in, has_time, IsPutOff};
+ghost use Rattle.open_connections.specs.Opened.{lanes_of, connected_in, has_time, is_there, IsPutOff};
 ghost use Rattle.open_connections.specs.Shares.{fresh_budgets};
 ghost use Rattle.event_loop.specs.Clocked.{IsNoted, NotesMoved};
 
@@ -402,16 +402,19 @@ impl<S: System + Drop, C: LoopCore, T: Time + Drop> Rounds<S, C, T> {
         Ok(())
     }
 
-    // One turn for a connection that is due, where there is time for it in this round.
+    // One turn for a connection that is due, where there is time for it in this round, and it was not closed since.
     fn serve<J: Journal>(&mut self, due: Due, journal: &mut J) -> Result<(), LoopFault>
         ensures lanes { DoesOn C.steps (lanes_of S.Stream.told self.old.opened) (lanes_of S.Stream.told self.new.opened) }
         ensures kept { IsFalse (has_time due self.old.opened) → OnOk result (IsPutOff due self.old.opened self.new.opened) }
+        ensures gone { IsFalse (is_there due self.old.opened) → Stays (lanes_of S.Stream.told self.old.opened) (lanes_of S.Stream.told self.new.opened) }
     {
-        if self.opened.has_time(due) {
-            self.take_turn(due.key, journal)
-        } else {
-            self.put_off(due)
+        if !self.opened.has_time(due) {
+            return self.put_off(due);
         }
+        if !self.opened.is_there(due) {
+            return Ok(());
+        }
+        self.take_turn(due.key, journal)
     }
 
     // Its turn comes in the next round.

@@ -6,6 +6,7 @@ ghost use Rattle.open_connections.specs.Shares.{fresh_budgets, limits_in, IsWith
 
 use crate::fault::LoopFault;
 use crate::rounds::Rounds;
+use admin_pages::About;
 use connection_turns::Limits;
 use open_connections::{Journal, LoopCore, Totals};
 use socket_poll::{Since, Sockets, System, Time};
@@ -57,7 +58,8 @@ impl<'r, R: Net + Clock + AllocGlobal, C: LoopCore> Server<Sockets, C, Since<'r,
         Server::over(rt.alloc(), system, time.again(), time, core, limits)
     }
 
-    /// Binds the administration address, and returns the one that is bound. A page of metrics tells of the tenants with these keys.
+    /// Binds the administration address, and returns the one that is bound. A page of metrics tells of the tenants with these keys, and what the
+    /// server is.
     ///
     /// # Errors
     ///
@@ -67,9 +69,11 @@ impl<'r, R: Net + Clock + AllocGlobal, C: LoopCore> Server<Sockets, C, Since<'r,
         rt: &'r R,
         addr: SocketAddr,
         keys: Vec<[u8; 16]>,
+        about: About,
     ) -> Result<SocketAddr, LoopFault> {
         let bound = self.rounds.system.administer(rt, addr)?;
         self.rounds.keys = keys;
+        self.rounds.desk.introduce(about);
         Ok(bound)
     }
 }

@@ -1,5 +1,5 @@
 -- A hub whose answers are counted: this project's own.
-use Rattle.std.specs.Prelude.{◌≡◌, ◌==◌, ◌&&◌, ℕ, List, slice_index, nat_lt, Bool, false, Option, Some, None}
+use Rattle.std.specs.Prelude.{◌≡◌, ◌==◌, ◌&&◌, ◌||◌, ℕ, List, slice_index, nat_le, nat_lt, Bool, false, if◌then◌else◌, Option, Some, None}
 use Rattle.path_hub.specs.HubState.{HubState}
 use Rattle.path_listen.specs.declared.asked.Asked.{Asked}
 use Rattle.path_listen.specs.Asking.{asks}
@@ -22,7 +22,16 @@ abbrev pub is_slow : (command micros : ℕ) → Option ℕ → Bool
 is_slow command micros None = false
 is_slow command micros (Some bound) = command == 5 && nat_lt bound micros
 
--- a request as it is counted: what it asks, the status of its reply behind the four bytes of the length, how long it took, and what it was charged
+-- a status by which a limit refuses a request: TooLong, TooDeep and NumberLimit, the quotas, QueryTooLong, ReplyTooLarge, NoMemory and Costly
+abbrev pub is_of_limit : ℕ → Bool
+is_of_limit status =
+    status == 5 || (status == 8 || (status == 9 || ((nat_le 12 status && nat_le status 14) || (status == 16 || (nat_le 20 status && nat_le status 22)))))
+
+-- the bytes of a request that a limit refused
+abbrev pub refused_by : (status bytes : ℕ) → ℕ
+refused_by status bytes = if is_of_limit status then bytes else 0
+
+-- a request as it is counted: what it asks, the status of its reply behind the four bytes of the length, how long it took, what it was charged, and its bytes if a limit refused it
 abbrev pub served : Asked → (reply : List ℕ) → (micros units : ℕ) → (bound : Option ℕ) → Served
 served asked reply micros units bound = record {
   command = asked.command;
@@ -30,6 +39,7 @@ served asked reply micros units bound = record {
   tenant = asked.tenant;
   micros = micros;
   units = units;
+  refused = refused_by (slice_index reply 4) asked.bytes;
   is_slow = is_slow asked.command micros bound;
 }
 

@@ -1,6 +1,6 @@
 //! A hub whose answers are counted.
 ghost use Rattle.std.specs.Prelude.{◌≡◌, drop, slice_index, unwrap_or};
-ghost use Rattle.hub_metrics.specs.Measuring.{Counts, is_slow, measured, served};
+ghost use Rattle.hub_metrics.specs.Measuring.{Counts, is_of_limit, is_slow, measured, refused_by, served};
 
 use admin_pages::{Metrics, Served};
 use open_connections::{LoopCore, Slow};
@@ -137,11 +137,14 @@ impl<T: Time + Drop> LoopCore for MeasuredHub<T> {
     ghost use Rattle.std.specs.Option.{option_map};
     ghost use Rattle.request_replies.specs.Tenants.{map_of};
     ghost use Rattle.tenant_map.specs.Quotas.{usage_of};
+    ghost use Rattle.path_listen.specs.Needs.{front_at};
     ghost use Rattle.hub_metrics.specs.Measuring.{hub_steps};
 
     ghost steps = { hub_steps };
 
     ghost counted = { λ m. m.metrics };
+
+    ghost fronts = { λ conn m. front_at conn m.hub };
 
     ghost held = { λ key m. option_map usage_of (map_of key m.hub.tenants) };
 
@@ -193,6 +196,10 @@ impl<T: Time + Drop> LoopCore for MeasuredHub<T> {
 
     fn part(&self, conn: u32) -> Option<Part> {
         self.core.part(conn)
+    }
+
+    fn front(&self, conn: u32) -> Option<usize> {
+        self.core.front(conn)
     }
 
     fn most_reply(&self, conn: u32) -> usize {
@@ -264,12 +271,14 @@ impl<T: Time + Drop> Core for MeasuredHub<T> {
 fn served(asked: Asked, reply: &[u8], micros: u64, units: Option<u64>, bound: Option<u64>) -> Served
     ensures { result ≡ served asked reply.now micros (unwrap_or units 0) bound }
 {
+    let status = status_of(reply);
     Served {
         command: asked.command,
-        status: status_of(reply),
+        status,
         tenant: asked.tenant,
         micros,
         units: units.unwrap_or(0),
+        refused: refused_by(status, asked.bytes),
         is_slow: is_slow(asked.command, micros, bound),
     }
 }
@@ -278,6 +287,20 @@ fn status_of(reply: &[u8]) -> u8
     ensures { result ≡ slice_index reply.now 4 }
 {
     reply.get(STATUS).copied().unwrap_or(0)
+}
+
+// The bytes of a request that a limit refused.
+fn refused_by(status: u8, bytes: u64) -> u64
+    ensures { result ≡ refused_by status bytes }
+{
+    if is_of_limit(status) { bytes } else { 0 }
+}
+
+// Whether a limit refuses a request by this status: TooLong, TooDeep and NumberLimit, the quotas, QueryTooLong, ReplyTooLarge, NoMemory and Costly.
+fn is_of_limit(status: u8) -> bool
+    ensures { result ≡ is_of_limit status }
+{
+    matches!(status, 5 | 8 | 9 | 12..=14 | 16 | 20..=22)
 }
 
 // Whether it is a query that took longer than the bound.

@@ -1,5 +1,5 @@
 -- The connections that a loop has open, as its steps see them: this project's own.
-use Rattle.std.specs.Prelude.{◌≡◌, ℕ, List, [], ◌∷◌, ◌++◌, map, Option, IfSome, IsTrue, IsFalse, Bool, false, nat_lt, slice_index}
+use Rattle.std.specs.Prelude.{◌≡◌, ℕ, List, [], ◌∷◌, ◌++◌, map, Option, IfSome, IsTrue, IsFalse, Bool, false, nat_lt, ◌==◌, slice_index}
 use Rattle.std.specs.Option.{option_and_then, option_map_or}
 use Rattle.slab.specs.Slab.{Slab, get, slab_len}
 use Rattle.outbox.specs.Lines.{Line}
@@ -28,6 +28,10 @@ lanes_of told o = record { core = o.core; lines = lines_in o.connections; wires 
 -- whether the turns of the connection's tenant took less than a span in this round
 abbrev pub has_time : {S C T : Type 0} → Due → Open S C T → Bool
 has_time due o = nat_lt (slice_index o.due.micros due.party) 1000
+
+-- it is open still
+abbrev pub is_there : {S C T : Type 0} → Due → Open S C T → Bool
+is_there due o = option_map_or (λ c. c.number == due.number) (get o.connections due.key) false
 
 -- its turn comes in the next round
 abbrev pub IsPutOff : {S C T : Type 0} → Due → Open S C T → Open S C T → Type 0
@@ -66,7 +70,7 @@ IsStanding key o = IfSome (get o.connections key) (λ c. IsTrue c.is_working →
 
 -- if it gets one now and did not before, it is the last of those that get one
 abbrev pub IsListed : {S C T : Type 0} → (key : ℕ) → Open S C T → Open S C T → Type 0
-IsListed key old new = IfSome (get old.connections key) (λ c. IfSome (get new.connections key) (λ d. IsFalse c.is_due → IsTrue d.is_due → IsLast d.is_working (due_at key d.tenant) old.due new.due))
+IsListed key old new = IfSome (get old.connections key) (λ c. IfSome (get new.connections key) (λ d. IsFalse c.is_due → IsTrue d.is_due → IsLast d.is_working (due_at key d.number d.tenant) old.due new.due))
 
 -- it gets one just if it did
 abbrev pub IsAsDue : {S C T : Type 0} → (key : ℕ) → Open S C T → Open S C T → Type 0

@@ -1,5 +1,5 @@
 -- The connections that get a turn in a round, and the time of each tenant in it: this project's own.
-use Rattle.std.specs.Prelude.{◌≡◌, ℕ, ◌+◌, ◌-◌, ◌^◌, List, [], ◌∷◌, ◌++◌, min, slice_index, slice_set, Option, Bool, true, false, if◌then◌else◌}
+use Rattle.std.specs.Prelude.{◌≡◌, ℕ, ◌+◌, ◌-◌, ◌^◌, ◌==◌, List, [], ◌∷◌, ◌++◌, min, slice_index, slice_set, Option, Bool, true, false, if◌then◌else◌}
 use Rattle.std.specs.Option.{option_map_or}
 use Rattle.open_connections.specs.declared.due.Due.{Due}
 use Rattle.open_connections.specs.declared.due.DueList.{DueList}
@@ -8,8 +8,8 @@ use Rattle.open_connections.specs.declared.due.DueList.{DueList}
 abbrev pub party_of : Option ℕ → ℕ
 party_of tenant = option_map_or (λ place. min place 256) tenant 256
 
-abbrev pub due_at : ℕ → Option ℕ → Due
-due_at key tenant = record { key = key; party = party_of tenant }
+abbrev pub due_at : (key number : ℕ) → Option ℕ → Due
+due_at key number tenant = record { key = key; number = number; party = party_of tenant }
 
 -- it is the last of those whose turns come first, or of the others, and nothing else changes
 abbrev pub IsLast : Bool → Due → DueList → DueList → Type 0
@@ -20,6 +20,12 @@ IsLast false due old new = (new.first.items ≡ old.first.items) × (new.rest.it
 abbrev pub added : ℕ → ℕ → ℕ
 added n more = min (n + more) (2 ^ 64 - 1)
 
--- a turn takes so many microseconds of its party's time, or a whole span behind which a query is under way; that of others stays
-abbrev pub after_turn : List ℕ → Option ℕ → (micros : ℕ) → Bool → List ℕ
-after_turn times tenant micros is_under_way = slice_set times (party_of tenant) (added (slice_index times (party_of tenant)) (if is_under_way then 1000 else micros))
+-- so many microseconds of a party's time are taken; that of others stays
+abbrev pub charged : List ℕ → (party micros : ℕ) → List ℕ
+charged times party micros = slice_set times party (added (slice_index times party) micros)
+
+-- a turn takes its time of the party that is answered in it, or a whole span behind which a query is under way. If its connection stood under another
+-- party, that one pays as well
+abbrev pub after_turn : List ℕ → (stood heard micros : ℕ) → Bool → List ℕ
+after_turn times stood heard micros is_under_way =
+    charged (if stood == heard then times else charged times stood micros) heard (if is_under_way then 1000 else micros)

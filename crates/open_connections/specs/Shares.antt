@@ -1,8 +1,8 @@
 -- What a connection has of the budgets of memory, and that it is given back: this project's own.
-use Rattle.std.specs.Prelude.{◌≡◌, ◌≤◌, ◌-◌, ℕ, max, [], ◌++◌, Option, Some, None}
+use Rattle.std.specs.Prelude.{◌≡◌, ◌≤◌, ◌-◌, ◌/◌, ℕ, max, min, [], ◌++◌, Option, Some, None}
 use Rattle.std.specs.Option.{option_and_then}
 use Rattle.slab.specs.Slab.{Slab, get}
-use Rattle.memory_budget.specs.States.{State, fresh, own, total}
+use Rattle.memory_budget.specs.States.{State, fresh, own, party_at, all_held}
 use Rattle.wire_frames.specs.declared.parts.TheConstants.{LONGEST_FRAME, MOST_REPLY}
 use Rattle.connection_turns.specs.declared.claim.Claim.{Claim}
 use Rattle.connection_turns.specs.declared.claim.Pool.{Pool}
@@ -14,9 +14,16 @@ abbrev pub in_pool : Pool → Budgets → State
 in_pool Tenants budgets = budgets.tenants
 in_pool Strangers budgets = budgets.strangers
 
+-- what a tenant that holds something leaves to those that hold nothing: an eighth, or a longest reply where that is more, as far as one can be asked for beside it
+abbrev pub spare_of : ℕ → ℕ
+spare_of limit = min (max (limit / 8) MOST_REPLY) (limit - MOST_REPLY)
+
+abbrev pub tenants_of : ℕ → State
+tenants_of limit = fresh limit (spare_of limit) 257
+
 -- those of so much memory, of which nothing is held: a longest frame for strangers, and the rest for tenants, at least a longest reply
 abbrev pub fresh_budgets : ℕ → Budgets
-fresh_budgets memory = record { tenants = fresh (max (memory - LONGEST_FRAME) MOST_REPLY); strangers = fresh LONGEST_FRAME }
+fresh_budgets memory = record { tenants = tenants_of (max (memory - LONGEST_FRAME) MOST_REPLY); strangers = fresh LONGEST_FRAME 0 1 }
 
 -- the limits of both
 abbrev pub limits_in : Budgets → ℕ × ℕ
@@ -24,20 +31,20 @@ limits_in budgets = (budgets.tenants.limit, budgets.strangers.limit)
 
 -- what is held of each is together at most its limit
 pub record IsWithin (budgets : Budgets) : Type 0 where
-  pub tenants : total budgets.tenants.held ≤ budgets.tenants.limit
-  pub strangers : total budgets.strangers.held ≤ budgets.strangers.limit
+  pub tenants : all_held budgets.tenants.parties ≤ budgets.tenants.limit
+  pub strangers : all_held budgets.strangers.parties ≤ budgets.strangers.limit
 
--- no share has this ticket, held or waiting
-abbrev pub IsFree : ℕ → State → Type 0
-IsFree ticket s = own ticket (s.held ++ s.waiting) ≡ []
+-- no share of this party has this ticket, held or waiting
+abbrev pub IsFree : (party ticket : ℕ) → State → Type 0
+IsFree party ticket s = own ticket ((party_at s party).held ++ (party_at s party).waiting) ≡ []
 
 -- tickets that no share has stay so
 abbrev pub StayFree : Budgets → Budgets → Type 0
-StayFree old new = (pool : Pool) (ticket : ℕ) → IsFree ticket (in_pool pool old) → IsFree ticket (in_pool pool new)
+StayFree old new = (pool : Pool) (party ticket : ℕ) → IsFree party ticket (in_pool pool old) → IsFree party ticket (in_pool pool new)
 
 abbrev pub IsGivenBack : Option Claim → Budgets → Type 0
 IsGivenBack None budgets = Unit {0}
-IsGivenBack (Some claim) budgets = IsFree claim.ticket (in_pool claim.pool budgets)
+IsGivenBack (Some claim) budgets = IsFree claim.party claim.ticket (in_pool claim.pool budgets)
 
 -- the share of the connection under a key
 abbrev pub claim_at : {S : Type 0} → Slab (Connection S) → ℕ → Option Claim

@@ -1,9 +1,11 @@
 //! The budgets of memory that connections share.
-ghost use Rattle.std.specs.Prelude.{◌≡◌};
-ghost use Rattle.open_connections.specs.Shares.{fresh_budgets, in_pool, limits_in, IsFree, IsWithin, StayFree};
+ghost use Rattle.std.specs.Prelude.{◌≡◌, ◌-◌, IfOk, OnOk, min};
+ghost use Rattle.memory_budget.specs.States.{Asks, after};
+ghost use Rattle.open_connections.specs.Shares.{fresh_budgets, in_pool, limits_in, spare_of, IsFree, IsWithin, StayFree};
 
+use crate::due::PARTIES;
 use connection_turns::{Claim, Pool};
-use memory_budget::{Answer, Budget, Share};
+use memory_budget::{Answer, Budget, Share, keeps};
 use std::alloc::{AllocError, Global};
 use wire_frames::{LONGEST_FRAME, MOST_REPLY};
 
@@ -13,24 +15,26 @@ pub const LEAST_MEMORY: usize = LONGEST_FRAME + MOST_REPLY;
 /// The budget of tenants, and one of a longest frame for bytes whose key names none: so these never keep a tenant's from being granted.
 #[derive(Drop)]
 pub(crate) struct Budgets {
+    // A party for each tenant, and one for replies to others.
     tenants: Budget,
+    // One party.
     strangers: Budget,
 }
 
 impl Budgets {
     /// So many bytes, at least [`LEAST_MEMORY`].
-    pub fn new(alloc: Global, limit: usize) -> Budgets
-        ensures { result ≡ fresh_budgets limit }
+    pub fn new(alloc: Global, limit: usize) -> Result<Budgets, AllocError>
+        ensures { IfOk result (λ budgets. budgets ≡ fresh_budgets limit) }
     {
-        Budgets {
-            tenants: Budget::new(alloc, limit.saturating_sub(LONGEST_FRAME).max(MOST_REPLY)),
-            strangers: Budget::new(alloc, LONGEST_FRAME),
-        }
+        let limit = limit.saturating_sub(LONGEST_FRAME).max(MOST_REPLY);
+        let tenants = Budget::new(alloc, limit, spare_of(limit), PARTIES)?;
+        let strangers = Budget::new(alloc, LONGEST_FRAME, 0, 1)?;
+        Ok(Budgets { tenants, strangers })
     }
 
-    /// Whether a tenant's share of so many bytes would be granted at once.
+    /// Whether a tenant's share of so many bytes would be granted at once, whatever it holds.
     pub fn has_room(&self, bytes: usize) -> bool {
-        self.tenants.has_room(bytes)
+        self.tenants.may_grow(bytes)
     }
 
     /// The bytes that are held, and those that there are.
@@ -48,30 +52,32 @@ impl Budgets {
         }
     }
 
-    /// Asks for so many bytes, or the limit where that is less.
-    pub fn ask(&mut self, pool: Pool, key: usize, bytes: usize) -> Result<Answer, AllocError>
-        ensures { limits_in self.new ≡ limits_in self.old }
+    /// Has a party ask for so many bytes, or for the most that it may ask for where that is less.
+    pub fn ask(
+        &mut self,
+        pool: Pool,
+        party: usize,
+        key: usize,
+        bytes: usize,
+    ) -> Result<Answer, AllocError>
+        ensures limits { limits_in self.new ≡ limits_in self.old }
+        ensures asked { OnOk result (let old = in_pool pool self.old in in_pool pool self.new ≡ after old (Asks party key (min bytes (old.limit - old.spare)))) }
     {
         match pool {
-            Pool::Tenants => {
-                let bytes = bytes.min(self.tenants.limit());
-                self.tenants.ask(key, bytes)
-            }
-            Pool::Strangers => {
-                let bytes = bytes.min(self.strangers.limit());
-                self.strangers.ask(key, bytes)
-            }
+            Pool::Tenants => asked(&mut self.tenants, party, key, bytes),
+            Pool::Strangers => asked(&mut self.strangers, party, key, bytes),
         }
     }
 
     /// Gives a share back.
     pub fn release(&mut self, claim: &Claim)
-        ensures free { IsFree claim.now.ticket (in_pool claim.now.pool self.new) }
+        ensures free { IsFree claim.now.party claim.now.ticket (in_pool claim.now.pool self.new) }
         ensures limits { limits_in self.new ≡ limits_in self.old }
     {
+        keeps();
         match claim.pool {
-            Pool::Tenants => self.tenants.release(claim.ticket),
-            Pool::Strangers => self.strangers.release(claim.ticket),
+            Pool::Tenants => self.tenants.release(claim.party, claim.ticket),
+            Pool::Strangers => self.strangers.release(claim.party, claim.ticket),
         }
     }
 
@@ -80,8 +86,8 @@ impl Budgets {
         ensures { limits_in self.new ≡ limits_in self.old }
     {
         match claim.pool {
-            Pool::Tenants => self.tenants.shrink(claim.ticket, to),
-            Pool::Strangers => self.strangers.shrink(claim.ticket, to),
+            Pool::Tenants => self.tenants.shrink(claim.party, claim.ticket, to),
+            Pool::Strangers => self.strangers.shrink(claim.party, claim.ticket, to),
         }
     }
 
@@ -90,6 +96,7 @@ impl Budgets {
         ensures free { StayFree self.old self.new }
         ensures limits { limits_in self.new ≡ limits_in self.old }
     {
+        keeps();
         match self.tenants.next() {
             Some(share) => Some(share),
             None => self.strangers.next(),
@@ -103,4 +110,26 @@ impl Budgets {
         let _ = self.tenants.left();
         let _ = self.strangers.left();
     }
+}
+
+// Has a party of a budget ask for so many bytes, or for the most that it may ask for.
+fn asked(budget: &mut Budget, party: usize, key: usize, bytes: usize) -> Result<Answer, AllocError>
+    ensures limit { budget.new.limit ≡ budget.old.limit }
+    ensures asked { OnOk result (budget.new ≡ after budget.old (Asks party key (min bytes (budget.old.limit - budget.old.spare)))) }
+{
+    keeps();
+    if party >= budget.parties() {
+        return Err(AllocError);
+    }
+    budget.ask(party, key, bytes.min(budget.most()))
+}
+
+// What a tenant that holds something leaves to those that hold nothing: an eighth, or a longest reply where that is more, as far as a longest reply can be
+// asked for beside it.
+fn spare_of(limit: usize) -> usize
+    ensures { result ≡ spare_of limit }
+{
+    (limit / 8)
+        .max(MOST_REPLY)
+        .min(limit.saturating_sub(MOST_REPLY))
 }

@@ -2,9 +2,8 @@
 ghost use Rattle.std.specs.Prelude.{◌≡◌};
 ghost use Rattle.std.specs.Bool.{MatchBool};
 
-use crate::journal::Slow;
 use crate::loop_core::LoopCore;
-use connection_turns::Counted;
+use connection_turns::{Counted, Slow};
 use socket_poll::Time;
 
 /// The units for which a query goes on where others wait for turns.

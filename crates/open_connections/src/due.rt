@@ -1,6 +1,6 @@
 //! The connections that get a turn, and the time that each tenant's turns took in a round.
 ghost use Rattle.std.specs.Prelude.{◌≡◌, ◌<◌, ◌++◌, ◌∷◌, [], IfOk, OnOk, nat_lt, replicate, slice_index};
-ghost use Rattle.open_connections.specs.Rounds.{IsLast, after_turn, due_at, party_of};
+ghost use Rattle.open_connections.specs.Rounds.{IsLast, after_turn, charged, due_at, party_of};
 
 use std::alloc::{AllocError, Global};
 use std::mem;
@@ -13,13 +13,15 @@ const SPAN: u64 = 1_000;
 const LONE_ROUNDS: u32 = 16;
 
 /// The tenants, and one for all connections on which none asked.
-const PARTIES: usize = 257;
+pub(crate) const PARTIES: usize = 257;
 
 /// A connection that gets a turn.
 #[derive(Clone, Copy)]
 pub struct Due {
     /// Its key.
     pub key: usize,
+    /// Its number: the key may be that of another one later.
+    pub(crate) number: u64,
     // Whose time its turns take.
     party: usize,
 }
@@ -73,13 +75,15 @@ impl DueList {
     pub fn add(
         &mut self,
         key: usize,
+        number: u64,
         tenant: Option<usize>,
         is_under_way: bool,
     ) -> Result<(), AllocError>
-        ensures { OnOk result (IsLast is_under_way (due_at key tenant) self.old self.new) }
+        ensures { OnOk result (IsLast is_under_way (due_at key number tenant) self.old self.new) }
     {
         let due = Due {
             key,
+            number,
             party: party_of(tenant),
         };
         if is_under_way {
@@ -136,16 +140,34 @@ impl DueList {
         self.micros.get(due.party).copied().unwrap_or(0) < SPAN
     }
 
-    /// Counts a turn that took so long. One behind which a query is under way takes a span: others of its tenant can do nothing in this round.
-    pub fn count(&mut self, tenant: Option<usize>, micros: u64, is_under_way: bool)
-        ensures times { self.new.micros ≡ after_turn self.old.micros tenant micros is_under_way }
+    /// Counts a turn that took so long. The tenant that was heard in it pays for it. If the connection stood under another party, that one pays too.
+    /// A turn behind which a query is under way takes a span: others of its tenant can do nothing in this round.
+    pub fn count(
+        &mut self,
+        stood: Option<usize>,
+        heard: Option<usize>,
+        micros: u64,
+        is_under_way: bool,
+    )
+        ensures times { self.new.micros ≡ after_turn self.old.micros (party_of stood) (party_of heard) micros is_under_way }
         ensures first { self.new.first.items ≡ self.old.first.items }
         ensures rest { self.new.rest.items ≡ self.old.rest.items }
     {
-        let party = party_of(tenant);
+        let (stood, heard) = (party_of(stood), party_of(heard));
+        if stood != heard {
+            charge(&mut self.micros, stood, micros);
+        }
         let more = if is_under_way { SPAN } else { micros };
-        self.micros[party] = self.micros[party].saturating_add(more);
+        charge(&mut self.micros, heard, more);
     }
+}
+
+// A party pays for so many microseconds.
+fn charge(times: &mut [u64; PARTIES], party: usize, micros: u64)
+    requires { party < 257 }
+    ensures { times.new ≡ charged times.old party micros }
+{
+    times[party] = times[party].saturating_add(micros);
 }
 
 // Whether these are of several parties.
@@ -160,8 +182,8 @@ fn are_apart(list: &[Due]) -> bool {
     are_apart
 }
 
-// Whose time the turns of a connection take, on which this tenant asked last.
-fn party_of(tenant: Option<usize>) -> usize
+/// Whose time the turns of a connection take, on which this tenant asked last, and whose memory its bytes.
+pub(crate) fn party_of(tenant: Option<usize>) -> usize
     ensures party { result ≡ party_of tenant }
     ensures within { result < 257 }
 {

@@ -6,7 +6,6 @@
 mod budgets;
 mod core_calls;
 mod due;
-mod journal;
 mod loop_core;
 mod needs;
 mod numbers;
@@ -14,8 +13,8 @@ mod open;
 mod waiting;
 
 pub use budgets::LEAST_MEMORY;
+pub use connection_turns::{Held, Journal, Slow, Totals};
 pub use due::Due;
-pub use journal::{Held, Journal, Slow, Totals};
 pub use loop_core::LoopCore;
 pub use open::Open;
 pub use waiting::Waiting;

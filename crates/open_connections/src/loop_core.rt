@@ -5,8 +5,8 @@ ghost use Rattle.admin_pages.specs.declared.counted.Metrics.{Metrics};
 ghost use Rattle.open_connections.specs.Looping.{CoreSteps};
 ghost use Rattle.tenant_map.specs.declared.usage.Usage.{Usage};
 
-use crate::journal::Slow;
 use admin_pages::Metrics;
+use connection_turns::Slow;
 use outbox::Core;
 use tenant_map::Usage;
 use wire_frames::Part;
@@ -18,6 +18,9 @@ pub trait LoopCore: Core + Drop {
 
     /// What it has counted.
     ghost counted: { Self → Metrics };
+
+    /// The place of the tenant whose key is in front of what waits on a connection.
+    ghost fronts: { ℕ → Self → Option ℕ };
 
     /// How much the tenant with a key holds.
     ghost held: { List ℕ → Self → Option Usage };
@@ -59,6 +62,10 @@ pub trait LoopCore: Core + Drop {
 
     /// The part of a frame that waits on a connection, if its key is there.
     fn part(&self, conn: u32) -> Option<Part>;
+
+    /// The place of the tenant whose key is in front of what waits on a connection.
+    fn front(&self, conn: u32) -> Option<usize>
+        ensures { result ≡ fronts conn self.now };
 
     /// The most bytes of the reply to what waits first on a connection.
     fn most_reply(&self, conn: u32) -> usize;

@@ -1,9 +1,10 @@
 //! What a connection needs of the budgets before its next step, and what it gives back behind a turn.
 ghost use Rattle.std.specs.Prelude.{◌<◌, ◌≤◌};
 
+use crate::due::party_of;
 use crate::loop_core::LoopCore;
 use crate::open::PIECE;
-use connection_turns::{ALLOWANCE, Claim, Connection, Plan, Pool, Purpose};
+use connection_turns::{ALLOWANCE, Claim, Connection, Need, Plan, Pool, Purpose};
 use socket_poll::Peer;
 
 /// The bytes owed up to which a connection wants no share.
@@ -21,6 +22,14 @@ pub(crate) fn covers(claim: Option<Claim>, reply: usize) -> bool {
 pub(crate) fn is_for_reply(claim: Option<Claim>) -> bool {
     match claim {
         Some(claim) => matches!(claim.purpose, Purpose::Reply),
+        None => false,
+    }
+}
+
+/// Whether a share is held, and waits no more.
+pub(crate) fn is_held(claim: Option<Claim>) -> bool {
+    match claim {
+        Some(claim) => claim.is_granted,
         None => false,
     }
 }
@@ -87,15 +96,30 @@ pub(crate) fn left_of(claim: &Claim, owed: usize, has_answered: bool) -> After {
     }
 }
 
+/// The need of a reply to what is in front on a connection.
+pub(crate) fn need_of_reply<C: LoopCore>(core: &C, conn: u32, most: usize) -> Need {
+    Need {
+        pool: Pool::Tenants,
+        party: party_of(core.front(conn)),
+        purpose: Purpose::Reply,
+        bytes: most,
+    }
+}
+
 /// What a connection without a share needs beside a reply.
 pub(crate) fn need<S: Peer, C: LoopCore>(
     connection: &Connection<S>,
     core: &C,
     conn: u32,
-) -> Option<(Pool, Purpose, usize)> {
+) -> Option<Need> {
     let owed = connection.outbox.owed().len();
     if owed > OWED {
-        Some((Pool::Tenants, Purpose::Written, owed))
+        Some(Need {
+            pool: Pool::Tenants,
+            party: party_of(connection.tenant),
+            purpose: Purpose::Written,
+            bytes: owed,
+        })
     } else if connection.has_part && !connection.ready.waiting && connection.outbox.reads() {
         need_of_frame(core, conn)
     } else {
@@ -104,15 +128,19 @@ pub(crate) fn need<S: Peer, C: LoopCore>(
 }
 
 // The share of a frame that came in part.
-fn need_of_frame<C: LoopCore>(core: &C, conn: u32) -> Option<(Pool, Purpose, usize)> {
+fn need_of_frame<C: LoopCore>(core: &C, conn: u32) -> Option<Need> {
     let part = core.part(conn)?;
     if part.length <= ALLOWANCE {
         return None;
     }
-    let pool = if part.is_known {
-        Pool::Tenants
-    } else {
-        Pool::Strangers
+    let (pool, party) = match core.front(conn) {
+        Some(place) => (Pool::Tenants, party_of(Some(place))),
+        None => (Pool::Strangers, 0),
     };
-    Some((pool, Purpose::Frame, part.length))
+    Some(Need {
+        pool,
+        party,
+        purpose: Purpose::Frame,
+        bytes: part.length,
+    })
 }

@@ -1,23 +1,23 @@
 //! The connections that are open, the core that answers them, and the memory that they share.
-ghost use Rattle.std.specs.Prelude.{◌≡◌, ◌<◌, ◌≤◌, ◌^◌, ◌++◌, ℕ, None, IfOk, OnOk, IfSome, IsTrue, IsFalse, MatchOption};
+ghost use Rattle.std.specs.Prelude.{◌≡◌, ◌<◌, ◌≤◌, ◌^◌, ◌++◌, ℕ, None, IfOk, OnErr, OnOk, IfSome, IsTrue, IsFalse, MatchOption};
 ghost use Rattle.slab.specs.Slab.{get, slab_len};
 ghost use Rattle.open_connections.specs.Looping.{Stays, Does, DoesAtMost, TurnsAtMost, TakenIn, LetGo};
 ghost use Rattle.std.specs.Bool.{MatchBool};
 ghost use Rattle.outbox.specs.Told.{IsUnused};
-ghost use Rattle.open_connections.specs.Opened.{lanes_of, bytes_of, has_time, IsMarked, IsPutOff, IsStanding, IsListed, IsAsDue, HasLeft, lost_at, rests_at};
+ghost use Rattle.open_connections.specs.Opened.{lanes_of, bytes_of, has_time, is_there, IsMarked, IsPutOff, IsStanding, IsListed, IsAsDue, HasLeft, lost_at, rests_at};
 ghost use Rattle.open_connections.specs.Shares.{fresh_budgets, IsWithin, StayFree, IsGivenBack, claim_at};
 
 use crate::budgets::Budgets;
 use crate::core_calls::{begin, connect, disconnect, give_up_query, share, take_micros, take_slow};
 use crate::due::{Due, DueList};
-use crate::journal::Slow;
 use crate::loop_core::LoopCore;
-use crate::needs::{After, covers, is_for_reply, left_of, need, piece_of};
+use crate::needs::{After, covers, is_for_reply, is_held, left_of, need, need_of_reply, piece_of};
 use crate::numbers::{added, conn_of, has_moved};
 use crate::waiting::{Waiting, waiting_among};
 use admin_pages::Metrics;
 use connection_turns::{
-    Claim, Connection, Counted, Counts, End, Ending, Limits, Outcome, Phase, Plan, Pool, Purpose,
+    Claim, Connection, Counted, Counts, End, Ending, Limits, Need, Outcome, Phase, Plan, Pool,
+    Purpose, Slow,
 };
 use memory_budget::Answer;
 use outbox::CAP;
@@ -68,11 +68,12 @@ impl<S: Peer, C: LoopCore, T: Time + Drop> Open<S, C, T> {
             Ok(buffer) => buffer,
             Err(_) => return Err(AllocError),
         };
+        let budgets = Budgets::new(alloc, memory)?;
         Ok(Open {
             alloc,
             connections: Slab::new(alloc),
             core: Counted::new(time, core),
-            budgets: Budgets::new(alloc, memory),
+            budgets,
             buffer,
             bound: 0,
             due: DueList::new(alloc),
@@ -234,6 +235,16 @@ impl<S: Peer, C: LoopCore, T: Time + Drop> Open<S, C, T> {
         self.due.has_time(due)
     }
 
+    /// Whether the connection of a turn is open still.
+    pub fn is_there(&self, due: Due) -> bool
+        ensures { result ≡ is_there due self.now }
+    {
+        match self.connections.get(due.key) {
+            Some(connection) => connection.number == due.number,
+            None => false,
+        }
+    }
+
     /// Has a turn come in the next round, before the turns of those that had one in this round.
     pub fn put_off(&mut self, due: Due) -> Result<(), AllocError>
         ensures lanes { Stays (lanes_of S.told self.old) (lanes_of S.told self.new) }
@@ -258,16 +269,15 @@ impl<S: Peer, C: LoopCore, T: Time + Drop> Open<S, C, T> {
             return Ok(false);
         };
         let most = self.core.inner().most_reply(conn);
-        let Some(connection) = self.connections.get_mut(key) else {
+        let Some(connection) = self.connections.get(key) else {
             return Ok(false);
         };
-        let claim = connection.claim;
-        if covers(claim, most) {
+        if covers(connection.claim, most) {
             return Ok(true);
         }
-        connection.claim = None;
-        self.give_up(claim, now)?;
-        self.claim(key, Pool::Tenants, Purpose::Reply, most, now)
+        let reply = need_of_reply(self.core.inner(), conn, most);
+        self.yield_share(key, now)?;
+        self.claim(key, &reply, now)
     }
 
     // Whether a connection is served although its peer is gone.
@@ -345,13 +355,20 @@ impl<S: Peer, C: LoopCore, T: Time + Drop> Open<S, C, T> {
     fn yield_reply(&mut self, key: usize, now: u64) -> Result<(), AllocError>
         ensures { Stays (lanes_of S.told self.old) (lanes_of S.told self.new) }
     {
+        if !is_for_reply(self.claim_of(key)) {
+            return Ok(());
+        }
+        self.yield_share(key, now)
+    }
+
+    // Gives up the share that a connection has, if any.
+    fn yield_share(&mut self, key: usize, now: u64) -> Result<(), AllocError>
+        ensures { Stays (lanes_of S.told self.old) (lanes_of S.told self.new) }
+    {
         let Some(connection) = self.connections.get_mut(key) else {
             return Ok(());
         };
         let claim = connection.claim;
-        if !is_for_reply(claim) {
-            return Ok(());
-        }
         connection.claim = None;
         self.give_up(claim, now)
     }
@@ -440,12 +457,18 @@ impl<S: Peer, C: LoopCore, T: Time + Drop> Open<S, C, T> {
         ensures { Stays (lanes_of S.told self.old) (lanes_of S.told self.new) }
     {
         let micros = take_micros(&mut self.core);
+        let stood = self.tenant_of(key);
         self.note_turn(key);
         self.renew(key, now);
         if let Some(connection) = self.connections.get(key) {
             self.due
-                .count(connection.tenant, micros, connection.is_working);
+                .count(stood, connection.tenant, micros, connection.is_working);
         }
+    }
+
+    // The tenant that was answered last on a connection.
+    fn tenant_of(&self, key: usize) -> Option<usize> {
+        self.connections.get(key)?.tenant
     }
 
     // Notes what the core tells of a turn.
@@ -507,41 +530,33 @@ impl<S: Peer, C: LoopCore, T: Time + Drop> Open<S, C, T> {
         let Some(connection) = self.connections.get(key) else {
             return Ok(());
         };
-        match need(connection, self.core.inner(), conn) {
-            Some((pool, purpose, bytes)) => {
-                self.claim(key, pool, purpose, bytes, now)?;
-                Ok(())
-            }
-            None => Ok(()),
+        if let Some(need) = need(connection, self.core.inner(), conn) {
+            self.claim(key, &need, now)?;
         }
+        Ok(())
     }
 
-    // Asks for a share, and tells whether it is granted.
-    fn claim(
-        &mut self,
-        key: usize,
-        pool: Pool,
-        purpose: Purpose,
-        bytes: usize,
-        now: u64,
-    ) -> Result<bool, AllocError>
+    // Asks for a share, and tells whether it is granted. One that waits may come before those that wait already.
+    fn claim(&mut self, key: usize, need: &Need, now: u64) -> Result<bool, AllocError>
         ensures { Stays (lanes_of S.told self.old) (lanes_of S.told self.new) }
     {
-        let (ticket, is_granted) = match self.budgets.ask(pool, key, bytes)? {
+        self.ask_for(key, need, now)?;
+        self.grant(now)?;
+        Ok(is_held(self.claim_of(key)))
+    }
+
+    // Asks for a share.
+    fn ask_for(&mut self, key: usize, need: &Need, now: u64) -> Result<(), AllocError>
+        ensures { Stays (lanes_of S.told self.old) (lanes_of S.told self.new) }
+    {
+        let (ticket, is_granted) = match self.budgets.ask(need.pool, need.party, key, need.bytes)? {
             Answer::Granted(ticket) => (ticket, true),
             Answer::Waits(ticket) => (ticket, false),
         };
         if let Some(connection) = self.connections.get_mut(key) {
-            connection.claim = Some(Claim {
-                pool,
-                ticket,
-                purpose,
-                bytes,
-                is_granted,
-                since: now,
-            });
+            connection.claim = Some(need.claim(ticket, is_granted, now));
         }
-        Ok(is_granted)
+        Ok(())
     }
 
     // Grants what there is room for, in order.
@@ -591,6 +606,7 @@ impl<S: Peer, C: LoopCore, T: Time + Drop> Open<S, C, T> {
         ensures budgets { self.new.budgets ≡ self.old.budgets }
         ensures standing { OnOk result (IsStanding key self.new) }
         ensures listed { OnOk result (IsListed key self.old self.new) }
+        ensures unlisted { OnErr result (IsAsDue key self.old self.new) }
     {
         let has_room = self.budgets.has_room(ROOM);
         let Some(connection) = self.connections.get_mut(key) else {
@@ -603,9 +619,10 @@ impl<S: Peer, C: LoopCore, T: Time + Drop> Open<S, C, T> {
             self.give_up_query(key);
             return Ok(());
         }
-        connection.is_due = true;
         let (tenant, is_working) = (connection.tenant, connection.is_working);
-        self.due.add(key, tenant, is_working)
+        self.due.add(key, connection.number, tenant, is_working)?;
+        connection.is_due = true;
+        Ok(())
     }
 
     // A connection that gets no turn has no query under way.

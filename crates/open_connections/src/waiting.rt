@@ -1,11 +1,11 @@
 //! Who waits for memory.
 
-use connection_turns::Connection;
+use connection_turns::{Connection, Pool};
 use slab::Slab;
 use socket_poll::Peer;
 use tenant_map::TENANT_LIMIT;
 
-/// How many connections wait for memory: all, and by the place of the last tenant that was answered on each.
+/// How many connections wait for memory: all, and by the place of the tenant whose memory it is.
 #[derive(Clone, Copy, Debug)]
 pub struct Waiting {
     pub all: u64,
@@ -18,9 +18,8 @@ pub(crate) fn waiting_among<S: Peer>(connections: &Slab<Connection<S>>, bound: u
     let mut by_tenant = [0u64; TENANT_LIMIT];
     'keys: for key in 0..bound {
         if let Some(connection) = connections.get(key) {
-            if waits(connection) {
+            if let Some(place) = waits_as(connection) {
                 all = all.saturating_add(1);
-                let place = connection.tenant.unwrap_or(TENANT_LIMIT);
                 if place < TENANT_LIMIT {
                     by_tenant[place] = by_tenant[place].saturating_add(1);
                 }
@@ -30,9 +29,13 @@ pub(crate) fn waiting_among<S: Peer>(connections: &Slab<Connection<S>>, bound: u
     Waiting { all, by_tenant }
 }
 
-fn waits<S: Peer>(connection: &Connection<S>) -> bool {
+// For whom a connection waits, where it does: a tenant's place, or none of theirs.
+fn waits_as<S: Peer>(connection: &Connection<S>) -> Option<usize> {
     match &connection.claim {
-        Some(claim) => !claim.is_granted,
-        None => false,
+        Some(claim) if !claim.is_granted => match claim.pool {
+            Pool::Tenants => Some(claim.party),
+            Pool::Strangers => Some(TENANT_LIMIT),
+        },
+        _ => None,
     }
 }

@@ -1,5 +1,5 @@
 -- What the request asks that is answered next on a connection, as it is counted: this project's own.
-use Rattle.std.specs.Prelude.{ℕ, List, is_some, Bool, false, Option, Some, None}
+use Rattle.std.specs.Prelude.{ℕ, List, length, is_some, Bool, false, Option, Some, None}
 use Rattle.std.specs.Option.{option_map_or}
 use Rattle.wire_frames.specs.Requests.{command_of}
 use Rattle.tenant_map.specs.Tenancy.{Tenancy}
@@ -13,8 +13,8 @@ use Rattle.path_listen.specs.declared.asked.Asked.{Asked}
 
 -- a framing fault asks nothing
 abbrev pub asks : Tenancy → Option (List ℕ) → Asked
-asks t None = record { command = 0; tenant = None }
-asks t (Some body) = record { command = command_of body; tenant = tenant_asked t body }
+asks t None = record { command = 0; tenant = None; bytes = 0 }
+asks t (Some body) = record { command = command_of body; tenant = tenant_asked t body; bytes = length body }
 
 -- the key of the request that is answered next on a connection is a tenant's
 abbrev pub is_next_tenants : Tenancy → Next → Bool

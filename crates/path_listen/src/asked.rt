@@ -16,6 +16,8 @@ pub struct Asked {
     pub command: u8,
     /// The place of its key in the list of keys, if it is a tenant's.
     pub tenant: Option<usize>,
+    /// How many bytes its body has. 0 if its frame is too long.
+    pub bytes: u64,
 }
 
 /// What the frame asks that these bytes begin with.
@@ -26,10 +28,12 @@ pub(crate) fn asked_of(tenants: &Tenants, bytes: &[u8]) -> Asked
         Some(body) => Asked {
             command: command_of(body),
             tenant: place_asked(tenants, body),
+            bytes: body.len() as u64,
         },
         None => Asked {
             command: 0,
             tenant: None,
+            bytes: 0,
         },
     }
 }

@@ -3,7 +3,7 @@ ghost use Rattle.std.specs.Prelude.{◌≡◌, ◌↔◌, [], OnOk, OnErr, IsErr
 ghost use Rattle.std.specs.Option.{option_map, option_map_or};
 ghost use Rattle.path_hub.specs.Sessions.{session};
 ghost use Rattle.path_listen.specs.Answering.{Opens, Closes};
-ghost use Rattle.path_listen.specs.Needs.{IsPart, IsNoPart};
+ghost use Rattle.path_listen.specs.Needs.{IsPart, IsNoPart, front_at};
 ghost use Rattle.path_listen.specs.Replies.{body_at, IsMostReply};
 ghost use Rattle.path_listen.specs.Asking.{asks, is_first_tenants};
 ghost use Rattle.request_replies.specs.Tenants.{map_of};
@@ -11,7 +11,7 @@ ghost use Rattle.tenant_map.specs.Quotas.{usage_of};
 ghost use Rattle.wire_frames.specs.Frames.{front};
 
 use crate::asked::{Asked, asked_of};
-use crate::needs::{most_of, part_of};
+use crate::needs::{front_of, most_of, part_of};
 use outbox::{Core, Step};
 use path_hub::{ConnectFault, Hub, Share, Tasks};
 use std::alloc::Global;
@@ -127,6 +127,13 @@ impl HubCore {
         ensures { let waiting = option_map_or (λ f. f.waiting) (session conn self.now.sessions) [] in MatchOption result (IsNoPart waiting) (IsPart self.now.tenants waiting) }
     {
         part_of(self.hub.tenants(), self.hub.waiting_bytes(conn))
+    }
+
+    /// The place of the tenant whose key is in the frame that waits first on a connection, whole or in part.
+    pub fn front(&self, conn: u32) -> Option<usize>
+        ensures { result ≡ front_at conn self.now }
+    {
+        front_of(self.hub.tenants(), self.hub.waiting_bytes(conn))
     }
 
     /// What the request asks that is answered next on a connection.

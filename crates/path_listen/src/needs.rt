@@ -1,6 +1,6 @@
 //! What the first request that waits on a connection needs before it is read on or answered.
 
-ghost use Rattle.std.specs.Prelude.{◌≡◌, ◌≤◌, ◌+◌, ℕ, List, Some, length, is_some, MatchOption};
+ghost use Rattle.std.specs.Prelude.{◌≡◌, ◌≤◌, ◌+◌, ℕ, List, Some, length, MatchOption};
 ghost use Rattle.std.specs.Option.{option_map};
 ghost use Rattle.wire_frames.specs.Frames.{front};
 ghost use Rattle.wire_frames.specs.Readings.{asked_of};
@@ -8,7 +8,7 @@ ghost use Rattle.tenant_map.specs.Tenancy.{place_in};
 ghost use Rattle.tenant_map.specs.Maps.{text_at, documents_of};
 ghost use Rattle.tenant_map.specs.Listings.{listing};
 ghost use Rattle.request_replies.specs.Tenants.{map_of};
-ghost use Rattle.path_listen.specs.Needs.{IsPart, IsNoPart};
+ghost use Rattle.path_listen.specs.Needs.{IsPart, IsNoPart, front_of};
 ghost use Rattle.path_listen.specs.Replies.{body_at, IsMostFor, IsMostBy, IsMostTo};
 
 use store_names::{CollName, DocName, LONGEST_DOCUMENT_NAME};
@@ -51,18 +51,28 @@ pub(crate) fn part_of(tenants: &Tenants, bytes: &[u8]) -> Option<Part>
     Some(Part {
         length: LENGTH_BYTES + body,
         left: body - came,
-        is_known: is_known(tenants, &bytes[KEY_AT..KEY_END]),
+        is_known: place_of(tenants, &bytes[KEY_AT..KEY_END]).is_some(),
     })
 }
 
-// Whether these 16 bytes are a tenant's key.
-fn is_known(tenants: &Tenants, key: &[u8]) -> bool
+/// The place of the tenant whose key is in the frame that these bytes begin with.
+pub(crate) fn front_of(tenants: &Tenants, bytes: &[u8]) -> Option<usize>
+    ensures { result ≡ front_of tenants.now bytes.now }
+{
+    if bytes.len() < KEY_END {
+        return None;
+    }
+    place_of(tenants, &bytes[KEY_AT..KEY_END])
+}
+
+// The place of the tenant whose key these 16 bytes are.
+fn place_of(tenants: &Tenants, key: &[u8]) -> Option<usize>
     requires { length key.now ≡ 16 }
-    ensures { result ≡ is_some (place_in tenants.now.keys key.now) }
+    ensures { result ≡ place_in tenants.now.keys key.now }
 {
     let mut whole = [0u8; 16];
     whole.copy_from_slice(key);
-    tenants.place_of(&whole).is_some()
+    tenants.place_of(&whole)
 }
 
 /// The most bytes of the reply to the frame or the fault that these bytes begin with.

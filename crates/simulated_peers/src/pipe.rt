@@ -108,6 +108,7 @@ impl Pipe {
             is_readable: self.is_readable,
             is_writable: self.is_writable,
             is_ending: self.is_reset || self.is_ended,
+            is_urgent: false,
             is_gone: self.is_reset,
         };
         self.is_readable = false;

@@ -4,4 +4,4 @@ use Rattle.socket_poll.specs.declared.system.Report.{Report}
 
 -- a peer that ended its side: what it sent can be read, and it still takes
 abbrev pub ended_at : ℕ → Report
-ended_at key = record { key = key; is_readable = true; is_writable = false; is_ending = true; is_gone = false }
+ended_at key = record { key = key; is_readable = true; is_writable = false; is_ending = true; is_urgent = false; is_gone = false }

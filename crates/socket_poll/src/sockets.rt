@@ -158,7 +158,7 @@ impl System for Sockets {
     }
 
     fn watch(&mut self, stream: &mut Stream<TcpStream>, key: usize) -> bool {
-        let interests = Interest::READABLE | Interest::WRITABLE;
+        let interests = Interest::READABLE | Interest::WRITABLE | Interest::PRIORITY;
         self.poll
             .registry()
             .register(&mut stream.inner, Token(key), interests)
@@ -196,6 +196,7 @@ fn report_of(key: usize, event: &Event) -> Report {
         is_readable: event.is_readable() || is_ending,
         is_writable: event.is_writable() || event.is_error(),
         is_ending,
+        is_urgent: event.is_priority(),
         // a peer that ended its own side still takes
         is_gone: event.is_error() || event.is_write_closed(),
     }

@@ -26,6 +26,8 @@ pub struct Report {
     pub is_writable: bool,
     /// Its peer ended, or a fault came.
     pub is_ending: bool,
+    /// It has urgent data (RFC 9293, section 3.8.5). A read ends at its mark, although bytes stand behind it.
+    pub is_urgent: bool,
     /// Its peer is gone: it sends nothing more and takes nothing more.
     pub is_gone: bool,
 }
@@ -40,6 +42,7 @@ impl Report {
             is_readable: true,
             is_writable: false,
             is_ending: true,
+            is_urgent: false,
             is_gone: false,
         }
     }

@@ -11,4 +11,4 @@ returns-in-Lingering-clause-lanes g c =
 pub returns-in-Served-clause-lanes : goal.returns-in-Served-clause-lanes
 returns-in-Served-clause-lanes g c =
     turn_steps g.C.LoopCore.steps g.S.Wire.told (limits_in c.args.self.now.budgets) (bytes_of c.args.self.now) _ c.args.self.now.core c.turn-read.new.core c.args.self.now.connections c.args.key c.in-Some.conn c.in-Some-get_mut.connection.now c.turn-read.new.self c.in-Some.ensures (sym c.in-Some-get_mut.ensures.value) c.in-Served.is c.turn-read.ensures.phase
-    (takes_turn g.C.LoopCore.steps c.in-Some.conn _ _ (g.met.C.LoopCore.takes_so c.in-Some.conn) (g.met.C.LoopCore.answers_so c.in-Some.conn) _ _ _ _ _ _ c.turn-read.ensures.turn)
+    (takes_turn g.C.LoopCore.steps c.in-Some.conn _ _ (g.met.C.LoopCore.takes_so c.in-Some.conn) (g.met.C.LoopCore.answers_so c.in-Some.conn) _ _ _ _ _ _ c.turn-read.ensures.turn.turn)
