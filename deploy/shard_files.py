@@ -6,7 +6,7 @@ import subprocess
 from pathlib import Path
 from string import Template
 
-from shard_table import ADDRESS, write_whole
+from shard_table import ADDRESS, PROBE, write_whole
 
 NUMERIC = re.compile(r"[\d.]+|\[.*\]")
 PAUSED = "paused"
@@ -51,7 +51,7 @@ def shell_word(text):
 
 def files(table):
     """Each file's name and text. A shard's keys come before the map that sends tenants there, and the map before the configuration."""
-    keys = {name: [table.probe, *[it.key for it in table.tenants.values() if name in it.places]] for name in table.shards}
+    keys = {name: [f"{table.probe} {PROBE}", *[f"{it.key} {it.label}".strip() for it in table.tenants.values() if name in it.places]] for name in table.shards}
     for name, (address, _) in table.shards.items():
         yield f"{name}.keys", "".join(f"{key}\n" for key in keys[name])
         yield f"{name}.env", variables(table, name, address)
@@ -72,20 +72,25 @@ def place_of(tenant):
 def write(table):
     """Writes each file that is not as it should be, removes those of shards that are gone, and says whether HAProxy has to be reloaded."""
     table.folder.mkdir(mode=0o700, parents=True, exist_ok=True)
-    changed = []
+    # it stands until the table's command has succeeded, also where this is interrupted
+    mark, changed = table.folder / ".changed", []
     for name, text in files(table):
         path = table.folder / name
         if not path.exists() or path.read_text(encoding="utf-8") != text or path.stat().st_mode & 0o077:
+            mark.touch()
             write_whole(path, text)
             changed.append(name)
     for variables_of in table.folder.glob("*.env"):
         name = variables_of.stem
         if name not in table.shards and name != "reception" and variables_of.read_text(encoding="utf-8").startswith("ADDRESS="):
+            mark.touch()
             for it in (table.folder / f"{name}.keys", variables_of):
                 it.unlink(missing_ok=True)
                 changed.append(it.name)
-    if changed and "written" in table.commands:
-        subprocess.run(["sh", "-c", table.commands["written"]], check=True, stdin=subprocess.DEVNULL)
+    if mark.exists():
+        if "written" in table.commands:
+            subprocess.run(["sh", "-c", table.commands["written"]], check=True, stdin=subprocess.DEVNULL)
+        mark.unlink()
     return changed
 
 

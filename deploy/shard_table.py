@@ -10,6 +10,8 @@ from pathlib import Path
 
 KEY = re.compile(r"[0-9a-fA-F]{32}")
 NAME = re.compile(r"[A-Za-z0-9][A-Za-z0-9_-]*")
+MOST_OF_A_NAME = 64
+PROBE = "probe"
 COLLECTION = re.compile(r"[A-Za-z0-9._-]{1,128}")
 CERTIFICATE = re.compile(r"[A-Za-z0-9][A-Za-z0-9._@-]*")
 ADDRESS = re.compile(r"([A-Za-z0-9.-]+|\[[0-9a-fA-F:.]+\]):(\d{1,5})")
@@ -174,7 +176,7 @@ class Table:
         for name in tenant.collections:
             if not COLLECTION.fullmatch(name):
                 self.fault(f"{name} is no name of a collection")
-        if tenant.label and not NAME.fullmatch(tenant.label):
+        if tenant.label and (not NAME.fullmatch(tenant.label) or len(tenant.label) > MOST_OF_A_NAME or tenant.label == PROBE):
             self.fault(f"{tenant.label} is no name of a tenant")
         if not self.is_key(key):
             return

@@ -31,9 +31,11 @@ SERIES = {
     'path_server_requests_total{command="query",status="Costly"}': ("0+1x20", "PathServerCostly"),
     'path_server_requests_total{command="put",status="TooLong"}': ("0+1x20", "PathServerTooLong"),
     "path_server_dropped_lines_total": ("0+1x20", "PathServerDroppedLines"),
-    'path_server_tenant_collections{tenant="0"}': ("15x20", "PathServerCollections"),
-    'path_server_tenant_documents{tenant="0"}': ("901x20", "PathServerDocuments"),
-    'path_server_tenant_text_bytes{tenant="0"}': ("15000001x20", "PathServerTexts"),
+    "path_server_lost_lines_total": ("0+1x20", "PathServerLostLines"),
+    'path_server_tenant_refused_bytes_total{tenant="acme"}': ("0+10000000x20", "PathServerRefusedBytes"),
+    'path_server_tenant_collections{tenant="acme"}': ("15x20", "PathServerCollections"),
+    'path_server_tenant_documents{tenant="acme"}': ("901x20", "PathServerDocuments"),
+    'path_server_tenant_text_bytes{tenant="acme"}': ("15000001x20", "PathServerTexts"),
     "path_server_slow_queries_total": ("0+3x20", "PathServerSlowQueries"),
     'path_server_request_seconds_bucket{le="0.1"}': ("0+98x20", "PathServerSlow"),
     'path_server_request_seconds_bucket{le="0.25"}': ("0+100x20", None),
@@ -41,7 +43,7 @@ SERIES = {
     'path_server_certificate_end_seconds{file="server.pem"}': ("2592800x20", "PathServerCertificate"),
 }
 CALM = {"up": "1x20", "path_server_ready": "1x20", "path_server_connections_open": "9000x20", "path_server_accept_refused": "0x20", "path_server_connections_waiting": "0x20",
-        "path_server_buffered_bytes": "90x20", "path_server_requests_total": "7x20", "path_server_dropped_lines_total": "7x20", "path_server_slow_queries_total": "0+1x20",
+        "path_server_buffered_bytes": "90x20", "path_server_requests_total": "7x20", "path_server_dropped_lines_total": "7x20", "path_server_lost_lines_total": "7x20", "path_server_tenant_refused_bytes_total": "0+1000000x20", "path_server_slow_queries_total": "0+1x20",
         "path_server_tenant_collections": "14x20", "path_server_tenant_documents": "900x20", "path_server_tenant_text_bytes": "15000000x20",
         "path_server_certificate_end_seconds": "2592900x20"}
 
@@ -89,7 +91,7 @@ def tested(report, rules):
         return lines + [line for alert in rules for line in [f"      - eval_time: 15m", f"        alertname: {alert}", f"        exp_alerts: {alerts(alert)}"]]
 
     labels = {"PathServerGone": "job: path_server, ", "PathServerCertificate": 'file: server.pem, ',
-              **{it: 'tenant: "0", ' for it in ("PathServerCollections", "PathServerDocuments", "PathServerTexts")}}
+              **{it: 'tenant: acme, ' for it in ("PathServerCollections", "PathServerDocuments", "PathServerTexts", "PathServerRefusedBytes")}}
     at_limit = {name: values for name, (values, _) in SERIES.items()}
     calm = {name: CALM.get(name.partition("{")[0], values) for name, values in at_limit.items()}
     calm['path_server_request_seconds_bucket{le="0.1"}'] = "0+100x20"

@@ -184,12 +184,23 @@ def drained(it):
     others.finish("drained")
 
 
+def ask_all(connections):
+    """The statuses of requests that are on their way on all connections at once."""
+    for connection, key in connections:
+        try:
+            connection.sendall(frame(USAGE, key))
+        except ConnectionError:
+            # its reading tells it
+            pass
+    return [ask(connection, b"") for connection, _ in connections]
+
+
 def ended(it):
     """A shard ends while the table has it. Each of its open connections is served until its client closes it, longer than HAProxy's checks take."""
     shard = it.running["2"]
     for how in ("SIGTERM", "a drain"):
         connections = [(it.open(), it.keys["2"][place % 4]) for place in range(50)]
-        statuses = [ask(connection, frame(USAGE, key)) for connection, key in connections]
+        statuses = ask_all(connections)
         if how == "SIGTERM":
             shard.process.terminate()
         else:
@@ -197,7 +208,7 @@ def ended(it):
         report.case(f"{how}: a new connection to the shard is closed, and not refused", "", True, is_turned_away(shard.address))
         until = time.monotonic() + 5
         while time.monotonic() < until and set(statuses) == {OK}:
-            statuses += [ask(connection, frame(USAGE, key)) for connection, key in connections]
+            statuses += ask_all(connections)
             time.sleep(0.02)
         report.case(f"{how}: each reply on 50 connections", len(statuses), {OK}, set(statuses))
         report.case(f"{how}: HAProxy sees it", "", "DOWN", it.states()["shard-2"])

@@ -6,17 +6,19 @@ no NotFound. A connection may end while its tenant is paused, and then what was 
 """
 import contextlib
 import os
+import re
 import signal
 import socket
 import subprocess
 import sys
+import tempfile
 import threading
 import time
 from pathlib import Path
 
-from deployment import TOP, Deployment, children, free_ports, wait_until
+from deployment import ENDED, OK, TOP, USAGE, Deployment, ask, children, frame, free_ports, wait_until
 from visits import Visits
-from lib.running_server import PROGRAM, Report, want
+from lib.running_server import PATIENCE, PROGRAM, Report, want
 from path_client import connect
 
 sys.path.insert(0, str(TOP / "deploy"))
@@ -175,6 +177,11 @@ def bad(it):
         with connect(it.running["2"].address, one) as there:
             there.put("c", "left", b"[3]")
         refuses(it, "texts at the new shard", lambda fleet: fleet.move(name_of(one), "2"), "--replace drops them")
+        with connect(it.running["2"].address, one) as there:
+            there.put("unnamed", "left", b"[3]")
+        refuses(it, "texts at the new shard that the table does not name", lambda fleet: fleet.move(name_of(one), "2", True), "in collections that its line does not name")
+        with connect(it.running["2"].address, one) as there:
+            there.drop("unnamed")
         fleet(it).move(name_of(one), "2", True)
     with connect("%s:%d" % it.plain, one) as client:
         report.case("moved in the place of what was there", "", b"[1]", client.get("c", "kept"))
@@ -229,6 +236,50 @@ def lost(it, key, shard):
         report.case("the old copy", "", b"[1]", client.get("c", "kept"))
     it.shards("ready", "2")
     it.is_state("2", "UP")
+
+
+def waited(it, key):
+    """With --wait, open connections of the tenant are served until their clients close them, or until it has passed, and new ones are refused at once."""
+    for seconds, is_closed in (("30", True), ("5", False)):
+        new = "2" if place_of(it, key) == "1" else "1"
+        with it.open() as connection:
+            report.case("before a move that waits", "", OK, ask(connection, frame(USAGE, key)))
+            began = time.monotonic()
+            process = subprocess.Popen([TOP / "deploy/shards.py", it.table, "move", name_of(key), new, "--wait", seconds], stdout=subprocess.DEVNULL)
+
+            def is_refused():
+                with it.open() as another:
+                    return ask(another, frame(USAGE, key)) == ENDED
+
+            report.case("a new connection while it waits", "", True, wait_until(is_refused))
+            for _ in range(10):
+                report.case("an open one while it waits", "", OK, ask(connection, frame(USAGE, key)))
+                time.sleep(0.1)
+            if not is_closed:
+                report.case("an open one behind the wait", "", ENDED, ask(connection, b""))
+                report.case("the wait", seconds, True, time.monotonic() - began >= float(seconds))
+        report.case("the move behind it", seconds, (0, True), (process.wait(PATIENCE), time.monotonic() - began < 25))
+        report.case("moved", seconds, new, place_of(it, key))
+
+
+def elsewhere():
+    """HAProxy knows the files by another name of their folder, which the table has: a move, a reload and a write name them so to it."""
+    with tempfile.TemporaryDirectory() as at:
+        link, it = Path(at) / "as-haproxy-sees-it", Deployment(1, collections=",".join(COLLECTIONS))
+        link.symlink_to(it.folder)
+        it.table.write_text(re.sub("^(options .*)$", rf"\1 --at {link}", it.table.read_text(), flags=re.M))
+        it.shards("write")
+        text, key = (it.folder / "haproxy.cfg").read_text(), it.keys["1"][0]
+        report.case("names in haproxy.cfg", "", (True, False), (f"{link}/tenants.map" in text, f"{it.folder}/" in text))
+        with it:
+            traffic = visits(it, [key], True)
+            for step, new in enumerate(("2", "1", "2")):
+                it.shards("move", name_of(key), new)
+                is_left_nowhere(it, key, "moved elsewhere")
+                if step == 1:
+                    it.shards("reload")
+            report.case("moved elsewhere", "", "2", place_of(it, key))
+            print(f"by another name of the folder: {traffic.finish('elsewhere')} replies and ended connections", flush=True)
 
 
 def by_two(it, key):
@@ -338,6 +389,7 @@ def main():
                 each_step(it, kept, reloaded)
                 killed_at_random(it, kept, 8)
                 by_two(it, it.keys["1"][4])
+                waited(it, it.keys["1"][4])
             print(f"other tenants: {others.finish('others')[0]} replies, none ended", flush=True)
             others = visits(it, [it.keys["1"][2], it.keys["2"][2]], True)
             each_step(it, kept, killed)
@@ -348,6 +400,7 @@ def main():
                 dumped(it)
     with Deployment(1, collections=",".join(COLLECTIONS)) as it:
         upgraded(it)
+    elsewhere()
     report.close("moves")
 
 

@@ -1,6 +1,7 @@
 #!/usr/bin/env python3
 """What deploy/shards.py makes of tables, good and bad: tests/deploy/tables.py. Where there is HAProxy, it reads each configuration."""
 import hashlib
+import re
 import subprocess
 import tempfile
 from pathlib import Path
@@ -39,6 +40,10 @@ BAD = {
     "shard ../3 127.0.0.1:7103": "9: ../3 is no name of a shard",
     "shard probe 127.0.0.1:7103": "9: probe is no name of a shard",
     f"tenant {KEYS[2]} 1 name=a/b": "9: a/b is no name of a tenant",
+    f"tenant {KEYS[2]} 1 name=probe": "9: probe is no name of a tenant",
+    f"tenant {KEYS[2]} 1 name={65 * 'n'}": f"9: {65 * 'n'} is no name of a tenant",
+    f'tenant {KEYS[2]} 1 name="acme"': '9: "acme" is no name of a tenant',
+    "shard two words 127.0.0.1:7103": "9: words is no address: a host, a colon and a port",
     f"tenant {KEYS[2]} 1 name=acme\ntenant {KEYS[3]} 1 name=acme": "10: the name acme stands twice, first in line 9",
     f"tenant {KEYS[2]} 1 collections=a/b": "9: a/b is no name of a collection",
     f"tenant {KEYS[2]} 1 color=red": "9: a tenant has no word color=",
@@ -65,8 +70,8 @@ def good(report, folder):
     written = {f"{name}.{kind}" for name in ("1", "2", "reception") for kind in ("keys", "env")} | {"probe.key", "tenants.map", "grants.map", "haproxy.cfg"}
     report.case("a good table", GOOD, (0, ""), (ran.returncode, ran.stderr))
     report.case("what it says", "", {f"{it} is written" for it in written}, set(ran.stdout.splitlines()))
-    report.case("keys of the first shard", "", [KEYS[0], KEYS[1]], (made / "1.keys").read_text().split())
-    report.case("keys of the second shard", "", [KEYS[0], KEYS[1], KEYS[10]], (made / "2.keys").read_text().split())
+    report.case("keys of the first shard", "", [f"{KEYS[0]} probe", KEYS[1]], (made / "1.keys").read_text().splitlines())
+    report.case("keys of the second shard", "", [f"{KEYS[0]} probe", KEYS[1], KEYS[10]], (made / "2.keys").read_text().splitlines())
     digests = [hashlib.sha256(bytes.fromhex(key)).hexdigest().upper() for key in (KEYS[1], KEYS[10])]
     report.case("tenants.map", "", [f"{digests[0]} shard-1", f"{digests[1]} shard-2"], (made / "tenants.map").read_text().splitlines())
     report.case("grants.map", "", [f"alice:{digests[0]} 1", f"bob:{digests[0]} 1"], (made / "grants.map").read_text().splitlines())
@@ -78,18 +83,35 @@ def good(report, folder):
     report.case("the same table again", "", "1.keys is written\n", run(folder, ["# a table", "", *GOOD]).stdout)
     report.case("the reception's key", "", reception, (made / "reception.keys").read_text())
     ran = run(folder, [*GOOD, "shard 3 127.0.0.1:7103", f"tenant {KEYS[2]} 1,3"])
-    report.case("a shard that tenants are to be moved to", "", (0, [KEYS[0], KEYS[2]]), (ran.returncode, (made / "3.keys").read_text().split()))
+    report.case("a shard that tenants are to be moved to", "", (0, [f"{KEYS[0]} probe", KEYS[2]]), (ran.returncode, (made / "3.keys").read_text().splitlines()))
     # what is another's is left
     (made / "other.keys").write_text(KEYS[3])
     ran = run(folder, GOOD)
     report.case("files of a shard that is gone", "", (False, False, True), tuple((made / it).exists() for it in ("3.keys", "3.env", "other.keys")))
     report.case("what it says of them", "", {"3.keys is removed", "3.env is removed"}, {it for it in ran.stdout.splitlines() if it.endswith("removed")})
     run(folder, [*GOOD[:-1], f"{GOOD[-1]} name=acme moving=1".replace(" 2 ", " 2,1 ")])
+    report.case("a tenant's name stands behind its key", "", [f"{KEYS[0]} probe", KEYS[1], f"{KEYS[10]} acme"], (made / "2.keys").read_text().splitlines())
     report.case("a tenant that is being moved", "", [f"{digests[0]} shard-1", f"{digests[1]} paused"], (made / "tenants.map").read_text().splitlines())
+    run(folder, GOOD)
+    # a command that copies the files to where HAProxy runs, whenever some were written
+    copied = [*GOOD, f"written cp {made}/tenants.map {folder}/copy && echo copied >>{folder}/copies"]
+    for tenants, times in ((copied, 0), ([*copied, f"tenant {KEYS[4]} 1"], 1), ([*copied, f"tenant {KEYS[4]} 1"], 1), (copied, 2)):
+        run(folder, tenants)
+        got = (folder / "copies").read_text().count("\n") if (folder / "copies").exists() else 0
+        same = not times or (folder / "copy").read_text() == (made / "tenants.map").read_text()
+        report.case("the command of `written`", tenants[-1], (times, True), (got, same))
+    more = f"tenant {KEYS[4]} 2"
+    report.case("a command of `written` that fails", "", 1, run(folder, [*GOOD, more, "written exit 3"]).returncode)
+    for times in (3, 3):
+        run(folder, [*copied, more])
+        report.case("it is run until it succeeds", "", times, (folder / "copies").read_text().count("\n"))
+    report.case("and then the copy is the file", "", True, (folder / "copy").read_text() == (made / "tenants.map").read_text())
     run(folder, GOOD)
     text = "".join(it.read_text() for it in made.iterdir() if it.suffix in (".cfg", ".map"))
     report.case("no tenant's key is in a file for HAProxy", "", [], [key for key in (KEYS[1], KEYS[10]) if key in text.lower()])
     report.case("the reception's key is nobody's", "", False, (made / "reception.keys").read_text().strip() in KEYS)
+    # with HAProxy's own 4, a new connection waits for most of a minute behind thousands of busy ones
+    report.case("connections that HAProxy takes in a turn", "", ["64"], re.findall(r"^ +tune\.maxaccept (\d+)$", (made / "haproxy.cfg").read_text(), re.M))
     if has("HAProxy reads it", "haproxy"):
         for words in ("--plain=127.0.0.1:7000", "--plain=:7000 --all=100 --tenant=5 --source=7 --shard=50", "--user root"):
             run(folder, [f"options {words}", *GOOD])

@@ -4,10 +4,12 @@ Each reply is one that a single server could have given: no text from before an 
 tenant is paused, and then what was on its way is carried out or not.
 """
 import random
+import socket
 import threading
 import time
 
-from deployment import wait_until
+from deployment import GET, frame, wait_until
+from lib.running_server import open_connection
 from path_client import BrokenConnection, Client, Refused
 
 
@@ -85,5 +87,45 @@ class Visits(threading.Thread):
                     known = self.texts[client.key, (collection, document)]
                     got = self.told(client, "get", (collection, document), None)
                     self.report.case(f"{name}: a document in the end", document, True, got in known or (got, known))
+        for client in self.clients:
+            client.close()
         self.report.case(f"{name}: replies", "", ([], True), (self.wrong[:3], self.count > 0))
         return self.count, self.ended
+
+
+class Held(threading.Thread):
+    """Gets one document again and again, on one connection, until that ends or the thread is told to. Each reply has to be whole."""
+
+    def __init__(self, address, key, place, text):
+        super().__init__(daemon=True)
+        fields = b"".join(bytes([len(it)]) + it for it in map(str.encode, place))
+        self.request = frame(GET, key, fields)
+        self.wanted = (5 + len(text)).to_bytes(4, "big") + b"\0" + (1).to_bytes(4, "big") + text
+        self.connection = open_connection(address)
+        self.goes, self.count, self.left = True, 0, b""
+        self.start()
+
+    def run(self):
+        with self.connection:
+            while self.goes:
+                came = self.reply()
+                if came != self.wanted:
+                    self.left = came
+                    break
+                self.count += 1
+
+    def reply(self):
+        """What comes of a reply until it is whole or the connection ends."""
+        came = b""
+        try:
+            self.connection.sendall(self.request)
+            while len(came) < len(self.wanted):
+                piece = self.connection.recv(65_536)
+                if not piece:
+                    break
+                came += piece
+        except socket.timeout:
+            came += b"silence"
+        except ConnectionError:
+            pass
+        return came

@@ -1,20 +1,31 @@
 -- The connections of the administration address: this project's own.
-use Rattle.std.specs.Prelude.{◌≡◌, ◌⊎◌, ℕ, ◌+◌, ◌-◌, ◌^◌, ◌<◌, ◌&&◌, List, ◌++◌, Bool, true, false, nat_le, nat_lt, Option, Some, None}
+use Rattle.std.specs.Prelude.{◌≡◌, ◌⊎◌, ℕ, ◌+◌, ◌-◌, ◌^◌, ◌<◌, ◌&&◌, List, ◌++◌, take, drop, Bool, true, false, nat_le, nat_lt, Option, Some, None}
 use Rattle.slab.specs.Slab.{Slab, get}
-use Rattle.outbox.specs.Told.{Told, with_read}
+use Rattle.outbox.specs.Told.{Told, with_read, with_written}
 use Rattle.admin_pages.specs.declared.standing.Standing.{Standing}
 use Rattle.admin_desk.specs.declared.desk.Caller.{Caller}
-use Rattle.admin_desk.specs.Visits.{AtMostSays, is_head}
+use Rattle.admin_desk.specs.declared.visit.Stage.TheVariants as stage
+use Rattle.admin_desk.specs.Visits.{AtMostSays, is_head, owed_of}
 
 -- nothing is said, or what is asked by the bytes that came on a connection before, and a piece that was read of its stream now
-abbrev pub SaysBy : (wire wire' : Option Told) → (came : List ℕ) → Standing → Standing → Type 0
-SaysBy wire wire' came old new = (new ≡ old) ⊎ ((piece : List ℕ) × (wire' ≡ with_read piece wire) × AtMostSays (came ++ piece) old new)
+abbrev pub SaysBy : (own : List (List ℕ)) → (wire wire' : Option Told) → (came : List ℕ) → Standing → Standing → Type 0
+SaysBy own wire wire' came old new = (new ≡ old) ⊎ ((piece : List ℕ) × (wire' ≡ with_read piece wire) × AtMostSays own (came ++ piece) old new)
 
 -- the same at a place: where the connection is closed behind it, its stream is gone
-abbrev pub SaysAt : {S : Type 0} → (S → Option Told) → Option (Caller S) → Option (Caller S) → Standing → Standing → Type 0
-SaysAt told None caller' old new = new ≡ old
-SaysAt told (Some caller) None old new = (wire' : Option Told) × SaysBy (told caller.stream) wire' caller.visit.head.items old new
-SaysAt told (Some caller) (Some caller') old new = SaysBy (told caller.stream) (told caller'.stream) caller.visit.head.items old new
+abbrev pub SaysAt : {S : Type 0} → (own : List (List ℕ)) → (S → Option Told) → Option (Caller S) → Option (Caller S) → Standing → Standing → Type 0
+SaysAt own told None caller' old new = new ≡ old
+SaysAt own told (Some caller) None old new = (wire' : Option Told) × SaysBy own (told caller.stream) wire' caller.visit.head.items old new
+SaysAt own told (Some caller) (Some caller') old new = SaysBy own (told caller.stream) (told caller'.stream) caller.visit.head.items old new
+
+-- so many bytes of what is owed are written, and the others are owed; or nothing is written
+abbrev pub Sends : (wire wire' : Option Told) → (owed owed' : List ℕ) → Type 0
+Sends wire wire' owed owed' = ((n : ℕ) × (wire' ≡ with_written (take n owed) wire) × (owed' ≡ drop n owed)) ⊎ ((wire' ≡ wire) × (owed' ≡ owed))
+
+-- the same at a place whose connection owes a reply, and stays open
+abbrev pub SendsAt : {S : Type 0} → (S → Option Told) → Option (Caller S) → Option (Caller S) → Type 0
+SendsAt told None caller' = Unit {0}
+SendsAt told (Some caller) None = Unit {0}
+SendsAt told (Some caller) (Some caller') = caller.visit.stage ≡ stage.Reply → Sends (told caller.stream) (told caller'.stream) (owed_of caller.visit) (owed_of caller'.visit)
 
 -- the keys of these connections: eight below the greatest ones, which the system's own have
 abbrev pub is_own : ℕ → Bool

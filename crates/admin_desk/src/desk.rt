@@ -1,11 +1,12 @@
 //! The few connections of the administration address.
-ghost use Rattle.std.specs.Prelude.{◌≡◌, ◌≤◌, None, IfSome, true, false, nat_lt};
+ghost use Rattle.std.specs.Prelude.{◌≡◌, ◌≤◌, None, IfSome, true, false, nat_lt, take};
 ghost use Rattle.slab.specs.Slab.{get, slab_len, Updates};
 ghost use Rattle.admin_pages.specs.Standings.{at_start};
-ghost use Rattle.admin_desk.specs.Desks.{IsLate, IsSilent, KeepsAnswered, SaysAt, SaysBy, is_own};
+ghost use Rattle.admin_desk.specs.Visits.{hosts_of, owed_of};
+ghost use Rattle.admin_desk.specs.Desks.{IsLate, IsSilent, KeepsAnswered, SaysAt, SaysBy, Sends, SendsAt, is_own};
 
 use crate::visit::{PIECE, Stage, Visit, is_head};
-use admin_pages::{Gauges, Metrics, Standing};
+use admin_pages::{About, Gauges, Metrics, Standing};
 use outbox::{Given, Taken, Wire};
 use slab::Slab;
 use socket_poll::{Peer, Report};
@@ -40,6 +41,7 @@ pub struct Desk<S: Peer> {
     alloc: Global,
     callers: Slab<Caller<S>>,
     standing: Standing,
+    about: About,
 }
 
 impl<S: Peer> Desk<S> {
@@ -52,7 +54,16 @@ impl<S: Peer> Desk<S> {
             alloc,
             callers: Slab::new(alloc),
             standing: Standing::new(),
+            about: About::new(alloc),
         }
+    }
+
+    /// Tells it what the server is. It serves the hosts of that from now on.
+    pub fn introduce(&mut self, about: About)
+        ensures about { self.new.about ≡ about }
+        ensures standing { self.new.standing ≡ self.old.standing }
+    {
+        self.about = about;
     }
 
     /// What was said.
@@ -94,7 +105,8 @@ impl<S: Peer> Desk<S> {
 
     /// The key of the next connection, if there is room for one, or if one makes room: the oldest whose request has not come whole.
     pub fn vacant(&mut self) -> Option<usize>
-        ensures { self.new.standing ≡ self.old.standing }
+        ensures standing { self.new.standing ≡ self.old.standing }
+        ensures about { self.new.about ≡ self.old.about }
     {
         if !self.has_room() {
             return FIRST_KEY.checked_sub(self.oldest_silent()?);
@@ -109,6 +121,7 @@ impl<S: Peer> Desk<S> {
     /// Takes one in under the key that is vacant. One that makes room is closed; those that are answered stay.
     pub fn take_in(&mut self, stream: S, now: u64)
         ensures standing { self.new.standing ≡ self.old.standing }
+        ensures about { self.new.about ≡ self.old.about }
         ensures few { slab_len self.old.callers ≤ 8 → slab_len self.new.callers ≤ 8 }
         ensures answered { KeepsAnswered self.old.callers self.new.callers }
     {
@@ -128,6 +141,7 @@ impl<S: Peer> Desk<S> {
     // Closes the oldest connection whose request has not come whole, if there is no room.
     fn make_room(&mut self)
         ensures standing { self.new.standing ≡ self.old.standing }
+        ensures about { self.new.about ≡ self.old.about }
         ensures few { slab_len self.new.callers ≤ slab_len self.old.callers }
         ensures answered { KeepsAnswered self.old.callers self.new.callers }
     {
@@ -160,6 +174,7 @@ impl<S: Peer> Desk<S> {
     pub fn note(&mut self, report: Report) -> bool
         ensures own { result ≡ is_own report.key }
         ensures standing { self.new.standing ≡ self.old.standing }
+        ensures about { self.new.about ≡ self.old.about }
     {
         if report.key > FIRST_KEY || report.key <= FIRST_KEY - PLACES {
             return false;
@@ -181,7 +196,8 @@ impl<S: Peer> Desk<S> {
 
     /// Begins the page of one.
     pub fn begin_page(&mut self, place: usize, metrics: &Metrics, gauges: &Gauges)
-        ensures { self.new.standing ≡ self.old.standing }
+        ensures standing { self.new.standing ≡ self.old.standing }
+        ensures about { self.new.about ≡ self.old.about }
     {
         let Some(caller) = self.callers.get_mut(place) else {
             return;
@@ -193,8 +209,10 @@ impl<S: Peer> Desk<S> {
 
     /// One step of a connection. It is closed if its time is up, or it is done with.
     pub fn step(&mut self, place: usize, now: u64)
-        ensures said { SaysAt S.told (get self.old.callers place) (get self.new.callers place) self.old.standing self.new.standing }
+        ensures said { SaysAt (hosts_of self.old.about) S.told (get self.old.callers place) (get self.new.callers place) self.old.standing self.new.standing }
+        ensures sent { SendsAt S.told (get self.old.callers place) (get self.new.callers place) }
         ensures late { IsLate (get self.old.callers place) now → get self.new.callers place ≡ None }
+        ensures about { self.new.about ≡ self.old.about }
     {
         if !self.go_on(place, now) {
             self.close(place);
@@ -203,18 +221,21 @@ impl<S: Peer> Desk<S> {
 
     // One step of a connection, and whether it stays open.
     fn go_on(&mut self, place: usize, now: u64) -> bool
-        ensures said { SaysAt S.told (get self.old.callers place) (get self.new.callers place) self.old.standing self.new.standing }
+        ensures said { SaysAt (hosts_of self.old.about) S.told (get self.old.callers place) (get self.new.callers place) self.old.standing self.new.standing }
+        ensures sent { SendsAt S.told (get self.old.callers place) (get self.new.callers place) }
         ensures late { IsLate (get self.old.callers place) now → result ≡ false }
+        ensures about { self.new.about ≡ self.old.about }
     {
         match self.callers.get_mut(place) {
             Some(caller) if now.saturating_sub(caller.since) > PATIENCE => false,
-            Some(caller) => caller.step(&mut self.standing, now),
+            Some(caller) => caller.step(&self.about, &mut self.standing, now),
             None => true,
         }
     }
 
     fn close(&mut self, place: usize)
         ensures standing { self.new.standing ≡ self.old.standing }
+        ensures about { self.new.about ≡ self.old.about }
         ensures few { slab_len self.new.callers ≤ slab_len self.old.callers }
         ensures others { Updates self.old.callers self.new.callers place None }
         ensures gone { get self.new.callers place ≡ None }
@@ -233,29 +254,30 @@ impl<S: Peer> Caller<S> {
     }
 
     // One step, and whether it stays open.
-    fn step(&mut self, standing: &mut Standing, now: u64) -> bool
-        ensures { SaysBy (S.told self.old.stream) (S.told self.new.stream) self.old.visit.head.items standing.old standing.new }
+    fn step(&mut self, about: &About, standing: &mut Standing, now: u64) -> bool
+        ensures sent { self.old.visit.stage ≡ Stage.Reply → Sends (S.told self.old.stream) (S.told self.new.stream) (owed_of self.old.visit) (owed_of self.new.visit) }
+        ensures said { SaysBy (hosts_of about.now) (S.told self.old.stream) (S.told self.new.stream) self.old.visit.head.items standing.old standing.new }
     {
         if !self.can_go_on() {
             return true;
         }
         match self.visit.stage {
-            Stage::Head | Stage::Done => self.read(standing, now),
+            Stage::Head | Stage::Done => self.read(about, standing, now),
             Stage::Figures => true,
-            Stage::Lines => self.visit.go_on().is_ok(),
+            Stage::Lines => self.visit.go_on(about).is_ok(),
             Stage::Reply => self.write(),
         }
     }
 
     // Reads a piece. What comes behind the request is thrown away.
-    fn read(&mut self, standing: &mut Standing, now: u64) -> bool
-        ensures { SaysBy (S.told self.old.stream) (S.told self.new.stream) self.old.visit.head.items standing.old standing.new }
+    fn read(&mut self, about: &About, standing: &mut Standing, now: u64) -> bool
+        ensures { SaysBy (hosts_of about.now) (S.told self.old.stream) (S.told self.new.stream) self.old.visit.head.items standing.old standing.new }
     {
         let mut buffer = [0u8; PIECE];
         match self.stream.read(&mut buffer) {
             Given::Bytes(count) => {
                 let piece = buffer.get(..count).unwrap_or_default();
-                self.visit.hear(piece, standing, now).is_ok()
+                self.visit.hear(about, piece, standing, now).is_ok()
             }
             Given::Blocked => {
                 self.is_readable = false;
@@ -266,9 +288,10 @@ impl<S: Peer> Caller<S> {
     }
 
     // Writes a part of the reply, and ends the writing side behind the last.
-    fn write(&mut self) -> bool {
-        let owed = self.visit.owed();
-        match self.stream.write(owed.get(..MOST_WRITTEN).unwrap_or(owed)) {
+    fn write(&mut self) -> bool
+        ensures { Sends (S.told self.old.stream) (S.told self.new.stream) (owed_of self.old.visit) (owed_of self.new.visit) }
+    {
+        match self.stream.write(front(self.visit.owed())) {
             Taken::Bytes(0) | Taken::Failed => false,
             Taken::Bytes(count) => {
                 self.visit.took(count);
@@ -282,5 +305,16 @@ impl<S: Peer> Caller<S> {
                 true
             }
         }
+    }
+}
+
+// As many of these bytes as one write has at most.
+fn front(bytes: &[u8]) -> &[u8]
+    ensures { result.now ≡ take 16384 bytes.now }
+{
+    if bytes.len() > MOST_WRITTEN {
+        &bytes[..MOST_WRITTEN]
+    } else {
+        bytes
     }
 }

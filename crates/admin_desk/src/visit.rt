@@ -1,11 +1,12 @@
 //! One request and its reply, in pieces that let others in between.
-ghost use Rattle.std.specs.Prelude.{◌≡◌, ◌<◌, ◌++◌, length, OnOk};
+ghost use Rattle.std.specs.Prelude.{◌≡◌, ◌<◌, ◌++◌, length, drop, OnOk};
+ghost use Rattle.admin_pages.specs.Heads.{OnPart};
 ghost use Rattle.admin_pages.specs.Pages.{left};
 ghost use Rattle.admin_pages.specs.Replies.{reply_text};
-ghost use Rattle.admin_desk.specs.Visits.{AtMostSays, Begins, GoesOn, Hears, IsFresh, Owes, after_reading, is_head, is_page, replied};
+ghost use Rattle.admin_desk.specs.Visits.{AtMostSays, Begins, GoesOn, Hears, IsFresh, IsReadAs, Owes, after_reading, hosts_of, is_head, is_page, owed_of, replied};
 
 use admin_pages::{
-    Gauges, Metrics, Page, Reading, Reply, Standing, append_body, append_reply, read_request,
+    About, Gauges, Metrics, Page, Reading, Reply, Standing, append_body, append_reply, read_request,
 };
 use std::alloc::{AllocError, Global};
 use std::mem;
@@ -71,19 +72,20 @@ impl Visit {
     /// If an allocation failed. The connection is to be closed.
     pub fn hear(
         &mut self,
+        about: &About,
         piece: &[u8],
         standing: &mut Standing,
         uptime: u64,
     ) -> Result<(), AllocError>
-        ensures heard { OnOk result (Hears uptime self.old standing.old piece.now self.new standing.new) }
-        ensures said { AtMostSays (self.old.head.items ++ piece.now) standing.old standing.new }
+        ensures heard { OnOk result (Hears (hosts_of about.now) uptime self.old standing.old piece.now self.new standing.new) }
+        ensures said { AtMostSays (hosts_of about.now) (self.old.head.items ++ piece.now) standing.old standing.new }
         ensures bounded { length self.old.head.items < 8192 → length self.new.head.items < 8192 }
     {
         if !is_head(self.stage) {
             return Ok(());
         }
         self.head.extend_from_slice(piece)?;
-        let reading = read_request(&[], self.head.as_slice());
+        let reading = read_by(about, self.head.as_slice());
         match reply_to(standing, reading) {
             Some(reply) => self.answer(reply, uptime),
             None => Ok(()),
@@ -113,7 +115,7 @@ impl Visit {
     ///
     /// If an allocation failed. The connection is to be closed.
     pub fn begin_page(&mut self, metrics: &Metrics, gauges: &Gauges) -> Result<(), AllocError>
-        ensures { OnOk result (Begins metrics.now gauges.now self.old self.new) }
+        ensures { OnOk result ((about : About) → Begins about metrics.now gauges.now self.old self.new) }
     {
         match Box::new(self.alloc, Page::new(metrics, gauges)) {
             Ok(page) => {
@@ -130,13 +132,13 @@ impl Visit {
     /// # Errors
     ///
     /// If an allocation failed. The connection is to be closed.
-    pub fn go_on(&mut self) -> Result<(), AllocError>
-        ensures { OnOk result (GoesOn self.old self.new) }
+    pub fn go_on(&mut self, about: &About) -> Result<(), AllocError>
+        ensures { OnOk result (GoesOn about.now self.old self.new) }
     {
         let Some(page) = &mut self.page else {
             return Ok(());
         };
-        write_lines(page, &mut self.lines)?;
+        write_lines(about, page, &mut self.lines)?;
         if page.is_whole() {
             self.page = None;
             self.finish()?;
@@ -156,12 +158,16 @@ impl Visit {
     }
 
     /// What the peer is still to take.
-    pub fn owed(&self) -> &[u8] {
+    pub fn owed(&self) -> &[u8]
+        ensures { result.now ≡ owed_of self.now }
+    {
         self.reply.get(self.taken..).unwrap_or_default()
     }
 
     /// The peer took so many bytes.
-    pub fn took(&mut self, count: usize) {
+    pub fn took(&mut self, count: usize)
+        ensures { owed_of self.new ≡ drop count (owed_of self.old) }
+    {
         self.taken = self.taken.saturating_add(count).min(self.reply.len());
         if self.stage == Stage::Reply && self.taken == self.reply.len() {
             self.stage = Stage::Done;
@@ -181,6 +187,14 @@ fn is_page(reply: Reply) -> bool
     matches!(reply, Reply::Metrics)
 }
 
+// What bytes come to, at this server.
+fn read_by(about: &About, bytes: &[u8]) -> Reading
+    ensures read { IsReadAs (hosts_of about.now) bytes.now result }
+    ensures part { OnPart result (length bytes.now < 8192) }
+{
+    read_request(&about.hosts, bytes)
+}
+
 // The reply to what came, where it is whole, and what is said by it.
 fn reply_to(standing: &mut Standing, reading: Reading) -> Option<Reply>
     ensures reply { result ≡ replied standing.old reading }
@@ -194,11 +208,11 @@ fn reply_to(standing: &mut Standing, reading: Reading) -> Option<Reply>
 }
 
 // Writes the next lines of a page.
-fn write_lines(page: &mut Page, lines: &mut Vec<u8>) -> Result<(), AllocError>
-    ensures { OnOk result (lines.new.items ++ left page.new ≡ lines.old.items ++ left page.old) }
+fn write_lines(about: &About, page: &mut Page, lines: &mut Vec<u8>) -> Result<(), AllocError>
+    ensures { OnOk result (lines.new.items ++ left about.now page.new ≡ lines.old.items ++ left about.now page.old) }
 {
     'lines: for _ in 0..LINES {
-        page.append_line(lines)?;
+        page.append_line(about, lines)?;
     }
     Ok(())
 }

@@ -3,6 +3,7 @@ use Rattle.std.proofs.Common.{◌≡◌, ℕ, ◌+◌, ◌-◌, ◌^◌, ◌<◌
 use Rattle.std.specs.Prelude.{zero, suc, min, sum, nat_le, if◌then◌else◌, Some, None, slice_get}
 use Rattle.std.proofs.lemmas.Bool.Decides.{nat_tests}
 use Rattle.std.proofs.lemmas.List.{drop_all}
+use Rattle.admin_pages.specs.declared.about.About.{About}
 use Rattle.admin_pages.specs.declared.counted.Metrics.{Metrics}
 use Rattle.admin_pages.specs.declared.families.Family.{Family}
 use Rattle.admin_pages.specs.declared.families.Shape.{Shape}
@@ -16,35 +17,35 @@ at_metric [] i f h = absurd cc
 at_metric (x ∷ xs) zero f h = grind arith
 at_metric (x ∷ xs) (suc i) f h = simp add-one (simp add-one at (at_metric xs i f h))
 
-starts : (m : Metrics) (g : Gauges) (fs : List Family) → left_of m g 0 fs ≡ sheet m g fs
-starts m g [] = refl
-starts m g (f ∷ fs) =
+starts : (a : About) (m : Metrics) (g : Gauges) (fs : List Family) → left_of a m g 0 fs ≡ sheet a m g fs
+starts a m g [] = refl
+starts a m g (f ∷ fs) =
     let e : rows_of (shape_of f) g.tenants - 0 ≡ rows_of (shape_of f) g.tenants = omega arith in
-    ap (λ (n : ℕ). rows m g f 0 n ++ sheet m g fs) e
+    ap (λ (n : ℕ). rows a m g f 0 n ++ sheet a m g fs) e
 
-next_row : (m : Metrics) (g : Gauges) (f : Family) (place : ℕ) (fs : List Family) → place < rows_of (shape_of f) g.tenants →
-    left_of m g place (f ∷ fs) ≡ row m g f place ++ left_of m g (place + 1) (f ∷ fs)
-next_row m g f place fs l =
+next_row : (a : About) (m : Metrics) (g : Gauges) (f : Family) (place : ℕ) (fs : List Family) → place < rows_of (shape_of f) g.tenants →
+    left_of a m g place (f ∷ fs) ≡ row a m g f place ++ left_of a m g (place + 1) (f ∷ fs)
+next_row a m g f place fs l =
     let count : ℕ = rows_of (shape_of f) g.tenants in
     let e : count - place ≡ suc (count - (place + 1)) = omega arith in
-    ap (λ (n : ℕ). rows m g f place n ++ sheet m g fs) e ∙ append_assoc (row m g f place) (rows m g f (place + 1) (count - (place + 1))) (sheet m g fs)
+    ap (λ (n : ℕ). rows a m g f place n ++ sheet a m g fs) e ∙ append_assoc (row a m g f place) (rows a m g f (place + 1) (count - (place + 1))) (sheet a m g fs)
 
-next_metric : (m : Metrics) (g : Gauges) (f : Family) (place : ℕ) (fs : List Family) → rows_of (shape_of f) g.tenants ≤ place → left_of m g place (f ∷ fs) ≡ left_of m g 0 fs
-next_metric m g f place fs l =
+next_metric : (a : About) (m : Metrics) (g : Gauges) (f : Family) (place : ℕ) (fs : List Family) → rows_of (shape_of f) g.tenants ≤ place → left_of a m g place (f ∷ fs) ≡ left_of a m g 0 fs
+next_metric a m g f place fs l =
     let e : rows_of (shape_of f) g.tenants - place ≡ 0 = omega arith in
-    ap (λ (n : ℕ). rows m g f place n ++ sheet m g fs) e ∙ sym (starts m g fs)
+    ap (λ (n : ℕ). rows a m g f place n ++ sheet a m g fs) e ∙ sym (starts a m g fs)
 
-pub row_left : (p : Page) (f : Family) → slice_get families p.family ≡ Some f → p.place < rows_of (shape_of f) p.gauges.tenants →
-    left p ≡ row p.metrics p.gauges f p.place ++ left (record p { place = p.place + 1 })
-row_left p f h l =
+pub row_left : (a : About) (p : Page) (f : Family) → slice_get families p.family ≡ Some f → p.place < rows_of (shape_of f) p.gauges.tenants →
+    left a p ≡ row a p.metrics p.gauges f p.place ++ left a (record p { place = p.place + 1 })
+row_left a p f h l =
     let d : drop p.family families ≡ f ∷ drop (p.family + 1) families = at_metric families p.family f h in
-    ap (left_of p.metrics p.gauges p.place) d ∙ next_row p.metrics p.gauges f p.place (drop (p.family + 1) families) l
-    ∙ ap (λ (fs : List Family). row p.metrics p.gauges f p.place ++ left_of p.metrics p.gauges (p.place + 1) fs) (sym d)
+    ap (left_of a p.metrics p.gauges p.place) d ∙ next_row a p.metrics p.gauges f p.place (drop (p.family + 1) families) l
+    ∙ ap (λ (fs : List Family). row a p.metrics p.gauges f p.place ++ left_of a p.metrics p.gauges (p.place + 1) fs) (sym d)
 
-pub metric_left : (p : Page) (f : Family) → slice_get families p.family ≡ Some f → rows_of (shape_of f) p.gauges.tenants ≤ p.place →
-    left p ≡ left (record p { family = p.family + 1; place = 0 })
-metric_left p f h l =
-    ap (left_of p.metrics p.gauges p.place) (at_metric families p.family f h) ∙ next_metric p.metrics p.gauges f p.place (drop (p.family + 1) families) l
+pub metric_left : (a : About) (p : Page) (f : Family) → slice_get families p.family ≡ Some f → rows_of (shape_of f) p.gauges.tenants ≤ p.place →
+    left a p ≡ left a (record p { family = p.family + 1; place = 0 })
+metric_left a p f h l =
+    ap (left_of a p.metrics p.gauges p.place) (at_metric families p.family f h) ∙ next_metric a p.metrics p.gauges f p.place (drop (p.family + 1) families) l
 
 pub moved_row : (p : Page) (f : Family) → slice_get families p.family ≡ Some f → p.place < rows_of (shape_of f) p.gauges.tenants → moved p ≡ record p { place = p.place + 1 }
 moved_row p f h l =
@@ -65,15 +66,15 @@ all_counted counts all i l fits h =
     omega arith
 
 -- a row behind what is written is off what is left
-pub row_joins : (out out' : List ℕ) (p : Page) (f : Family) (s : Shape) (n : ℕ) → Some f ≡ slice_get families p.family → s ≡ shape_of f → n ≡ rows_of s p.gauges.tenants → p.place < n →
-    out' ≡ out ++ row p.metrics p.gauges f p.place → out' ++ left (record p { place = p.place + 1 }) ≡ out ++ left p
-row_joins out out' p f s n h shape count l e =
+pub row_joins : (a : About) (out out' : List ℕ) (p : Page) (f : Family) (s : Shape) (n : ℕ) → Some f ≡ slice_get families p.family → s ≡ shape_of f → n ≡ rows_of s p.gauges.tenants → p.place < n →
+    out' ≡ out ++ row a p.metrics p.gauges f p.place → out' ++ left a (record p { place = p.place + 1 }) ≡ out ++ left a p
+row_joins a out out' p f s n h shape count l e =
     let all : n ≡ rows_of (shape_of f) p.gauges.tenants = count ∙ ap (λ (s : Shape). rows_of s p.gauges.tenants) shape in
     let within : p.place < rows_of (shape_of f) p.gauges.tenants = omega arith in
-    ap (λ (xs : List ℕ). xs ++ left (record p { place = p.place + 1 })) e
-    ∙ append_assoc out (row p.metrics p.gauges f p.place) (left (record p { place = p.place + 1 }))
-    ∙ ap (λ (xs : List ℕ). out ++ xs) (sym (row_left p f (sym h) within))
+    ap (λ (xs : List ℕ). xs ++ left a (record p { place = p.place + 1 })) e
+    ∙ append_assoc out (row a p.metrics p.gauges f p.place) (left a (record p { place = p.place + 1 }))
+    ∙ ap (λ (xs : List ℕ). out ++ xs) (sym (row_left a p f (sym h) within))
 
 -- behind the last metric nothing is left
-pub none_left : (p : Page) → length families ≤ p.family → left p ≡ []
-none_left p l = ap (left_of p.metrics p.gauges p.place) (drop_all p.family families l)
+pub none_left : (a : About) (p : Page) → length families ≤ p.family → left a p ≡ []
+none_left a p l = ap (left_of a p.metrics p.gauges p.place) (drop_all p.family families l)

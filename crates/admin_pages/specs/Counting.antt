@@ -25,6 +25,7 @@ none = record {
   micros = 0;
   units = 0;
   tenant_units = replicate 256 0;
+  tenant_refused = replicate 256 0;
   slow = 0;
 }
 
@@ -50,7 +51,7 @@ grown_of counts (Some place) more = grown counts place more
 abbrev pub bit : Bool → ℕ
 bit b = if b then 1 else 0
 
--- one request more: under its command and status, its tenant if it has one, its time and its units, and as a slow query if it is one
+-- one request more: under its command and status, its tenant if it has one, its time, its units and its refused bytes, and as a slow query if it is one
 abbrev pub after_request : Metrics → Served → Metrics
 after_request m s = record m {
   requests = raised m.requests (cell s.command s.status);
@@ -59,5 +60,6 @@ after_request m s = record m {
   micros = added m.micros s.micros;
   units = added m.units s.units;
   tenant_units = grown_of m.tenant_units s.tenant s.units;
+  tenant_refused = grown_of m.tenant_refused s.tenant s.refused;
   slow = added m.slow (bit s.is_slow);
 }

@@ -3,11 +3,12 @@ use Rattle.std.specs.Prelude.{ℕ, ◌&&◌, not, Bool, true, List, [], ◌∷�
 use Rattle.std.specs.List.{list_any}
 use Rattle.std.specs.Str.{bytes_eq}
 use Rattle.admin_pages.specs.declared.families.Family.{Family}
-use Rattle.admin_pages.specs.declared.families.Family.TheVariants.{Uptime, Ready, Open, OpenLimit, Refused, Waiting, Buffered, Limit, Connections, Read, Written, Dropped, Requests, Times, Units, Slow, TenantRequests, TenantUnits, TenantCollections, TenantDocuments, TenantTexts, TenantMemory, TenantWaiting}
+use Rattle.admin_pages.specs.declared.families.Family.TheVariants.{Build, Uptime, Ready, Open, OpenLimit, Refused, Waiting, Buffered, Limit, Connections, Read, Written, Dropped, Lost, Requests, Times, Units, Slow, TenantRequests, TenantUnits, TenantRefused, TenantCollections, TenantDocuments, TenantTexts, TenantMemory, TenantWaiting}
 use Rattle.admin_pages.specs.declared.families.Shape.{Shape}
 use Rattle.admin_pages.specs.declared.families.Shape.TheVariants as shape
 
 abbrev pub name_of : Family → List ℕ
+name_of Build = codes "path_server_build_info"
 name_of Uptime = codes "path_server_uptime_seconds"
 name_of Ready = codes "path_server_ready"
 name_of Open = codes "path_server_connections_open"
@@ -20,12 +21,14 @@ name_of Connections = codes "path_server_connections_total"
 name_of Read = codes "path_server_read_bytes_total"
 name_of Written = codes "path_server_written_bytes_total"
 name_of Dropped = codes "path_server_dropped_lines_total"
+name_of Lost = codes "path_server_lost_lines_total"
 name_of Requests = codes "path_server_requests_total"
 name_of Times = codes "path_server_request_seconds"
 name_of Units = codes "path_server_charged_units_total"
 name_of Slow = codes "path_server_slow_queries_total"
 name_of TenantRequests = codes "path_server_tenant_requests_total"
 name_of TenantUnits = codes "path_server_tenant_charged_units_total"
+name_of TenantRefused = codes "path_server_tenant_refused_bytes_total"
 name_of TenantCollections = codes "path_server_tenant_collections"
 name_of TenantDocuments = codes "path_server_tenant_documents"
 name_of TenantTexts = codes "path_server_tenant_text_bytes"
@@ -33,6 +36,7 @@ name_of TenantMemory = codes "path_server_tenant_memory_bytes"
 name_of TenantWaiting = codes "path_server_tenant_connections_waiting"
 
 abbrev pub help_of : Family → List ℕ
+help_of Build = codes "The program: its version, its commit, whether it was proved, and its kit."
 help_of Uptime = codes "Seconds since the start."
 help_of Ready = codes "Whether it was said that the server is ready."
 help_of Open = codes "Connections that are open."
@@ -45,12 +49,14 @@ help_of Connections = codes "Connections that were accepted."
 help_of Read = codes "Bytes read."
 help_of Written = codes "Bytes written."
 help_of Dropped = codes "Lines of the log that were dropped."
+help_of Lost = codes "Lines of the log that could not be written."
 help_of Requests = codes "Requests by command and status."
 help_of Times = codes "How long requests took."
 help_of Units = codes "Units that queries were charged."
 help_of Slow = codes "Queries that took longer than --slow."
-help_of TenantRequests = codes "Requests of a tenant, by its number in the list of keys."
+help_of TenantRequests = codes "Requests of a tenant."
 help_of TenantUnits = codes "Units that a tenant's queries were charged."
+help_of TenantRefused = codes "Bytes of a tenant's requests that a limit refused."
 help_of TenantCollections = codes "Collections of a tenant."
 help_of TenantDocuments = codes "Documents of a tenant."
 help_of TenantTexts = codes "Bytes of texts of a tenant."
@@ -58,6 +64,7 @@ help_of TenantMemory = codes "Bytes of memory that the documents of a tenant tak
 help_of TenantWaiting = codes "Connections that wait for memory, of the tenant that was answered on each last."
 
 abbrev pub kind_of : Family → List ℕ
+kind_of Build = codes "gauge"
 kind_of Uptime = codes "gauge"
 kind_of Ready = codes "gauge"
 kind_of Open = codes "gauge"
@@ -70,12 +77,14 @@ kind_of Connections = codes "counter"
 kind_of Read = codes "counter"
 kind_of Written = codes "counter"
 kind_of Dropped = codes "counter"
+kind_of Lost = codes "counter"
 kind_of Requests = codes "counter"
 kind_of Times = codes "histogram"
 kind_of Units = codes "counter"
 kind_of Slow = codes "counter"
 kind_of TenantRequests = codes "counter"
 kind_of TenantUnits = codes "counter"
+kind_of TenantRefused = codes "counter"
 kind_of TenantCollections = codes "gauge"
 kind_of TenantDocuments = codes "gauge"
 kind_of TenantTexts = codes "gauge"
@@ -83,6 +92,7 @@ kind_of TenantMemory = codes "gauge"
 kind_of TenantWaiting = codes "gauge"
 
 abbrev pub shape_of : Family → Shape
+shape_of Build = shape.Build
 shape_of Uptime = shape.One
 shape_of Ready = shape.One
 shape_of Open = shape.One
@@ -95,12 +105,14 @@ shape_of Connections = shape.One
 shape_of Read = shape.One
 shape_of Written = shape.One
 shape_of Dropped = shape.One
+shape_of Lost = shape.One
 shape_of Requests = shape.Cells
 shape_of Times = shape.Times
 shape_of Units = shape.One
 shape_of Slow = shape.One
 shape_of TenantRequests = shape.Tenants
 shape_of TenantUnits = shape.Tenants
+shape_of TenantRefused = shape.Tenants
 shape_of TenantCollections = shape.Tenants
 shape_of TenantDocuments = shape.Tenants
 shape_of TenantTexts = shape.Tenants
@@ -109,11 +121,12 @@ shape_of TenantWaiting = shape.Tenants
 
 -- in the order in which they are told
 unfoldable pub families : List Family
-families = Uptime ∷ Ready ∷ Open ∷ OpenLimit ∷ Refused ∷ Waiting ∷ Buffered ∷ Limit ∷ Connections ∷ Read ∷ Written ∷ Dropped ∷ Requests ∷ Times ∷ Units ∷ Slow ∷ TenantRequests ∷ TenantUnits ∷ TenantCollections ∷ TenantDocuments ∷ TenantTexts ∷ TenantMemory ∷ TenantWaiting ∷ []
+families = Build ∷ Uptime ∷ Ready ∷ Open ∷ OpenLimit ∷ Refused ∷ Waiting ∷ Buffered ∷ Limit ∷ Connections ∷ Read ∷ Written ∷ Dropped ∷ Lost ∷ Requests ∷ Times ∷ Units ∷ Slow ∷ TenantRequests ∷ TenantUnits ∷ TenantRefused ∷ TenantCollections ∷ TenantDocuments ∷ TenantTexts ∷ TenantMemory ∷ TenantWaiting ∷ []
 
 -- one sample, one for each command and status, one for each bound of the times and three more, one for each tenant
 abbrev pub rows_of : Shape → (tenants : ℕ) → ℕ
 rows_of shape.One tenants = 1
+rows_of shape.Build tenants = 1
 rows_of shape.Cells tenants = 225
 rows_of shape.Times tenants = 19
 rows_of shape.Tenants tenants = tenants

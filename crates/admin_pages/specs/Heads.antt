@@ -25,7 +25,7 @@ field_is_host field = is_host field.0
 abbrev pub field_brings_body : List ℕ × List ℕ → Bool
 field_brings_body field = brings_body field.0 field.1
 
-abbrev pub field_is_elsewhere : (own : List ℕ) → List ℕ × List ℕ → Bool
+abbrev pub field_is_elsewhere : (own : List (List ℕ)) → List ℕ × List ℕ → Bool
 field_is_elsewhere own field = is_elsewhere own field.0 field.1
 
 abbrev pub reading_of : Result asked.Asked Refusal → Reading
@@ -43,8 +43,8 @@ judged_of minor hosts is_elsewhere has_body method target =
     else if has_body then Refused HasBody
     else reading_of (route method target)
 
--- what a head comes to, at a server that was given this name
-abbrev pub judged : (own : List ℕ) → RequestHead → Reading
+-- what a head comes to, at a server that was given these names
+abbrev pub judged : (own : List (List ℕ)) → RequestHead → Reading
 judged own h =
     judged_of h.minor (count_by field_is_host (map name_and_value h.fields)) (list_any (field_is_elsewhere own) (map name_and_value h.fields))
     (list_any field_brings_body (map name_and_value h.fields)) h.method h.target

@@ -1,7 +1,7 @@
 -- Which requests a browser may send for a web page of elsewhere (RFC 6454, section 7; Fetch Metadata Request Headers, section 2; RFC 9112, section 3.2).
-use Rattle.std.specs.Prelude.{ℕ, ◌==◌, ◌&&◌, ◌||◌, not, Bool, List, codes, length, take, nat_lt, slice_index}
+use Rattle.std.specs.Prelude.{ℕ, ◌==◌, ◌&&◌, ◌||◌, not, Bool, List, map, String, string_bytes, codes, length, take, nat_lt, slice_index}
 use Rattle.std.specs.Char.{is_ascii_digit}
-use Rattle.std.specs.List.{list_all}
+use Rattle.std.specs.List.{list_all, list_any}
 use Rattle.std.specs.Str.{bytes_eq, str_eq_ignore_ascii_case}
 
 abbrev pub is_host : List ℕ → Bool
@@ -22,14 +22,21 @@ is_named value name =
     || (nat_lt (length name) (length value)
     && (slice_index value (length name) == 58 && str_eq_ignore_ascii_case (take (length name) value) name))
 
--- `own` is the name that the server was given, or nothing
-abbrev pub is_own_host : (own value : List ℕ) → Bool
-is_own_host own value = is_address value || (is_named value (codes "localhost") || (nat_lt 0 (length own) && is_named value own))
+abbrev pub texts : {A : Type 0} → List (String A) → List (List ℕ)
+texts names = map string_bytes names
+
+-- a name that the server was given, unless it is empty
+abbrev pub is_given : (value name : List ℕ) → Bool
+is_given value name = nat_lt 0 (length name) && is_named value name
+
+-- an address, `localhost`, or one of the names that the server was given
+abbrev pub is_own_host : (own : List (List ℕ)) → (value : List ℕ) → Bool
+is_own_host own value = is_address value || (is_named value (codes "localhost") || list_any (is_given value) own)
 
 abbrev pub is_own_site : List ℕ → Bool
 is_own_site value = bytes_eq value (codes "none") || bytes_eq value (codes "same-origin")
 
-abbrev pub is_elsewhere : (own name value : List ℕ) → Bool
+abbrev pub is_elsewhere : (own : List (List ℕ)) → (name value : List ℕ) → Bool
 is_elsewhere own name value =
     (is_host name && not (is_own_host own value))
     || (str_eq_ignore_ascii_case name (codes "origin")

@@ -1,5 +1,5 @@
--- The names in labels: of the protocol's commands and statuses, and the bounds of times in seconds.
-use Rattle.std.specs.Prelude.{ℕ, List, [], ◌∷◌, codes, unwrap_or, slice_get}
+-- The values of labels (Prometheus' text format, version 0.0.4): names of the protocol's commands and statuses, the bounds of times in seconds, and names that were given.
+use Rattle.std.specs.Prelude.{ℕ, ◌==◌, List, [], ◌∷◌, String, string_bytes, codes, decimal, flat_map, if◌then◌else◌, Option, Some, None, unwrap_or, slice_get}
 
 -- a command, by its byte; 0 stands for none
 abbrev pub command_names : List (List ℕ)
@@ -19,3 +19,18 @@ bound_names = codes "0.0001" ∷ codes "0.00025" ∷ codes "0.0005" ∷ codes "0
 
 abbrev pub bound_name : ℕ → List ℕ
 bound_name place = unwrap_or (slice_get bound_names place) (codes "+Inf")
+
+-- a backslash stands before a backslash and a double quote, and with an n for a line feed
+abbrev pub escaped_byte : ℕ → List ℕ
+escaped_byte byte = if byte == 92 then 92 ∷ 92 ∷ [] else if byte == 34 then 92 ∷ 34 ∷ [] else if byte == 10 then 92 ∷ 110 ∷ [] else byte ∷ []
+
+abbrev pub escaped : List ℕ → List ℕ
+escaped text = flat_map escaped_byte text
+
+-- what a tenant is called, or else its place
+abbrev pub name_or_place : {A : Type 0} → Option (String A) → ℕ → List ℕ
+name_or_place None place = decimal place
+name_or_place (Some name) place = escaped (string_bytes name)
+
+abbrev pub tenant_name : {A : Type 0} → List (String A) → ℕ → List ℕ
+tenant_name names place = name_or_place (slice_get names place) place

@@ -34,6 +34,8 @@ pub struct Served {
     pub micros: u64,
     /// The units that it was charged.
     pub units: u64,
+    /// Its bytes, if a limit refused it, and else 0.
+    pub refused: u64,
     /// Whether it was a slow query.
     pub is_slow: bool,
 }
@@ -53,6 +55,8 @@ pub struct Metrics {
     pub units: u64,
     /// Those of each tenant.
     pub tenant_units: [u64; TENANTS],
+    /// The bytes of each tenant's requests that a limit refused.
+    pub tenant_refused: [u64; TENANTS],
     /// Slow queries.
     pub slow: u64,
 }
@@ -69,11 +73,13 @@ impl Metrics {
             micros: 0,
             units: 0,
             tenant_units: [0; TENANTS],
+            tenant_refused: [0; TENANTS],
             slow: 0,
         }
     }
 
-    /// Counts a request once: under its command and status, its tenant if it has one, its time and its units, and as a slow query if it is one.
+    /// Counts a request once: under its command and status, its tenant if it has one, and its time. Its units and its refused bytes are added. It is
+    /// counted as a slow query if it is one.
     pub fn count(&mut self, served: &Served)
         ensures { self.new ≡ after_request self.old served.now }
     {
@@ -82,6 +88,7 @@ impl Metrics {
         if let Some(tenant) = served.tenant {
             raise(&mut self.tenants, tenant);
             grow(&mut self.tenant_units, tenant, served.units);
+            grow(&mut self.tenant_refused, tenant, served.refused);
         }
         let place = time_place(served.micros);
         self.times[place] = self.times[place].saturating_add(1);

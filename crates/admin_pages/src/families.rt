@@ -5,6 +5,8 @@ ghost use Rattle.admin_pages.specs.Families.{families, help_of, kind_of, name_of
 /// A metric with all its samples.
 #[derive(Clone, Copy, Debug, PartialEq, Eq)]
 pub enum Family {
+    /// What the program is.
+    Build,
     /// Seconds since the start.
     Uptime,
     /// Whether it was said that the server is ready.
@@ -29,6 +31,8 @@ pub enum Family {
     Written,
     /// Lines of the log that were dropped.
     Dropped,
+    /// Lines of the log that could not be written.
+    Lost,
     /// Requests by command and status.
     Requests,
     /// How long requests took.
@@ -37,10 +41,12 @@ pub enum Family {
     Units,
     /// Queries that took longer than was told.
     Slow,
-    /// Requests of a tenant, by its number in the list of keys.
+    /// Requests of a tenant.
     TenantRequests,
     /// Units that a tenant's requests were charged.
     TenantUnits,
+    /// Bytes of a tenant's requests that a limit refused.
+    TenantRefused,
     /// Collections of a tenant.
     TenantCollections,
     /// Documents of a tenant.
@@ -58,6 +64,8 @@ pub enum Family {
 pub(crate) enum Shape {
     /// There is one.
     One,
+    /// There is one, and its labels tell what the program is.
+    Build,
     /// Each command and status.
     Cells,
     /// Each bound of the times, all times, the sum of them, and how many there are.
@@ -72,6 +80,7 @@ impl Family {
         ensures { result.now ≡ name_of self }
     {
         match self {
+            Family::Build => "path_server_build_info",
             Family::Uptime => "path_server_uptime_seconds",
             Family::Ready => "path_server_ready",
             Family::Open => "path_server_connections_open",
@@ -84,12 +93,14 @@ impl Family {
             Family::Read => "path_server_read_bytes_total",
             Family::Written => "path_server_written_bytes_total",
             Family::Dropped => "path_server_dropped_lines_total",
+            Family::Lost => "path_server_lost_lines_total",
             Family::Requests => "path_server_requests_total",
             Family::Times => "path_server_request_seconds",
             Family::Units => "path_server_charged_units_total",
             Family::Slow => "path_server_slow_queries_total",
             Family::TenantRequests => "path_server_tenant_requests_total",
             Family::TenantUnits => "path_server_tenant_charged_units_total",
+            Family::TenantRefused => "path_server_tenant_refused_bytes_total",
             Family::TenantCollections => "path_server_tenant_collections",
             Family::TenantDocuments => "path_server_tenant_documents",
             Family::TenantTexts => "path_server_tenant_text_bytes",
@@ -103,6 +114,8 @@ impl Family {
         ensures { result.now ≡ help_of self }
     {
         match self {
+            Family::Build =>
+                "The program: its version, its commit, whether it was proved, and its kit.",
             Family::Uptime => "Seconds since the start.",
             Family::Ready => "Whether it was said that the server is ready.",
             Family::Open => "Connections that are open.",
@@ -117,12 +130,14 @@ impl Family {
             Family::Read => "Bytes read.",
             Family::Written => "Bytes written.",
             Family::Dropped => "Lines of the log that were dropped.",
+            Family::Lost => "Lines of the log that could not be written.",
             Family::Requests => "Requests by command and status.",
             Family::Times => "How long requests took.",
             Family::Units => "Units that queries were charged.",
             Family::Slow => "Queries that took longer than --slow.",
-            Family::TenantRequests => "Requests of a tenant, by its number in the list of keys.",
+            Family::TenantRequests => "Requests of a tenant.",
             Family::TenantUnits => "Units that a tenant's queries were charged.",
+            Family::TenantRefused => "Bytes of a tenant's requests that a limit refused.",
             Family::TenantCollections => "Collections of a tenant.",
             Family::TenantDocuments => "Documents of a tenant.",
             Family::TenantTexts => "Bytes of texts of a tenant.",
@@ -142,13 +157,16 @@ impl Family {
             | Family::Read
             | Family::Written
             | Family::Dropped
+            | Family::Lost
             | Family::Requests
             | Family::Units
             | Family::Slow
             | Family::TenantRequests
-            | Family::TenantUnits => "counter",
+            | Family::TenantUnits
+            | Family::TenantRefused => "counter",
             Family::Times => "histogram",
-            Family::Uptime
+            Family::Build
+            | Family::Uptime
             | Family::Ready
             | Family::Open
             | Family::OpenLimit
@@ -181,12 +199,15 @@ impl Family {
             | Family::Read
             | Family::Written
             | Family::Dropped
+            | Family::Lost
             | Family::Units
             | Family::Slow => Shape::One,
+            Family::Build => Shape::Build,
             Family::Requests => Shape::Cells,
             Family::Times => Shape::Times,
             Family::TenantRequests
             | Family::TenantUnits
+            | Family::TenantRefused
             | Family::TenantCollections
             | Family::TenantDocuments
             | Family::TenantTexts
@@ -197,7 +218,8 @@ impl Family {
 }
 
 /// All metrics, in the order in which they are told.
-const FAMILIES: [Family; 23] = [
+const FAMILIES: [Family; 26] = [
+    Family::Build,
     Family::Uptime,
     Family::Ready,
     Family::Open,
@@ -210,12 +232,14 @@ const FAMILIES: [Family; 23] = [
     Family::Read,
     Family::Written,
     Family::Dropped,
+    Family::Lost,
     Family::Requests,
     Family::Times,
     Family::Units,
     Family::Slow,
     Family::TenantRequests,
     Family::TenantUnits,
+    Family::TenantRefused,
     Family::TenantCollections,
     Family::TenantDocuments,
     Family::TenantTexts,
@@ -228,7 +252,7 @@ pub(crate) fn rows_of(shape: Shape, tenants: usize) -> usize
     ensures { result ≡ rows_of shape tenants }
 {
     match shape {
-        Shape::One => 1,
+        Shape::One | Shape::Build => 1,
         Shape::Cells => 225,
         Shape::Times => 19,
         Shape::Tenants => tenants,

@@ -5,6 +5,7 @@ ghost use Rattle.std.specs.List.{count_by, list_any};
 ghost use Rattle.httparse.specs.Grammar.{HasNoRequest, MayBecomeRequest, ReadsRequest, RequestHead};
 ghost use Rattle.httparse.specs.Spans.{IsHeaderWithin, IsRequestAt, IsRequestWithin, header_bytes};
 ghost use Rattle.admin_pages.specs.Heads.{brings_body, field_brings_body, field_is_elsewhere, field_is_host, judged, reading_of, OnPart};
+ghost use Rattle.admin_pages.specs.Hosts.{texts};
 
 use crate::hosts::{is_elsewhere, is_host};
 use crate::routes::{Asked, Refusal, route};
@@ -31,9 +32,9 @@ const FIELDS: usize = 64;
 /// Reads the first request of a connection from the bytes that have come so far (RFC 9112). A head may have 64 fields, and 8,192 bytes that do
 /// not make it whole; one that can still come to be whole within these bounds is waited for. A request has exactly one Host (section 3.2), where it is of HTTP/1.0 at most one, and no body.
 /// It is forbidden if a browser sends it for a web page of elsewhere. Then it has an Origin, a Sec-Fetch-Site that is neither `none` nor `same-origin`, or
-/// another Host. Its own are addresses, `localhost` and `own`, the name that the server was given.
-pub fn read_request(own: &[u8], bytes: &[u8]) -> Reading
-    ensures whole { (h : RequestHead) (rest : List ℕ) → ReadsRequest bytes.now h rest → length h.fields ≤ 64 → result ≡ judged own.now h }
+/// another Host. Its own are addresses, `localhost` and `own`, the names that the server was given.
+pub fn read_request(own: &[String], bytes: &[u8]) -> Reading
+    ensures whole { (h : RequestHead) (rest : List ℕ) → ReadsRequest bytes.now h rest → length h.fields ≤ 64 → result ≡ judged (texts own.now) h }
     ensures waits { (more : List ℕ) (h : RequestHead) (rest : List ℕ) → ReadsRequest (bytes.now ++ more) h rest → length h.fields ≤ 64 → length bytes.now < 8192 → HasNoRequest bytes.now → result ≡ Part }
     ensures part { OnPart result ((length bytes.now < 8192) × HasNoRequest bytes.now × MayBecomeRequest bytes.now) }
 {
@@ -50,13 +51,13 @@ pub fn read_request(own: &[u8], bytes: &[u8]) -> Reading
 }
 
 fn judge(
-    own: &[u8],
+    own: &[String],
     bytes: &[u8],
     head: &RequestSpans,
     headers: &[HeaderSpan],
 ) -> Result<Asked, Refusal>
     requires within { IsRequestWithin bytes.now headers.now head.now }
-    ensures { (h : RequestHead) → IsRequestAt bytes.now headers.now head.now h → reading_of result ≡ judged own.now h }
+    ensures { (h : RequestHead) → IsRequestAt bytes.now headers.now head.now h → reading_of result ≡ judged (texts own.now) h }
 {
     let headers = &headers[..head.headers];
     let fields = tell_fields(bytes, headers);
@@ -99,9 +100,9 @@ fn tell_fields(bytes: &[u8], headers: &[HeaderSpan]) -> Told
     Told { hosts, has_body }
 }
 
-fn comes_from_elsewhere(own: &[u8], bytes: &[u8], headers: &[HeaderSpan]) -> bool
+fn comes_from_elsewhere(own: &[String], bytes: &[u8], headers: &[HeaderSpan]) -> bool
     requires { All (IsHeaderWithin (length bytes.now)) headers.now }
-    ensures { result ≡ list_any (field_is_elsewhere own.now) (map (header_bytes bytes.now) headers.now) }
+    ensures { result ≡ list_any (field_is_elsewhere (texts own.now)) (map (header_bytes bytes.now) headers.now) }
 {
     for header in headers {
         if is_elsewhere(own, header.name.of(bytes), header.value.of(bytes)) {

@@ -2,6 +2,7 @@
 //! Prometheus. Nothing here opens a socket or reads a clock.
 #![tactic(auto)]
 
+mod about;
 mod counted;
 mod families;
 mod heads;
@@ -14,6 +15,7 @@ mod replies;
 mod routes;
 mod standing;
 
+pub use about::About;
 pub use counted::{Metrics, Served};
 pub use families::Family;
 pub use heads::{Reading, read_request};

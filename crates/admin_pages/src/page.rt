@@ -1,12 +1,14 @@
 //! The page of metrics, in the text format of Prometheus (version 0.0.4).
 ghost use Rattle.std.specs.Prelude.{◌≡◌, ◌++◌, [], slice_index, IsTrue, OnErr, OnOk};
 ghost use Rattle.admin_pages.specs.declared.families.Shape.TheVariants.{Tenants};
-ghost use Rattle.admin_pages.specs.Pages.{head, is_whole, label, left, moved, page, row, sample, start, suffix, time_value, total, value, value_end};
+ghost use Rattle.admin_pages.specs.Labels.{escaped, tenant_name};
+ghost use Rattle.admin_pages.specs.Pages.{build_label, head, is_whole, label, left, moved, page, row, sample, start, suffix, time_value, total, value, value_end};
 
+use crate::about::About;
 use crate::counted::{Metrics, TENANTS};
 use crate::families::{Family, Shape, family_at, family_count, rows_of};
 use crate::labels::{bound_name, command_name, status_name};
-use crate::pieces::{append_all, append_number};
+use crate::pieces::{append_all, append_escaped, append_number};
 use std::alloc::AllocError;
 
 /// What a server has at a moment. The lists have a number for each tenant.
@@ -36,6 +38,8 @@ pub struct Gauges {
     pub written: u64,
     /// Lines of the log that were dropped.
     pub dropped: u64,
+    /// Lines of the log that could not be written.
+    pub lost: u64,
     /// How many tenants there are.
     pub tenants: usize,
     /// Collections of each.
@@ -62,7 +66,7 @@ pub struct Page {
 impl Page {
     /// One of which nothing is written.
     pub fn new(metrics: &Metrics, gauges: &Gauges) -> Page
-        ensures { left result ≡ page metrics.now gauges.now }
+        ensures { (about : About) → left about result ≡ page about metrics.now gauges.now }
     {
         Page {
             metrics: *metrics,
@@ -76,7 +80,7 @@ impl Page {
     #[tactic(auto, using(crate::proofs::Lines::none_left))]
     pub fn is_whole(&self) -> bool
         ensures whole { result ≡ is_whole self.now }
-        ensures none { IsTrue result → left self.now ≡ [] }
+        ensures none { IsTrue result → (about : About) → left about self.now ≡ [] }
     {
         self.family >= family_count()
     }
@@ -88,8 +92,8 @@ impl Page {
     ///
     /// Where a growth was refused: the page goes on where it was, and the bytes behind those that were there are to be cut off.
     #[tactic(auto, using(crate::proofs::Lines::row_left, crate::proofs::Lines::metric_left, crate::proofs::Lines::moved_row, crate::proofs::Lines::moved_metric, crate::proofs::Lines::moved_end))]
-    pub fn append_line(&mut self, out: &mut Vec<u8>) -> Result<(), AllocError>
-        ensures text { OnOk result (out.new.items ++ left self.new ≡ out.old.items ++ left self.old) }
+    pub fn append_line(&mut self, about: &About, out: &mut Vec<u8>) -> Result<(), AllocError>
+        ensures text { OnOk result (out.new.items ++ left about.now self.new ≡ out.old.items ++ left about.now self.old) }
         ensures moved { OnOk result (self.new ≡ moved self.old) }
         ensures unchanged { OnErr result (self.new ≡ self.old) }
     {
@@ -101,18 +105,18 @@ impl Page {
             self.place = 0;
             return Ok(());
         }
-        self.append_row(family, out)?;
+        self.append_row(about, family, out)?;
         self.place += 1;
         Ok(())
     }
 
     #[tactic(auto, unfolding(crate::specs::Pages::row))]
-    fn append_row(&self, family: Family, out: &mut Vec<u8>) -> Result<(), AllocError>
-        ensures { OnOk result (out.new.items ≡ out.old.items ++ row self.now.metrics self.now.gauges family self.now.place) }
+    fn append_row(&self, about: &About, family: Family, out: &mut Vec<u8>) -> Result<(), AllocError>
+        ensures { OnOk result (out.new.items ≡ out.old.items ++ row about.now self.now.metrics self.now.gauges family self.now.place) }
     {
         append_start(family, self.place, out)?;
         let number = value(&self.metrics, &self.gauges, family, self.place);
-        append_sample(family, self.place, number, out)
+        append_sample(about, family, self.place, number, out)
     }
 }
 
@@ -148,19 +152,20 @@ fn append_head(family: Family, out: &mut Vec<u8>) -> Result<(), AllocError>
 
 #[tactic(auto, unfolding(crate::specs::Pages::sample))]
 fn append_sample(
+    about: &About,
     family: Family,
     place: usize,
     number: u64,
     out: &mut Vec<u8>,
 ) -> Result<(), AllocError>
-    ensures { OnOk result (out.new.items ≡ out.old.items ++ sample family place number) }
+    ensures { OnOk result (out.new.items ≡ out.old.items ++ sample about.now family place number) }
 {
     let shape = family.shape();
     append_all(
         &[family.name().as_bytes(), suffix(shape, place).as_bytes()],
         out,
     )?;
-    append_label(shape, place, out)?;
+    append_label(about, shape, place, out)?;
     out.extend_from_slice(b" ")?;
     append_number(number, out)?;
     out.extend_from_slice(value_end(shape, place).as_bytes())
@@ -188,8 +193,13 @@ fn value_end(shape: Shape, place: usize) -> &'static str
     }
 }
 
-fn append_label(shape: Shape, place: usize, out: &mut Vec<u8>) -> Result<(), AllocError>
-    ensures { OnOk result (out.new.items ≡ out.old.items ++ label shape place) }
+fn append_label(
+    about: &About,
+    shape: Shape,
+    place: usize,
+    out: &mut Vec<u8>,
+) -> Result<(), AllocError>
+    ensures { OnOk result (out.new.items ≡ out.old.items ++ label about.now shape place) }
 {
     match shape {
         Shape::Cells => append_all(
@@ -206,17 +216,45 @@ fn append_label(shape: Shape, place: usize, out: &mut Vec<u8>) -> Result<(), All
             &[b"{le=\"", bound_name(place).as_bytes(), b"\"}"],
             out,
         ),
-        Shape::Tenants => append_tenant(place, out),
+        Shape::Build => append_build(about, out),
+        Shape::Tenants => append_tenant(about, place, out),
         _ => Ok(()),
     }
 }
 
-fn append_tenant(place: usize, out: &mut Vec<u8>) -> Result<(), AllocError>
-    ensures { OnOk result (out.new.items ≡ out.old.items ++ label Tenants place) }
+fn append_tenant(about: &About, place: usize, out: &mut Vec<u8>) -> Result<(), AllocError>
+    ensures { OnOk result (out.new.items ≡ out.old.items ++ label about.now Tenants place) }
 {
     out.extend_from_slice(b"{tenant=\"")?;
-    append_number(place as u64, out)?;
+    append_tenant_name(&about.tenants, place, out)?;
     out.extend_from_slice(b"\"}")
+}
+
+fn append_tenant_name(tenants: &[String], place: usize, out: &mut Vec<u8>) -> Result<(), AllocError>
+    ensures { OnOk result (out.new.items ≡ out.old.items ++ tenant_name tenants.now place) }
+{
+    match tenants.get(place) {
+        Some(name) => append_escaped(name.as_bytes(), out),
+        None => append_number(place as u64, out),
+    }
+}
+
+fn append_build(about: &About, out: &mut Vec<u8>) -> Result<(), AllocError>
+    ensures { OnOk result (out.new.items ≡ out.old.items ++ build_label about.now) }
+{
+    append_value(b"{version=\"", about.version.as_bytes(), out)?;
+    append_value(b"\",commit=\"", about.commit.as_bytes(), out)?;
+    append_value(b"\",proved=\"", about.proved.as_bytes(), out)?;
+    append_value(b"\",kit=\"", about.kit.as_bytes(), out)?;
+    out.extend_from_slice(b"\"}")
+}
+
+// The value of a label, behind what stands before it.
+fn append_value(before: &[u8], text: &[u8], out: &mut Vec<u8>) -> Result<(), AllocError>
+    ensures { OnOk result (out.new.items ≡ out.old.items ++ (before.now ++ escaped text.now)) }
+{
+    out.extend_from_slice(before)?;
+    append_escaped(text, out)
 }
 
 // The number of a sample.
@@ -224,6 +262,7 @@ fn value(metrics: &Metrics, gauges: &Gauges, family: Family, place: usize) -> u6
     ensures { result ≡ value metrics.now gauges.now family place }
 {
     match family {
+        Family::Build => 1,
         Family::Uptime => gauges.uptime,
         Family::Ready => u64::from(gauges.is_ready),
         Family::Open => gauges.open,
@@ -236,12 +275,14 @@ fn value(metrics: &Metrics, gauges: &Gauges, family: Family, place: usize) -> u6
         Family::Read => gauges.read,
         Family::Written => gauges.written,
         Family::Dropped => gauges.dropped,
+        Family::Lost => gauges.lost,
         Family::Requests => number_at(&metrics.requests, place),
         Family::Times => time_number(metrics, place),
         Family::Units => metrics.units,
         Family::Slow => metrics.slow,
         Family::TenantRequests => number_at(&metrics.tenants, place),
         Family::TenantUnits => number_at(&metrics.tenant_units, place),
+        Family::TenantRefused => number_at(&metrics.tenant_refused, place),
         Family::TenantCollections => number_at(&gauges.collections, place),
         Family::TenantDocuments => number_at(&gauges.documents, place),
         Family::TenantTexts => number_at(&gauges.texts, place),

@@ -5,8 +5,8 @@
 #![tactic(auto)]
 
 use admin_pages::{
-    Asked, Gauges, Metrics, Page, Reading, Reply, Served, Standing, append_body, append_reply,
-    read_request,
+    About, Asked, Gauges, Metrics, Page, Reading, Reply, Served, Standing, append_body,
+    append_reply, read_request,
 };
 use standard_streams::{read_past, write_whole};
 use std::alloc::{AllocError, Global};
@@ -17,8 +17,8 @@ use std::{env, io};
 /// The most bytes that are read.
 const MOST_BYTES: u64 = 1_048_576;
 
-/// The name that the server was given.
-const NAME: &[u8] = b"admin.example";
+/// The names that the server was given.
+const NAMES: [&str; 3] = ["admin.example", "", "metrics.example"];
 
 /// The seconds since the server's start.
 const UPTIME: u64 = 17;
@@ -49,17 +49,37 @@ fn answered(alloc: Global, bytes: &[u8], is_ready: bool) -> Result<Vec<u8>, Allo
         let _ = standing.answer(Asked::SayReady);
     }
     let mut out = Vec::new(alloc);
-    match read_request(NAME, bytes) {
+    let about = about(alloc)?;
+    match read_request(&about.hosts, bytes) {
         Reading::Part => out.extend_from_slice(b"part\n")?,
         Reading::Refused(refusal) => append_short(alloc, Reply::Refused(refusal), &mut out)?,
-        Reading::Asked(asked) => append_answer(alloc, standing.answer(asked), &mut out)?,
+        Reading::Asked(asked) => append_answer(alloc, &about, standing.answer(asked), &mut out)?,
     }
     Ok(out)
 }
 
-fn append_answer(alloc: Global, reply: Reply, out: &mut Vec<u8>) -> Result<(), AllocError> {
+// What the server is. The second tenant has no name, and what is made up shows how a label is written.
+fn about(alloc: Global) -> Result<About, AllocError> {
+    let mut about = About::new(alloc);
+    for name in NAMES {
+        about.hosts.push(String::from_str(alloc, name)?)?;
+    }
+    about.tenants.push(String::from_str(alloc, "acme")?)?;
+    about.version = String::from_str(alloc, "1.2.3")?;
+    about.commit = String::from_str(alloc, "a\\b\"c\nd")?;
+    about.proved = String::from_str(alloc, "yes")?;
+    about.kit = String::from_str(alloc, "kit 1")?;
+    Ok(about)
+}
+
+fn append_answer(
+    alloc: Global,
+    about: &About,
+    reply: Reply,
+    out: &mut Vec<u8>,
+) -> Result<(), AllocError> {
     if reply == Reply::Metrics {
-        let body = page_text(alloc)?;
+        let body = page_text(alloc, about)?;
         append_reply(reply, body.as_slice(), out)
     } else {
         append_short(alloc, reply, out)
@@ -72,26 +92,26 @@ fn append_short(alloc: Global, reply: Reply, out: &mut Vec<u8>) -> Result<(), Al
     append_reply(reply, body.as_slice(), out)
 }
 
-fn page_text(alloc: Global) -> Result<Vec<u8>, AllocError> {
+fn page_text(alloc: Global, about: &About) -> Result<Vec<u8>, AllocError> {
     let mut page = Page::new(&counted(), &gauges());
     let mut body = Vec::new(alloc);
     for _ in 0..MOST_LINES {
         if page.is_whole() {
             break;
         }
-        page.append_line(&mut body)?;
+        page.append_line(about, &mut body)?;
     }
     Ok(body)
 }
 
 fn counted() -> Metrics {
     let mut metrics = Metrics::new();
-    for (command, status, tenant, micros, units, is_slow) in [
-        (1, 0, Some(0), 100, 0, false),
-        (5, 0, Some(1), 101, 700, false),
-        (5, 22, Some(1), 2_000_000, 0, true),
-        (0, 255, None, 1, 0, false),
-        (8, 23, Some(1), 60_000_000, 0, false),
+    for (command, status, tenant, micros, units, refused, is_slow) in [
+        (1, 0, Some(0), 100, 0, 0, false),
+        (5, 0, Some(1), 101, 700, 0, false),
+        (5, 22, Some(1), 2_000_000, 0, 90, true),
+        (0, 255, None, 1, 0, 0, false),
+        (8, 23, Some(1), 60_000_000, 0, 0, false),
     ] {
         metrics.count(&Served {
             command,
@@ -99,6 +119,7 @@ fn counted() -> Metrics {
             tenant,
             micros,
             units,
+            refused,
             is_slow,
         });
     }
@@ -119,6 +140,7 @@ fn gauges() -> Gauges {
         read: 1_000,
         written: 2_000,
         dropped: 3,
+        lost: 4,
         tenants: 2,
         collections: [0; 256],
         documents: [0; 256],

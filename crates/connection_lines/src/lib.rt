@@ -2,7 +2,9 @@
 #![tactic(auto)]
 
 mod end_lines;
+mod line_writer;
 mod loop_lines;
 
 pub use end_lines::EndLines;
+pub use line_writer::{LineWriter, Outlet};
 pub use loop_lines::LoopLines;

@@ -1,9 +1,11 @@
 //! The lines on standard error that a server of many connections prints.
 
+use crate::line_writer::{LineWriter, Outlet};
 use connection_turns::{End, Ending};
 use jiff::Timestamp;
 use open_connections::{Held, Journal, Slow, Totals};
 use socket_poll::Gate;
+use std::alloc::{AllocError, Global};
 use std::fmt;
 use std::time::{Clock, SystemTime, UNIX_EPOCH};
 
@@ -40,12 +42,17 @@ const MOST_LINES: u32 = 100;
 
 /// Prints a line for each connection that ended abnormally, and a line of counts each minute if asked for. Each line begins with its time. It
 /// never waits: it drops lines for which standard error has no room, and those above the most in a second. Once there is room, it prints how
-/// many it dropped.
+/// many it dropped. A line of which standard error took a part goes on before the next one.
 #[derive(Drop)]
-pub struct LoopLines<'a, R: Eprint + Clock> {
+pub struct LoopLines<'a, R: Clock, P: Print + Drop> {
     rt: &'a R,
+    alloc: Global,
+    errors: Errors<P>,
     gate: Gate,
     has_counts: bool,
+    // What each tenant is called.
+    names: Vec<String>,
+    writer: LineWriter,
     // The second since 1970 that was last printed in, and how many lines were.
     second: u64,
     printed: u32,
@@ -54,13 +61,25 @@ pub struct LoopLines<'a, R: Eprint + Clock> {
     all_dropped: u64,
 }
 
-impl<'a, R: Eprint + Clock> LoopLines<'a, R> {
-    /// Lines on this standard error, which takes some where the gate is open; those with counts and of slow queries only where asked for.
-    pub fn new(rt: &'a R, gate: Gate, has_counts: bool) -> LoopLines<'a, R> {
+impl<'a, R: Clock, P: Print + Drop> LoopLines<'a, R, P> {
+    /// Lines on this standard error, which takes some where the gate is open; those with counts and of slow queries only where asked for. A tenant
+    /// is called by its name in this list, or else by its place.
+    pub fn new(
+        rt: &'a R,
+        alloc: Global,
+        errors: P,
+        gate: Gate,
+        has_counts: bool,
+        names: Vec<String>,
+    ) -> LoopLines<'a, R, P> {
         LoopLines {
             rt,
+            alloc,
+            errors: Errors(errors),
             gate,
             has_counts,
+            names,
+            writer: LineWriter::new(alloc),
             second: 0,
             printed: 0,
             dropped: 0,
@@ -72,8 +91,7 @@ impl<'a, R: Eprint + Clock> LoopLines<'a, R> {
     fn tell(&mut self, line: Line<'_>) {
         self.tell_dropped();
         if self.takes_one() {
-            let second = self.second;
-            let _ = eprintln!(self.rt; "{} {line}", Time(second));
+            self.print(&line);
         } else {
             self.dropped = self.dropped.saturating_add(1);
             self.all_dropped = self.all_dropped.saturating_add(1);
@@ -83,10 +101,38 @@ impl<'a, R: Eprint + Clock> LoopLines<'a, R> {
     // Tells how many lines were dropped, where some were and there is room.
     fn tell_dropped(&mut self) {
         if self.dropped > 0 && self.takes_one() {
-            let (second, dropped) = (self.second, self.dropped);
+            let dropped = self.dropped;
             self.dropped = 0;
-            let _ = eprintln!(self.rt; "{} {dropped} lines dropped", Time(second));
+            self.print(&Line::Dropped(dropped));
         }
+    }
+
+    // Prints a line behind its time.
+    fn print(&mut self, line: &Line<'_>) {
+        match self.text_of(line) {
+            Ok(text) => self.writer.put(text, &mut self.errors),
+            Err(_) => self.writer.lose(),
+        }
+    }
+
+    // A line behind its time, with its line feed.
+    fn text_of(&self, line: &Line<'_>) -> Result<String, AllocError> {
+        let time = Time(self.second);
+        match line {
+            Line::Slow(slow) => {
+                let line = SlowLine {
+                    slow: *slow,
+                    name: self.name_of(slow.tenant),
+                };
+                format!(in self.alloc; "{time} {line}\n")
+            }
+            _ => format!(in self.alloc; "{time} {line}\n"),
+        }
+    }
+
+    // What the tenant at a place is called, if it has a name.
+    fn name_of(&self, tenant: Option<usize>) -> Option<&str> {
+        Some(self.names.get(tenant?)?.as_str())
     }
 
     // Whether a line may be printed now, which is counted.
@@ -104,7 +150,7 @@ impl<'a, R: Eprint + Clock> LoopLines<'a, R> {
     }
 }
 
-impl<'a, R: Eprint + Clock> Journal for LoopLines<'a, R> {
+impl<'a, R: Clock, P: Print + Drop> Journal for LoopLines<'a, R, P> {
     fn ended(&mut self, ending: &Ending) {
         if ending.how != End::Done {
             self.tell(Line::Ended(*ending));
@@ -133,6 +179,23 @@ impl<'a, R: Eprint + Clock> Journal for LoopLines<'a, R> {
 
     fn dropped(&self) -> u64 {
         self.all_dropped
+    }
+
+    fn lost(&self) -> u64 {
+        self.writer.lost()
+    }
+}
+
+/// Standard error, as what takes bytes.
+#[derive(Drop)]
+struct Errors<P: Print + Drop>(P);
+
+impl<P: Print + Drop> Outlet for Errors<P> {
+    fn take(&mut self, bytes: &[u8]) -> usize {
+        match self.0.write_some(bytes) {
+            Ok(count) => count,
+            Err(_) => 0,
+        }
     }
 }
 
@@ -172,6 +235,8 @@ enum Line<'a> {
     Counts(&'a Totals),
     /// A query took long.
     Slow(Slow),
+    /// So many lines were dropped.
+    Dropped(u64),
 }
 
 impl<'a> fmt::Display for Line<'a> {
@@ -190,25 +255,36 @@ impl<'a> fmt::Display for Line<'a> {
                 write!(f, "{what}, open {count}")
             }
             Line::Counts(totals) => write!(f, "{}", CountLine(totals)),
-            Line::Slow(slow) => write!(f, "{}", SlowLine(*slow)),
+            Line::Slow(slow) => {
+                let line = SlowLine {
+                    slow: *slow,
+                    name: None,
+                };
+                write!(f, "{line}")
+            }
+            Line::Dropped(count) => write!(f, "{count} lines dropped"),
         }
     }
 }
 
 /// The line of a slow query, without its line feed. It has nothing that was sent.
 #[derive(Clone, Copy)]
-struct SlowLine(Slow);
+struct SlowLine<'a> {
+    slow: Slow,
+    name: Option<&'a str>,
+}
 
-impl fmt::Display for SlowLine {
+impl<'a> fmt::Display for SlowLine<'a> {
     fn fmt<W: fmt::Write>(&self, f: &mut fmt::Formatter<W>) -> fmt::Result {
         write!(f, "query of ")?;
-        match self.0.tenant {
-            Some(tenant) => write!(f, "tenant {tenant}")?,
-            None => write!(f, "no tenant")?,
+        match (self.name, self.slow.tenant) {
+            (Some(name), _) => write!(f, "tenant {name}")?,
+            (None, Some(place)) => write!(f, "tenant {place}")?,
+            (None, None) => write!(f, "no tenant")?,
         }
-        let millis = self.0.micros / 1_000;
+        let millis = self.slow.micros / 1_000;
         write!(f, ": {millis} ms, ")?;
-        match self.0.units {
+        match self.slow.units {
             Some(units) => write!(f, "{units} units"),
             None => write!(f, "refused"),
         }
@@ -309,16 +385,20 @@ mod tests {
 
     #[test]
     fn slow_lines(rt: HostRuntime) -> Result<(), Fail> {
-        for (units, line) in [
-            (Some(5_107_334), "query of tenant 3: 412 ms, 5107334 units"),
-            (None, "query of tenant 3: 412 ms, refused"),
+        for (name, units, line) in [
+            (
+                Some("acme"),
+                Some(5_107_334),
+                "query of tenant acme: 412 ms, 5107334 units",
+            ),
+            (None, None, "query of tenant 3: 412 ms, refused"),
         ] {
             let slow = Slow {
                 tenant: Some(3),
                 units,
                 micros: 412_900,
             };
-            let printed = format!(in rt.alloc(); "{}", Line::Slow(slow))?;
+            let printed = format!(in rt.alloc(); "{}", SlowLine { slow, name })?;
             assert_eq!(rt; printed.as_str(), line);
         }
         Ok(())

@@ -4,4 +4,4 @@ use Rattle.admin_desk.proofs.visit.write_lines.Given as goal
 
 -- what is written and what is left are together the same
 abbrev pub invariant-lines : goal.invariant-lines
-invariant-lines l = l.lines.items ++ left l.page ≡ l.fn.lines.items ++ left l.fn.page
+invariant-lines l = l.lines.items ++ left l.about l.page ≡ l.fn.lines.items ++ left l.about l.fn.page
