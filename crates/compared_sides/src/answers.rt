@@ -16,40 +16,83 @@ pub struct Answer {
     pub is_less: bool,
 }
 
-/// How many comparisons are kept at most.
-const PLACES: usize = 256;
+// How many comparisons are kept at first, and at most.
+const FEW: usize = 64;
 
-/// Makes room for comparisons, as far as there is memory, where there is none yet.
+const MOST: usize = 1_024;
+
+// A pair is kept at its own place or at one behind that, so many at most: as many as there are comparisons in a query. So what is asked of each child
+// is found again for the next.
+const TRIES: usize = 600;
+
+// Makes room for comparisons, as far as there is memory: for few, and for more once there is no place left. None is kept then.
 #[tactic(auto, using(crate::proofs::Learnt::room))]
-pub fn make_room(doc: &Document, table: &mut Vec<Option<Answer>>)
+fn make_room(doc: &Document, table: &mut Vec<Option<Answer>>)
     requires { AreRight doc.now table.old.items }
     ensures { AreRight doc.now table.new.items }
 {
     let _ = doc;
-    if !table.is_empty() {
-        return;
-    }
-    for _ in 0..PLACES {
+    let total = if table.is_empty() { FEW } else { MOST };
+    table.clear();
+    for _ in 0..total {
         if table.push(None).is_err() {
             return;
         }
     }
 }
 
-// The place of a pair.
-fn place(a: NodeId, b: NodeId) -> usize {
+// Where the places of a pair begin.
+fn first_place(a: NodeId, b: NodeId) -> usize {
     let mixed = u64::from(a.0).wrapping_mul(0x9E37_79B9_7F4A_7C15) ^ u64::from(b.0);
-    (mixed as usize) % PLACES
+    mixed as usize
 }
 
-// What is known of two nodes.
+fn is_of(answer: Answer, a: NodeId, b: NodeId) -> bool {
+    answer.left.0 == a.0 && answer.right.0 == b.0
+}
+
+// The place where a pair is kept, or the first of its places where none is.
+fn place_of(table: &[Option<Answer>], a: NodeId, b: NodeId) -> Option<usize> {
+    let total = table.len();
+    for tried in 0..total.min(TRIES) {
+        let at = first_place(a, b).wrapping_add(tried) % total;
+        let Some(answer) = table[at] else {
+            return Some(at);
+        };
+        if is_of(answer, a, b) {
+            return Some(at);
+        }
+    }
+    None
+}
+
+// The same, once there is room.
+fn place_with_room(doc: &Document, table: &mut Vec<Option<Answer>>, a: NodeId, b: NodeId) -> usize
+    requires { AreRight doc.now table.old.items }
+    ensures { AreRight doc.now table.new.items }
+{
+    match place_of(table, a, b) {
+        Some(at) => at,
+        None => {
+            make_room(doc, table);
+            place_of(table, a, b).unwrap_or(0)
+        }
+    }
+}
+
+// What is known of two nodes, where that is kept at this place.
 #[tactic(auto, using(crate::proofs::Learnt::answers))]
-fn known(doc: &Document, table: &[Option<Answer>], a: NodeId, b: NodeId) -> Option<Answer>
+fn known(
+    doc: &Document,
+    table: &[Option<Answer>],
+    at: usize,
+    a: NodeId,
+    b: NodeId,
+) -> Option<Answer>
     requires right { AreRight doc.now table.now }
     ensures { IfSome result (λ answer. Answers doc.now a b answer) }
 {
     let _ = doc;
-    let at = place(a, b);
     if at >= table.len() {
         return None;
     }
@@ -77,22 +120,32 @@ fn found(doc: &Document, a: NodeId, b: NodeId) -> Answer
     }
 }
 
-/// How two values compare, found once while the table keeps it.
+// Keeps how two values compare.
 #[tactic(auto, using(crate::proofs::Learnt::answers))]
-pub fn compare_once(doc: &Document, table: &mut [Option<Answer>], a: NodeId, b: NodeId) -> Answer
-    requires left { a.0 < count doc.now }
-    requires right { b.0 < count doc.now }
+fn keep(doc: &Document, table: &mut [Option<Answer>], at: usize, answer: Answer)
     requires before { AreRight doc.now table.old }
-    ensures answer { Answers doc.now a b result }
-    ensures after { AreRight doc.now table.new }
+    requires kept { IsRight doc.now (Some answer) }
+    ensures { AreRight doc.now table.new }
 {
-    if let Some(answer) = known(doc, table, a, b) {
-        return answer;
-    }
-    let answer = found(doc, a, b);
-    let at = place(a, b);
+    let _ = doc;
     if at < table.len() {
         table[at] = Some(answer);
     }
+}
+
+/// How two values compare, found once while the table keeps it.
+pub fn compare_once(doc: &Document, table: &mut Vec<Option<Answer>>, a: NodeId, b: NodeId) -> Answer
+    requires left { a.0 < count doc.now }
+    requires right { b.0 < count doc.now }
+    requires before { AreRight doc.now table.old.items }
+    ensures answer { Answers doc.now a b result }
+    ensures after { AreRight doc.now table.new.items }
+{
+    let at = place_with_room(doc, table, a, b);
+    if let Some(answer) = known(doc, table, at, a, b) {
+        return answer;
+    }
+    let answer = found(doc, a, b);
+    keep(doc, table, at, answer);
     answer
 }

@@ -14,7 +14,7 @@ ghost use Rattle.compared_sides.specs.Counted.{AreCounted};
 ghost use Rattle.compared_sides.specs.Values.{value_found};
 ghost use Rattle.decisions.specs.Told.{AreApart, IsCell};
 
-use crate::answers::{Answer, compare_once, make_room};
+use crate::answers::{Answer, compare_once};
 use crate::deciding::SideIn;
 use crate::lengths::{Lengths, length_once};
 use decisions::{Constant, Decision, Relation, Scale};
@@ -126,7 +126,6 @@ fn compare_kept(
     ensures held { result ≡ compared op (Some (value_of (node_at doc.now a.0).tree)) (Some (value_of (node_at doc.now b.0).tree)) }
     ensures after { AreRight doc.now answers.new.items }
 {
-    make_room(doc, answers);
     let answer = match op {
         Op::Eq | Op::Ne | Op::Lt | Op::Le => compare_once(doc, answers, a, b),
         Op::Gt | Op::Ge => compare_once(doc, answers, b, a),

@@ -4,6 +4,7 @@ pub use Rattle.path_meaning.specs.Functions
 pub mod Places
 pub mod Sides
 pub mod Pairs
+pub mod Settling
 pub mod Fronts
 pub mod Orders
 pub mod Contents

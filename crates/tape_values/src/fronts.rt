@@ -3,6 +3,7 @@
 ghost use Rattle.std.specs.Prelude.{◌≡◌, ◌<◌, ◌≤◌, ◌-◌, length, take, drop, IfSome, IsTrue, IsUtf8};
 ghost use Rattle.tape_values.specs.Fronts.{HaveRests, IsSettled};
 
+use crate::settling::are_settled;
 use memchr::memrchr;
 use simdutf8::basic::from_utf8;
 
@@ -15,11 +16,11 @@ pub const FEW: usize = 64;
 // Nor is one of less than this part of the longer string: to see that the rest is UTF-8 would take longer.
 const PART: usize = 64;
 
-// Behind so many characters without a backslash no escape is open: `\u0061` has six.
-const LONGEST: usize = 6;
+// So many bytes tell whether an escape is open behind them.
+const TOLD: usize = 24;
 
-// The most bytes of these.
-const SETTLED: usize = 24;
+// So many places are tried.
+const TRIES: usize = 8;
 
 // How many bytes two texts have in common at their beginning.
 fn common(a: &[u8], b: &[u8]) -> usize
@@ -49,33 +50,52 @@ fn boundary(text: &[u8], place: usize) -> usize
     at
 }
 
-// The last place up to this one that no escape passes: behind so many bytes without a backslash, or at the first backslash.
-fn settled_place(text: &[u8], place: usize) -> usize
-    requires { place ≤ length text.now }
-    ensures { result ≤ place }
-{
-    let mut end = place;
-    while let Some(at) = memrchr(b'\\', &text[..end]) {
-        if at + SETTLED < end {
-            return end;
-        }
-        end = at;
-    }
-    end
-}
-
-// Whether the bytes end with characters behind which no escape is open.
-fn are_settled(text: &[u8]) -> bool
+// Whether no escape is open behind the bytes.
+fn leave_nothing_open(text: &[u8]) -> bool
     ensures { IsTrue result → IsSettled text.now }
 {
-    let (head, tail) = text.split_at(boundary(text, text.len().saturating_sub(SETTLED)));
-    if tail.contains(&b'\\') {
+    let (head, tail) = text.split_at(boundary(text, text.len().saturating_sub(TOLD)));
+    let Ok(characters) = from_utf8(tail) else {
+        return false;
+    };
+    if !are_settled(characters) {
         return false;
     }
-    match (from_utf8(head), from_utf8(tail)) {
-        (Ok(_), Ok(characters)) => LONGEST <= characters.chars().count(),
-        _ => false,
+    match from_utf8(head) {
+        Ok(_) => true,
+        Err(_) => false,
     }
+}
+
+// Where the backslashes begin that end there.
+fn backslashes_start(text: &[u8], end: usize) -> usize
+    requires { end ≤ length text.now }
+    ensures { result ≤ end }
+{
+    let mut at = end;
+    while 0 < at && text[at - 1] == b'\\' {
+        at -= 1;
+    }
+    at
+}
+
+// The last place up to this one before which no escape is open, of this one and the beginnings of a few escapes before it.
+fn settled_place(text: &[u8], place: usize) -> Option<usize>
+    requires { place ≤ length text.now }
+    ensures { IfSome result (λ end. (64 ≤ end) × (end ≤ place) × IsSettled (take (end - 1) (drop 1 text.now))) }
+{
+    let mut end = place;
+    for _ in 0..TRIES {
+        if end < FEW {
+            return None;
+        }
+        if leave_nothing_open(&text[1..end]) {
+            return Some(end);
+        }
+        let last = memrchr(b'\\', &text[..end])?;
+        end = backslashes_start(text, last);
+    }
+    None
 }
 
 // The characters of a string from a place on, without the last quote.
@@ -95,8 +115,8 @@ pub fn rests<'a>(a: &'a [u8], b: &'a [u8]) -> Option<(&'a str, &'a str)>
         return None;
     }
     let most = common(a, b).min(shorter - 1);
-    let place = settled_place(a, boundary(a, most));
-    if place < FEW || place < a.len().max(b.len()) / PART || !are_settled(&a[1..place]) {
+    let place = settled_place(a, boundary(a, most))?;
+    if place < a.len().max(b.len()) / PART {
         return None;
     }
     let left = rest_from(a, place)?;

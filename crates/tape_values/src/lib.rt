@@ -14,6 +14,7 @@ mod fronts;
 mod guesses;
 mod indexes;
 mod letters;
+mod settling;
 mod sides;
 mod slices;
 mod strings;

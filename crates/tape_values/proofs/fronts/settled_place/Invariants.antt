@@ -1,8 +1,5 @@
 use Rattle.std.proofs.Common.{◌≤◌}
 use Rattle.tape_values.proofs.fronts.settled_place.Given as goal
 
-abbrev pub invariant-loop-at : goal.invariant-loop-at
-invariant-loop-at l = l.end ≤ l.place
-
-abbrev pub decreases-loop-at : goal.decreases-loop-at
-decreases-loop-at l = l.end
+abbrev pub invariant-loop : goal.invariant-loop
+invariant-loop l = l.end ≤ l.place
