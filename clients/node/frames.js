@@ -48,12 +48,12 @@ export const request = {
 
 /** The commands that change nothing, and may be sent again: GET, LIST, QUERY and USAGE. */
 const READS = [2, 4, 5, 7];
-/** The commands that put a text: PUT and PUT_NEW. */
-const PUTS = [1, 8];
+/** The commands whose last field is a text or a query: PUT, QUERY and PUT_NEW. */
+const WITH_TEXT = [1, 5, 8];
 
 function command(code, name, fields, read, collection = '', document = '') {
   const bytes = Buffer.concat(fields);
-  const text = PUTS.includes(code) ? bytes.subarray(bytes.length - fields.at(-1).length) : undefined;
+  const text = WITH_TEXT.includes(code) ? bytes.subarray(bytes.length - fields.at(-1).length) : undefined;
   return { code, name, fields: bytes, read, collection, document, text };
 }
 
@@ -62,7 +62,7 @@ export function isRead({ code }) {
   return READS.includes(code);
 }
 
-/** The command of a request, the names in it, and the text that it puts, for people. */
+/** The command of a request, the names in it, and its text or query, for people. */
 export function shown({ name, collection, document, text: put }) {
   const text = (given) => (typeof given === 'string' ? given : Buffer.from(given).toString());
   return { command: name, collection: text(collection), document: text(document), text: put };

@@ -134,7 +134,7 @@ export declare abstract class Refused extends Error {
   readonly command: string;
   readonly collection: string;
   readonly document: string;
-  /** Where the text that was put is refused. It is sought when it is first asked for. */
+  /** Where the text or the query is refused. It is sought when it is first asked for. */
   readonly place?: Place;
   /** The line and the column of the place, counted from 1, and what may stand there. */
   readonly line?: number;
@@ -142,7 +142,7 @@ export declare abstract class Refused extends Error {
   readonly expected?: string;
 }
 
-/** Where a text is refused: the bytes before the place, its line and column from 1, what is said of it, and what may stand there. */
+/** Where a text or a query is refused: the bytes before the place, its line and column from 1, what is said of it, and what may stand there. */
 export declare class Place {
   readonly byte: number;
   readonly line: number;

@@ -1,45 +1,26 @@
-// Where a text is refused. The server says which refusal applies and not where, so that it reads fast; whoever holds the text finds the place:
+// Where a text or a query is refused. The server says which refusal applies and not where, so that it reads fast; whoever holds the text finds the
+// place:
 //
 //     const place = findPlace(text, 'NotJson');
 //     String(place); // line 3, column 1 (byte 24): expected a name in double quotes, found '}'
 //     place.byte; // 24
 //
-// A place of NotJson is the end of the longest front with which some JSON text (RFC 8259) begins.
+// A place of NotJson is the end of the longest front with which some JSON text (RFC 8259) begins, and one of NotWellFormed that of a query (RFC 9535).
+import { queryPlace } from './query_places.js';
+import { NUMBER, NUMBER_FRONT, Stop, decoded, end, expectedPlace, isBeyond, rulePlace, utf8Front } from './spots.js';
+
+export { Place } from './spots.js';
+
 const BLANKS = /[ \t\n\r]*/y;
 const STRING = /"(?:[^"\\\x00-\x1f]+|\\(?:["\\/bfnrt]|u[0-9A-Fa-f]{4}))*/y;
 const ESCAPE = /\\(?:u[0-9A-Fa-f]{0,3})?/y;
-const NUMBER_FRONT = /-?(?:(?:0|[1-9][0-9]*)(?:\.(?:[0-9]+(?:[eE][+-]?[0-9]*)?)?|[eE][+-]?[0-9]*)?)?/y;
-const NUMBER = /^-?(?:0|[1-9][0-9]*)(?:\.[0-9]+)?(?:[eE][+-]?[0-9]+)?$/;
 const UNIT = /\\u([0-9A-Fa-f]{4})|\\[^]|[^\\]/g;
 const SHORT = { b: '\b', f: '\f', n: '\n', r: '\r', t: '\t' };
 const DEPTH_LIMIT = 256;
-const PLACED = ['NotUtf8', 'NotJson', 'TooDeep', 'NumberLimit', 'LoneSurrogate', 'DuplicateName'];
+// The refusals that have a place.
+const OF_TEXTS = ['NotUtf8', 'NotJson', 'TooDeep', 'NumberLimit', 'LoneSurrogate', 'DuplicateName'];
+const OF_QUERIES = ['NotWellFormed', 'NotValid'];
 const NUMBER_RULE = 'a number of more than 256 bytes, or with an exponent above 999999999';
-
-// The bytes before a place, its line and column (counted from 1, a column is a character), what is said of it, and what may stand there, if
-// something else was found.
-export class Place {
-  constructor(byte, line, column, message, expected) {
-    Object.assign(this, { byte, line, column, message, expected });
-  }
-
-  toString() {
-    return `line ${this.line}, column ${this.column} (byte ${this.byte}): ${this.message}`;
-  }
-}
-
-// The text is no JSON from this unit on.
-class Stop {
-  constructor(at, expected) {
-    Object.assign(this, { at, expected });
-  }
-}
-
-function end(pattern, text, at) {
-  pattern.lastIndex = at;
-  pattern.test(text);
-  return pattern.lastIndex;
-}
 
 // The tokens of a text with the units between which they stand.
 function* tokens(text) {
@@ -158,61 +139,17 @@ function lone(text, start, stop) {
   return undefined;
 }
 
-function isBeyond(number) {
-  const exponent = /[eE][+-]?([0-9]+)/.exec(number);
-  return number.length > 256 || (exponent !== null && BigInt(exponent[1]) > 999999999n);
-}
-
-function foundAt(bytes, at) {
-  if (at >= bytes.length) return 'the end of the text';
-  const byte = bytes[at];
-  return byte >= 0x20 && byte < 0x7F ? `'${String.fromCharCode(byte)}'` : `byte 0x${byte.toString(16).padStart(2, '0')}`;
-}
-
-function spot(bytes, at) {
-  let line = 1;
-  let column = 1;
-  for (let k = 0; k < at && k < bytes.length; k += 1) {
-    if (bytes[k] === 0x0A) {
-      line += 1;
-      column = 1;
-    } else if ((bytes[k] & 0xC0) !== 0x80) {
-      column += 1;
-    }
-  }
-  return [at, line, column];
-}
-
-// How many of these bytes are the longest front in UTF-8 (RFC 3629, section 4).
-function utf8Front(bytes) {
-  let at = 0;
-  while (at < bytes.length) {
-    const first = bytes[at];
-    const length = first < 0x80 ? 1 : first >= 0xC2 && first <= 0xDF ? 2 : first >= 0xE0 && first <= 0xEF ? 3 : first >= 0xF0 && first <= 0xF4 ? 4 : 0;
-    if (length === 0 || at + length > bytes.length) return at;
-    const low = { 0xE0: 0xA0, 0xF0: 0x90 }[first] ?? 0x80;
-    const high = { 0xED: 0x9F, 0xF4: 0x8F }[first] ?? 0xBF;
-    for (let more = 1; more < length; more += 1) {
-      const byte = bytes[at + more];
-      if (byte < (more === 1 ? low : 0x80) || byte > (more === 1 ? high : 0xBF)) return at;
-    }
-    at += length;
-  }
-  return at;
-}
-
-// The place at which a text, a string or bytes, is refused for this reason, by the status's name. undefined if it is not, or where there is no place.
+// The place at which a text or a query, a string or bytes, is refused for this reason, by the status's name. undefined if it is not, or where there
+// is no place.
 export function findPlace(text, refusal) {
-  if (!PLACED.includes(refusal)) return undefined;
   const bytes = typeof text === 'string' ? Buffer.from(text, 'utf8') : Buffer.from(text);
+  if (OF_QUERIES.includes(refusal)) return queryPlace(bytes, refusal);
+  if (!OF_TEXTS.includes(refusal)) return undefined;
   const front = utf8Front(bytes);
-  if (front < bytes.length || refusal === 'NotUtf8') {
-    if (refusal !== 'NotUtf8' || front === bytes.length) return undefined;
-    return new Place(...spot(bytes, front), `expected UTF-8, found ${foundAt(bytes, front)}`, 'UTF-8');
-  }
-  const whole = new TextDecoder('utf-8', { ignoreBOM: true }).decode(bytes);
+  if (front < bytes.length) return refusal === 'NotUtf8' ? expectedPlace(bytes, front, 'UTF-8') : undefined;
+  const whole = decoded(bytes);
   const byteAt = (at) => Buffer.byteLength(whole.slice(0, at), 'utf8');
-  const made = (at, message, expected) => new Place(...spot(bytes, byteAt(at)), message, expected);
+  const made = (at, message) => rulePlace(bytes, byteAt(at), message);
   const names = [];
   try {
     for (const [kind, start, stop] of tokens(whole)) {
@@ -238,7 +175,7 @@ export function findPlace(text, refusal) {
     }
   } catch (stop) {
     if (!(stop instanceof Stop)) throw stop;
-    if (refusal === 'NotJson') return made(stop.at, `expected ${stop.expected}, found ${foundAt(bytes, byteAt(stop.at))}`, stop.expected);
+    if (refusal === 'NotJson') return expectedPlace(bytes, byteAt(stop.at), stop.expected);
   }
   return undefined;
 }

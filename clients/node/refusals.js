@@ -16,7 +16,7 @@ export class Refused extends Error {
   collection;
   document;
 
-  /** The text that was put, and where it is refused once that was asked for. */
+  /** The text that was put or the query, and where it is refused once that was asked for. */
   #text;
   #place;
 
@@ -30,7 +30,7 @@ export class Refused extends Error {
     this.#text = text?.length > TOLD_BYTES ? text : undefined;
   }
 
-  /** Where the text that was put is refused, if it is refused for what stands in it: byte, line, column, expected, message. */
+  /** Where the text or the query is refused, if it is refused for what stands in it: byte, line, column, expected, message. */
   get place() {
     if (this.#text) this.#place = findPlace(this.#text, this.name);
     this.#text = undefined;

@@ -13,8 +13,8 @@ import { after, before, beforeEach, test } from 'node:test';
 import { fileURLToPath } from 'node:url';
 import * as all from '../index.js';
 import {
-  BrokenConnection, ExactNumber, Exists, LostConnection, NotFound, NotJson, NotWellFormed, QUERY_LIMIT, Refused, TEXT_LIMIT, TimedOut, connect,
-  pool, readKey, request,
+  BrokenConnection, ExactNumber, Exists, LostConnection, NotFound, NotJson, NotValid, NotWellFormed, QUERY_LIMIT, Refused, TEXT_LIMIT, TimedOut,
+  connect, pool, readKey, request,
 } from '../index.js';
 
 const PROGRAM = process.env.PATH_SERVER || fileURLToPath(new URL('../../../crates/path_program/out/path_program', import.meta.url));
@@ -141,6 +141,17 @@ test('places', async () => {
     return true;
   });
   await assert.rejects(client.get('shop', 'order-2'), ({ place }) => place === undefined);
+});
+
+test('places in queries', async () => {
+  for (const [query, kind, byte, expected, said] of [
+    ['$[?@.a=1]', NotWellFormed, 7, "'='", "line 1, column 8 (byte 7): expected '=', found '1'"],
+    ['$.é[?count(1)>1]', NotValid, 12, undefined, 'line 1, column 12 (byte 12): the argument is a query'],
+  ]) {
+    const fault = await client.query('shop', query).catch((found) => found);
+    assert.ok(fault instanceof kind);
+    assert.deepEqual([fault.place.byte, fault.expected, fault.message.split('\n').slice(1)], [byte, expected, [said]]);
+  }
 });
 
 test('the place in a long text is sought for who asks for it, once', async () => {

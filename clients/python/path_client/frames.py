@@ -32,8 +32,8 @@ NAME = re.compile(rb"[A-Za-z0-9._-]+")
 COMMANDS = {1: "PUT", 2: "GET", 3: "REMOVE", 4: "LIST", 5: "QUERY", 6: "DROP", 7: "USAGE", 8: "PUT_NEW"}
 READS = (2, 4, 5, 7)
 """The commands that change nothing: GET, LIST, QUERY and USAGE."""
-PUTS = (1, 8)
-"""The commands that put a text: PUT and PUT_NEW."""
+NAMES = {1: 2, 5: 1, 8: 2}
+"""How many names stand before the text of PUT and PUT_NEW, and before the query of QUERY."""
 
 
 class Hit(NamedTuple):
@@ -159,11 +159,11 @@ class Request(Generic[Result]):
 
     @property
     def text(self) -> Optional[bytes]:
-        """The text that is put, if the command puts one: what follows two names, each behind its length."""
-        if self.command not in PUTS:
+        """The text that is put or the query, if the command has one: what follows the names, each behind its length."""
+        if self.command not in NAMES:
             return None
         at = 0
-        for _ in range(2):
+        for _ in range(NAMES[self.command]):
             at += 1 + (self.fields[at] if at < len(self.fields) else 0)
         return self.fields[at:]
 

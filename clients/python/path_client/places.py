@@ -1,4 +1,4 @@
-"""Where a text is refused.
+"""Where a text or a query is refused.
 
 The server says which refusal applies and not where, so that it reads fast. Whoever holds the text finds the place:
 
@@ -6,49 +6,26 @@ The server says which refusal applies and not where, so that it reads fast. Whoe
     print(place)            # line 3, column 1 (byte 24): expected a name in double quotes, found '}'
     print(place.byte)       # 24
 
-A place of NotJson is the end of the longest front with which some JSON text (RFC 8259) begins.
+A place of NotJson is the end of the longest front with which some JSON text (RFC 8259) begins, and one of NotWellFormed that of a query (RFC 9535).
 """
 from __future__ import annotations
 
 import re
-from typing import Dict, Iterator, List, NamedTuple, Optional, Tuple, Union
+from typing import Dict, Iterator, List, Optional, Tuple, Union
+
+from .query_places import query_place
+from .spots import NUMBER, NUMBER_FRONT, Place, Stop, expected_place, is_beyond, spot
 
 BLANKS = re.compile(r"[ \t\n\r]*")
 STRING = re.compile(r'"(?:[^"\\\x00-\x1f]+|\\(?:["\\/bfnrt]|u[0-9A-Fa-f]{4}))*')
 ESCAPE = re.compile(r"\\(?:u[0-9A-Fa-f]{0,3})?")
-EXPONENT = r"[eE](?:[+-]?[0-9]*)"
-NUMBER_FRONT = re.compile(rf"-?(?:(?:0|[1-9][0-9]*)(?:\.(?:[0-9]+(?:{EXPONENT})?)?|{EXPONENT})?)?")
-NUMBER = re.compile(r"-?(?:0|[1-9][0-9]*)(?:\.[0-9]+)?(?:[eE][+-]?[0-9]+)?")
 UNIT = re.compile(r"\\u([0-9A-Fa-f]{4})|\\.|[^\\]", re.DOTALL)
 SHORT = {"b": "\b", "f": "\f", "n": "\n", "r": "\r", "t": "\t"}
 DEPTH_LIMIT = 256
-PLACED = ("NotUtf8", "NotJson", "TooDeep", "NumberLimit", "LoneSurrogate", "DuplicateName")
+OF_TEXTS = ("NotUtf8", "NotJson", "TooDeep", "NumberLimit", "LoneSurrogate", "DuplicateName")
+OF_QUERIES = ("NotWellFormed", "NotValid")
 """The refusals that have a place."""
 NUMBER_RULE = "a number of more than 256 bytes, or with an exponent above 999999999"
-
-
-class Place(NamedTuple):
-    """A place in a text: the bytes before it, its line and column (counted from 1, a column is a character), and what is said of it.
-
-    `expected` is what may stand there, if something else was found, and else None.
-    """
-
-    byte: int
-    line: int
-    column: int
-    message: str
-    expected: Optional[str] = None
-
-    def __str__(self) -> str:
-        return f"line {self.line}, column {self.column} (byte {self.byte}): {self.message}"
-
-
-class Stop(Exception):
-    """The text is no JSON from this character on."""
-
-    def __init__(self, at: int, expected: str):
-        super().__init__(at, expected)
-        self.at, self.expected = at, expected
 
 
 def tokens(text: str) -> Iterator[Tuple[str, int, int]]:
@@ -154,38 +131,20 @@ def lone(text: str, start: int, end: int) -> Optional[int]:
     return high
 
 
-def is_beyond(number: str) -> bool:
-    exponent = re.search("[eE][+-]?([0-9]+)", number)
-    return len(number) > 256 or (exponent is not None and int(exponent[1]) > 999_999_999)
-
-
-def found_at(data: bytes, at: int) -> str:
-    if at >= len(data):
-        return "the end of the text"
-    return f"'{chr(data[at])}'" if 0x20 <= data[at] < 0x7F else f"byte 0x{data[at]:02x}"
-
-
-def spot(data: bytes, at: int) -> Tuple[int, int, int]:
-    front = data[:at]
-    line = front[front.rfind(b"\n") + 1:]
-    return at, front.count(b"\n") + 1, sum(byte & 0xC0 != 0x80 for byte in line) + 1
-
-
 def find_place(text: Union[str, bytes], refusal: str) -> Optional[Place]:
-    """The place at which a text is refused for this reason, by the status's name. None if it is not, or where there is no place."""
-    if refusal not in PLACED:
-        return None
+    """The place at which a text or a query is refused for this reason, by the status's name. None if it is not, or where there is no place."""
     data = text.encode("utf-8", "surrogatepass") if isinstance(text, str) else bytes(text)
+    if refusal in OF_QUERIES:
+        return query_place(data, refusal)
+    if refusal not in OF_TEXTS:
+        return None
     try:
         whole = data.decode("utf-8")
     except UnicodeDecodeError as error:
-        if refusal != "NotUtf8":
-            return None
-        found = found_at(data, error.start)
-        return Place(*spot(data, error.start), f"expected UTF-8, found {found}", "UTF-8")
+        return expected_place(data, error.start, "UTF-8") if refusal == "NotUtf8" else None
 
-    def made(at: int, message: str, expected: Optional[str] = None) -> Place:
-        return Place(*spot(data, len(whole[:at].encode())), message, expected)
+    def made(at: int, message: str) -> Place:
+        return Place(*spot(data, len(whole[:at].encode())), message)
 
     depth = 0
     names: List[Tuple[Dict[str, int], int]] = []
@@ -214,6 +173,5 @@ def find_place(text: Union[str, bytes], refusal: str) -> Optional[Place]:
                     return made(start, f"the name {whole[start:end]} again, first at {str(first)[:-2]}")
     except Stop as stop:
         if refusal == "NotJson":
-            byte = len(whole[:stop.at].encode())
-            return made(stop.at, f"expected {stop.expected}, found {found_at(data, byte)}", stop.expected)
+            return expected_place(data, len(whole[:stop.at].encode()), stop.expected)
     return None

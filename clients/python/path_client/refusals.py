@@ -48,7 +48,7 @@ class Refused(Exception):
     sentence: str = "the server is newer than this client"
     """What the status says, and what to do about it."""
     text: Optional[bytes] = None
-    """The text that was put, if the command puts one."""
+    """The text that was put or the query, if the command has one."""
     _places: Tuple[Optional[Place], ...] = ()
 
     def __init__(self, command: str = "", collection: str = "", document: str = "") -> None:
@@ -69,7 +69,7 @@ class Refused(Exception):
 
     @property
     def place(self) -> Optional[Place]:
-        """Where the text is refused, if it is refused for what stands in it. It is sought when it is first asked for."""
+        """Where the text or the query is refused, if it is refused for what stands in it. It is sought when it is first asked for."""
         if self.text is not None and not self._places:
             self._places = (find_place(self.text, self.name),)
         return self._places[0] if self._places else None

@@ -22,7 +22,7 @@ TOP = Path(__file__).resolve().parents[3]
 sys.path[:0] = [str(TOP / "clients/python"), str(TOP / "tests")]
 
 import path_client
-from path_client import BrokenConnection, Exists, Hit, NotFound, NotJson, NotWellFormed, Refused, Request, TimedOut, Usage
+from path_client import BrokenConnection, Exists, Hit, NotFound, NotJson, NotValid, NotWellFormed, Refused, Request, TimedOut, Usage
 from lib.running_server import Listening
 
 KEY, OTHER, STRANGER = (bytes([place] * 16) for place in (1, 2, 3))
@@ -92,6 +92,16 @@ class OneThread(Served):
         with self.assertRaises(NotFound) as refused:
             self.client.get("shop", "order-2")
         self.assertIsNone(refused.exception.place)
+
+    def test_places_in_queries(self):
+        for query, kind, byte, expected, said in (
+            ("$[?@.a=1]", NotWellFormed, 7, "'='", "line 1, column 8 (byte 7): expected '=', found '1'"),
+            ("$.é[?count(1)>1]", NotValid, 12, None, "line 1, column 12 (byte 12): the argument is a query"),
+        ):
+            with self.assertRaises(kind) as refused:
+                self.client.query("shop", query)
+            found = refused.exception
+            self.assertEqual((found.place.byte, found.expected, str(found).split("\n")[1:]), (byte, expected, [said]))
 
     def test_the_place_in_a_long_text(self):
         """It takes long to find, so that only who asks for it waits, and once."""

@@ -8,7 +8,7 @@ use crate::reading::{LEVEL_LIMIT, Reading, is_bound};
 use crate::rules::Rule;
 use crate::states::{Decimal, Frame, Inside, Now, Operand, Part, Side, Whole};
 use std::alloc::{AllocError, Global};
-use text_faults::{Finding, found_at, not_utf8};
+use text_faults::{Finding, not_utf8};
 
 /// Why a query is refused.
 #[derive(Clone, Copy, Debug, PartialEq, Eq)]
@@ -123,7 +123,7 @@ pub fn find(alloc: Global, query: &[u8], refusal: Refusal) -> Result<Option<Find
     let utf8 = not_utf8(query);
     for (at, byte) in query.iter().enumerate() {
         if at == utf8 && refusal == Refusal::NotWellFormed {
-            return of_bytes(alloc, query, at);
+            return Ok(Some(Finding::of_expected(alloc, query, at, "UTF-8", None)?));
         }
         if !reading.take(at, *byte)? {
             return of_place(alloc, query, &reading, at);
@@ -131,6 +131,9 @@ pub fn find(alloc: Global, query: &[u8], refusal: Refusal) -> Result<Option<Find
     }
     if refusal == Refusal::NotValid {
         return of_rule(alloc, query, reading.broken);
+    }
+    if reading.may_end() {
+        return Ok(None);
     }
     of_place(alloc, query, &reading, query.len())
 }
@@ -147,19 +150,6 @@ fn of_length(alloc: Global, length: usize) -> Result<Option<Finding>, AllocError
     }))
 }
 
-fn of_bytes(alloc: Global, query: &[u8], at: usize) -> Result<Option<Finding>, AllocError>
-    ensures { IfOk result (λ found. at ≤ length query.now → IsWithin found (length query.now)) }
-{
-    let found = found_at(query, at);
-    Ok(Some(Finding {
-        at: Some(at),
-        expected: String::from_str(alloc, "UTF-8")?,
-        message: format!(in alloc; "expected UTF-8, found {found}")?,
-        hint: None,
-        first: None,
-    }))
-}
-
 fn of_rule(
     alloc: Global,
     query: &[u8],
@@ -168,13 +158,10 @@ fn of_rule(
     ensures { IfOk result (λ found. IsWithin found (length query.now)) }
 {
     match broken {
-        Some((at, rule)) => Ok(Some(Finding {
-            at: Some(at.min(query.len())),
-            expected: String::new(alloc),
-            message: format!(in alloc; "{rule}")?,
-            hint: None,
-            first: None,
-        })),
+        Some((at, rule)) => {
+            let rule = format!(in alloc; "{rule}")?;
+            Ok(Some(Finding::of_rule(alloc, at.min(query.len()), rule.as_str())?))
+        }
         None => Ok(None),
     }
 }
@@ -188,21 +175,9 @@ fn of_place(
     ensures { IfOk result (λ found. at ≤ length query.now → IsWithin found (length query.now)) }
 {
     if reading.is_too_deep {
-        return Ok(Some(Finding {
-            at: Some(at),
-            expected: String::new(alloc),
-            message: format!(in alloc; "level 33, at most {LEVEL_LIMIT} are read")?,
-            hint: None,
-            first: None,
-        }));
+        let rule = format!(in alloc; "level 33, at most {LEVEL_LIMIT} are read")?;
+        return Ok(Some(Finding::of_rule(alloc, at, rule.as_str())?));
     }
-    let found = found_at(query, at);
-    let expected = expected(reading);
-    Ok(Some(Finding {
-        at: Some(at),
-        expected: String::from_str(alloc, expected)?,
-        message: format!(in alloc; "expected {expected}, found {found}")?,
-        hint: hint(query, at, reading.now),
-        first: None,
-    }))
+    let hint = hint(query, at, reading.now);
+    Ok(Some(Finding::of_expected(alloc, query, at, expected(reading), hint)?))
 }

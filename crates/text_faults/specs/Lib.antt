@@ -1,3 +1,4 @@
 pub mod Expectations
 pub mod Moves
 pub mod Prefixes
+pub mod Steps

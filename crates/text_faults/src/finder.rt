@@ -1,68 +1,77 @@
 //! The place at which a text is not JSON.
 
-ghost use Rattle.std.specs.Prelude.{◌≡◌, ℕ, ◌∷◌, ◌++◌, [], IfOk, Some, None, reverse, take, true, cond};
+ghost use Rattle.std.specs.Prelude.{◌≡◌, ◌<◌, ℕ, ◌∷◌, ◌++◌, [], IfOk, Some, None, reverse, take, true, false, cond, List, length, get_or};
 ghost use Rattle.text_faults.specs.Expectations.{names};
-ghost use Rattle.text_faults.specs.Moves.{State, top, moved, expected_of, behind_value as expected_behind};
+ghost use Rattle.text_faults.specs.Moves.{state, top, moved, expected_of, behind_value as expected_behind};
 ghost use Rattle.text_faults.specs.Prefixes.{Begins, IsLongest};
+ghost use Rattle.text_faults.specs.Steps.{row_of, move_of, IsInside};
+ghost use Rattle.text_faults.specs.declared.marks.Now.{Now};
+ghost use Rattle.text_faults.specs.declared.marks.Now.TheVariants.{Value};
 
-use crate::marks::{Expected, Move, Now, Place};
-use crate::moves::{ends, letter, next};
+use crate::marks::{Expected, Now, Place};
+use crate::moves::{ends, letter};
+use crate::steps::{Step, innermost, next_of, now_at, number_of, row, step_at};
 use json_text::{Mode, Shape};
 use std::alloc::{AllocError, Global};
 
-/// The innermost open container.
+// Carries out a step, unless the byte cannot stand.
 #[inline(always)]
-pub fn innermost(opens: &Vec<Shape>) -> Option<Shape>
-    ensures { result ≡ top (reverse opens.now.items) }
+fn go(
+    number: &mut usize,
+    place: &mut usize,
+    opens: &mut Vec<Shape>,
+    step: Step,
+) -> Result<bool, AllocError>
+    ensures moves { IfOk result (λ went. (nows : List Now) → moved (move_of nows step) (reverse opens.old.items) ≡ cond went (Some (state (get_or nows number.new Value) (reverse opens.new.items))) None) }
+    ensures inside { IfOk result (λ went. (nows : List Now) → number.old < length nows → IsInside nows step → number.new < length nows) }
+    ensures row { IfOk result (λ went. place.old ≡ row_of (top (reverse opens.old.items)) → place.new ≡ row_of (top (reverse opens.new.items))) }
+    ensures stays { IfOk result (λ went. went ≡ false → (number.new ≡ number.old) × (opens.new.items ≡ opens.old.items)) }
 {
-    match opens.last() {
-        Some(shape) => Some(*shape),
-        None => None,
-    }
-}
-
-/// Carries out a move, unless it is refused.
-#[inline(always)]
-pub fn carry(now: &mut Now, opens: &mut Vec<Shape>, by: Move) -> Result<bool, AllocError>
-    ensures { IfOk result (λ went. moved by (reverse opens.old.items) ≡ cond went (Some (record { now = now.new; opens = reverse opens.new.items })) None) }
-{
-    match by {
-        Move::To(next) => *now = next,
-        Move::Into(shape, next) => {
+    match step {
+        Step::To(next) => *number = next,
+        Step::Into(shape, next) => {
             opens.push(shape)?;
-            *now = next;
+            *number = next;
+            *place = row(Some(shape));
         }
-        Move::Out(next) => {
+        Step::Out(next) => {
             let _ = opens.pop();
-            *now = next;
+            *number = next;
+            *place = row(innermost(opens));
         }
-        Move::Refused => return Ok(false),
+        Step::Unknown => return Ok(false),
     }
     Ok(true)
 }
 
 /// The place at which a text stops to be JSON (RFC 8259): some JSON text begins with the bytes before it, and none with one byte more. Of a text
-/// that only ends too soon it is the end. Each byte that is expected there may stand there.
+/// that only ends too soon it is the end. Each byte that is expected there may stand there. It keeps a byte for each open container, and what each byte
+/// did in each state that was met.
 pub fn not_json(alloc: Global, text: &str) -> Result<Place, AllocError>
     ensures place { IfOk result (λ place. IsLongest text.now place.at) }
     ensures expected { IfOk result (λ place. (c : ℕ) → names place.expected c ≡ true → Begins (take place.at text.now ++ c ∷ [])) }
 {
-    let mut now = Now::Value;
+    let mut nows = Vec::new(alloc);
+    let mut steps = Vec::new(alloc);
     let mut opens = Vec::new(alloc);
+    let mut number = number_of(&mut nows, &mut steps, Now::Value)?;
+    let mut place = 0;
     for (at, byte) in text.as_bytes().iter().enumerate() {
-        let before = now;
-        let top = innermost(&opens);
-        let by = next(before, top, *byte);
-        if !carry(&mut now, &mut opens, by)? {
+        if let Some(next) = next_of(&steps, number, place, *byte) {
+            number = next;
+            continue;
+        }
+        let step = step_at(&mut nows, &mut steps, number, place, &opens, *byte)?;
+        if !go(&mut number, &mut place, &mut opens, step)? {
             return Ok(Place {
                 at,
-                expected: expected(before, top),
+                expected: expected(now_at(&nows, number), innermost(&opens)),
             });
         }
     }
     Ok(Place {
         at: text.len(),
-        expected: expected(now, innermost(&opens)),
+        expected: expected(now_at(&nows, number), innermost(&opens)),
     })
 }
 

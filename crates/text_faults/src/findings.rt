@@ -1,6 +1,8 @@
 //! What is said of a refusal beside its name.
 
-use crate::spots::{Spot, shown_if, spot_from};
+ghost use Rattle.std.specs.Prelude.{◌≡◌, IfOk, Some};
+
+use crate::spots::{Spot, found_at, shown_if, spot_from};
 use std::alloc::{AllocError, Global};
 
 /// Where a text or a query is refused, and why there.
@@ -19,8 +21,30 @@ pub struct Finding {
 }
 
 impl Finding {
+    /// A place where something else was expected than what is found there.
+    pub fn of_expected(
+        alloc: Global,
+        text: &[u8],
+        at: usize,
+        expected: &str,
+        hint: Option<&'static str>,
+    ) -> Result<Finding, AllocError>
+        ensures { IfOk result (λ (finding : Finding). finding.at ≡ Some at) }
+    {
+        let found = found_at(text, at);
+        Ok(Finding {
+            at: Some(at),
+            expected: String::from_str(alloc, expected)?,
+            message: format!(in alloc; "expected {expected}, found {found}")?,
+            hint,
+            first: None,
+        })
+    }
+
     /// A place of which no more is said than a rule.
-    pub fn of_rule(alloc: Global, at: usize, rule: &str) -> Result<Finding, AllocError> {
+    pub fn of_rule(alloc: Global, at: usize, rule: &str) -> Result<Finding, AllocError>
+        ensures { IfOk result (λ (finding : Finding). finding.at ≡ Some at) }
+    {
         Ok(Finding {
             at: Some(at),
             expected: String::new(alloc),

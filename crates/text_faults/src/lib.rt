@@ -10,6 +10,7 @@ mod hints;
 mod marks;
 mod moves;
 mod spots;
+mod steps;
 mod utf8;
 
 pub use finder::not_json;

@@ -4,14 +4,14 @@ use json_text::{Mode, Shape};
 use std::fmt;
 
 /// What a string is: a value, or the name of a member.
-#[derive(Clone, Copy)]
+#[derive(Clone, Copy, PartialEq, Eq)]
 pub enum Purpose {
     Value,
     Name,
 }
 
 /// How much of a number was read.
-#[derive(Clone, Copy)]
+#[derive(Clone, Copy, PartialEq, Eq)]
 pub enum Digits {
     Minus,
     Zero,
@@ -24,7 +24,7 @@ pub enum Digits {
 }
 
 /// The letters of `true`, `false` or `null` that are still to come.
-#[derive(Clone, Copy)]
+#[derive(Clone, Copy, PartialEq, Eq)]
 pub enum Letters {
     Rue,
     Ue,

@@ -1,6 +1,6 @@
 //! What each byte does.
 
-ghost use Rattle.std.specs.Prelude.{◌≡◌, IsTrue, ◌↔◌};
+ghost use Rattle.std.specs.Prelude.{◌≡◌};
 ghost use Rattle.json_text.specs.Scanning as scanning;
 ghost use Rattle.json_text.specs.Tokens as tokens;
 ghost use Rattle.text_faults.specs.Moves as moves;

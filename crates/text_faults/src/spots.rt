@@ -1,5 +1,6 @@
 //! A place as people count it.
 
+use memchr::memrchr;
 use std::alloc::{AllocError, Global};
 use std::fmt;
 
@@ -23,19 +24,10 @@ impl fmt::Display for Spot {
 
 /// The place behind so many bytes. A line ends with its line feed.
 pub fn spot_at(text: &[u8], at: usize) -> Spot {
-    let mut line = 1usize;
-    let mut column = 1usize;
-    for byte in text.iter().take(at) {
-        if *byte == b'\n' {
-            line = line.saturating_add(1);
-            column = 1;
-        } else if *byte & 0xC0 != 0x80 {
-            column = column.saturating_add(1);
-        }
-    }
+    let before = text.get(..at).unwrap_or(text);
     Spot {
-        line,
-        column,
+        line: count(before, 0xFF, b'\n').saturating_add(1),
+        column: width(last_line(before)).saturating_add(1),
         byte: at,
     }
 }
@@ -84,29 +76,39 @@ fn is_first_of_character(byte: u8) -> bool {
 
 // The bytes behind the last line feed.
 fn last_line(text: &[u8]) -> &[u8] {
-    let mut start = 0;
-    for (at, byte) in text.iter().enumerate() {
-        if *byte == b'\n' {
-            start = at + 1;
-        }
+    match memrchr(b'\n', text) {
+        Some(feed) => text.get(feed + 1..).unwrap_or(text),
+        None => text,
     }
-    text.get(start..).unwrap_or(text)
+}
+
+// How many bytes have these bits of those in the mask. Counts of 8 bits are added many at once.
+fn count(bytes: &[u8], mask: u8, bits: u8) -> usize {
+    let mut all = 0usize;
+    for chunk in bytes.chunks(240) {
+        let mut some = 0u8;
+        for byte in chunk {
+            some = some.wrapping_add(u8::from(*byte & mask == bits));
+        }
+        all = all.saturating_add(some as usize);
+    }
+    all
 }
 
 // How many characters these bytes begin.
 fn width(bytes: &[u8]) -> usize {
-    bytes.iter().filter(|b| is_first_of_character(**b)).count()
+    bytes.len().saturating_sub(count(bytes, 0xC0, 0x80))
 }
 
 // The last of these bytes, which begin at most so many characters.
 fn last_characters(bytes: &[u8]) -> &[u8] {
-    let mut left = width(bytes);
-    for (at, byte) in bytes.iter().enumerate() {
+    let mut begun = 0usize;
+    for (back, byte) in bytes.iter().rev().enumerate() {
         if is_first_of_character(*byte) {
-            if left <= SHOWN {
-                return bytes.get(at..).unwrap_or(bytes);
+            begun = begun.saturating_add(1);
+            if begun == SHOWN {
+                return bytes.get(bytes.len() - 1 - back..).unwrap_or(bytes);
             }
-            left -= 1;
         }
     }
     bytes

@@ -1,4 +1,5 @@
 mod Beyond
+mod Counted
 mod Depths
 mod Escaped
 mod Found

@@ -1,5 +1,5 @@
 -- The names that were seen, as the loop keeps them, and the first that comes again.
-use Rattle.json_text.proofs.Names.{◌≡◌, ℕ, zero, suc, ◌+◌, ◌<◌, ◌≤◌, inl, inr, Bool, true, false, cond, List, length, get_or, Option, Some, None, refl, sym, ap, ◌∙◌, subst, arith, cases_lt, bytes_decides, chars, bytes_at, nat_cmp, on, is_eq, false≢true}
+use Rattle.json_text.proofs.Names.{◌≡◌, ℕ, zero, suc, ◌+◌, ◌<◌, ◌≤◌, inl, inr, Bool, true, false, cond, List, length, get_or, Option, Some, None, refl, sym, ap, ◌∙◌, subst, arith, cases_lt, bytes_decides, nat_cmp, on, is_eq, false≢true}
 use Rattle.json_text.proofs.Names.{Source, Name, Tree, Obj, Members, NoMember, Member, IsText, Label, Top, Named, extent, Stands, IsAt, in_object, IsInMembers, in_member, in_later_member, itself, size}
 use Rattle.std.specs.Prelude.{slice_get}
 use Rattle.std.specs.Ordering.{ordering_then}
@@ -9,7 +9,6 @@ use Rattle.std.specs.Cmp.{nat_cmp_total, tied_itself}
 use Rattle.std.proofs.lemmas.Map.Lookups.{exact_unsigned}
 use Rattle.json_strings.specs.Keys.{Keyed, key_name, name_cmp}
 use Rattle.json_strings.specs.KeyOrder.{names_total, names_tie}
-use Rattle.json_strings.specs.Spelling.{scalars_in, unquoted}
 use Rattle.json_strings.proofs.Spelled.{scalars_at}
 use Rattle.json_text.specs.Meaning.{meaning}
 use Rattle.json_text.specs.Parts.{IsNameOf, first_name, later_name}
@@ -23,6 +22,7 @@ use Rattle.json_text.proofs.Judging.{number_below}
 use Rattle.json_text.proofs.Meanings.{meaning_is}
 use Rattle.json_text.proofs.Numbers.{entry_at, at_trans}
 use Rattle.json_tape.proofs.Holders.{name_fits}
+use Rattle.text_places.specs.Groups.{spelled, group_of, IsInGroup, AreCounted, IsShared}
 use Rattle.text_places.specs.Twins.{IsNamed, AreTwins, AreFirstTwins}
 use Rattle.text_places.proofs.Members.{Shown, shown}
 
@@ -42,10 +42,6 @@ order_same x y h = go (nat_cmp x.0 y.0) refl h where
   go Less e g = absurd (cc)
   go Equal e g = (exact_unsigned x.0 y.0 e, (bytes_decides x.1.name y.1.name).0 (names_tie x.1.name y.1.name ∙ g))
   go Greater e g = absurd (cc)
-
--- what the name of an entry means
-abbrev pub spelled : List ℕ → Entry → List ℕ
-spelled text e = scalars_in (chars (unquoted (bytes_at text e.label)))
 
 -- ---- the entry of a named value
 
@@ -74,34 +70,57 @@ module _ (text : List ℕ) (tape : List Entry) (t : Tree) (stands : Stands tape 
     meant = scalars_at text text e.label s.source s.characters refl s.label s.lies s.string;
   }
 
+-- ---- the groups of names
+
+module _ (text : List ℕ) (tape : List Entry) (t : Tree) (stands : Stands tape t) where
+  in_group : (n up at : ℕ) (means : List ℕ) → IsNamed text t n up at means → IsInGroup text tape n (group_of up means)
+  in_group n up at means h = record {
+    role = λ d. let e = get_or tape n d in named_role text tape t stands n e (same d) up at means h;
+    group_is = λ d. let e = get_or tape n d in rw (named_up text tape t stands n e (same d) up at means h, ← named_means text tape t stands n e (same d) up at means h) refl;
+  } where
+    same : (d : Entry) → get_or tape n d ≡ get_or tape n (get_or tape n d)
+    same d = entry_at tape d stands h.is_at ∙ sym (entry_at tape (get_or tape n d) stands h.is_at)
+
+  twins_share : (counts : List ℕ) → AreCounted text tape counts (length tape) → (m n a b : ℕ) (w : AreTwins text t m n a b) → get_or counts (group_of w.up w.means) 0 ≡ 2
+  twins_share counts c m n a b w = c.shared m n (group_of w.up w.means) w.behind
+      (number_below tape t w.other.value n w.up (Named (extent w.other.name)) stands w.other.is_at) (in_group m w.up a w.means w.one) (in_group n w.up b w.means w.other)
+
 -- ---- what the map keeps
 
 abbrev pub Seen : List ℕ → List Entry → Tree → ℕ → (ℕ × Keyed) → ℕ → Type 0
 Seen text tape t n q v = (v < n) × ((d : Entry) → IsNamed text t v q.0 (get_or tape v d).label.start q.1.name)
 
-pub record Keeps (text : List ℕ) (tape : List Entry) (t : Tree) (n : ℕ) (f : (ℕ × Keyed) → Option ℕ) : Type 0 where
+pub record Keeps (text : List ℕ) (tape : List Entry) (counts : List ℕ) (t : Tree) (n : ℕ) (f : (ℕ × Keyed) → Option ℕ) : Type 0 where
   pub seen : (q : ℕ × Keyed) (v : ℕ) → f q ≡ Some v → Seen text tape t n q v
-  pub all : (i up at : ℕ) (means : List ℕ) → i < n → IsNamed text t i up at means → (q : ℕ × Keyed) → q.0 ≡ up → q.1.name ≡ means → f q ≡ None → ⊥
+  pub all : (i up at : ℕ) (means : List ℕ) → i < n → IsNamed text t i up at means → get_or counts (group_of up means) 0 ≡ 2 → (q : ℕ × Keyed) → q.0 ≡ up → q.1.name ≡ means → f q ≡ None → ⊥
   pub alone : (i j a b : ℕ) → j < n → AreTwins text t i j a b → ⊥
 
-pub nothing_kept : (text : List ℕ) (tape : List Entry) (t : Tree) (f : (ℕ × Keyed) → Option ℕ) → ((q : ℕ × Keyed) → f q ≡ None) → Keeps text tape t 0 f
-nothing_kept text tape t f none = record { seen = λ q v h. absurd (let x = none q in cc); all = λ i up at means l. absurd (omega arith); alone = λ i j a b l. absurd (omega arith) }
+pub nothing_kept : (text : List ℕ) (tape : List Entry) (counts : List ℕ) (t : Tree) (f : (ℕ × Keyed) → Option ℕ) → ((q : ℕ × Keyed) → f q ≡ None) → Keeps text tape counts t 0 f
+nothing_kept text tape counts t f none = record { seen = λ q v h. absurd (let x = none q in cc); all = λ i up at means l. absurd (omega arith); alone = λ i j a b l. absurd (omega arith) }
 
-module _ (text : List ℕ) (tape : List Entry) (t : Tree) (h : IsText text t) (stands : Stands tape t) (n : ℕ) (e : Entry) (l : n < length tape) (q : e ≡ get_or tape n e) where
-  pub passed : (f : (ℕ × Keyed) → Option ℕ) → (e.role ≡ roles.Member → ⊥) → Keeps text tape t n f → Keeps text tape t (n + 1) f
+module _ (text : List ℕ) (tape : List Entry) (counts : List ℕ) (counted : AreCounted text tape counts (length tape)) (t : Tree) (h : IsText text t) (stands : Stands tape t) (n : ℕ) (e : Entry) (l : n < length tape) (q : e ≡ get_or tape n e) where
+  -- the member of a group that has no other one
+  shares : (up at : ℕ) (means : List ℕ) → IsNamed text t n up at means → get_or counts (group_of up means) 0 ≡ 2 → IsShared text counts e
+  shares up at means named two = (
+    named_role text tape t stands n e q up at means named,
+    rw (named_up text tape t stands n e q up at means named, ← named_means text tape t stands n e q up at means named) two,
+  )
+
+  pub passed : (f : (ℕ × Keyed) → Option ℕ) → (IsShared text counts e → ⊥) → Keeps text tape counts t n f → Keeps text tape counts t (n + 1) f
   passed f apart k = record {
     seen = λ x v g. (let y = k.seen x v g in (omega (arith, y.0), y.1));
-    all = λ i up at means li named. elim (cases_lt i n) [
-      | inl p ↦ k.all i up at means p named
-      | inr p ↦ (let z : i ≡ n = omega arith in absurd (apart (named_role text tape t stands n e q up at means (subst (λ m. IsNamed text t m up at means) z named))))
+    all = λ i up at means li named two. elim (cases_lt i n) [
+      | inl p ↦ k.all i up at means p named two
+      | inr p ↦ (let z : i ≡ n = omega arith in absurd (apart (shares up at means (subst (λ m. IsNamed text t m up at means) z named) two)))
     ];
     alone = λ i j a b lj twins. elim (cases_lt j n) [
       | inl p ↦ k.alone i j a b p twins
-      | inr p ↦ (let z : j ≡ n = omega arith in apart (named_role text tape t stands n e q twins.up b twins.means (subst (λ m. IsNamed text t m twins.up b twins.means) z twins.other)))
+      | inr p ↦ (let z : j ≡ n = omega arith in apart (shares twins.up b twins.means (subst (λ m. IsNamed text t m twins.up b twins.means) z twins.other)
+          (twins_share text tape t stands counts counted i j a b twins)))
     ];
   }
 
-  module _ (r : e.role ≡ roles.Member) (key : ℕ × Keyed) (o : key.0 ≡ e.up) (s : key.1.name ≡ spelled text e) (f : (ℕ × Keyed) → Option ℕ) (k : Keeps text tape t n f) where
+  module _ (r : e.role ≡ roles.Member) (key : ℕ × Keyed) (o : key.0 ≡ e.up) (s : key.1.name ≡ spelled text e) (f : (ℕ × Keyed) → Option ℕ) (k : Keeps text tape counts t n f) where
     here : IsNamed text t n e.up e.label.start (spelled text e)
     here = named_here text tape t stands n e q (shown text tape t h stands n e l q r)
 
@@ -140,12 +159,12 @@ module _ (text : List ℕ) (tape : List Entry) (t : Tree) (h : IsText text t) (s
             )
         go false w = let old = k.seen x v (sym (puts_else x w) ∙ y) in (omega (arith, old.0), old.1)
 
-      new_all : (i up at : ℕ) (means : List ℕ) → i < n + 1 → IsNamed text t i up at means → (x : ℕ × Keyed) → x.0 ≡ up → x.1.name ≡ means → g x ≡ None → ⊥
-      new_all i up at means li named x a b y = go (is_eq (order key x)) refl where
+      new_all : (i up at : ℕ) (means : List ℕ) → i < n + 1 → IsNamed text t i up at means → get_or counts (group_of up means) 0 ≡ 2 → (x : ℕ × Keyed) → x.0 ≡ up → x.1.name ≡ means → g x ≡ None → ⊥
+      new_all i up at means li named two x a b y = go (is_eq (order key x)) refl where
         go : (c : Bool) → is_eq (order key x) ≡ c → ⊥
         go true w = let z = puts_here x w in cc
         go false w = elim (cases_lt i n) [
-          | inl p ↦ k.all i up at means p named x a b (sym (puts_else x w) ∙ y)
+          | inl p ↦ k.all i up at means p named two x a b (sym (puts_else x w) ∙ y)
           | inr p ↦ (let z : i ≡ n = omega arith in let there = subst (λ m. IsNamed text t m up at means) z named in
               let eq = same_order key x (o ∙ named_up text tape t stands n e q up at means there ∙ sym a) (s ∙ sym (named_means text tape t stands n e q up at means there) ∙ sym b) in
               false≢true (sym w ∙ eq))
@@ -155,10 +174,10 @@ module _ (text : List ℕ) (tape : List Entry) (t : Tree) (h : IsText text t) (s
       new_alone i j a b lj twins = elim (cases_lt j n) [
         | inl p ↦ k.alone i j a b p twins
         | inr p ↦ (let z : j ≡ n = omega arith in let there = subst (λ m. IsNamed text t m twins.up b twins.means) z twins.other in let less = twins.behind in
-            k.all i twins.up a twins.means (omega arith) twins.one key (o ∙ named_up text tape t stands n e q twins.up b twins.means there) (s ∙ sym (named_means text tape t stands n e q twins.up b twins.means there)) none)
+            k.all i twins.up a twins.means (omega arith) twins.one (twins_share text tape t stands counts counted i j a b twins) key (o ∙ named_up text tape t stands n e q twins.up b twins.means there) (s ∙ sym (named_means text tape t stands n e q twins.up b twins.means there)) none)
       ]
 
-      pub added : Keeps text tape t (n + 1) g
+      pub added : Keeps text tape counts t (n + 1) g
       added = record { seen = new_seen; all = new_all; alone = new_alone }
 
 -- ---- two names of an object that mean the same are twins
@@ -210,11 +229,11 @@ module _ (text : List ℕ) (tape : List Entry) (t : Tree) (h : IsText text t) (s
     meant = sym e;
   }
 
-  pub no_twins : (n : ℕ) (f : (ℕ × Keyed) → Option ℕ) → length tape ≤ n → Keeps text tape t n f → (part : Tree) (k up : ℕ) (label : Label) → IsAt t 0 Top 0 k up label part → HasTwins part → ⊥
-  no_twins n f l keeps (Obj s ms) k up label a (j, j', m, m', means, less, e, g, x, y) =
+  pub no_twins : (counts : List ℕ) (n : ℕ) (f : (ℕ × Keyed) → Option ℕ) → length tape ≤ n → Keeps text tape counts t n f → (part : Tree) (k up : ℕ) (label : Label) → IsAt t 0 Top 0 k up label part → HasTwins part → ⊥
+  no_twins counts n f l keeps (Obj s ms) k up label a (j, j', m, m', means, less, e, g, x, y) =
       let r = two ms k (k + 1) j j' m m' less e g in
       let other = named_member s ms k up label a m' means r.other (meaning_is y) in
       let b = number_below tape t other.value r.other.number k (Named (extent other.name)) stands other.is_at in
       keeps.alone r.one.number r.other.number m.source.place m'.source.place (omega arith)
       (record { behind = r.behind; up = k; means = means; one = named_member s ms k up label a m means r.one (meaning_is x); other = other })
-  no_twins n f l keeps _ k up label a q = absurd q
+  no_twins counts n f l keeps _ k up label a q = absurd q

@@ -4,6 +4,7 @@
 #![tactic(auto)]
 
 mod depth;
+mod groups;
 mod messages;
 mod names;
 mod numbers;

@@ -10,7 +10,7 @@ use crate::surrogates::lone_surrogate;
 use json_tape::TEXT_LIMIT;
 use json_text::TextFault;
 use std::alloc::{AllocError, Global};
-use text_faults::{Expected, Finding, found_at, hint, not_json, not_utf8};
+use text_faults::{Expected, Finding, hint, not_json, not_utf8};
 
 /// What is said of a refused text, as lines. If `shows`, two of them show the place in its line. Where there is nothing to say, it is empty.
 pub fn told(
@@ -29,9 +29,12 @@ pub fn told(
 pub fn find(alloc: Global, text: &[u8], fault: TextFault) -> Result<Option<Finding>, AllocError> {
     match fault {
         TextFault::TooLong => of_length(alloc, text.len()),
-        TextFault::NotUtf8 => of_bytes(alloc, text),
+        TextFault::NotUtf8 => {
+            let at = not_utf8(text);
+            Ok(Some(Finding::of_expected(alloc, text, at, "UTF-8", None)?))
+        }
         TextFault::Memory => Ok(None),
-        _ => match std::str::from_utf8(text) {
+        _ => match simdutf8::basic::from_utf8(text) {
             Ok(whole) if whole.len() <= TEXT_LIMIT => of_text(alloc, whole, fault),
             _ => Ok(None),
         },
@@ -43,18 +46,6 @@ fn of_length(alloc: Global, length: usize) -> Result<Option<Finding>, AllocError
         at: None,
         expected: String::new(alloc),
         message: format!(in alloc; "{length} bytes or more, at most {TEXT_LIMIT} are read")?,
-        hint: None,
-        first: None,
-    }))
-}
-
-fn of_bytes(alloc: Global, text: &[u8]) -> Result<Option<Finding>, AllocError> {
-    let at = not_utf8(text);
-    let found = found_at(text, at);
-    Ok(Some(Finding {
-        at: Some(at),
-        expected: String::from_str(alloc, "UTF-8")?,
-        message: format!(in alloc; "expected UTF-8, found {found}")?,
         hint: None,
         first: None,
     }))
@@ -97,16 +88,10 @@ fn of_no_json(alloc: Global, text: &str) -> Result<Option<Finding>, AllocError> 
     if place.at == text.len() && place.expected == Expected::End {
         return Ok(None);
     }
-    let found = found_at(text.as_bytes(), place.at);
+    let bytes = text.as_bytes();
     let expected = format!(in alloc; "{}", place.expected)?;
-    let message = format!(in alloc; "expected {expected}, found {found}")?;
-    Ok(Some(Finding {
-        at: Some(place.at),
-        expected,
-        message,
-        hint: hint(text.as_bytes(), place),
-        first: None,
-    }))
+    let hint = hint(bytes, place);
+    Ok(Some(Finding::of_expected(alloc, bytes, place.at, expected.as_str(), hint)?))
 }
 
 fn of_twins(alloc: Global, text: &str) -> Result<Option<Finding>, AllocError>

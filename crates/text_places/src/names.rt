@@ -1,15 +1,18 @@
 //! The first name that comes again in its object.
 
-ghost use Rattle.std.specs.Prelude.{◌≡◌, ◌<◌, ◌≤◌, length, None, IfOk, IfSome};
+ghost use Rattle.std.specs.Prelude.{◌≡◌, ◌≤◌, ◌↔◌, length, None, IfOk, IfSome, IsTrue};
+ghost use Rattle.json_strings.specs.Spelling.{IsQuoted};
 ghost use Rattle.json_text.specs.Answer.{IsJson, StandsForAll};
 ghost use Rattle.json_text.specs.Verdict.{text_limit, Applies};
 ghost use Rattle.json_text.specs.declared.tape.TextFault.TheVariants.{DuplicateName};
+ghost use Rattle.text_places.specs.Groups.{IsShared};
 ghost use Rattle.text_places.specs.Twins.{AreFirstTwins};
 
+use crate::groups::{counted, group};
 use crate::tapes::tape_of;
 use json_strings::Key;
 use json_tape::Tape;
-use json_text::Role;
+use json_text::{Entry, Role};
 use std::alloc::{AllocError, Global};
 use std::collections::BTreeMap;
 
@@ -39,10 +42,11 @@ fn first_twins(alloc: Global, text: &str, tape: &Tape) -> Result<Option<Twins>, 
     ensures found { IfOk result (λ found. IfSome found (λ twins. AreFirstTwins text.now twins.first twins.second)) }
     ensures none { IfOk result (λ found. found ≡ None → Applies text.now DuplicateName → ⊥) }
 {
+    let counts = counted(alloc, text, tape)?;
     let mut seen = BTreeMap::new(alloc);
     for n in 0..tape.len() {
         let entry = tape.entry(n);
-        if let Role::Member = entry.role {
+        if is_shared(text, &counts, entry) {
             // a name of its object
             let name = (entry.up, Key::new(alloc, n, text, entry.label)?);
             if let Some(first) = seen.get(&name) {
@@ -56,4 +60,16 @@ fn first_twins(alloc: Global, text: &str, tape: &Tape) -> Result<Option<Twins>, 
         }
     }
     Ok(None)
+}
+
+// Whether an entry is that of a member whose group has another name.
+fn is_shared(text: &str, counts: &Vec<u8>, entry: Entry) -> bool
+    requires quoted { entry.role ≡ Role.Member → IsQuoted text.now entry.label }
+    requires long { length counts.now.items ≡ 4194304 }
+    ensures { IsTrue result ↔ IsShared text.now counts.now.items entry }
+{
+    match entry.role {
+        Role::Member => counts[group(text, entry)] == 2,
+        Role::Whole | Role::Element => false,
+    }
 }

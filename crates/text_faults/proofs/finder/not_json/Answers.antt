@@ -1,35 +1,55 @@
-use Rattle.std.proofs.Common.{◌≡◌, ◌∙◌, ap, sym, ◌<◌, subst, reverse, length, get_or, arith, refl}
-use Rattle.text_faults.specs.Moves.{state, step, next, top, moved, expected_of}
+use Rattle.std.proofs.Common.{◌≡◌, ◌∙◌, ap, sym, ◌<◌, reverse, length, get_or, arith, refl}
+use Rattle.text_faults.specs.Moves.{state, step, top, moved, expected_of}
+use Rattle.text_faults.specs.declared.marks.Now.TheVariants.{Value}
 use Rattle.text_faults.proofs.Longest.{longest_before, longest_whole, run_more}
 use Rattle.text_faults.proofs.Next.{expected_before, expected_whole}
 use Rattle.text_faults.proofs.finder.not_json.Goals as goal
 
+pub loop-at-preserved-in-Some : goal.loop-at-preserved-in-Some
+loop-at-preserved-in-Some c =
+    let i = c.loop-at.invariant in let v = c.as_bytes-byte-items.ensures.value in let os = reverse c.loop-at.opens.items in let now = get_or c.loop-at.nows.items c.loop-at.number Value in
+    let k = c.in-Some.ensures c.loop-at.nows.items (top os) i.3 i.1 i.2 in (
+      run_more c.args.text.now c.loop-at.at (state now os) (let m = ap length v in omega arith) i.0
+          ∙ ap (λ l. step (state now os) (get_or l c.loop-at.at 0)) (sym v)
+          ∙ ap (λ m. moved m os) (sym k.1),
+      k.0,
+      i.2,
+      i.3,
+    )
+
 pub returns-then-not-branch : goal.returns-then-not-branch
 returns-then-not-branch c =
-    let l : c.loop-at.at < length c.args.text.now = (let l = c.as_bytes-byte-items.ensures.value in let m = ap length l in omega arith) in
-    let v = c.as_bytes-byte-items.ensures.value in let t = c.innermost-top.ensures in let n = c.next-by.ensures in let w = c.in_ok-carry.ensures in let f = c.if-not-branch.true in
-    let b = ap (λ l. moved (next c.loop-at.now (top (reverse c.loop-at.opens.items)) (get_or l c.loop-at.at 0)) (reverse c.loop-at.opens.items)) (sym v) in
-    let p = ap (λ o. moved (next c.loop-at.now o (get_or c.as_bytes-byte-items.result.now c.loop-at.at 0)) (reverse c.loop-at.opens.items)) (sym t) in
-    let q = ap (λ m. moved m (reverse c.loop-at.opens.items)) (sym n) in
+    let i = c.loop-at.invariant in let v = c.as_bytes-byte-items.ensures.value in let os = reverse c.loop-at.opens.items in let now = get_or c.loop-at.nows.items c.loop-at.number Value in
+    let l : c.loop-at.at < length c.args.text.now = (let m = ap length v in omega arith) in
+    let s = c.in_ok-step.ensures in let f = c.if-not-branch.true in let stays = c.in_ok-go.ensures.stays f in
+    let stop = ap (λ l. step (state now os) (get_or l c.loop-at.at 0)) (sym v) ∙ ap (λ m. moved m os) (sym s.step.1) ∙ c.in_ok-go.ensures.moves c.step_at.new.nows.items ∙ rw f refl in
+    let same : c.now_at.result ≡ now = c.now_at.ensures ∙ ap (λ k. get_or c.step_at.new.nows.items k Value) stays.0 ∙ s.steps.1.same c.loop-at.number i.1 in
+    let inner : c.innermost.result ≡ top os = c.innermost.ensures ∙ ap (λ l. top (reverse l)) stays.1 in
     record {
-      place = longest_before c.args.text.now c.loop-at.at (state c.loop-at.now (reverse c.loop-at.opens.items)) c.utf8.text l c.loop-at.invariant (b ∙ p ∙ q ∙ w ∙ rw f refl);
-      expected = expected_before c.args.text.now c.loop-at.at (state c.loop-at.now (reverse c.loop-at.opens.items)) c.expected.result c.utf8.text l c.loop-at.invariant (b ∙ p ∙ q ∙ w ∙ rw f refl)
-          (c.expected.ensures ∙ ap (λ o. expected_of c.loop-at.now o) t);
+      place = longest_before c.args.text.now c.loop-at.at (state now os) c.utf8.text l i.0 stop;
+      expected = expected_before c.args.text.now c.loop-at.at (state now os) c.expected.result c.utf8.text l i.0 stop
+          (c.expected.ensures ∙ ap (λ n. expected_of n c.innermost.result) same ∙ ap (λ o. expected_of now o) inner);
     }
 
 pub loop-at-preserved : goal.loop-at-preserved
-loop-at-preserved c = run_more c.args.text.now c.loop-at.at (state c.loop-at.now (reverse c.loop-at.opens.items))
-    (let l = c.as_bytes-byte-items.ensures.value in let m = ap length l in omega arith) c.loop-at.invariant ∙
-    (let v = c.as_bytes-byte-items.ensures.value in let t = c.innermost-top.ensures in let n = c.next-by.ensures in let w = c.in_ok-carry.ensures in let f = c.if-not-branch.false in
-    let b = ap (λ l. moved (next c.loop-at.now (top (reverse c.loop-at.opens.items)) (get_or l c.loop-at.at 0)) (reverse c.loop-at.opens.items)) (sym v) in
-    let p = ap (λ o. moved (next c.loop-at.now o (get_or c.as_bytes-byte-items.result.now c.loop-at.at 0)) (reverse c.loop-at.opens.items)) (sym t) in
-    let q = ap (λ m. moved m (reverse c.loop-at.opens.items)) (sym n) in b ∙ p ∙ q ∙ w ∙ rw f refl)
+loop-at-preserved c =
+    let i = c.loop-at.invariant in let v = c.as_bytes-byte-items.ensures.value in let os = reverse c.loop-at.opens.items in let now = get_or c.loop-at.nows.items c.loop-at.number Value in
+    let s = c.in_ok-step.ensures in let f = c.if-not-branch.false in (
+      run_more c.args.text.now c.loop-at.at (state now os) (let m = ap length v in omega arith) i.0
+          ∙ ap (λ l. step (state now os) (get_or l c.loop-at.at 0)) (sym v)
+          ∙ ap (λ m. moved m os) (sym s.step.1)
+          ∙ c.in_ok-go.ensures.moves c.step_at.new.nows.items ∙ rw f refl,
+      c.in_ok-go.ensures.inside c.step_at.new.nows.items (let k = s.steps.1.more in let l = i.1 in omega arith) s.step.0,
+      c.in_ok-go.ensures.row i.2,
+      s.steps.0,
+    )
 
 pub returns : goal.returns
 returns c =
-    let v = ap length c.as_bytes-byte-items.ensures.value in let e : c.loop-at.at ≡ length c.args.text.now = omega arith in let w = c.loop-at.invariant in
+    let v = ap length c.as_bytes-byte-items.ensures.value in let e : c.loop-at.at ≡ length c.args.text.now = omega arith in let w = c.loop-at.invariant.0 in
+    let os = reverse c.loop-at.opens.items in let now = get_or c.loop-at.nows.items c.loop-at.number Value in
     record {
-      place = longest_whole c.args.text.now (length c.args.text.now) (state c.loop-at.now (reverse c.loop-at.opens.items)) c.utf8.text refl (rw (← e) w);
-      expected = expected_whole c.args.text.now (length c.args.text.now) (state c.loop-at.now (reverse c.loop-at.opens.items)) c.expected-2.result c.utf8.text refl (rw (← e) w)
-          (c.expected-2.ensures ∙ ap (λ o. expected_of c.loop-at.now o) c.innermost.ensures);
+      place = longest_whole c.args.text.now (length c.args.text.now) (state now os) c.utf8.text refl (rw (← e) w);
+      expected = expected_whole c.args.text.now (length c.args.text.now) (state now os) c.expected-2.result c.utf8.text refl (rw (← e) w)
+          (c.expected-2.ensures ∙ ap (λ n. expected_of n c.innermost-2.result) c.now_at-2.ensures ∙ ap (λ o. expected_of now o) c.innermost-2.ensures);
     }
