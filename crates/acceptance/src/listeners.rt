@@ -7,6 +7,7 @@ use path_hub::Hub;
 use socket_wire::{AcceptFault, EndLog, Ending, MemoryListener, serve_streams};
 use std::alloc::{AllocError, Global};
 use std::collections::VecDeque;
+use std::io::ErrorKind;
 
 /// `1` is put at c/d.
 const PUT: &[u8] =
@@ -62,6 +63,6 @@ fn serves_one_after_the_other(alloc: Global) -> Trial {
         served == Ok(()),
         log.0 == 0,
         is_got,
-        further == Err(AcceptFault),
+        further == Err(AcceptFault(ErrorKind::WouldBlock)),
     ])
 }

@@ -99,7 +99,8 @@ fn refusal(alloc: Global, kind: ErrorKind) -> Option<ReadFault> {
 
 fn a_failed_read_is_not_the_end(alloc: Global) -> Trial {
     Trial::of(&[
-        refusal(alloc, ErrorKind::ConnectionReset) == Some(ReadFault::Failed),
+        refusal(alloc, ErrorKind::ConnectionReset)
+            == Some(ReadFault::Failed(ErrorKind::ConnectionReset)),
         refusal(alloc, ErrorKind::OutOfMemory) == Some(ReadFault::Memory),
     ])
 }
@@ -114,7 +115,7 @@ fn a_failed_write_is_not_done() -> Trial {
     Trial::of(&[
         written(4) == (Ok(()), 1),
         written(3) == (Ok(()), 0),
-        written(2) == (Err(WriteFault), 0),
-        written(0) == (Err(WriteFault), 0),
+        written(2) == (Err(WriteFault(ErrorKind::BrokenPipe)), 0),
+        written(0) == (Err(WriteFault(ErrorKind::BrokenPipe)), 0),
     ])
 }

@@ -72,6 +72,7 @@ impl Failure {
     /// The failure of a payload that could not be read.
     pub fn of_payload(fault: PayloadFault) -> Failure
         ensures memory { (result ≡ Failure.Memory) ↔ (fault ≡ PayloadFault.Memory) }
+        ensures other { (result ≡ Failure.NoReply) ↔ (fault ≡ PayloadFault.NoPayload) }
         ensures status { status_of result ≡ 4 }
     {
         match fault {
@@ -83,6 +84,7 @@ impl Failure {
     /// The failure of a line that could not be written from a reply.
     pub fn of_line(fault: LineFault) -> Failure
         ensures memory { (result ≡ Failure.Memory) ↔ (fault ≡ LineFault.Memory) }
+        ensures other { (result ≡ Failure.NoReply) ↔ (fault ≢ LineFault.Memory) }
         ensures status { status_of result ≡ 4 }
     {
         match fault {
@@ -108,7 +110,8 @@ impl Failure {
     pub fn of_answer(fault: LineFault) -> Failure
         ensures memory { (result ≡ Failure.Memory) ↔ (fault ≡ LineFault.Memory) }
         ensures costly { (result ≡ Failure.Refused 22) ↔ (fault ≡ LineFault.Costly) }
-        ensures other { (fault ≢ LineFault.Costly) → status_of result ≡ 4 }
+        ensures other { (result ≡ Failure.NoReply) ↔ ((fault ≢ LineFault.Memory) × (fault ≢ LineFault.Costly)) }
+        ensures status { (fault ≢ LineFault.Costly) → status_of result ≡ 4 }
     {
         match fault {
             LineFault::Costly => Failure::Refused(22),
@@ -119,6 +122,7 @@ impl Failure {
     /// The failure of a command line whose words could not be read.
     pub fn of_words(error: &io::Error) -> Failure
         ensures memory { (result ≡ Failure.Memory) ↔ (error_kind error.now ≡ ErrorKind.OutOfMemory) }
+        ensures other { (result ≡ Failure.Words) ↔ (error_kind error.now ≢ ErrorKind.OutOfMemory) }
     {
         match error.kind() {
             ErrorKind::OutOfMemory => Failure::Memory,
@@ -129,6 +133,7 @@ impl Failure {
     /// The failure of an input that could not be read.
     pub fn of_input(error: &io::Error) -> Failure
         ensures memory { (result ≡ Failure.Memory) ↔ (error_kind error.now ≡ ErrorKind.OutOfMemory) }
+        ensures other { (error_kind error.now ≢ ErrorKind.OutOfMemory) → result ≡ Failure.Read (error_kind error.now) }
         ensures status { status_of result ≡ 4 }
     {
         match error.kind() {
@@ -140,6 +145,7 @@ impl Failure {
     /// The failure of a connection that could not be read.
     pub fn of_read(error: &io::Error) -> Failure
         ensures timeout { (result ≡ Failure.TimedOut) ↔ ((error_kind error.now ≡ ErrorKind.WouldBlock) ⊎ (error_kind error.now ≡ ErrorKind.TimedOut)) }
+        ensures other { (error_kind error.now ≢ ErrorKind.WouldBlock) → (error_kind error.now ≢ ErrorKind.TimedOut) → result ≡ Failure.Broken (error_kind error.now) }
         ensures status { status_of result ≡ 4 }
     {
         match error.kind() {
@@ -168,7 +174,8 @@ impl Failure {
     /// The failure of an output that could not be written.
     pub fn of_output(error: &io::Error) -> Failure
         ensures closed { (result ≡ Failure.Closed) ↔ (error_kind error.now ≡ ErrorKind.BrokenPipe) }
-        ensures other { (error_kind error.now ≢ ErrorKind.BrokenPipe) → status_of result ≡ 4 }
+        ensures other { (error_kind error.now ≢ ErrorKind.BrokenPipe) → result ≡ Failure.Write (error_kind error.now) }
+        ensures status { (error_kind error.now ≢ ErrorKind.BrokenPipe) → status_of result ≡ 4 }
     {
         match error.kind() {
             ErrorKind::BrokenPipe => Failure::Closed,

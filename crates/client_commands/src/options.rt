@@ -1,6 +1,6 @@
 //! The command line.
 
-ghost use Rattle.std.specs.Prelude.{◌≡◌, ◌⊎◌, ◌↔◌};
+ghost use Rattle.std.specs.Prelude.{◌≡◌, ◌≢◌, ◌⊎◌, ◌↔◌};
 ghost use Rattle.clap.specs.Values.{kind_of};
 ghost use Rattle.client_commands.specs.Statuses.{status_of_fault, status_of_kind};
 
@@ -12,7 +12,7 @@ use clap::{Arg, ArgAction, ArgMatches, Command, Error};
 use std::alloc::{AllocError, Global};
 
 /// The version, which `--version` prints after the program's name.
-const VERSION: &str = "0.1.0";
+const VERSION: &str = "1.0.0";
 
 /// The longest `--timeout` in milliseconds, a day.
 const MOST_MILLISECONDS: u64 = 86_400_000;
@@ -320,6 +320,7 @@ impl CommandLineFault {
     /// The fault of a command line that did not parse.
     pub fn of(error: Error) -> CommandLineFault
         ensures memory { (result ≡ CommandLineFault.Failed Failure.Memory) ↔ (kind_of error ≡ ErrorKind.OutOfMemory) }
+        ensures other { (kind_of error ≢ ErrorKind.OutOfMemory) → result ≡ CommandLineFault.Printed error }
         ensures status { status_of_fault result ≡ status_of_kind (kind_of error) }
     {
         match error.kind() {
@@ -331,7 +332,7 @@ impl CommandLineFault {
     /// Prints help and the version to standard output, everything else to standard error, and gives the exit status. If help or the version
     /// cannot be printed, the status is 4.
     pub fn report<R: Print + Eprint>(&self, rt: &R) -> u8
-        ensures { (result ≡ status_of_fault self.now) ⊎ (result ≡ 4) }
+        ensures { (result ≡ status_of_fault self.now) ⊎ ((status_of_fault self.now ≡ 0) × (result ≡ 4)) }
     {
         match self {
             CommandLineFault::Printed(error) => print(rt, error),
@@ -340,15 +341,17 @@ impl CommandLineFault {
     }
 }
 
+// Those with status 0 are help and the version.
 fn print<R: Print + Eprint>(rt: &R, error: &Error) -> u8
-    ensures { (result ≡ status_of_kind (kind_of error.now)) ⊎ (result ≡ 4) }
+    ensures { (result ≡ status_of_kind (kind_of error.now)) ⊎ ((status_of_kind (kind_of error.now) ≡ 0) × (result ≡ 4)) }
 {
-    if error.use_stderr() {
+    let status = status_at(error.kind());
+    if status != 0 {
         let _ = rt.eprint(error);
-        return status_at(error.kind());
+        return status;
     }
     match rt.print(error) {
-        Ok(()) => status_at(error.kind()),
+        Ok(()) => 0,
         Err(_) => 4,
     }
 }

@@ -1,0 +1,4 @@
+mod Words
+mod FirstNodes
+mod Paths
+mod Refusals

@@ -3,3 +3,4 @@ pub mod Documents
 pub mod Keys
 pub mod Naming
 pub mod Answers
+pub mod Faults

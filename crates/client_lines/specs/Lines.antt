@@ -1,8 +1,10 @@
 -- The lines that a client prints of a reply: this project's own.
-use Rattle.std.specs.Prelude.{ℕ, ◌==◌, List, [], ◌∷◌, ◌++◌, Bool, if◌then◌else◌, map, flat_map, codes, nat_eq}
+use Rattle.std.specs.Prelude.{ℕ, ◌==◌, List, [], ◌∷◌, ◌++◌, Bool, if◌then◌else◌, map, flat_map, codes, nat_eq, IsUtf8}
 use Rattle.std.specs.Cmp.Lexicographic.{pointwise}
 use Rattle.json.specs.Print.{quoted}
 use Rattle.client_frames.specs.Payloads.{Found}
+use Rattle.client_lines.specs.declared.documents.LineFault.{LineFault}
+use Rattle.client_lines.specs.declared.documents.LineFault.TheVariants.{NotUtf8, Memory}
 
 -- the document, a tab, the path, a tab and the value
 abbrev pub hit_line : Found → List ℕ
@@ -21,6 +23,23 @@ json_line f = codes "{\"document\":\"" ++ (f.document ++ (codes "\",\"path\":" +
 
 abbrev pub json_lines : List Found → List ℕ
 json_lines hits = flat_map json_line hits
+
+-- each path is UTF-8, as a text of JSON is (RFC 8259, section 8.1)
+abbrev pub AreUtf8 : List Found → Type 0
+AreUtf8 [] = Unit {0}
+AreUtf8 (f ∷ fs) = IsUtf8 f.path × AreUtf8 fs
+
+-- why a hit with this path has no such line
+abbrev pub RefusesPath : (path : List ℕ) → LineFault → Type 0
+RefusesPath path NotUtf8 = ¬ IsUtf8 path
+RefusesPath path Memory = Unit {0}
+RefusesPath path _ = ⊥
+
+-- why hits have no such lines
+abbrev pub RefusesHits : List Found → LineFault → Type 0
+RefusesHits hits NotUtf8 = ¬ AreUtf8 hits
+RefusesHits hits Memory = Unit {0}
+RefusesHits hits _ = ⊥
 
 -- a line for each name
 abbrev pub name_line : List ℕ → List ℕ

@@ -1,12 +1,13 @@
 //! The lines of a dump.
 
-ghost use Rattle.std.specs.Prelude.{◌≡◌, ◌++◌, Some, codes, option_and_then, string_bytes, IfErr, IfOk, OnOk};
+ghost use Rattle.std.specs.Prelude.{◌≡◌, ◌≢◌, ◌↔◌, ◌++◌, Some, codes, option_and_then, string_bytes, IfErr, IfOk, IsOk, IsUtf8, OnOk};
 ghost use Rattle.std.specs.Option.{option_map};
 ghost use Rattle.serde_json.specs.Find.{as_str, get};
 ghost use Rattle.serde_json.specs.Read.{read};
 ghost use Rattle.serde_json.specs.View.{view};
 ghost use Rattle.client_lines.specs.Documents as spec;
-ghost use Rattle.client_lines.specs.Documents.{HasString, Refuses, document, document_line, document_text};
+ghost use Rattle.client_lines.specs.Documents.{Refuses, document, document_line, document_text, string_in};
+ghost use Rattle.client_lines.specs.Faults.{fault_of, fault_name, text_fault_name};
 
 use json_tape::TextFault;
 use serde_json::{Value, json};
@@ -19,7 +20,7 @@ pub enum LineFault {
     /// It is not UTF-8.
     #[error("it is not UTF-8")]
     NotUtf8,
-    /// It is not a JSON text (RFC 8259).
+    /// It is not a JSON text (RFC 8259), or lies deeper than 127 levels, or has a number above the range of a double.
     #[error("it is not a JSON text")]
     NotJson,
     /// It has no string `name`, or none where the query of `--name` looks.
@@ -41,7 +42,9 @@ pub enum LineFault {
 
 impl LineFault {
     /// The name of the refusal: that of the protocol's status, if there is one.
-    pub fn name(&self) -> &'static str {
+    pub fn name(&self) -> &'static str
+        ensures { result.now ≡ fault_name self.now }
+    {
         match self {
             LineFault::NotUtf8 => "NotUtf8",
             LineFault::NotJson => "NotJson",
@@ -54,7 +57,9 @@ impl LineFault {
     }
 
     /// The fault of a text that is refused.
-    pub fn of_text(fault: TextFault) -> LineFault {
+    pub fn of_text(fault: TextFault) -> LineFault
+        ensures { result ≡ fault_of fault }
+    {
         match fault {
             TextFault::Memory => LineFault::Memory,
             _ => LineFault::NoDocument(fault),
@@ -62,7 +67,9 @@ impl LineFault {
     }
 }
 
-fn text_fault_name(fault: TextFault) -> &'static str {
+fn text_fault_name(fault: TextFault) -> &'static str
+    ensures { result.now ≡ text_fault_name fault }
+{
     match fault {
         TextFault::TooLong => "TooLong",
         TextFault::NotUtf8 => "NotUtf8",
@@ -133,6 +140,7 @@ fn document_text(alloc: Global, name: &str, text: &str) -> Result<String, AllocE
 }
 
 fn parse(alloc: Global, line: &[u8]) -> Result<Value, LineFault>
+    ensures utf8 { IsOk result → IsUtf8 line.now }
     ensures value { IfOk result (λ v. read line.now ≡ Some (view v)) }
     ensures refused { IfErr result (λ fault. Refuses fault line.now) }
 {
@@ -160,10 +168,12 @@ fn string_at(alloc: Global, value: &Value, key: &str) -> Result<Option<String>, 
 ///
 /// # Errors
 ///
-/// NotUtf8, NotJson, NoName or NoText if the line does not have both, Memory if an allocation failed.
+/// The first that applies in this order: NotUtf8; NotJson; NoName if the line is no object with a string `name`; NoText likewise.
+/// Memory if an allocation failed, which comes after NotUtf8.
 pub fn read_document(alloc: Global, line: &[u8]) -> Result<NamedText, LineFault>
-    ensures name { IfOk result (λ d. HasString line.now (codes "name") (string_bytes d.name)) }
-    ensures text { IfOk result (λ d. HasString line.now (codes "text") (string_bytes d.text)) }
+    ensures utf8 { IsOk result → IsUtf8 line.now }
+    ensures name { IfOk result (λ d. string_in line.now (codes "name") ≡ Some (string_bytes d.name)) }
+    ensures text { IfOk result (λ d. string_in line.now (codes "text") ≡ Some (string_bytes d.text)) }
     ensures refused { IfErr result (λ fault. Refuses fault line.now) }
 {
     let value = parse(alloc, line)?;

@@ -1,9 +1,9 @@
 //! The lines of hits and names.
 
-ghost use Rattle.std.specs.Prelude.{◌≡◌, ◌++◌, map, codes, string_bytes, IfOk, OnOk};
+ghost use Rattle.std.specs.Prelude.{◌≡◌, ◌++◌, map, codes, string_bytes, IfErr, IfOk, IsOk, IsUtf8, OnOk};
 ghost use Rattle.json.specs.Print.{quoted};
 ghost use Rattle.client_frames.specs.Readings.{found_of, name_of};
-ghost use Rattle.client_lines.specs.Lines.{documents_of, hit_line, hit_lines, json_line, json_lines, name_lines};
+ghost use Rattle.client_lines.specs.Lines.{AreUtf8, RefusesHits, RefusesPath, documents_of, hit_line, hit_lines, json_line, json_lines, name_lines};
 
 use crate::documents::LineFault;
 use crate::pieces::{append_all, append_blanked};
@@ -42,7 +42,9 @@ fn quote(alloc: Global, text: &str) -> Result<String, AllocError>
 /// Appends the line of a hit as an object of JSON.
 #[tactic(auto, unfolding(crate::specs::Lines::json_line))]
 pub fn append_json_hit(alloc: Global, hit: &Hit<'_>, out: &mut Vec<u8>) -> Result<(), LineFault>
-    ensures { OnOk result (out.new.items ≡ out.old.items ++ json_line (found_of hit.now)) }
+    ensures line { OnOk result (out.new.items ≡ out.old.items ++ json_line (found_of hit.now)) }
+    ensures utf8 { IsOk result → IsUtf8 hit.now.path.now }
+    ensures refused { IfErr result (λ fault. RefusesPath hit.now.path.now fault) }
 {
     let Ok(path) = simdutf8::basic::from_utf8(hit.path) else {
         return Err(LineFault::NotUtf8);
@@ -67,12 +69,17 @@ pub fn append_json_hit(alloc: Global, hit: &Hit<'_>, out: &mut Vec<u8>) -> Resul
 ///
 /// # Errors
 ///
-/// NotUtf8 if a path is not UTF-8, Memory if an allocation failed.
+/// NotUtf8 only if a path is not UTF-8, Memory if an allocation failed.
+#[tactic(auto, using(crate::proofs::Paths::passed_hit, crate::proofs::Paths::refused_hit))]
 pub fn append_json_hits(alloc: Global, hits: &[Hit<'_>], out: &mut Vec<u8>) -> Result<(), LineFault>
-    ensures { OnOk result (out.new.items ≡ out.old.items ++ json_lines (map found_of hits.now)) }
+    ensures lines { OnOk result (out.new.items ≡ out.old.items ++ json_lines (map found_of hits.now)) }
+    ensures utf8 { IsOk result → AreUtf8 (map found_of hits.now) }
+    ensures refused { IfErr result (λ fault. RefusesHits (map found_of hits.now) fault) }
 {
     for hit in hits {
-        append_json_hit(alloc, hit, out)?;
+        if let Err(fault) = append_json_hit(alloc, hit, out) {
+            return Err(fault);
+        }
     }
     Ok(())
 }

@@ -1,8 +1,8 @@
 //! Key files.
 
-ghost use Rattle.std.specs.Prelude.{◌≡◌, ◌≤◌, length, IfOk};
-ghost use Rattle.std.specs.List.{list_all};
-ghost use Rattle.client_lines.specs.Keys.{HoldsKey};
+ghost use Rattle.std.specs.Prelude.{◌≡◌, ◌∷◌, ◌≤◌, [], IfNone, IfSome, length};
+ghost use Rattle.std.specs.List.{position_or_len};
+ghost use Rattle.client_lines.specs.Keys.{key_in, words_in};
 ghost use Rattle.client_lines.specs.Keys as keys;
 
 use hex::FromHex;
@@ -28,23 +28,35 @@ fn is_separator(byte: u8) -> bool
     matches!(byte, b'\t' | b'\n' | b'\r' | b' ' | b',')
 }
 
-fn are_separators(bytes: &[u8]) -> bool
-    ensures { result ≡ list_all keys.is_separator bytes.now }
+/// The number of bytes before the first separator.
+fn word_length(text: &[u8]) -> usize
+    ensures within { result ≤ length text.now }
+    ensures value { result ≡ position_or_len keys.is_separator text.now }
 {
-    bytes.iter().all(|byte| is_separator(*byte))
+    let mut count = 0;
+    for byte in text {
+        if is_separator(*byte) {
+            return count;
+        }
+        count += 1;
+    }
+    count
 }
 
-/// The number of bytes before the first separator, or before the first other byte.
-fn bytes_before(text: &[u8], separator: bool) -> usize
-    ensures { result ≤ length text.now }
+/// The first word of a text, and the text behind it.
+#[tactic(auto, using(crate::proofs::Words::word_within))]
+fn first_word(text: &[u8]) -> Option<(&[u8], &[u8])>
+    ensures some { IfSome result (λ parts. words_in text.now ≡ parts.0.now ∷ words_in parts.1.now) }
+    ensures none { IfNone result (words_in text.now ≡ []) }
 {
-    match text
-        .iter()
-        .position(|byte| is_separator(*byte) == separator)
-    {
-        Some(place) => place,
-        None => text.len(),
+    let mut rest = text;
+    while let Some((byte, others)) = rest.split_first() {
+        if !is_separator(*byte) {
+            return Some(rest.split_at(word_length(rest)));
+        }
+        rest = others;
     }
+    None
 }
 
 /// Reads a key: 32 hexadecimal digits of either case, with separators around them.
@@ -53,17 +65,15 @@ fn bytes_before(text: &[u8], separator: bool) -> usize
 ///
 /// NoKey if the text has only separators, SeveralKeys if it has several words, BadKey if its word is not a key.
 pub fn read_key(text: &[u8]) -> Result<[u8; 16], KeyFault>
-    ensures { IfOk result (λ key. HoldsKey text.now key) }
+    ensures { result ≡ key_in (words_in text.now) }
 {
-    let (before, rest) = text.split_at(bytes_before(text, false));
-    if rest.is_empty() {
+    let Some((word, rest)) = first_word(text) else {
         return Err(KeyFault::NoKey);
-    }
-    let (digits, after) = rest.split_at(bytes_before(rest, true));
-    if !are_separators(before) || !are_separators(after) {
+    };
+    if first_word(rest).is_some() {
         return Err(KeyFault::SeveralKeys);
     }
-    match <[u8; 16] as FromHex>::from_hex(digits) {
+    match <[u8; 16] as FromHex>::from_hex(word) {
         Ok(key) => Ok(key),
         Err(_) => Err(KeyFault::BadKey),
     }

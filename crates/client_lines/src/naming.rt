@@ -1,15 +1,20 @@
 //! The name that a query finds in a document.
 
-ghost use Rattle.std.specs.Prelude.{◌≡◌, ◌<◌, IfOk, IfSome, IsTrue, string_bytes};
+ghost use Rattle.std.specs.Prelude.{◌≡◌, ◌<◌, ◌≤◌, IfErr, IfNone, IfOk, IfSome, IsErrOf, IsOk, IsTrue, Some, string_bytes};
+ghost use Rattle.std.specs.Option.{option_map};
 ghost use Rattle.json_tape.specs.Document.{count, node_at, tree_of};
 ghost use Rattle.path_grammar.specs.Singular as singular;
 ghost use Rattle.path_grammar.specs.View.{query_view};
 ghost use Rattle.path_types.specs.Verdict.{IsValidQuery};
-ghost use Rattle.client_lines.specs.Naming.{IsFirstString, TellsName, string_at};
+ghost use Rattle.tape_select.specs.Budget.{budget};
+ghost use Rattle.tape_select.specs.Charge.{charge};
+ghost use Rattle.tape_select.specs.Evaluation.{nodes_selected};
+ghost use Rattle.client_lines.specs.Naming as naming;
+ghost use Rattle.client_lines.specs.Naming.{IsNoNameQuery, RefusesName, TellsName};
 
 use crate::documents::LineFault;
 use json_tape::{Document, Kind, NodeId};
-use path_grammar::is_singular;
+use path_grammar::{is_singular, queries_have_one_tree};
 use path_types::{QueryFault, ValidQuery, compile};
 use std::alloc::{AllocError, Global};
 use tape_select::{BUDGET, SelectFault, select};
@@ -18,7 +23,9 @@ use tape_select::{BUDGET, SelectFault, select};
 pub fn read_name_query(alloc: Global, text: &[u8]) -> Result<Option<ValidQuery>, AllocError>
     ensures valid { IfOk result (λ o. IfSome o (λ q. IsValidQuery text.now (query_view q))) }
     ensures singular { IfOk result (λ o. IfSome o (λ q. IsTrue (singular.is_singular (query_view q)))) }
+    ensures none { IfOk result (λ o. IfNone o (IsNoNameQuery text.now)) }
 {
+    queries_have_one_tree();
     match compile(alloc, text) {
         Ok(query) if is_singular(query.segments()) => Ok(Some(query)),
         Err(QueryFault::Memory) => Err(AllocError),
@@ -30,40 +37,62 @@ pub fn read_name_query(alloc: Global, text: &[u8]) -> Result<Option<ValidQuery>,
 ///
 /// # Errors
 ///
-/// NoDocument with the reason, if the server would refuse the text; NoName if the first node is not a string or there is none; Memory if an
-/// allocation failed.
+/// The first that applies in this order:
+///
+/// - `NoDocument` with the reason: the server would refuse the text.
+/// - `Costly`: the query's charge is above the budget.
+/// - `NoName`: the first node is not a string, or there is none.
+///
+/// `Memory` if an allocation failed, which comes after the first two reasons of `NoDocument`.
 pub fn name_in(alloc: Global, query: &ValidQuery, text: &[u8]) -> Result<String, LineFault>
-    ensures { IfOk result (λ name. TellsName (query_view query.now) text.now (string_bytes name)) }
+    ensures told { IfOk result (λ name. TellsName (query_view query.now) text.now (Some (string_bytes name))) }
+    ensures refused { IfErr result (λ fault. RefusesName (query_view query.now) text.now fault) }
 {
-    match Document::read(alloc, text) {
-        Ok(document) => first_string(alloc, query, &document),
-        Err(fault) => Err(LineFault::of_text(fault)),
-    }
-}
-
-fn first_string(alloc: Global, query: &ValidQuery, document: &Document) -> Result<String, LineFault>
-    ensures { IfOk result (λ name. IsFirstString (query_view query.now) (tree_of document.now) (string_bytes name)) }
-{
-    match select(alloc, query, document, BUDGET) {
-        Ok(selected) => match selected.nodes.first() {
-            Some(node) => string_of(alloc, document, *node),
-            None => Err(LineFault::NoName),
-        },
+    let document = match Document::read(alloc, text) {
+        Ok(document) => document,
+        Err(fault) => return Err(LineFault::of_text(fault)),
+    };
+    match first_string(alloc, query, &document) {
+        Ok(Some(name)) => Ok(name),
+        Ok(None) => Err(LineFault::NoName),
         Err(SelectFault::Memory) => Err(LineFault::Memory),
-        Err(SelectFault::Costly) => Err(LineFault::NoName),
+        Err(SelectFault::Costly) => Err(LineFault::Costly),
     }
 }
 
-fn string_of(alloc: Global, document: &Document, node: NodeId) -> Result<String, LineFault>
+/// The string that the first selected node is, if it is one.
+#[tactic(auto, using(crate::proofs::FirstNodes::first_is, crate::proofs::FirstNodes::none_is))]
+fn first_string(
+    alloc: Global,
+    query: &ValidQuery,
+    document: &Document,
+) -> Result<Option<String>, SelectFault>
+    ensures string { IfOk result (λ o. option_map string_bytes o ≡ naming.first_string (nodes_selected (tree_of document.now) (query_view query.now))) }
+    ensures within { IsOk result → charge (tree_of document.now) (query_view query.now) ≤ budget }
+    ensures costly { IsErrOf result SelectFault.Costly → budget < charge (tree_of document.now) (query_view query.now) }
+{
+    let selected = select(alloc, query, document, BUDGET)?;
+    let Some(node) = selected.nodes.first() else {
+        return Ok(None);
+    };
+    match string_of(alloc, document, *node) {
+        Ok(string) => Ok(string),
+        Err(_) => Err(SelectFault::Memory),
+    }
+}
+
+/// The string that a node is, if it is one.
+#[tactic(auto, using(crate::proofs::FirstNodes::is_string))]
+fn string_of(alloc: Global, document: &Document, node: NodeId) -> Result<Option<String>, AllocError>
     requires { node.0 < count document.now }
-    ensures { IfOk result (λ s. string_bytes s ≡ string_at (node_at document.now node.0)) }
+    ensures { IfOk result (λ o. option_map string_bytes o ≡ naming.string_of (node_at document.now node.0).tree) }
 {
     if document.kind(node) != Kind::Text {
-        return Err(LineFault::NoName);
+        return Ok(None);
     }
-    let mut name = String::new(alloc);
+    let mut string = String::new(alloc);
     for letter in document.string_scalars(node) {
-        name.push(letter)?;
+        string.push(letter)?;
     }
-    Ok(name)
+    Ok(Some(string))
 }

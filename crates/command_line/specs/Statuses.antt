@@ -20,7 +20,7 @@ use Rattle.path_server.specs.declared.keys.KeysFault.TheVariants as keys
 use Rattle.tenant_map.specs.declared.tenants.TenantsFault.{TenantsFault}
 use Rattle.tenant_map.specs.declared.tenants.TenantsFault.TheVariants as tenants
 use Rattle.command_line.specs.declared.failure.Failure.{Failure}
-use Rattle.command_line.specs.declared.failure.Failure.TheVariants.{CommandLine, Words, Value, Query, Refused, Keys, Replay, Tenants, Net, Address, KeyLine, File, Write, Read, Call, Memory}
+use Rattle.command_line.specs.declared.failure.Failure.TheVariants.{CommandLine, Words, Value, Query, Refused, Keys, Replay, Tenants, Net, Address, Key, KeyLine, File, RepeatedName, Write, Read, Call, Broken, Memory}
 
 abbrev pub status_of_kind : ErrorKind → ℕ
 status_of_kind DisplayHelp = 0
@@ -91,9 +91,12 @@ status_of (Replay fault) = status_of_replay fault
 status_of (Tenants fault) = status_of_tenants fault
 status_of Net = 4
 status_of (Address _) = 4
+status_of (Key _) = 3
 status_of (KeyLine _) = 3
 status_of (File _) = 4
-status_of Write = 4
+status_of (RepeatedName _) = 3
+status_of (Write _) = 4
 status_of (Read _) = 4
 status_of (Call fault) = status_of_call_stream fault
+status_of (Broken call) = status_of_call_stream call.fault
 status_of Memory = 4

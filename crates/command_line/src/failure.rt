@@ -1,8 +1,9 @@
 //! Why the program fails, and its exit status.
 
-ghost use Rattle.std.specs.Prelude.{◌≡◌, ◌⊎◌, ◌↔◌};
+ghost use Rattle.std.specs.Prelude.{◌≡◌, ◌≢◌, ◌⊎◌, ◌↔◌, IsTrue};
 ghost use Rattle.std.specs.IoError.{error_kind};
 ghost use Rattle.clap.specs.Values.{kind_of};
+ghost use Rattle.command_line.specs.Causes.{IsBrokenOff, IsOfAddress, IsOfCall, IsOfFile, IsOfQuery};
 ghost use Rattle.command_line.specs.Statuses.{status_of, status_of_refusal, status_of_query, status_of_keys, status_of_tenants, status_of_script, status_of_replay, status_of_call, status_of_call_stream, status_of_kind};
 
 use clap::error::ErrorKind as ParseKind;
@@ -12,7 +13,7 @@ use path_server::{
     ScriptFault,
 };
 use query_faults::Refusal;
-use standard_streams::ReadFault;
+use standard_streams::{ReadFault, WriteFault};
 use std::alloc::{AllocError, Global};
 use std::fmt;
 use std::io::{self, ErrorKind};
@@ -41,16 +42,22 @@ pub enum Failure {
     Net,
     /// The same, with the address and the system's reason.
     Address(AddressFault),
+    /// The key with this number on the command line, from 1 on, is not in its written form.
+    Key(u64),
     /// A line of the key file is not in the written form of keys.
     KeyLine(KeyLine),
     /// A file could not be read.
     File(FileFault),
+    /// Two tenants have the same name.
+    RepeatedName(String),
     /// The line with the bound address could not be printed.
-    Write,
+    Write(WriteFault),
     /// The request frames on standard input could not be read.
     Read(ReadFault),
     /// The request frames were not answered.
     Call(CallStreamFault),
+    /// The same, with the address of the server whose connection broke.
+    Broken(BrokenCall),
     /// An allocation failed.
     Memory,
 }
@@ -94,6 +101,24 @@ impl fmt::Display for RefusedAt {
     }
 }
 
+/// A call that was not answered, and the address of its server.
+#[derive(Debug, Drop)]
+pub struct BrokenCall {
+    pub fault: CallStreamFault,
+    pub address: String,
+}
+
+impl fmt::Display for BrokenCall {
+    fn fmt<W: fmt::Write>(&self, f: &mut fmt::Formatter<W>) -> fmt::Result {
+        let what = match self.fault {
+            CallStreamFault::Call(CallFault::WriteFault)
+            | CallStreamFault::Unwritten(CallFault::WriteFault) => "a request was not sent whole",
+            _ => "a reply did not come whole",
+        };
+        write!(f, "{}\n{}: {what}", self.fault, self.address)
+    }
+}
+
 /// A line of a file, numbered from 1.
 #[derive(Debug, Drop)]
 pub struct KeyLine {
@@ -111,6 +136,7 @@ impl Failure {
     /// The failure of a command line that did not parse.
     pub fn of_command_line(error: clap::Error) -> Failure
         ensures memory { (result ≡ Failure.Memory) ↔ (kind_of error ≡ ParseKind.OutOfMemory) }
+        ensures other { (kind_of error ≢ ParseKind.OutOfMemory) → result ≡ Failure.CommandLine error }
         ensures status { status_of result ≡ status_of_kind (kind_of error) }
     {
         match error.kind() {
@@ -122,6 +148,7 @@ impl Failure {
     /// The failure of a command line whose words could not be read.
     pub fn of_words(error: &io::Error) -> Failure
         ensures memory { (result ≡ Failure.Memory) ↔ (error_kind error.now ≡ ErrorKind.OutOfMemory) }
+        ensures other { (result ≡ Failure.Words) ↔ (error_kind error.now ≢ ErrorKind.OutOfMemory) }
     {
         match error.kind() {
             ErrorKind::OutOfMemory => Failure::Memory,
@@ -137,6 +164,7 @@ impl Failure {
         fault: QueryStreamFault,
         shows: bool,
     ) -> Failure
+        ensures cause { IsOfQuery fault result }
         ensures status { status_of result ≡ status_of_query fault }
     {
         let QueryStreamFault::Refused(refusal) = fault else {
@@ -151,9 +179,20 @@ impl Failure {
         }
     }
 
+    /// The failure of keys on the command line, with the number of the first that is not in its written form.
+    pub fn of_keys(words: &str, fault: KeysFault) -> Failure
+        ensures status { status_of result ≡ status_of_keys fault }
+    {
+        match fault {
+            KeysFault::BadKeys => Failure::Key(bad_key(words)),
+            KeysFault::Memory => Failure::Keys(fault),
+        }
+    }
+
     /// The failure of an address, which is told without it where there is no memory.
     pub fn of_address(alloc: Global, address: &str, reason: ErrorKind) -> Failure
-        ensures { status_of result ≡ 4 }
+        ensures cause { IsOfAddress address.now reason result }
+        ensures status { status_of result ≡ 4 }
     {
         match String::from_str(alloc, address) {
             Ok(address) => Failure::Address(AddressFault { address, reason }),
@@ -163,13 +202,28 @@ impl Failure {
 
     /// The failure of a file that could not be read.
     pub fn of_file(alloc: Global, file: &str, error: &io::Error) -> Failure
-        ensures { status_of result ≡ 4 }
+        ensures cause { IsOfFile file.now (error_kind error.now) result }
+        ensures status { status_of result ≡ 4 }
     {
         let reason = error.kind();
         match (reason, String::from_str(alloc, file)) {
             (ErrorKind::OutOfMemory, _) => Failure::Memory,
             (_, Ok(file)) => Failure::File(FileFault { file, reason }),
-            (_, Err(_)) => Failure::Read(ReadFault::Failed),
+            (_, Err(_)) => Failure::Memory,
+        }
+    }
+
+    /// The failure of a call, with the address of its server if the connection broke and there is memory for it.
+    pub fn of_call(alloc: Global, address: &str, fault: CallStreamFault) -> Failure
+        ensures cause { IsOfCall address.now fault result }
+        ensures status { status_of result ≡ status_of_call_stream fault }
+    {
+        if !is_broken(fault) {
+            return Failure::Call(fault);
+        }
+        match String::from_str(alloc, address) {
+            Ok(address) => Failure::Broken(BrokenCall { fault, address }),
+            Err(_) => Failure::Call(fault),
         }
     }
 
@@ -188,11 +242,14 @@ impl Failure {
             Failure::Tenants(fault) => tenants_status(*fault),
             Failure::Net => 4,
             Failure::Address(_) => 4,
+            Failure::Key(_) => 3,
             Failure::KeyLine(_) => 3,
             Failure::File(_) => 4,
-            Failure::Write => 4,
+            Failure::RepeatedName(_) => 3,
+            Failure::Write(_) => 4,
             Failure::Read(_) => 4,
             Failure::Call(fault) => call_stream_status(*fault),
+            Failure::Broken(call) => call_stream_status(call.fault),
             Failure::Memory => 4,
         }
     }
@@ -200,19 +257,18 @@ impl Failure {
     /// Prints help and the version to standard output, everything else to standard error, and gives the exit status. If help or the version
     /// cannot be printed, the status is that of a failed write.
     pub fn report<R: Print + Eprint>(&self, rt: &R) -> u8
-        ensures { (result ≡ status_of self.now) ⊎ (result ≡ 4) }
+        ensures { (result ≡ status_of self.now) ⊎ ((status_of self.now ≡ 0) × (result ≡ 4)) }
     {
-        match self {
-            Failure::CommandLine(error) if !error.use_stderr() => match rt.print(error) {
-                Ok(()) => self.status(),
-                Err(_) => {
-                    let _ = eprintln!(rt; "path_server: WriteFault");
-                    4
-                }
-            },
-            _ => {
-                let _ = rt.eprint(self);
-                self.status()
+        let status = self.status();
+        if status != 0 {
+            let _ = rt.eprint(self);
+            return status;
+        }
+        match rt.print(self) {
+            Ok(()) => 0,
+            Err(error) => {
+                let _ = eprintln!(rt; "path_server: {}", WriteFault(error.kind()));
+                4
             }
         }
     }
@@ -231,14 +287,37 @@ impl fmt::Display for Failure {
             Failure::Tenants(fault) => writeln!(f, "path_server: {fault}"),
             Failure::Net => writeln!(f, "path_server: NetFault"),
             Failure::Address(fault) => writeln!(f, "path_server: NetFault\n{fault}"),
+            Failure::Key(number) => writeln!(
+                f,
+                "path_server: BadKeys\nkey {number} is not 32 hexadecimal digits"
+            ),
             Failure::KeyLine(line) => writeln!(f, "path_server: BadKeys\n{line}"),
             Failure::File(fault) => writeln!(f, "path_server: ReadFault\n{fault}"),
-            Failure::Write => writeln!(f, "path_server: WriteFault"),
+            Failure::RepeatedName(name) => writeln!(f, "path_server: RepeatedName\n{name}"),
+            Failure::Write(fault) => writeln!(f, "path_server: {fault}"),
             Failure::Read(fault) => writeln!(f, "path_server: {fault}"),
             Failure::Call(fault) => writeln!(f, "path_server: {fault}"),
+            Failure::Broken(call) => writeln!(f, "path_server: {call}"),
             Failure::Memory => writeln!(f, "path_server: NoMemory"),
         }
     }
+}
+
+// The number of the first key that is not 32 hexadecimal digits, or of the last one.
+fn bad_key(words: &str) -> u64 {
+    let mut number = 1u64;
+    let mut digits = 0;
+    for byte in words.as_bytes() {
+        if *byte == b',' && digits == 32 {
+            number = number.saturating_add(1);
+            digits = 0;
+        } else if byte.is_ascii_hexdigit() && digits < 32 {
+            digits += 1;
+        } else {
+            return number;
+        }
+    }
+    number
 }
 
 // What is said of the place at which a text or a query is refused.
@@ -362,6 +441,17 @@ fn tenants_status(fault: TenantsFault) -> u8
         TenantsFault::NoKeys | TenantsFault::TooManyKeys | TenantsFault::RepeatedKey => 3,
         TenantsFault::Memory => 4,
     }
+}
+
+// Whether the connection of a call broke.
+fn is_broken(fault: CallStreamFault) -> bool
+    ensures { IsTrue result ↔ IsBrokenOff fault }
+{
+    matches!(
+        fault,
+        CallStreamFault::Call(CallFault::ReadFault | CallFault::WriteFault)
+            | CallStreamFault::Unwritten(CallFault::ReadFault | CallFault::WriteFault)
+    )
 }
 
 fn call_stream_status(fault: CallStreamFault) -> u8

@@ -6,5 +6,5 @@
 mod failure;
 mod request;
 
-pub use failure::{AddressFault, Failure, FileFault, KeyLine, RefusedAt};
+pub use failure::{AddressFault, BrokenCall, Failure, FileFault, KeyLine, RefusedAt};
 pub use request::{Listening, Request, VERSION, read_request};

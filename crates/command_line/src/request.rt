@@ -6,7 +6,7 @@ use clap::{Arg, ArgAction, ArgMatches, Command, Error};
 use std::alloc::{AllocError, Global};
 
 /// The version, which `--version` prints behind the program's name.
-pub const VERSION: &str = "0.1.0";
+pub const VERSION: &str = "1.0.0";
 
 /// The most connections that `serve` serves.
 const MOST_CONNECTIONS: u64 = 1_000_000;
@@ -80,6 +80,8 @@ pub struct Listening<'a> {
     pub slow: u32,
     /// The administration address.
     pub admin: Option<&'a str>,
+    /// The names by which the administration address is asked, beside addresses and `localhost`.
+    pub admin_hosts: Vec<&'a str>,
 }
 
 // A word behind a subcommand.
@@ -128,7 +130,7 @@ fn listen<'a>(alloc: Global) -> Result<Command<'a>, AllocError> {
             alloc,
             "keys",
             "FILE",
-            "A file with keys, separated by commas or line feeds",
+            "A file with keys, separated by commas or line feeds; behind the one key of a line may stand its tenant's name",
         ),
         option(
             alloc,
@@ -176,6 +178,13 @@ fn listen<'a>(alloc: Global) -> Result<Command<'a>, AllocError> {
             "ADDR",
             "Answers GET /health, /ready and /metrics, and POST /ready and /drain?grace=SECONDS by HTTP at this address",
         ),
+        option(
+            alloc,
+            "admin-host",
+            "NAME",
+            "Serves requests with this Host at the administration address, too; may be given several times",
+        )
+        .action(ArgAction::Append),
         Arg::new(alloc, "log")
             .long("log")
             .help(
@@ -259,11 +268,14 @@ fn parsed<'a>(alloc: Global, words: &'a [String]) -> Result<ArgMatches<'a>, Erro
 /// The request of a command line, whose first word is the program's name.
 pub fn read_request<'a>(alloc: Global, words: &'a [String]) -> Result<Request<'a>, Failure> {
     let matches = parsed(alloc, words).map_err(Failure::of_command_line)?;
-    request_of(&matches)
+    let Ok(hosts) = hosts_of(alloc, &matches) else {
+        return Err(Failure::Memory);
+    };
+    request_of(&matches, hosts)
 }
 
 // What the subcommand and the words behind it ask for. Each subcommand has all of its words where the parse went well.
-fn request_of<'a>(matches: &ArgMatches<'a>) -> Result<Request<'a>, Failure> {
+fn request_of<'a>(matches: &ArgMatches<'a>, hosts: Vec<&'a str>) -> Result<Request<'a>, Failure> {
     let Some((name, words)) = matches.subcommand() else {
         return Err(Failure::Words);
     };
@@ -271,7 +283,7 @@ fn request_of<'a>(matches: &ArgMatches<'a>) -> Result<Request<'a>, Failure> {
         let Some(memory) = bytes_of(words.get_str("memory").unwrap_or_default()) else {
             return Err(Failure::Value(MEMORY_VALUE));
         };
-        return match listen_of(words, memory) {
+        return match listen_of(words, memory, hosts) {
             Some(listening) => Ok(Request::Listen(listening)),
             None => Err(Failure::Words),
         };
@@ -280,6 +292,15 @@ fn request_of<'a>(matches: &ArgMatches<'a>) -> Result<Request<'a>, Failure> {
         Some(request) => Ok(request),
         None => Err(Failure::Words),
     }
+}
+
+// The names by which the administration address is asked.
+fn hosts_of<'a>(alloc: Global, matches: &ArgMatches<'a>) -> Result<Vec<&'a str>, AllocError> {
+    let mut hosts = Vec::new(alloc);
+    if let Some((_, words)) = matches.subcommand() {
+        hosts.extend_from_slice(words.get_strs("admin-host").unwrap_or_default())?;
+    }
+    Ok(hosts)
 }
 
 fn other_of<'a>(name: &str, words: &ArgMatches<'a>) -> Option<Request<'a>> {
@@ -327,7 +348,11 @@ fn number_of(digits: &[u8]) -> Option<u64> {
     Some(number)
 }
 
-fn listen_of<'a>(words: &ArgMatches<'a>, memory: usize) -> Option<Listening<'a>> {
+fn listen_of<'a>(
+    words: &ArgMatches<'a>,
+    memory: usize,
+    hosts: Vec<&'a str>,
+) -> Option<Listening<'a>> {
     Some(Listening {
         address: words.get_str("ADDR")?,
         keys: words.get_str("KEYS"),
@@ -341,5 +366,6 @@ fn listen_of<'a>(words: &ArgMatches<'a>, memory: usize) -> Option<Listening<'a>>
         log: words.get_flag("log"),
         slow: words.get_one("slow")?,
         admin: words.get_str("admin"),
+        admin_hosts: hosts,
     })
 }

@@ -1,18 +1,20 @@
-//! The keys of a file.
+//! The keys of a file, and what their tenants are called.
 
+use crate::named_keys::NamedKeys;
 use command_line::{Failure, KeyLine};
 use path_server::{KeysFault, read_keys};
 use std::alloc::Global;
 use std::fs;
 use std::io::Read;
 use std::rt::Files;
+use store_names::CollName;
 
 /// The most bytes of a file of keys.
 const MOST_BYTES: u64 = 65_536;
 
-/// The keys of a file, in its order: in each line some keys, joined by commas. Blank lines, and those that begin with `#`, have none. A
-/// file above the limit is one line that is too long.
-pub fn read_key_file<R: Files + AllocGlobal>(rt: &R, path: &str) -> Result<Vec<[u8; 16]>, Failure> {
+/// The keys of a file, in its order: in each line some keys, joined by commas, or a key, blanks and the name of its tenant. A name is like one of a
+/// collection. Blank lines, and those that begin with `#`, have none. A file above the limit is one line that is too long.
+pub fn read_key_file<R: Files + AllocGlobal>(rt: &R, path: &str) -> Result<NamedKeys, Failure> {
     let file = fs::open(rt, path).map_err(|error| Failure::of_file(rt.alloc(), path, &error))?;
     let mut text = Vec::new(rt.alloc());
     if let Err(error) = file.take(MOST_BYTES + 1).read_to_end(&mut text) {
@@ -25,8 +27,8 @@ pub fn read_key_file<R: Files + AllocGlobal>(rt: &R, path: &str) -> Result<Vec<[
 }
 
 // The keys of a file's text.
-fn keys_of(alloc: Global, path: &str, text: &[u8]) -> Result<Vec<[u8; 16]>, Failure> {
-    let mut keys = Vec::new(alloc);
+fn keys_of(alloc: Global, path: &str, text: &[u8]) -> Result<NamedKeys, Failure> {
+    let mut keys = NamedKeys::new(alloc);
     let mut number = 0u64;
     'lines: for line in text.split(|byte| *byte == b'\n') {
         number = number.saturating_add(1);
@@ -40,15 +42,49 @@ fn keys_of(alloc: Global, path: &str, text: &[u8]) -> Result<Vec<[u8; 16]>, Fail
 }
 
 // Appends the keys of a line.
-fn add_keys(alloc: Global, line: &[u8], keys: &mut Vec<[u8; 16]>) -> Result<(), KeysFault> {
+fn add_keys(alloc: Global, line: &[u8], keys: &mut NamedKeys) -> Result<(), KeysFault> {
     let line = line.trim_ascii();
     if line.is_empty() || line.first() == Some(&b'#') {
         return Ok(());
     }
-    let more = read_keys(alloc, line)?;
-    match keys.extend_from_slice(more.as_slice()) {
-        Ok(()) => Ok(()),
-        Err(_) => Err(KeysFault::Memory),
+    match line.iter().position(|byte| byte.is_ascii_whitespace()) {
+        Some(place) => add_named(
+            alloc,
+            line.get(..place).unwrap_or_default(),
+            line.get(place..).unwrap_or_default(),
+            keys,
+        ),
+        None => add_some(alloc, line, keys),
+    }
+}
+
+// Appends keys that are joined by commas.
+fn add_some(alloc: Global, text: &[u8], keys: &mut NamedKeys) -> Result<(), KeysFault> {
+    let more = read_keys(alloc, text)?;
+    for key in &more {
+        keys.add(alloc, *key, None)?;
+    }
+    Ok(())
+}
+
+// Appends a key with a name.
+fn add_named(
+    alloc: Global,
+    text: &[u8],
+    name: &[u8],
+    keys: &mut NamedKeys,
+) -> Result<(), KeysFault> {
+    let name = name.trim_ascii();
+    if CollName::read(name).is_none() {
+        return Err(KeysFault::BadKeys);
+    }
+    let Ok(name) = str::from_utf8(name) else {
+        return Err(KeysFault::BadKeys);
+    };
+    let one = read_keys(alloc, text)?;
+    match one.as_slice() {
+        [key] => Ok(keys.add(alloc, *key, Some(name))?),
+        _ => Err(KeysFault::BadKeys),
     }
 }
 

@@ -1,8 +1,10 @@
 //! The program `path_server`: answers what its command line asks for on the standard streams or over sockets, and ends with a status.
 #![tactic(auto)]
 
+mod introduction;
 mod key_file;
 mod many;
+mod named_keys;
 
 use command_line::{Failure, Request, read_request};
 use connection_lines::EndLines;
@@ -11,7 +13,7 @@ use path_server::{
     QueryStreamFault, TEXT_LIMIT, call_stream, query_to, read_call, read_keys, replay_stream,
 };
 use socket_wire::{StreamListener, StreamWire, serve_streams};
-use standard_streams::read_past;
+use standard_streams::{WriteFault, read_past};
 use std::io::IsTerminal;
 use std::net::{Net, OpenListener, OpenStream, TcpListener, TcpStream};
 use std::process::ExitCode;
@@ -40,7 +42,9 @@ fn query<R: Input + Print + AllocGlobal>(
 
 // Answers `path_server replay KEYS`.
 fn replay<R: Input + Print + AllocGlobal>(rt: &R, keys: &str) -> Result<(), Failure> {
-    let keys = read_keys(rt.alloc(), keys.as_bytes()).map_err(Failure::Keys)?;
+    let keys = read_keys(rt.alloc(), keys.as_bytes()).map_err(|fault| Failure::of_keys(
+        keys, fault,
+    ))?;
     replay_stream(
         rt.alloc(),
         keys.as_slice(),
@@ -57,7 +61,9 @@ fn serve<R: Print + Eprint + Net + AllocGlobal>(
     keys: &str,
     count: u32,
 ) -> Result<(), Failure> {
-    let keys = read_keys(rt.alloc(), keys.as_bytes()).map_err(Failure::Keys)?;
+    let keys = read_keys(rt.alloc(), keys.as_bytes()).map_err(|fault| Failure::of_keys(
+        keys, fault,
+    ))?;
     let mut hub = Hub::new(rt.alloc(), keys.as_slice()).map_err(Failure::Tenants)?;
     let listener = listen(rt, address)?;
     serve_streams(
@@ -67,7 +73,7 @@ fn serve<R: Print + Eprint + Net + AllocGlobal>(
         count,
         &mut EndLines::new(rt),
     )
-    .map_err(|_| Failure::Net)
+    .map_err(|fault| Failure::of_address(rt.alloc(), address, fault.0))
 }
 
 // Binds the address, and prints the one that is bound.
@@ -77,10 +83,14 @@ fn listen<R: Print + Net + AllocGlobal>(rt: &R, address: &str) -> Result<R::List
         address,
         error.kind(),
     ))?;
-    let bound = listener.local_addr().map_err(|_| Failure::Net)?;
+    let bound = listener.local_addr().map_err(|error| Failure::of_address(
+        rt.alloc(),
+        address,
+        error.kind(),
+    ))?;
     match println!(rt; "listening {bound}") {
         Ok(()) => Ok(listener),
-        Err(_) => Err(Failure::Write),
+        Err(error) => Err(Failure::Write(WriteFault(error.kind()))),
     }
 }
 
@@ -100,11 +110,12 @@ fn call<R: Input + Print + Net + AllocGlobal>(rt: &R, address: &str) -> Result<(
         lines.as_slice(),
         &mut io::writer(rt),
     )
-    .map_err(Failure::Call)
+    .map_err(|fault| Failure::of_call(rt.alloc(), address, fault))
 }
 
-fn run<R: Input + Print + Eprint + Env + Net + Files + Clock + AllocGlobal>(
+fn run<R: Input + Print + Eprint + Env + Net + Files + Clock + AllocGlobal, P: Print + Drop>(
     rt: &R,
+    errors: P,
     is_terminal: bool,
 ) -> Result<(), Failure> {
     let mut words = Vec::new(rt.alloc());
@@ -121,14 +132,14 @@ fn run<R: Input + Print + Eprint + Env + Net + Files + Clock + AllocGlobal>(
             keys,
             count,
         } => serve(rt, address, keys, count),
-        Request::Listen(wanted) => many::listen(rt, &wanted),
+        Request::Listen(wanted) => many::listen(rt, errors, &wanted),
         Request::Call(address) => call(rt, address),
     }
 }
 
 fn main(rt: HostRuntime) -> ExitCode {
     let is_terminal = rt.stderr().is_terminal();
-    match run(&rt, is_terminal) {
+    match run(&rt, rt.stderr(), is_terminal) {
         Ok(()) => ExitCode::SUCCESS,
         Err(failure) => ExitCode::from(failure.report(&rt)),
     }

@@ -3,7 +3,9 @@
 ghost use Rattle.std.specs.Prelude.{◌≡◌};
 ghost use Rattle.command_line.specs.Statuses.{status_of};
 
+use crate::introduction::about;
 use crate::key_file::read_key_file;
+use crate::named_keys::NamedKeys;
 use command_line::{Failure, Listening};
 use connection_lines::LoopLines;
 use event_loop::{Gate, Limits, LoopCore, LoopFault, Server, Since, Sockets, Time, Totals};
@@ -11,10 +13,11 @@ use hub_metrics::MeasuredHub;
 use path_hub::Hub;
 use path_listen::HubCore;
 use path_server::read_keys;
+use standard_streams::WriteFault;
 use std::alloc::{AllocError, Global};
 use std::io::ErrorKind;
 use std::net::{Net, SocketAddr, ToSocketAddrs};
-use std::rt::{Clock, Files};
+use std::rt::{Clock, Env, Files};
 
 /// A server of this core at an address.
 type Bound<'r, R, C> = Server<Sockets, C, Since<'r, R>>;
@@ -25,46 +28,50 @@ type Measured<'r, R> = MeasuredHub<Since<'r, R>>;
 /// The descriptor of standard error.
 const STANDARD_ERROR: i32 = 2;
 
-/// Answers `path_server listen`.
-pub fn listen<R: Print + Eprint + Net + Files + Clock + AllocGlobal>(
+/// Answers `path_server listen`, with lines on this standard error.
+pub fn listen<R: Print + Env + Net + Files + Clock + AllocGlobal, P: Print + Drop>(
     rt: &R,
+    errors: P,
     wanted: &Listening<'_>,
 ) -> Result<(), Failure> {
     let keys = keys_of(rt, wanted)?;
-    serve(rt, wanted, keys.as_slice())
+    serve(rt, errors, wanted, &keys)
 }
 
 // Serves tenants of these keys.
-fn serve<R: Print + Eprint + Net + Clock + AllocGlobal>(
+fn serve<R: Print + Env + Net + Clock + AllocGlobal, P: Print + Drop>(
     rt: &R,
+    errors: P,
     wanted: &Listening<'_>,
-    keys: &[[u8; 16]],
+    keys: &NamedKeys,
 ) -> Result<(), Failure> {
-    let mut server = bind(rt, wanted, keys)?;
-    serve_at(rt, wanted, keys, &mut *server)
+    let mut server = bind(rt, wanted, keys.keys.as_slice())?;
+    serve_at(rt, errors, wanted, keys, &mut *server)
 }
 
 // Serves at an address that is bound.
-fn serve_at<'r, R: Print + Eprint + Net + Clock + AllocGlobal>(
+fn serve_at<'r, R: Print + Env + Net + Clock + AllocGlobal, P: Print + Drop>(
     rt: &'r R,
+    errors: P,
     wanted: &Listening<'_>,
-    keys: &[[u8; 16]],
+    keys: &NamedKeys,
     server: &mut Bound<'r, R, Measured<'r, R>>,
 ) -> Result<(), Failure> {
-    let lines = begin(rt, wanted, keys, server)?;
+    let lines = begin(rt, errors, wanted, keys, server)?;
     run(rt, wanted, server, lines)?;
     end(rt, &server.totals())
 }
 
 // Binds the administration address, where there is one, and prints the addresses. Hands out what writes the lines on standard error.
-fn begin<'r, R: Print + Eprint + Net + Clock + AllocGlobal, C: LoopCore>(
+fn begin<'r, R: Print + Env + Net + Clock + AllocGlobal, P: Print + Drop, C: LoopCore>(
     rt: &'r R,
+    errors: P,
     wanted: &Listening<'_>,
-    keys: &[[u8; 16]],
+    keys: &NamedKeys,
     server: &mut Bound<'r, R, C>,
-) -> Result<LoopLines<'r, R>, Failure> {
+) -> Result<LoopLines<'r, R, P>, Failure> {
     let administration = administer(rt, wanted, server, keys)?;
-    let lines = lines(rt, wanted)?;
+    let lines = lines(rt, errors, wanted, keys)?;
     tell(rt, wanted, administration, server)?;
     Ok(lines)
 }
@@ -87,50 +94,78 @@ fn tell<R: Print + Net + Clock + AllocGlobal, C: LoopCore>(
 }
 
 // Binds the administration address, where there is one.
-fn administer<'r, R: Net + Clock + AllocGlobal, C: LoopCore>(
+fn administer<'r, R: Env + Net + Clock + AllocGlobal, C: LoopCore>(
     rt: &'r R,
     wanted: &Listening<'_>,
     server: &mut Bound<'r, R, C>,
-    keys: &[[u8; 16]],
+    keys: &NamedKeys,
 ) -> Result<Option<SocketAddr>, Failure> {
-    let Some(address) = wanted.admin else {
-        return Ok(None);
-    };
-    let addr = address_of(rt, address)?;
-    let mut known = Vec::new(rt.alloc());
-    if known.extend_from_slice(keys).is_err() {
-        return Err(Failure::Memory);
+    match wanted.admin {
+        Some(address) => administer_at(rt, address, wanted, server, keys),
+        None => Ok(None),
     }
-    match server.administer(rt, addr, known) {
+}
+
+// Binds this administration address, and tells the server what it is.
+fn administer_at<'r, R: Env + Net + Clock + AllocGlobal, C: LoopCore>(
+    rt: &'r R,
+    address: &str,
+    wanted: &Listening<'_>,
+    server: &mut Bound<'r, R, C>,
+    keys: &NamedKeys,
+) -> Result<Option<SocketAddr>, Failure> {
+    let addr = address_of(rt, address)?;
+    let known = copied(rt.alloc(), keys.keys.as_slice())?;
+    let about = about(
+        rt,
+        wanted.admin_hosts.as_slice(),
+        names_of(rt.alloc(), keys)?,
+    )?;
+    match server.administer(rt, addr, known, about) {
         Ok(bound) => Ok(Some(bound)),
         Err(fault) => Err(failure_of(rt.alloc(), address, fault)),
     }
 }
 
+fn copied(alloc: Global, keys: &[[u8; 16]]) -> Result<Vec<[u8; 16]>, Failure> {
+    let mut copies = Vec::new(alloc);
+    match copies.extend_from_slice(keys) {
+        Ok(()) => Ok(copies),
+        Err(_) => Err(Failure::Memory),
+    }
+}
+
+fn names_of(alloc: Global, keys: &NamedKeys) -> Result<Vec<String>, Failure> {
+    keys.copied(alloc).map_err(|_| Failure::Memory)
+}
+
 fn print_line<R: Print>(rt: &R, what: &str, bound: &SocketAddr) -> Result<(), Failure> {
     match println!(rt; "{what} {bound}") {
         Ok(()) => Ok(()),
-        Err(_) => Err(Failure::Write),
+        Err(error) => Err(Failure::Write(WriteFault(error.kind()))),
     }
 }
 
 // The lines on standard error.
-fn lines<'r, R: Eprint + Net + Clock + AllocGlobal>(
+fn lines<'r, R: Net + Clock + AllocGlobal, P: Print + Drop>(
     rt: &'r R,
+    errors: P,
     wanted: &Listening<'_>,
-) -> Result<LoopLines<'r, R>, Failure> {
+    keys: &NamedKeys,
+) -> Result<LoopLines<'r, R, P>, Failure> {
+    let names = names_of(rt.alloc(), keys)?;
     match Gate::new(rt, rt.alloc(), STANDARD_ERROR) {
-        Ok(gate) => Ok(LoopLines::new(rt, gate, wanted.log)),
+        Ok(gate) => Ok(LoopLines::new(rt, rt.alloc(), errors, gate, wanted.log, names)),
         Err(_) => Err(Failure::Memory),
     }
 }
 
 // Serves until the end.
-fn run<'r, R: Eprint + Net + Clock + AllocGlobal>(
+fn run<'r, R: Net + Clock + AllocGlobal, P: Print + Drop>(
     rt: &'r R,
     wanted: &Listening<'_>,
     server: &mut Bound<'r, R, Measured<'r, R>>,
-    mut lines: LoopLines<'r, R>,
+    mut lines: LoopLines<'r, R, P>,
 ) -> Result<(), Failure> {
     match hub_metrics::serve(server, &mut lines) {
         Ok(()) => Ok(()),
@@ -143,7 +178,7 @@ fn end<R: Print>(rt: &R, totals: &Totals) -> Result<(), Failure> {
     let (connections, requests) = (totals.connections, totals.counts.requests);
     match println!(rt; "served {connections} connections, {requests} requests") {
         Ok(()) => Ok(()),
-        Err(_) => Err(Failure::Write),
+        Err(error) => Err(Failure::Write(WriteFault(error.kind()))),
     }
 }
 
@@ -247,26 +282,37 @@ fn limits_of(wanted: &Listening<'_>) -> Limits {
     }
 }
 
-// The keys of the file, and then those of the command line.
-fn keys_of<R: Files + AllocGlobal>(
-    rt: &R,
-    wanted: &Listening<'_>,
-) -> Result<Vec<[u8; 16]>, Failure> {
+// The keys of the file, and then those of the command line. No two tenants have the same name.
+fn keys_of<R: Files + AllocGlobal>(rt: &R, wanted: &Listening<'_>) -> Result<NamedKeys, Failure> {
     let mut keys = match wanted.file {
         Some(path) => read_key_file(rt, path)?,
-        None => Vec::new(rt.alloc()),
+        None => NamedKeys::new(rt.alloc()),
     };
     if let Some(words) = wanted.keys {
         add_words(rt.alloc(), words, &mut keys)?;
     }
-    Ok(keys)
+    match repeated_name(rt.alloc(), &keys) {
+        Some(failure) => Err(failure),
+        None => Ok(keys),
+    }
+}
+
+// The failure of names of which one stands twice. A key that does is another failure.
+fn repeated_name(alloc: Global, keys: &NamedKeys) -> Option<Failure> {
+    let name = keys.repeated()?;
+    match String::from_str(alloc, name) {
+        Ok(name) => Some(Failure::RepeatedName(name)),
+        Err(_) => Some(Failure::Memory),
+    }
 }
 
 // Appends the keys of a word of the command line.
-fn add_words(alloc: Global, words: &str, keys: &mut Vec<[u8; 16]>) -> Result<(), Failure> {
-    let more = read_keys(alloc, words.as_bytes()).map_err(Failure::Keys)?;
-    match keys.extend_from_slice(more.as_slice()) {
-        Ok(()) => Ok(()),
-        Err(_) => Err(Failure::Memory),
+fn add_words(alloc: Global, words: &str, keys: &mut NamedKeys) -> Result<(), Failure> {
+    let more = read_keys(alloc, words.as_bytes()).map_err(|fault| Failure::of_keys(words, fault))?;
+    for key in &more {
+        if keys.add(alloc, *key, None).is_err() {
+            return Err(Failure::Memory);
+        }
     }
+    Ok(())
 }

@@ -4,14 +4,14 @@ ghost use Rattle.socket_wire.specs.Listeners.{Listening, IsReady, Gives, Fails, 
 
 use crate::stream_wire::StreamWire;
 use path_hub::Wire;
-use std::io::{Read, Write};
+use std::io::{ErrorKind, Read, Write};
 use std::net::{OpenListener, OpenStream};
 use thiserror::Error;
 
-/// A connection could not be accepted.
+/// A connection could not be accepted, for this reason.
 #[derive(Clone, Copy, Debug, PartialEq, Eq, Error)]
-#[error("NetFault")]
-pub struct AcceptFault;
+#[error("NetFault\n{0}")]
+pub struct AcceptFault(pub ErrorKind);
 
 /// Something that gives connections one after the other, each as a wire that has done nothing yet, and takes each back.
 pub trait Listener {
@@ -52,8 +52,9 @@ where
     type Link = StreamWire<L::Stream>;
 
     fn accept(&mut self) -> Result<StreamWire<L::Stream>, AcceptFault> {
-        let Ok((stream, _)) = self.listener.accept() else {
-            return Err(AcceptFault);
+        let (stream, _) = match self.listener.accept() {
+            Ok(accepted) => accepted,
+            Err(error) => return Err(AcceptFault(error.kind())),
         };
         // without it no reply is wrong, and some come later
         let _ = stream.set_nodelay(true);

@@ -5,6 +5,7 @@ use crate::listener::{AcceptFault, Listener};
 use path_hub::MemoryWire;
 use std::alloc::Global;
 use std::collections::VecDeque;
+use std::io::ErrorKind;
 
 /// A listener over memory: connections with its inputs come one after the other, and then none can be accepted. It keeps those that it
 /// took back, as far as there is memory.
@@ -47,7 +48,7 @@ impl Listener for MemoryListener {
     fn accept(&mut self) -> Result<MemoryWire, AcceptFault> {
         let Some(input) = self.inputs.front() else {
             self.failed = true;
-            return Err(AcceptFault);
+            return Err(AcceptFault(ErrorKind::WouldBlock));
         };
         match MemoryWire::new(self.alloc, input.as_slice(), &[]) {
             Ok(link) => {
@@ -56,7 +57,7 @@ impl Listener for MemoryListener {
             }
             Err(_) => {
                 self.failed = true;
-                Err(AcceptFault)
+                Err(AcceptFault(ErrorKind::OutOfMemory))
             }
         }
     }

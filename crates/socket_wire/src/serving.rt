@@ -27,9 +27,7 @@ pub fn serve_streams<L: Listener, G: EndLog>(
     ensures failed { OnErr result (ServedFewer count (service hub.old (L.told listener.old) (G.told log.old)) (service hub.new (L.told listener.new) (G.told log.new))) }
 {
     'connections: for number in 0..count {
-        let Ok(mut link) = listener.accept() else {
-            return Err(AcceptFault);
-        };
+        let mut link = listener.accept()?;
         let how = serve_connection(alloc, hub, number, &mut link);
         listener.close(link);
         tell_fault(log, number, how);

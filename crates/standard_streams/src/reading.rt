@@ -10,9 +10,9 @@ use thiserror::Error;
 /// Why a stream is not read whole.
 #[derive(Clone, Copy, Debug, PartialEq, Eq, Error)]
 pub enum ReadFault {
-    /// A read failed.
-    #[error("ReadFault")]
-    Failed,
+    /// A read failed, for this reason.
+    #[error("ReadFault\nstandard input: {0}")]
+    Failed(ErrorKind),
     /// An allocation failed.
     #[error("NoMemory")]
     Memory,
@@ -25,7 +25,7 @@ impl ReadFault {
     {
         match error.kind() {
             ErrorKind::OutOfMemory => ReadFault::Memory,
-            _ => ReadFault::Failed,
+            reason => ReadFault::Failed(reason),
         }
     }
 }

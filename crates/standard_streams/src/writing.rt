@@ -7,10 +7,10 @@ ghost use Rattle.standard_streams.specs.Fronts.{StopsShort};
 use std::io::{ErrorKind, Write};
 use thiserror::Error;
 
-/// A writer did not take all bytes.
+/// A writer did not take all bytes, for this reason.
 #[derive(Clone, Copy, Debug, PartialEq, Eq, Error)]
-#[error("WriteFault")]
-pub struct WriteFault;
+#[error("WriteFault\nstandard output: {0}")]
+pub struct WriteFault(pub ErrorKind);
 
 /// Writes all bytes to a writer.
 ///
@@ -26,15 +26,15 @@ pub fn write_whole<W: Write>(writer: &mut W, bytes: &[u8]) -> Result<(), WriteFa
             return Ok(());
         }
         match writer.write(rest) {
-            Ok(0) => return Err(WriteFault),
+            Ok(0) => return Err(WriteFault(ErrorKind::WriteZero)),
             Ok(taken) => rest = &rest[taken..],
             Err(error) if error.kind() == ErrorKind::Interrupted => {}
-            Err(_) => return Err(WriteFault),
+            Err(error) => return Err(WriteFault(error.kind())),
         }
     }
     if rest.is_empty() {
         Ok(())
     } else {
-        Err(WriteFault)
+        Err(WriteFault(ErrorKind::Interrupted))
     }
 }
