@@ -167,6 +167,7 @@ def equality():
     yield "two strings, one escaped, often", f'["{"x" * (TEXT // 8)}","{spelt}"]', often
     yield "two strings, which is less, often", f'[{same}a",{same}b"]', filled("@>=$[0]", "&&")
     yield from sorted_strings()
+    yield from kept_pairs()
     yield "numbers of 256 digits, which is less, often", many(NUMBER), filled("@<=$[0]", "&&")
     yield "numbers of one value with other exponents", many("1e999999999", last="10e999999998"), filled("@==$[-1]", "&&")
 
@@ -175,10 +176,28 @@ def sorted_strings():
     """Strings of one beginning, each of which is compared with each."""
     for count in (20, 95, 380):
         for name, (first, part) in {"plain": ("", "s"), "an escape and then plain": ("\\n", "s"), "escapes between plain": ("", "s" * 40 + "\\n"),
-                                    "escaped": ("", "\\u0061")}.items():
+                                    "escaped": ("", "\\u0061"), "pairs of surrogates": ("", "\\ud83d\\ude00"), "backslashes": ("", "\\\\")}.items():
             times = (TEXT // count - len(first) - 10) // len(part)
             parts = [f'"{first}{part * times}{at:03}"' for at in range(count)]
             yield f"{count} strings, {name}, each with each", "[" + ",".join(parts) + "]", distinct(f"@<$[{at}]" for at in range(count))
+
+
+def kept_pairs():
+    """Pairs of long values that are compared again: two in turn whose numbers are alike but for 1,024, and many for each child."""
+    def values(count, room):
+        times = TEXT // count - room
+        yield "strings", ('"' + "s" * times + f'{at:03}"' for at in range(count)), 1
+        yield "strings of escapes", ('"' + "\\n" * (times // 2) + f'{at:03}"' for at in range(count)), 1
+        yield "arrays", ("[" + "0," * (times // 2) + f"{900 + at}]" for at in range(count)), times // 2 + 2
+
+    for name, made, nodes in values(3, 1_000):
+        first, second, third = made
+        zeros = "0," * (-nodes % 1_024)
+        text = f"[{first},{zeros}{second},{third}]"
+        yield f"three long {name}, two of them in turn", text, filled(f"@==$[0]||@==$[{zeros.count('0') + 1}]")
+    for name, made, _ in values(28, 1_000):
+        text = "[" + ",".join(made) + ",0" * 13_000 + "]"
+        yield f"28 {name}, pairs of them for each of 13,000 zeros", text, distinct(f"$[{at}]==$[{other}]" for at in range(28) for other in range(at))
 
 
 def depths():

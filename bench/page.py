@@ -184,6 +184,49 @@ def of_gate(parts):
 
 # ---- the inside
 
+BAR = 60
+STEPS = {"S": "system, network, client", "L": "loop and hub", "F": "frames", "T": "store"}
+
+
+def requests_by_steps(figures):
+    """Small requests and a put, each with the microseconds of its steps in the order of STEPS. The system's are those of the loop or the echo in C, which
+    look nothing up; those of frames and store, for a tenant with one document, are measured without sockets; loop and hub have the rest."""
+    echo = {title: (length, ours[0], theirs[0]) for title, length, ours, theirs in of(figures, "rounds")["echo"]}
+    crowd = dict(of(figures, "connections")["rows"])[100]
+    # of several rows with one name the first, which is that of one document
+    commands, texts, _ = ({row[0]: row for row in reversed(rows)} for rows in of(figures, "store")["tables"])
+    _, small, large = ({(row[0], row[1]): row for row in rows} for rows in of(figures, "hub")["tables"])
+    frame = float(next(row[3] for (length, _), row in small.items() if length == "30 bytes")) / 1000
+    byte = float(large["524288 bytes", "65536 bytes"][2]) / 1000
+    get, ask, put = "GET of 13 bytes", "QUERY `$.a[1]` on 13 bytes", "PUT of 1 MiB, one string"
+    stored = {get: float(commands["get"][2]), ask: float(commands["query `$.a[1]`"][2]), put: float(texts["one string, 1 MiB"][1])}
+    rows = {"GET of 100 connections": (1e6 / crowd["path_server"][0], 1e6 / crowd["loop in C"][0], frame, stored[get])}
+    rows.update({title: (echo[title][1], echo[title][2], echo[title][0] * byte if title == put else frame, stored[title]) for title in (get, ask, put)})
+    return {title: (system, all_of_it - system - frames - store, frames, store) for title, (all_of_it, system, frames, store) in rows.items()}
+
+
+def bar(steps):
+    """The letters of the steps, each as often as its part of BAR says."""
+    ends = [round(BAR * sum(steps[:at]) / sum(steps)) for at in range(len(steps) + 1)]
+    return "".join(letter * max(end - begin, 0) for letter, begin, end in zip(STEPS, ends, ends[1:]))
+
+
+def steps(figures):
+    parts = {name: of(figures, name) for name in ("connections", "rounds", "store", "hub")}
+    if not all(parts.values()) or 100 not in dict(parts["connections"]["rows"]):
+        yield "Not measured: it takes the parts connections, rounds, store and hub."
+        return
+    found = requests_by_steps(figures)
+    yield filled("The steps of a request, by the tables of this page: the first of `listen`, the others of `serve`, which has one connection at a time. The system, the "
+                 "network and the client take as long as with the loop or the echo in C. Frames and store are measured without sockets. Loop and hub have the rest. It is a "
+                 "difference, and no more exact than the tables are.")
+    width = max(map(len, found))
+    yield "\n".join(f"    {title.replace('`', ''):{width}}  {bar(it)}" for title, it in found.items())
+    yield filled("Each line is all of a request: " + ", ".join(f"{letter} {name}" for letter, name in STEPS.items()) + ". In microseconds:")
+    yield table(["step", *found], [[name, *(rounded(it[at]) for it in found.values())] for at, name in enumerate(STEPS.values())]
+                + [["all", *(rounded(sum(it)) for it in found.values())]])
+
+
 def shapes(it):
     yield filled("The time to read a text of one shape, and of one with four times as many parts. The last column is the second time over the first: 4 is linear. "
                  "The longer texts have some 4 MiB.")
@@ -282,6 +325,7 @@ def benchmarks(figures):
     blocks += ["## Building and checking", *building(figures)]
     blocks.append("## The inside")
     blocks.append("For whoever changes the code. These programs call the crates directly (`crates/path_bench`).")
+    blocks += ["### Where a request's time goes", *steps(figures)]
     for name, (title, made) in INSIDE.items():
         blocks += section(f"### {title}", figures, name, made)
     blocks += ["## Repeat it", "    bench/peers.sh\n    bin/build\n    bench/report.py",

@@ -56,7 +56,13 @@ MORE = {
 }
 MOST_OF_A_HEAD, PIECE = 8_192, 1_024
 GRACES = {"": 404, "+1": 400, "-0": 400, "1.5": 400, "1e3": 400, "0x10": 400, "1_0": 400, "%31": 400, "1&grace=2": 400, "1;": 400, "1#": 400, "1/": 400, "\u0661": 400,
-          "4294967296": 400, "18446744073709551616": 400, "86401": 400, "9" * 8_000: 400, "\t1": 400}
+          "4294967296": 400, "99999999999": 400, "18446744073709551616": 400, "86401": 400, "9" * 8_000: 400, "\t1": 400}
+# what browsers send with requests of pages from elsewhere: forms, frames and scripts
+OF_PAGES = [b"Origin: http://example.org\r\n", b"Origin: null\r\nSec-Fetch-Mode: no-cors\r\nSec-Fetch-Site: cross-site\r\n", b"Sec-Fetch-Mode: navigate\r\nSec-Fetch-Site: cross-site\r\n",
+            b"Sec-Fetch-Dest: iframe\r\nSec-Fetch-Site: same-site\r\n"]
+FORMS = [b"", b"Content-Type: application/x-www-form-urlencoded\r\nContent-Length: 3\r\n", b"Content-Type: multipart/form-data; boundary=x\r\nContent-Length: 3\r\n",
+         b"Content-Type: text/plain\r\nContent-Length: 3\r\n"]
+METHODS = (b"GET", b"HEAD", b"POST", b"PUT", b"DELETE", b"OPTIONS", b"PATCH")
 PLACES = ("?grace", "?", "?Grace=1", "?x=1&grace=1", "/?grace=1", "//drain", "#", "?grace=1 ")
 
 
@@ -123,6 +129,24 @@ def malformed(report):
             report.case("damaged bytes", damaged, True, status == "end" or is_whole and status in (200, 400, 403, 404, 405, 413, 431) or (status, is_whole))
         report.case("nothing refused was done", "", False, has_changed(server))
         server.finish(report)
+
+
+def of_browsers(report):
+    """A page from elsewhere cannot have a browser ask or do anything here, by whatever method and form. Who names this address by another host cannot either."""
+    with Administered() as server, connect(server.address, KEYS[0]) as client:
+        client.put(b"c", b"d", b"1")
+        for target in (b"/drain", b"/drain?grace=0", b"/ready", b"/health", b"/metrics"):
+            for method in METHODS:
+                for form in FORMS:
+                    body = b"a=b" if form else b""
+                    for fields in OF_PAGES:
+                        sent = method + b" " + target + b" HTTP/1.1\r\n" + HOST + fields + form + b"\r\n" + body
+                        report.case("a request of a page", sent, 403, told(server.admin, sent, [sent])[0])
+                    sent = method + b" " + target + b" HTTP/1.1\r\nHost: rebound.example.org:9001\r\nSec-Fetch-Site: same-origin\r\n" + form + b"\r\n" + body
+                    report.case("a request of a page whose host was bound to this address", sent, 403, told(server.admin, sent, [sent])[0])
+        report.case("it is neither ready nor drains", "", (503, 200, b"1"), (server.ask("GET", "/ready")[0], server.ask("GET", "/health")[0], client.get(b"c", b"d")))
+        with connect(server.address, KEYS[0]) as another:
+            report.case("and serves who comes", "", b"1", another.get(b"c", b"d"))
 
 
 def readiness_and_drains(report):
@@ -406,6 +430,7 @@ def main():
     count = min(int(sys.argv[1]) if len(sys.argv) > 1 else 10_000, most - 200)
     report = Report()
     malformed(report)
+    of_browsers(report)
     readiness_and_drains(report)
     holds(report)
     agrees(report, 1)

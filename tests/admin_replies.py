@@ -91,8 +91,10 @@ WHOLE = {
     b"\x16\x03\x01\x02\x00\x01\x00\x01\xfc\x03\x03": 400,
     b"\x00\x00\x00\x15\x07": 400,
 }
-# of a server that was given this name
-NAMED = {b"GET /health HTTP/1.1\r\nHost: " + host + b"\r\n\r\n": 200 for host in (b"admin.example", b"Admin.Example:9001")}
+# of a server that was given two names, and an empty one that no Host has
+NAMED = {b"GET /health HTTP/1.1\r\nHost: " + host + b"\r\n\r\n": 200 for host in (b"admin.example", b"Admin.Example:9001", b"metrics.example", b"METRICS.example:80")}
+OTHERS = {b"GET /health HTTP/1.1\r\nHost: " + host + b"\r\n\r\n": 403
+          for host in (b"xadmin.example", b"admin.example.", b"metrics.example.org:80", b"admin.example,metrics.example", b"a:80")}
 ALLOWED = {b"/health": "GET", b"/metrics": "GET", b"/ready": "GET, POST", b"/drain": "POST", b"/drain?grace=1": "POST", b"/drain?grace=x": "POST"}
 IN_PART = [b"", b"\r\n", b"G", b"GET /health HTTP/1.1\r\n", b"GET /health HTTP/1.1\r\n" + HOST, b"GET /health HTTP/1.1\r\n" + HOST + b"\r", 8_000 * b"a"]
 TOO_LONG = [8_192 * b"a", b"GET /" + 8_187 * b"a", b"GET /health HTTP/1.1\r\nA: " + 8_192 * b"a"]
@@ -121,7 +123,7 @@ def read(data):
 
 
 def requests(report):
-    for sent, wanted in {**WHOLE, **NAMED}.items():
+    for sent, wanted in {**WHOLE, **NAMED, **OTHERS}.items():
         status, fields, body, is_whole = read(answer(sent))
         report.case("a request", sent, (wanted, "close", True), (status, fields.get("Connection"), is_whole))
     for target, allowed in ALLOWED.items():
@@ -175,13 +177,16 @@ def metrics(report):
     times = [1e-6, 1e-4, 1.01e-4, 2.0, 60.0]
     report.case("requests up to each bound", "", [sum(time <= float(bound) for time in times) for bound, _ in buckets], [number for _, number in buckets])
     report.case("the sum and the count", "", (62.000202, "5"), (float(numbers["path_server_request_seconds_sum"]), numbers["path_server_request_seconds_count"]))
-    tenants = {name: [numbers[f'path_server_tenant_{name}{{tenant="{place}"}}'] for place in (0, 1)] for name in ("requests_total", "charged_units_total", "collections", "documents", "text_bytes", "memory_bytes", "connections_waiting")}
-    wanted = {"requests_total": ["1", "3"], "charged_units_total": ["0", "700"], "collections": ["0", "2"], "documents": ["0", "3"], "text_bytes": ["0", "4"], "memory_bytes": ["0", "6"], "connections_waiting": ["0", "5"]}
+    tenants = {name: [numbers[f'path_server_tenant_{name}{{tenant="{place}"}}'] for place in ("acme", 1)] for name in ("requests_total", "charged_units_total", "refused_bytes_total", "collections", "documents", "text_bytes", "memory_bytes", "connections_waiting")}
+    wanted = {"requests_total": ["1", "3"], "charged_units_total": ["0", "700"], "refused_bytes_total": ["0", "90"], "collections": ["0", "2"], "documents": ["0", "3"], "text_bytes": ["0", "4"], "memory_bytes": ["0", "6"], "connections_waiting": ["0", "5"]}
     report.case("by tenant", "", wanted, tenants)
     singles = {"uptime_seconds": "17", "ready": "1", "connections_open": "5", "connections_total": "1", "read_bytes_total": "1000", "written_bytes_total": "2000",
-               "connections_limit": "10000", "accept_refused": "0", "connections_waiting": "0", "dropped_lines_total": "3", "buffered_bytes": "65536", "buffered_limit_bytes": "1073741824",
+               "connections_limit": "10000", "accept_refused": "0", "connections_waiting": "0", "dropped_lines_total": "3", "lost_lines_total": "4", "buffered_bytes": "65536", "buffered_limit_bytes": "1073741824",
                "charged_units_total": "700", "slow_queries_total": "1"}
     report.case("the others", "", singles, {name: numbers.get(f"path_server_{name}") for name in singles})
+    # a value of a label has a backslash before a backslash, a double quote and the n of a line feed
+    build = 'path_server_build_info{version="1.2.3",commit="a\\\\b\\"c\\nd",proved="yes",kit="kit 1"} 1'
+    report.case("the build", "", [build], [line for line in lines if line.startswith("path_server_build_info{")])
     if has("promtool check metrics", "promtool"):
         ran = subprocess.run(["promtool", "check", "metrics"], input=body, capture_output=True)
         report.case("promtool check metrics", "", (0, b"", b""), (ran.returncode, ran.stdout, ran.stderr))

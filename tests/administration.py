@@ -4,18 +4,23 @@
 So many streams of random requests (200) go to the server, and the page of metrics is compared with what the plain model (lib/plain_model.py) counts
 of them. Peers of the address that are slow, silent, huge or many keep nobody waiting. A drain serves what is open, and ends with status 0.
 """
+import hashlib
 import http.client
 import json
+import os
 import random
 import re
+import shutil
 import socket
+import subprocess
 import sys
+import tempfile
 import time
 from collections import Counter
 
 from lib.plain_model import STATUS, Server, counts, field
 from lib.plain_queries import charge
-from lib.running_server import PATIENCE, Listening, Report, frames_of, is_turned_away, open_connection, talk
+from lib.running_server import PATIENCE, PROGRAM, TOP, Listening, Report, frames_of, is_turned_away, open_connection, talk
 from lib.traffic import KEYS, Traffic
 from path_client import connect, parse_address
 
@@ -25,11 +30,21 @@ MOST_OPEN, TIME_LIMIT = 8, 5.0
 REQUEST = b"GET /health HTTP/1.1\r\nHost: localhost\r\n\r\n"
 
 
+def label_of(key):
+    """What a tenant without a name is called: eight digits of its key's SHA-256, as HAProxy prints it."""
+    return hashlib.sha256(key).hexdigest()[:8].upper()
+
+
+LABELS = [label_of(key) for key in KEYS]
+# statuses by which a limit refuses a request
+LIMITS = {"TooLong", "TooDeep", "NumberLimit", "TooManyCollections", "TooManyDocuments", "TooManyBytes", "QueryTooLong", "ReplyTooLarge", "NoMemory", "Costly"}
+
+
 class Administered(Listening):
     """A server with an administration address, which its second line names."""
 
-    def __init__(self, *words, **more):
-        super().__init__(KEYS, "--admin", "127.0.0.1:0", *words, **more)
+    def __init__(self, *words, keys=KEYS, **more):
+        super().__init__(keys, "--admin", "127.0.0.1:0", *words, **more)
 
     def read_address(self, subcommand):
         address = super().read_address(subcommand)
@@ -40,10 +55,10 @@ class Administered(Listening):
         self.admin = found[1].decode()
         return address
 
-    def ask(self, method, target):
+    def ask(self, method, target, host=None):
         connection = http.client.HTTPConnection(self.admin, timeout=PATIENCE)
         try:
-            connection.request(method, target)
+            connection.request(method, target, headers={"Host": host} if host else {})
             reply = connection.getresponse()
             return reply.status, reply.read()
         finally:
@@ -63,8 +78,9 @@ class Administered(Listening):
 
 
 def wanted_cells(model, streams):
-    """Requests by command and status, by tenant, the bytes, and the units of queries that are answered by hits, by tenant, as the model has them."""
-    cells, tenants, read, written, units = Counter(), Counter(), 0, 0, Counter()
+    """Requests by command and status, by tenant, the bytes, the units of queries that are answered by hits, and the bytes of requests that a limit refused, by
+    tenant, as the model has them."""
+    cells, tenants, read, written, units, refused = Counter(), Counter(), 0, 0, Counter(), Counter()
     for conn, stream in enumerate(streams):
         model.open(conn)
         for frame in frames_of(stream):
@@ -75,11 +91,12 @@ def wanted_cells(model, streams):
                 cells[NAMES.get(body[0] if body and not is_fault else 0, "none"), status] += 1
                 if not is_fault and body[5:21] in KEYS:
                     tenants[KEYS.index(body[5:21])] += 1
+                    refused[KEYS.index(body[5:21])] += len(body) * (status in LIMITS)
                 if status == "Ok" and body[0] == 5:
                     units[KEYS.index(body[5:21])] += charged(model, body)
                 written += len(reply)
         read += len(stream)
-    return cells, tenants, read, written, units
+    return cells, tenants, read, written, units, refused
 
 
 def charged(model, body):
@@ -107,20 +124,23 @@ def tells_what_was_done(report, count, seed):
         for stream in streams:
             with open_connection(server.address) as connection:
                 talk(connection, traffic.pieces(stream))
-        cells, tenants, read, written, units = wanted_cells(model, streams)
+        cells, tenants, read, written, units, refused = wanted_cells(model, streams)
         numbers = server.numbers()
         told = {tuple(re.findall(r'"(\w+)"', name)): number for name, number in numbers.items() if name.startswith("requests_total{")}
         report.case("requests by command and status", seed, dict(cells), {cell: int(number) for cell, number in told.items() if number})
         total = sum(cells.values())
         report.case("the histogram's count", seed, total, numbers["request_seconds_count"])
         report.case("the histogram's last bound", seed, total, numbers['request_seconds_bucket{le="+Inf"}'])
+        report.case("bytes that limits refused", seed, True, sum(refused.values()) > 0)
         for place, key in enumerate(KEYS):
-            held = tuple(numbers[f'tenant_{name}{{tenant="{place}"}}'] for name in ("collections", "documents", "text_bytes"))
+            label = f'{{tenant="{LABELS[place]}"}}'
+            held = tuple(numbers[f"tenant_{name}{label}"] for name in ("collections", "documents", "text_bytes"))
             report.case(f"what tenant {place} holds", seed, tuple(map(float, counts(model.tenants[key]))), held)
             least, documents = least_memory(model.tenants[key]), held[1]
-            report.case(f"memory of tenant {place}", least, True, least <= numbers[f'tenant_memory_bytes{{tenant="{place}"}}'] <= 2 * least + 512 * documents)
-            report.case(f"units of tenant {place}", seed, units[place], numbers[f'tenant_charged_units_total{{tenant="{place}"}}'])
-            report.case(f"requests of tenant {place}", seed, tenants[place], numbers[f'tenant_requests_total{{tenant="{place}"}}'])
+            report.case(f"memory of tenant {place}", least, True, least <= numbers[f"tenant_memory_bytes{label}"] <= 2 * least + 512 * documents)
+            report.case(f"units of tenant {place}", seed, units[place], numbers[f"tenant_charged_units_total{label}"])
+            report.case(f"refused bytes of tenant {place}", seed, refused[place], numbers[f"tenant_refused_bytes_total{label}"])
+            report.case(f"requests of tenant {place}", seed, tenants[place], numbers[f"tenant_requests_total{label}"])
         faults = any(status == "FrameFault" for _, status in cells)
         report.case("connections", seed, (count, 0.0), (numbers["connections_total"], 0.0))
         report.case("units", seed, sum(units.values()), numbers["charged_units_total"])
@@ -157,7 +177,95 @@ def counts_slow_queries(report):
             numbers = server.numbers()
             report.case("slow queries", words, 3, numbers["slow_queries_total"])
             report.case("and their units", words, 3 * charge(text, query.decode()), numbers["charged_units_total"])
-            report.case("lines of slow queries", words, 3 if words else 0, server.said().count(" query of tenant 1: "))
+            report.case("lines of slow queries", words, 3 if words else 0, server.said().count(f" query of tenant {LABELS[1]}: "))
+
+
+# lines of a key file, and what the tenants are called by them
+FILES = [
+    ("{0} acme\n{1}\tglobex-2\n", ["acme", "globex-2"]),
+    ("# keys\r\n\r\n{0} acme  \r\n{1}\r\n", ["acme", "{label1}"]),
+    ("{0},{1}\n{2}   the.third_\n", ["{label0}", "{label1}", "the.third_"]),
+    ("{0} " + 64 * "n", [64 * "n"]),
+]
+# lines that are refused, and the line that is told; a name that stands twice is told itself
+BAD_FILES = [
+    ("{0} acme\n{1} two words\n", "BadKeys", 2), ('{0} ac"me\n', "BadKeys", 1), ("{0} ac\\me\n", "BadKeys", 1), ("{0} m\u00fcller\n", "BadKeys", 1),
+    ("\n{0} " + 65 * "n" + "\n", "BadKeys", 2), ("{0},{1} both\n", "BadKeys", 1), ("acme {0}\n", "BadKeys", 1), ("{0} \x00\n", "BadKeys", 1),
+    ("{0} acme\n{1} acme\n", "RepeatedName", "acme"), ("{0}\n{1} {label0}\n", "RepeatedName", "{label0}"), ("{0} a\n{0} b\n", "RepeatedKey", None),
+]
+
+
+def calls_tenants_by_their_names(report):
+    keys = [bytes([place]) * 16 for place in range(1, 5)]
+    words = {word: value for place, key in enumerate(keys) for word, value in ((str(place), key.hex()), (f"label{place}", label_of(key)))}
+
+    def filled(text):
+        for name, value in words.items():
+            text = text.replace(f"{{{name}}}", value)
+        return text
+
+    with tempfile.TemporaryDirectory() as at:
+        file = os.path.join(at, "keys")
+        for text, labels in FILES:
+            with open(file, "w", encoding="utf-8", newline="") as written:
+                written.write(filled(text))
+            with Administered("--keys", file, keys=keys[3:]) as server:
+                numbers = server.numbers()
+                wanted = [filled(it) for it in [*labels, "{label3}"]]
+                report.case("labels, in the order of the keys", text, wanted, [re.search('"(.*)"', name)[1] for name in numbers if name.startswith("tenant_documents{")])
+        for text, fault, told in BAD_FILES:
+            with open(file, "w", encoding="utf-8", newline="") as written:
+                written.write(filled(text))
+            ran = subprocess.run([PROGRAM, "listen", "127.0.0.1:0", "--keys", file], stdin=subprocess.DEVNULL, capture_output=True, timeout=PATIENCE)
+            more = "" if told is None else f"{file}: line {told}\n" if isinstance(told, int) else f"{filled(told)}\n"
+            report.case("a key file", text, (3, b"", f"path_server: {fault}\n{more}"), (ran.returncode, ran.stdout, ran.stderr.decode()))
+
+
+def serves_hosts_that_were_given(report):
+    with Administered("--admin-host", "admin.example", "--admin-host=metrics.example") as server:
+        for host, wanted in (("admin.example", 200), ("METRICS.example:9001", 200), ("localhost", 200), ("127.0.0.1:1", 200), ("example", 403), ("evil.example", 403)):
+            report.case("a Host, where two were given", host, wanted, server.ask("GET", "/health", host)[0])
+    with Administered() as server:
+        for host, wanted in (("admin.example", 403), ("localhost:1", 200), ("[::1]", 200)):
+            report.case("a Host, where none was given", host, wanted, server.ask("GET", "/health", host)[0])
+        report.case("POST /drain of a page of elsewhere", "", 403, server.ask("POST", "/drain?grace=0", "evil.example")[0])
+        report.case("it drains not", "", 200, server.ask("GET", "/health")[0])
+
+
+def tells_its_build(report):
+    told = {"PATH_SERVER_COMMIT": "0123abcd", "PATH_SERVER_IS_PROVED": "yes", "PATH_SERVER_KIT": 'a "kit"'}
+    version = subprocess.run([PROGRAM, "--version"], capture_output=True, check=True, encoding="utf-8").stdout.split()[1]
+    for given, wanted in ((told, ("0123abcd", "yes", 'a \\"kit\\"')), ({}, 3 * ("unknown",)), ({"PATH_SERVER_COMMIT": 257 * "c", "PATH_SERVER_KIT": ""}, 3 * ("unknown",))):
+        env = {name: value for name, value in os.environ.items() if name not in told}
+        with Administered(env={**env, **given}) as server:
+            line = 'build_info{{version="{}",commit="{}",proved="{}",kit="{}"}}'.format(version, *wanted)
+            report.case("the build", given, (line, 1.0), next(((name, number) for name, number in server.numbers().items() if name.startswith("build_info")), None))
+
+
+def tells_its_manifest(report):
+    """bin/path_server_run tells a program's manifest, if it is that of this program."""
+    with tempfile.TemporaryDirectory() as at:
+        program = os.path.join(at, "path_server")
+        shutil.copy(PROGRAM, program)
+        with open(program, "rb") as file:
+            found = hashlib.sha256(file.read()).hexdigest()
+        for written, wanted in ((found, ("0123abcd with changes", "yes", "kit 7")), (64 * "0", ("unknown", "no", "unknown"))):
+            with open(f"{program}.manifest", "w", encoding="utf-8") as file:
+                file.write(f"program path_program\nsha256 {written}\ncommit 0123abcd with changes\nkit kit 7\ncrate path_program {64 * '1'}\n")
+            words = [TOP / "bin/path_server_run", "listen", "127.0.0.1:0", KEYS[0].hex(), "--admin", "127.0.0.1:0"]
+            process = subprocess.Popen(words, env={**os.environ, "PATH_SERVER": program}, stdin=subprocess.DEVNULL, stdout=subprocess.PIPE)
+            try:
+                admin = [process.stdout.readline() for _ in range(2)][1].split()[1].decode()
+                connection = http.client.HTTPConnection(admin, timeout=PATIENCE)
+                connection.request("GET", "/metrics")
+                page = connection.getresponse().read().decode()
+                connection.close()
+                line = re.search('^path_server_build_info{version="(.*)",commit="(.*)",proved="(.*)",kit="(.*)"} 1$', page, re.M)
+                report.case("the build, by its manifest", written, wanted, line and line.groups()[1:])
+            finally:
+                process.terminate()
+                report.case("path_server_run", "", 0, process.wait(PATIENCE))
+                process.stdout.close()
 
 
 def ends_of(address, sent, patience=TIME_LIMIT + 3):
@@ -252,6 +360,10 @@ def main():
     is_ready_once_it_was_said(report)
     tells_what_was_done(report, count, seed)
     counts_slow_queries(report)
+    calls_tenants_by_their_names(report)
+    serves_hosts_that_were_given(report)
+    tells_its_build(report)
+    tells_its_manifest(report)
     keeps_nobody_waiting(report)
     drains(report)
     report.close("the administration address of a running server")

@@ -214,7 +214,7 @@ def check_what_is_invalid(room):
     room.refused(["load", "c", "--name", "$..id"], 3, "NameQuery: --name takes a singular query, such as $.id")
     for words in ([], ["fetch"], ["get", "c"], ["get", "c", "d", "e"], ["usage", "--timeout", "0"], ["list", "c", "--name", "$.a"]):
         room.case(words, 3, errors=any)
-    room.case(["--version"], 0, b"path_client 0.1.0\n")
+    room.case(["--version"], 0, b"path_client 1.0.0\n")
     if os.path.exists("/dev/full"):
         with open("/dev/full", "wb") as full:
             ended = subprocess.run([PROGRAM, "new-key"], stdout=full, stderr=subprocess.PIPE, timeout=60)

@@ -79,14 +79,44 @@ def left_out(report, room):
                         (thin / it.name).symlink_to(it)
         ran = subprocess.run([sys.executable, TOP / "tests" / script], env={**os.environ, "PATH": str(thin)}, stdin=subprocess.DEVNULL, capture_output=True, encoding="utf-8", timeout=60)
         # another command may be missing here
-        missing = [it for it in ("dpkg-deb", "dpkg", "haproxy", "openssl", "socat")[0 if "packaged" in script else 2:5 if "packaged" in script else 4] if it == tool or script.startswith("deploy/") and not shutil.which(it)] if tool == "haproxy" else [tool]
+        missing = [it for it in ("dpkg-deb", "dpkg", "haproxy", "openssl", "socat", "curl")[0 if "packaged" in script else 2:6 if "packaged" in script else 4] if it == tool or script.startswith("deploy/") and not shutil.which(it)] if tool == "haproxy" else [tool]
         wanted = f"not run: {Path(script).name}: no {' and no '.join(missing)} here\n"
         report.case("a script without its command", script, (77, wanted), (ran.returncode, ran.stdout + ran.stderr))
+
+
+def set_up(report, room):
+    """bin/check --set-up asks for the package of each command that is missing, and tells which is still missing. The gate goes on without it."""
+    thin, asked = room / "bin", room / "asked"
+    thin.mkdir()
+    for tool in ("python3", "env", *set(check.TOOLS) - {"haproxy", "xxd"}):
+        (thin / tool).symlink_to(shutil.which(tool) or "/bin/true")
+    # a network that has haproxy alone
+    for tool, text in {"apt-get": f"""for last; do :; done
+echo "$last" >>{asked}
+[ "$last" != haproxy ] || /bin/ln -s /bin/true {thin}/haproxy
+[ "$last" = haproxy ]"""}.items():
+        (thin / tool).write_text(f"#!/bin/sh\n{text}\n")
+        (thin / tool).chmod(0o755)
+    is_root = os.geteuid() == 0
+    ran = subprocess.run([sys.executable, TOP / "bin/check", "--set-up"], env={**os.environ, "PATH": str(thin)}, stdin=subprocess.DEVNULL, capture_output=True, encoding="utf-8", timeout=60)
+    wanted = ["update", "haproxy", "xxd"] if is_root else []
+    report.case("packages that are asked for", "", wanted, asked.read_text().split() if asked.exists() else [])
+    told = f"bin/check: not here, and what takes them is not run: {'xxd' if is_root else 'haproxy xxd'}\n"
+    report.case("what is still missing", "", (1, told), (ran.returncode, ran.stderr))
+    # .ci/run goes on where that fails
+    (room / ".ci").mkdir()
+    shutil.copy(TOP / ".ci/run", room / ".ci/run")
+    (thin / "check").write_text(f"#!/bin/sh\necho called $1 >>{room}/calls\n[ -z $1 ] && echo '3 passed, 0 failed'\n")
+    (thin / "check").chmod(0o755)
+    ran = subprocess.run([room / ".ci/run"], stdin=subprocess.DEVNULL, capture_output=True, encoding="utf-8", timeout=60)
+    report.case(".ci/run", "", (0, "3 passed, 0 failed\n", "called --set-up\ncalled\n"), (ran.returncode, ran.stdout, (room / "calls").read_text()))
 
 
 def main():
     report = Report()
     counted(report)
+    with tempfile.TemporaryDirectory() as room:
+        set_up(report, Path(room))
     with tempfile.TemporaryDirectory() as room:
         run_twice(report, room)
     with tempfile.TemporaryDirectory() as room:

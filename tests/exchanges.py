@@ -152,7 +152,9 @@ def refuse(report, word):
             report.case("a bad line", repr(script), (1, "", f"path_server: BadLine {number}\n"), replay(KEYS["A"], script))
     for keys in BAD_KEYS:
         if word in keys:
-            report.case("bad keys", repr(keys), (3, "", "path_server: BadKeys\n"), replay(keys, ""))
+            number = next(at for at, key in enumerate(keys.split(","), 1) if not re.fullmatch("[0-9A-Fa-f]{32}", key))
+            wanted = f"path_server: BadKeys\nkey {number} is not 32 hexadecimal digits\n"
+            report.case("bad keys", repr(keys), (3, "", wanted), replay(keys, ""))
 
 
 def main():

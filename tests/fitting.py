@@ -1,7 +1,7 @@
 #!/usr/bin/env python3
 """Tests `bin/edits fit` on a made crate: an edit that fits passes, and each that does not is named with its reason. `bin/edits list` prints the edits
 of each function. And tests of bin/tools/edits.py what judges an edit, that edits are tried together only where none changes what another one is judged
-by, and that an open goal counts for its own function alone."""
+by, that an open goal counts for its own function alone, and that an edit which names its clause is refused only where the prover found that clause open."""
 import subprocess
 import sys
 import tempfile
@@ -9,7 +9,7 @@ from pathlib import Path
 
 BIN = Path(__file__).resolve().parent.parent / "bin"
 sys.path.insert(0, str(BIN / "tools"))
-from edits import Edit, functions_of, homes_of, in_groups, joined
+from edits import AT_CLAUSE, IN_AN_ANSWER, STOPPED_SEARCH, Edit, functions_of, homes_of, in_groups, joined, kind_of, that_refuse
 SOURCE = "const ZERO: u8 = 0;\nfn one() -> u8 {\n    1\n}\nfn two() -> u8 {\n    2\n}\n"
 FITTING = {
     "must-fail/turned": "file: src/lib.rt\nold:     1\nnew:     3\n",
@@ -95,6 +95,15 @@ OPEN = {
 }
 
 
+# an open goal of an edit, how it refuses, and whether it does so where the edit names the clause `small`
+HOW = {
+    "note: src/made.rt:4:1: it is not proved that what the function ensures holds when it returns (`returns-clause-small`)": (AT_CLAUSE, True),
+    "note: src/made.rt:4:1: it is not proved that what the function ensures holds when it returns (`returns-clause-value`)": (AT_CLAUSE, False),
+    "note: src/made.rt:4:1: it is not proved that what the function ensures holds when it returns (`returns-clause-small`); `search` gave up at one of its limits": (STOPPED_SEARCH, False),
+    "./proofs/made/one/Answers.antt:3:1: error: `returns-clause-small`: expected type `a`": (IN_AN_ANSWER, False),
+}
+
+
 # a type in one file, and functions of it and of its traits in another
 APART = {"src/made.rt": "pub struct Two<T> {\n    one: T,\n}\n", "src/apart.rt": """impl<T: Drop> Two<T> {
     fn three(&self) {
@@ -116,6 +125,14 @@ def test_names():
     assert found == ["made::Two::three", "apart::TwoFromT::from"], found
 
 
+def test_kinds():
+    """An edit that names no clause is refused by each open goal, and one that names it at this clause alone."""
+    for line, (kind, is_at_clause) in HOW.items():
+        assert kind_of(line) == kind, line
+        assert that_refuse([line], []) == [line], line
+        assert that_refuse([line], ["small"]) == ([line] if is_at_clause else []), line
+
+
 def test_groups(crate):
     (crate / "src").mkdir(parents=True)
     (crate / "src/made.rt").write_text(CALLS)
@@ -132,6 +149,7 @@ def test_groups(crate):
 
 def main():
     test_names()
+    test_kinds()
     with tempfile.TemporaryDirectory() as folder:
         test_groups(Path(folder) / "made")
     with tempfile.TemporaryDirectory() as root:

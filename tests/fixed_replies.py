@@ -20,7 +20,7 @@ BAD_LINES = {"00000005": 1, "\n": 1, "00000000\n\n00000000": 2, "00000000\n00000
              "00000000\r\n": 1, "0000000100ff": 1, "00000000\n00600001\n": 2, "00000000\n" * 6 + "0": 7,
              "00600001" + "0" * 12_582_914: 1}
 EMPTY = "00000000\n"
-DONE, READ_FAULT = (0, ""), (4, "path_server: ReadFault\n")
+DONE, READ_FAULT = (0, ""), (4, "path_server: ReadFault\nADDRESS: a reply did not come whole\n")
 
 
 class Peer(threading.Thread):
@@ -57,7 +57,7 @@ def call(lines, count, given, output=subprocess.PIPE):
     peer = Peer(count, given)
     ran = subprocess.run([PROGRAM, "call", peer.address], input=lines.encode(), stdout=output, stderr=subprocess.PIPE, timeout=PATIENCE)
     peer.join(PATIENCE)
-    return (ran.returncode, ran.stderr.decode()), (ran.stdout or b"").decode(), peer.came
+    return (ran.returncode, ran.stderr.decode().replace(peer.address, "ADDRESS")), (ran.stdout or b"").decode(), peer.came
 
 
 def lines_of(frames):
@@ -100,7 +100,7 @@ def others(report):
         came = call(EMPTY * 2, 4, bytes(4), full)
         report.case("a fault whose lines cannot be written", "", (READ_FAULT, "", bytes(8)), came)
         came = call(EMPTY * 2, 4, bytes(8), full)
-        report.case("lines that cannot be written", "", ((4, "path_server: WriteFault\n"), "", bytes(8)), came)
+        report.case("lines that cannot be written", "", ((4, "path_server: WriteFault\nstandard output: no storage space\n"), "", bytes(8)), came)
 
 
 def main():

@@ -200,7 +200,7 @@ def at_every_moment(report, count=40):
 
 def passes_on(report):
     """The statuses and lines of a program that serves nothing."""
-    for program, word, wanted in ((PROGRAM, "0", (3, "path_server: BadKeys\n")), ("/none", KEY, (127, None))):
+    for program, word, wanted in ((PROGRAM, "0", (3, "path_server: BadKeys\nkey 1 is not 32 hexadecimal digits\n")), ("/none", KEY, (127, None))):
         ran = subprocess.run([RUN, "listen", "127.0.0.1:0", word], stdin=subprocess.DEVNULL, capture_output=True, encoding="utf-8",
                              env={**os.environ, "PATH_SERVER": str(program)}, timeout=PATIENCE)
         report.case(f"{program} that ends at once", word, wanted, (ran.returncode, ran.stderr if wanted[1] else None))

@@ -5,12 +5,15 @@ Memory: many clients that put large texts at once, with ample memory and with th
 a key and without one; half frames, with a key and without one; peers that stall, and peers that send a byte at a time, while others wait for what
 they hold; queries that take longer than `--frame-time` side by side; peers that are gone while their query goes on or while they wait for memory.
 Connections: idle ones and half frames at the limit on connections and at that of descriptors. Standard error and standard input of each kind. Time: a
-long reply that is read slowly beside an idle limit, and requests that came while the server was busy for longer than it.
+long reply that is read slowly beside an idle limit, requests that came while the server was busy for longer than it, first requests of many new
+connections, and urgent data.
 In each case those that can go on do, within a bound. NAMEs are those of the cases to run, all where there is none. long/long_limits.py has
 the same with larger numbers.
 """
 import os
+import re
 import resource
+import select
 import signal
 import socket
 import subprocess
@@ -18,6 +21,7 @@ import sys
 import tempfile
 import threading
 import time
+import urllib.request
 from contextlib import contextmanager, suppress
 
 from many_connections import FAULT, FAULT_REPLY, GET, GET_REPLY, KEY, MEBIBYTE, PUT, PUT_REPLY, exchange, frame
@@ -48,6 +52,8 @@ LONG_QUERY = query(b"$['b','b']")
 TOO_LONG_QUERY = query(b"$['b','b','b']")
 TOO_LONG_REPLY = bytes.fromhex("000000051400000001")
 NO_HITS = bytes.fromhex("00000009000000000100000000")
+ONE_HIT = bytes.fromhex("000000000100000001")
+"""The status of a reply, its number, and how many hits there are."""
 
 
 def at_most(report, name, most, got):
@@ -98,8 +104,12 @@ def fill(server):
 def long_reply(server):
     """The reply to the long query, by a peer that reads at once."""
     with open_connection(server.address) as connection:
-        head = exchange(connection, LONG_QUERY, 4)
-        return head + exchange(connection, b"", int.from_bytes(head, "big"))
+        return whole_reply(connection, LONG_QUERY)
+
+
+def whole_reply(connection, request):
+    head = exchange(connection, request, 4)
+    return head + exchange(connection, b"", int.from_bytes(head, "big"))
 
 
 def names_of(server):
@@ -190,6 +200,39 @@ def refused_replies(report, peers):
         for connection in silent:
             reset(connection)
         server.finish(report)
+
+
+def unread_replies(report, peers, memory):
+    """While a tenant holds and waits for all the memory that it may have, for replies that it does not read, a query of another tenant is answered at once."""
+    words = "--admin", "127.0.0.1:0", "--memory", str(memory), "--stall", "600", "--frame-time", "600"
+    with Listening([KEY, STRANGER], *words) as server:
+        admin = server.process.stdout.readline().split()[-1].decode()
+        fill(server)
+        with open_connection(server.address) as connection:
+            report.case("a text of another tenant", "", PUT_REPLY, exchange(connection, put(b"d", b"1", STRANGER), 9))
+            opened = [deaf(server) for _ in range(peers)]
+            for it in opened:
+                it.sendall(LONG_QUERY)
+            until = time.monotonic() + PATIENCE
+            while waiting(admin) < 5 and time.monotonic() < until:
+                time.sleep(0.05)
+            report.case("some of the peers wait for memory", "", True, waiting(admin) >= 5)
+            taken = []
+            for _ in range(3):
+                began = time.monotonic()
+                reply = whole_reply(connection, query(b"$", STRANGER))
+                report.case(f"a query of another tenant beside {peers} unread replies", "", ONE_HIT, reply[4:13])
+                taken.append(time.monotonic() - began)
+            at_most(report, "the seconds that it took", 1, max(taken))
+            for it in opened:
+                it.close()
+        server.finish(report)
+
+
+def waiting(admin):
+    """How many connections wait for memory."""
+    with urllib.request.urlopen(f"http://{admin}/metrics") as page:
+        return int(re.search(rb"^path_server_connections_waiting (\d+)", page.read(), re.M)[1])
 
 
 def strangers(report, peers):
@@ -322,6 +365,59 @@ def beside_many_tenants(report, tenants):
                 break
         at_most(report, f"the seconds of a reply beside {tenants} tenants with a query of {alone:.3f} s", alone / 2, max(waits))
         print(f"beside {tenants} tenants with a query of {alone:.2f} s each a reply came within {max(waits) * 1000:.1f} ms", flush=True)
+
+
+def first_requests(report, peers):
+    """The first requests of new connections of one tenant, which take long, do not come one after the other: another tenant is served between them."""
+    mine = bytes([98]) * 16
+    heavy = put(b"l", b"[" + b"0," * 250_000 + b"0]", mine)
+    with Listening([KEY, mine]) as server:
+        with open_connection(server.address) as other:
+            report.case("a put", "", PUT_REPLY, exchange(other, PUT, 9))
+            for tries in range(3):
+                opened = [open_connection(server.address) for _ in range(peers)]
+                for connection in opened:
+                    connection.sendall(heavy[:-1])
+                time.sleep(0.5)
+                began, waits = time.monotonic(), []
+                for connection in opened:
+                    connection.sendall(heavy[-1:])
+                while select.select([opened[-1]], [], [], 0)[0] == []:
+                    asked = time.monotonic()
+                    report.case("a reply beside first requests", GET, GET_REPLY, exchange(other, GET, len(GET_REPLY)))
+                    waits.append(time.monotonic() - asked)
+                for connection in opened:
+                    report.case("a reply to a first request", "", PUT_REPLY, exchange(connection, b"", 9))
+                    connection.close()
+                whole = time.monotonic() - began
+                if waits and max(waits) <= whole / 4:
+                    break
+        at_most(report, f"the seconds of a reply beside first requests that take {whole:.3f} s", whole / 4, max(waits, default=whole))
+        print(f"beside {peers} first requests of {whole:.2f} s in all a reply came within {max(waits, default=whole) * 1000:.1f} ms", flush=True)
+        server.finish(report)
+
+
+def urgent(report, tries):
+    """A request with urgent data in its middle is read on, although it came while the server was busy (RFC 9293, section 3.8.5)."""
+    heavy = put(b"l", b"[" + b"0," * 500_000 + b"0]")
+    with Listening([KEY]) as server:
+        with open_connection(server.address) as busy, open_connection(server.address) as connection:
+            report.case("a put", "", PUT_REPLY, exchange(connection, PUT, 9))
+            connection.setsockopt(socket.IPPROTO_TCP, socket.TCP_NODELAY, 1)
+            for number in range(tries):
+                busy.sendall(heavy[:-1])
+                time.sleep(0.2)
+                busy.sendall(heavy[-1:])
+                connection.sendall(GET[:9])
+                connection.send(b"!", socket.MSG_OOB)
+                connection.sendall(GET[9:])
+                is_answered = bool(select.select([connection], [], [], 10)[0])
+                report.case(f"urgent request {number}: a reply comes", GET, True, is_answered)
+                if not is_answered:
+                    break
+                report.case(f"urgent request {number}", GET, GET_REPLY, exchange(connection, b"", len(GET_REPLY)))
+                report.case("the reply that kept it busy", "", PUT_REPLY, exchange(busy, b"", 9))
+        server.finish(report)
 
 
 def held_without_others(report):
@@ -608,11 +704,15 @@ def cases(is_short):
     yield putting, 40 if is_short else 300
     yield readers, 30 if is_short else 200
     yield refused_replies, 4 if is_short else 20
+    yield unread_replies, 40, 32 * MEBIBYTE
+    yield unread_replies, 60, 128 * MEBIBYTE
     yield strangers, 50 if is_short else 300
     yield deaf_strangers, 20 if is_short else 100
     yield (stalled,)
     yield side_by_side, 14
     yield beside_many_tenants, 80
+    yield first_requests, 40
+    yield urgent, 5
     yield (held_without_others,)
     yield (gone_queries,)
     yield (gone_waiters,)

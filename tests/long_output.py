@@ -83,7 +83,7 @@ def try_row(report, name, query, text, lines):
         process = start(query, source)
         process.stdout.read(1 << 19)
         process.stdout.close()
-        report.case(f"{name}: output that is closed", query[:100], (4, b"path_server: WriteFault\n"), ended(process)[:2])
+        report.case(f"{name}: output that is closed", query[:100], (4, b"path_server: WriteFault\nstandard output: broken pipe\n"), ended(process)[:2])
 
 
 def main():

@@ -108,18 +108,15 @@ def by_json(text):
 
 def compare(report, cases):
     """The same is said by all, and of a grammar at the place that the parser finds."""
-    texts = [case for case in cases if case[0] not in QUERIES]
     told = answers(cases)
     for (name, data), said in zip(cases, told):
         if name in GRAMMARS:
             report.case(f"{name}, by the grammar", data, by_grammar(name, data.decode()), place_of(said))
         if name == "NotJson" and by_json(data.decode()) is not None:
             report.case("NotJson, by Python's json", data, by_json(data.decode()), place_of(said))
-        if name not in QUERIES:
-            report.case(f"{name}, in Python", data, said.split(" | ")[0], str(find_place(data, name) or ""))
+        report.case(f"{name}, in Python", data, said.split(" | ")[0], str(find_place(data, name) or ""))
     if shutil.which("node"):
-        of_texts = [said for case, said in zip(cases, told) if case[0] not in QUERIES]
-        for (name, data), said, other in zip(texts, of_texts, node_answers(texts)):
+        for (name, data), said, other in zip(cases, told, node_answers(cases)):
             report.case(f"{name}, in Node", data, said.split(" | ")[0], "" if other == "undefined" else other)
 
 
@@ -139,9 +136,9 @@ def changed(random, text, signs):
 
 
 def refused(text, is_query):
-    """The case of a text or a query, if it is refused for a reason whose place is known."""
+    """The case of a text or a query, if it is refused for a reason whose place is known. A query of the grammar may break a rule or not."""
     if is_query:
-        return [("NotWellFormed", text.encode())] if by_grammar("NotWellFormed", text) is not None else []
+        return [("NotValid" if by_grammar("NotWellFormed", text) is None else "NotWellFormed", text.encode())]
     name = verdict(text.encode())
     return [(name, text.encode())] if name else []
 
@@ -155,13 +152,12 @@ def try_table(report):
         report.case(f"{name} of the table", data, (at, said), (place_of(line), line if at is None else line.split("): ", 1)[-1]))
         if name in GRAMMARS and not said.startswith(("level", "expected UTF-8")):
             report.case(f"{name} of the table, by the grammar", data, at, by_grammar(name, data.decode()))
-        if name not in QUERIES:
+        if at is not None:
             report.case(f"{name} of the table, in Python", data, line, str(find_place(data, name) or ""))
     if shutil.which("node"):
-        texts = [(name, data) for name, _, _, data, _ in cases if name not in QUERIES]
-        of_texts = [got.split(" | ")[0] for (name, *_), got in zip(cases, told) if name not in QUERIES]
-        for (name, data), line, other in zip(texts, of_texts, node_answers(texts)):
-            report.case(f"{name} of the table, in Node", data, line, other)
+        for (name, at, _, data, _), got, other in zip(cases, told, node_answers([(name, data) for name, _, _, data, _ in cases])):
+            if at is not None:
+                report.case(f"{name} of the table, in Node", data, got.split(" | ")[0], other)
     for (name, _, _, data, _), line in zip(cases, told):
         words, text = (data, b"1") if name in QUERIES else (b"$", data)
         # a word of a command line is UTF-8

@@ -9,7 +9,8 @@ The pages are README.md, CONTRIBUTING.md, those of docs/, and the README.md of e
 - An indented paragraph that begins with a command (SCRIPT) is run whole. What it prints is the next indented paragraph, where nothing stands
   between the two but a paragraph that begins with `prints`. A server in front is put behind.
 - All commands of a page run in one shell, in a folder of their own that has this repository's files in it. Ports are exchanged for free ones.
-- Commands that prove, build, install or take long (LONG) are not run: that what they name is there is all that is tested.
+- Commands that prove, build, install or take long (LONG) are not run: that what they name is there is all that is tested. How many of these
+  and of other blocks are left out is told.
 - A table below a line "On `TEXT`:" whose rows are a query and the values that it selects is asked of the program.
 - An example in Rust of a crate's page is a test. `rt try --test` compiles and runs them all, where there is rt.
 - A link to a file, and what stands between backquotes and begins with a folder of this repository or with a crate and its folder, is there.
@@ -90,8 +91,8 @@ def of_console(lines):
     yield command, printed
 
 
-def sessions(text):
-    """Each command of a page with the lines that it prints, or None where the page does not show them."""
+def sessions(text, shown=None):
+    """Each command of a page with the lines that it prints, or None where the page does not show them. `shown` gets the blocks that are neither."""
     script, told = None, ""
     for language, lines in [*parts(text), (None, ["."])]:
         if language is None:
@@ -108,6 +109,8 @@ def sessions(text):
         elif script:
             yield script, lines
             script = None
+        elif shown is not None and language != "rust":
+            shown.append(lines)
 
 
 def fits(wanted, got):
@@ -177,14 +180,16 @@ class Shell:
 
 
 def run_sessions(report, name, text):
-    ports = {}
+    """Runs the commands of a page. It gives how many commands and other blocks it leaves out."""
+    ports, left_out, shown = {}, 0, []
 
     def exchanged(line):
         return ADDRESS.sub(lambda it: it[1] + (ports.get(it[2]) or ports.setdefault(it[2], free_port())), line)
 
     with tempfile.TemporaryDirectory(prefix="path-server-pages-") as at, Shell(Path(at)) as shell:
-        for command, wanted in sessions(text):
+        for command, wanted in sessions(text, shown):
             if LONG.match(command):
+                left_out += 1
                 for line in command.splitlines():
                     there = re.search(r"(?<![\w/])(?:bin|tests|bench)/[\w./-]+", line.partition("#")[0])
                     report.case(f"{name}: what a command names", line, True, not there or (TOP / there[0]).exists())
@@ -196,6 +201,7 @@ def run_sessions(report, name, text):
             got = shell.run(exchanged(command), lines)
             if lines is not None:
                 report.case(f"{name}: $ {command}", "", lines, lines if fits(lines, got) else got)
+    return left_out, len(shown)
 
 
 def ask_tables(report, name, text):
@@ -262,12 +268,16 @@ def main():
     if not os.access(PROGRAM, os.X_OK):
         sys.exit(f"no program {PROGRAM}: bin/build makes it")
     report, chosen = Report(), [it for it in pages() if not sys.argv[1:] or str(it.relative_to(TOP)) in sys.argv[1:]]
+    left_out = {}
     for page in chosen:
         name, text = str(page.relative_to(TOP)), page.read_text(encoding="utf-8")
-        run_sessions(report, name, text)
+        left_out[name] = run_sessions(report, name, text)
         ask_tables(report, name, text)
         look_for_files(report, name, text)
         count_definitions(report, name, text)
+    for place, what in enumerate(("commands that prove, build, install or take long", "other blocks, as of another language")):
+        told = [f"{name} {counts[place]}" for name, counts in left_out.items() if counts[place]]
+        print(f"{sum(it[place] for it in left_out.values())} {what}, not run{': ' * bool(told)}{', '.join(told)}", flush=True)
     compare_counts(report)
     drawn = subprocess.run([TOP / "docs/pictures/draw.py", "--check"], stdout=subprocess.PIPE, encoding="utf-8")
     report.case("the pictures are those of docs/pictures/draw.py", "", "", drawn.stdout)

@@ -2,8 +2,9 @@
 """Counts words: tests/plain_sentences.py [--split] [PAGE..] reports each sentence of the pages with more than 30 words, each cell of a table with
 more than 200 characters, and each table with more than five columns, as docs/STYLE.md asks. So it does with the sentences of doc comments, and with those of
 `--help` and of messages, the strings in the sources of the command lines. In README.md, CONTRIBUTING.md and docs/ it reports sentences
-that begin with "What" or "Nothing of" (VAGUE), since a noun is clearer, and phrases that docs/STYLE.md rewrites (REWRITTEN). With --split it first
-makes several rows of one with such a cell, if the cell is a list whose items end with a semicolon.
+that begin with a pronoun or a clause where a noun is clearer (VAGUE), and phrases that docs/STYLE.md rewrites (REWRITTEN). With --split it first
+makes several rows of one with such a cell, if the cell is a list whose items end with a semicolon. At last it tries itself on sentences of each
+kind (TRIED).
 
 A sentence ends at a full stop, a question mark or an exclamation mark before a blank or the paragraph's end. Code between backquotes, a number or a
 path is one word. Blocks of code are left out.
@@ -18,10 +19,30 @@ WORDS, CELL, COLUMNS = 30, 200, 5
 COMMAND_LINES = ("command_line", "client_commands")
 STRING = re.compile(r'"((?:[^"\\]|\\.)*)"')
 COMMENT = re.compile(r"\s*//[/!] ?(.*)")
-# how a sentence begins that has a pronoun where a noun is clearer. A question may begin so, and a heading
-VAGUE = re.compile(r"(?:What|Nothing of)\b(?!.*\?$)")
-# phrases of the first column of docs/STYLE.md; "there is none" is plain
-REWRITTEN = re.compile(r"\btold of\b|(?<!there )\bis none\b")
+# how a sentence begins that has a pronoun or a clause where a noun is clearer. A question may begin so, and a heading
+VAGUE = {
+    "a pronoun": re.compile(r"(?:What|Nothing of)\b(?!.*\?$)"),
+    "Who": re.compile(r"(?:Who|Whoever)\b(?!.*\?$)"),
+    "a clause": re.compile(r"(?:Which|Whether)\b(?!.*\?$)"),
+    "That without a noun": re.compile(r"That (?:is|was|has|had|may|can|would|does|costs|gives|makes|means|saves|takes)\b(?!.*\?$)"),
+    "Of": re.compile(r"Of\b(?!.*\?$)"),
+}
+# phrases that docs/STYLE.md rewrites: "there is none" is plain, and "else" means otherwise to nobody. Latin and filling words say no more
+REWRITTEN = {
+    "told of": re.compile(r"\btold of\b"),
+    "is none": re.compile(r"(?<!there )\bis none\b"),
+    "else": re.compile(r"\b(?:and|or) else\b|\bElse\b"),
+    "words without a meaning": re.compile(r"\b(?:in order to|due to the fact|utili[sz]es?|simply|obviously|basically|etc)\b|\band/or\b|\b(?:e\.g|i\.e)\."),
+}
+# sentences of each kind, and others like them that are plain
+TRIED = [("What a query costs is a number.", "a pronoun"), ("What does it cost?", None), ("Nothing of it is kept.", "a pronoun"),
+         ("Whoever has a key may ask.", "Who"), ("Who answers it?", None), ("A client that has a key may ask.", None),
+         ("Which place it is, tests say.", "a clause"), ("Whether it is so, no clause says.", "a clause"), ("Tests say which place it is.", None),
+         ("That is granted at once.", "That without a noun"), ("That share is granted at once.", None), ("That is it?", None),
+         ("Of a query, the server says where.", "Of"), ("The server says of a query where.", None), ("Offers are refused.", None),
+         ("An end is told of.", "told of"), ("The line is none.", "is none"), ("It says that there is none.", None),
+         ("It takes 400 units, and else 10,000.", "else"), ("Else it waits.", "else"), ("Nobody else waits.", None),
+         ("It waits in order to read.", "words without a meaning"), ("Names, texts etc. are kept.", "words without a meaning"), ("It waits in order.", None)]
 STARTS_ITEM = re.compile(r"(?:[-*]|\d+\.|#+|>) ")
 
 
@@ -100,19 +121,34 @@ def judge(report, name, text):
             find_rewritten(report, name, [*texts, *(cell for line in of_table for cell in cells(line))])
 
 
+def vague(sentence):
+    """How a sentence begins, if it is in a way of VAGUE."""
+    return next((kind for kind, pattern in VAGUE.items() if pattern.match(sentence)), None)
+
+
+def rewritten(text):
+    """The first kind of phrase of REWRITTEN in a text, if it has one."""
+    return next((kind for kind, pattern in REWRITTEN.items() if pattern.search(text)), None)
+
+
 def find_vague(report, name, texts):
-    """Reports the sentences that begin with a pronoun."""
+    """Reports the sentences that do not begin with a noun."""
     for text in texts:
         item = STARTS_ITEM.match(text)
         for sentence in sentences(text[item.end():] if item else text) if not text.startswith("#") else []:
-            report.case(f"{name}: the subject of a sentence", sentence, "a noun", "a pronoun" if VAGUE.match(sentence) else "a noun")
+            report.case(f"{name}: the subject of a sentence", sentence, None, vague(sentence))
 
 
 def find_rewritten(report, name, texts):
     """Reports the phrases that stand on no page but docs/STYLE.md."""
     for text in texts if name != "docs/STYLE.md" else []:
-        found = REWRITTEN.search(plain(text))
-        report.case(f"{name}: a phrase that docs/STYLE.md rewrites", text[:200], "none", found[0] if found else "none")
+        report.case(f"{name}: a phrase that docs/STYLE.md rewrites", text[:200], None, rewritten(plain(text)))
+
+
+def try_itself(report):
+    for sentence, kind in TRIED:
+        report.case("a sentence that is tried", sentence, kind, vague(sentence) or rewritten(sentence))
+    report.case("kinds that are tried", "", {*VAGUE, *REWRITTEN}, {kind for _, kind in TRIED if kind})
 
 
 def doc_comments(source):
@@ -143,6 +179,7 @@ def main():
         judge(report, name, doc_comments(text))
         if source.parent.parent.name in COMMAND_LINES:
             count_words(report, name, STRING.findall(text))
+    try_itself(report)
     report.close("sentences")
 
 

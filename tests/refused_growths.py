@@ -123,7 +123,7 @@ def fits(kind, wanted, got):
         # the refusal's name, without the place, for which there was no memory
         return True
     partly = wanted[1].startswith(output) and (kind == "write" or len(wanted[1]) > PIECE or output == b"")
-    return status == 4 and partly and (errors == FAULTS[kind] or kind == "write" and errors == b"")
+    return status == 4 and partly and (first_line(errors) == FAULTS[kind] or kind == "write" and errors == b"")
 
 
 def query_runs(refusals):

@@ -25,8 +25,8 @@ from refused_growths import NO_MEMORY, Calls, Judge, Refusals, body, received
 
 PATIENCE = 20
 ALL_KINDS = ("memory", "read", "write", "accept", "poll")
-# the line behind a NetFault: the address, and what the system says
-REASON = re.compile(r"127\.0\.0\.1:0: [a-z ]+")
+# the line behind a NetFault, or a WriteFault: the address, or the stream, and what the system says
+REASON = re.compile(r"(127\.0\.0\.1:0|standard output): [a-z ]+")
 FAULTS = {"memory": ("NoMemory", "NetFault"), "read": ("NetFault",), "write": ("WriteFault",), "accept": (), "poll": ("NetFault",)}
 ENDS = {"memory": {"NoMemory"}, "read": {"ReadFault"}, "write": {"WriteFault"}, "accept": set(), "poll": set()}
 WAITS = re.compile(r"\S+Z connections wait for memory, open \d+")
@@ -156,7 +156,8 @@ class Listened:
         ends = [found[2] for found in map(END_LINE.fullmatch, told) if found]
         reasons = [it for it in told if REASON.fullmatch(it)]
         rest = [it for it in told if not END_LINE.fullmatch(it) and it not in reasons]
-        self.report.case(f"{self.name}: the reason of a NetFault", "", "path_server: NetFault" in rest, len(reasons) == 1 if reasons else False)
+        has_fault = "path_server: NetFault" in rest or "path_server: WriteFault" in rest
+        self.report.case(f"{self.name}: the reason of a fault", "", has_fault, len(reasons) == 1 if reasons else False)
         self.has_failed |= self.process.returncode != 0 or self.lost > 0 or ends != []
         self.report.case(f"{self.name}: the ends of connections", "", True, set(ends) <= ENDS[self.kind] or told)
         if self.process.returncode == 0:

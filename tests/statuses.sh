@@ -51,7 +51,7 @@ expect 1 '' 'path_server: DuplicateName' '{"a":1,"\\u0061":2}' query '$'
 expect 2 '' 'path_server: NotWellFormed' '[1]' query '$['
 expect 2 '' 'path_server: NotValid' '[1]' query '$[?count(@)]'
 expect 2 '' 'path_server: QueryTooLong' '[1]' query "\$$(times 4096 ' ').a"
-expect 0 "path_server 0.1.0$newline" '' '' --version
+expect 0 "path_server 1.0.0$newline" '' '' --version
 expect 3 '' any ''
 expect 3 '' any '' query '$' '$'
 expect 3 '' any '' query
@@ -61,6 +61,8 @@ expect 3 '' 'path_server: BadCommandLine' '' query "$(printf '\377')"
 key=00112233445566778899aAbBccDdEeFf
 other=ffeeddccbbaa99887766554433221100
 usage="00000015 07 00000004 $key"
+bad_keys="path_server: BadKeys${newline}key"
+written='is not 32 hexadecimal digits'
 expect 0 "1 000000110000000004000000000000000000000000$newline" '' "1 open\n1 ${usage// /}\n1 close\n" replay "$key"
 expect 0 "4294967295 00000005ff00000000$newline" '' "4294967295 open\n4294967295 00600001" replay "$key,$other"
 expect 0 '' '' '' replay "$key"
@@ -71,9 +73,9 @@ expect 1 '' 'path_server: BadLine 1' '4294967296 open' replay "$key"
 expect 1 '' 'path_server: BadLine 3' '1 open\n1 \n1 0' replay "$key,$key"
 expect 3 '' 'path_server: RepeatedKey' '1 open' replay "$key,$key"
 expect 3 '' 'path_server: TooManyKeys' '1 open' replay "$(printf '%032x,' $(seq 256))$other"
-expect 3 '' 'path_server: BadKeys' '1 open' replay "${key}0"
-expect 3 '' 'path_server: BadKeys' '' replay "$key,"
-expect 3 '' 'path_server: BadKeys' '' replay ''
+expect 3 '' "$bad_keys 1 $written" '1 open' replay "${key}0"
+expect 3 '' "$bad_keys 2 $written" '' replay "$key,"
+expect 3 '' "$bad_keys 1 $written" '' replay ''
 { times 67108864 0; printf 0; } >"$room/input"
 compare 1 '' 'path_server: TooLong' replay "$key"
 
@@ -84,13 +86,15 @@ compare 0 "\$	1$newline" '' query '$'
 { times 128 '['; times 128 ']'; } >"$room/input"
 compare 2 '' 'path_server: Costly' query '$..*..*..*..*'
 
+unread="path_server: ReadFault${newline}standard input: is a directory"
+unwritten="path_server: WriteFault${newline}standard output: no storage space"
 compare_fault() {
     tried=$((tried + 1))
     [ "$2" = "4$1" ] || { printf 'not %s and 4: %.200s\n' "$1" "$2" >&2; failed=$((failed + 1)); }
 }
-compare_fault 'path_server: ReadFault' "$("$program" query '$' </ 2>"$room/errors"; echo "$?$(cat "$room/errors")")"
-compare_fault 'path_server: WriteFault' "$(printf '[1]' | "$program" query '$' 2>"$room/errors" >/dev/full; echo "$?$(cat "$room/errors")")"
-compare_fault 'path_server: WriteFault' "$("$program" --help 2>"$room/errors" >/dev/full; echo "$?$(cat "$room/errors")")"
+compare_fault "$unread" "$("$program" query '$' </ 2>"$room/errors"; echo "$?$(cat "$room/errors")")"
+compare_fault "$unwritten" "$(printf '[1]' | "$program" query '$' 2>"$room/errors" >/dev/full; echo "$?$(cat "$room/errors")")"
+compare_fault "$unwritten" "$("$program" --help 2>"$room/errors" >/dev/full; echo "$?$(cat "$room/errors")")"
 # a text of 1,048,576 bytes is read into a buffer of that size, for which 4,000 KiB of address space have no room
 { times 1048575 ' '; printf 1; } >"$room/input"
 (
@@ -108,7 +112,7 @@ for count in 18446744073709551617 -1 1.5 ''; do
     expect 3 '' any '' serve 127.0.0.1:0 "$key" "$count"
 done
 expect 3 '' any '' call
-expect 3 '' 'path_server: BadKeys' '' serve 127.0.0.1:0 "$key," 1
+expect 3 '' "$bad_keys 3 $written" '' serve 127.0.0.1:0 "$key,$other,$key " 1
 expect 3 '' 'path_server: BadKeys' '' serve nowhere '' 1
 expect 3 '' 'path_server: RepeatedKey' '' serve nowhere "$key,$key" 1
 expect 3 '' 'path_server: TooManyKeys' '' serve nowhere "$(printf '%032x,' $(seq 256))$other" 1
@@ -150,11 +154,11 @@ expect 0 "000000110000000004000000010000000100000007$newline" '' "${usage// /}" 
 compare 1 '' 'path_server: TooLong' call "$address"
 expect_served
 expect 4 '' 'path_server: NetFault' '' call "$address"
-compare_fault 'path_server: WriteFault' "$("$program" serve 127.0.0.1:0 "$key" 1 2>"$room/errors" >/dev/full; echo "$?$(cat "$room/errors")")"
+compare_fault "$unwritten" "$("$program" serve 127.0.0.1:0 "$key" 1 2>"$room/errors" >/dev/full; echo "$?$(cat "$room/errors")")"
 start_server 1
-compare_fault 'path_server: WriteFault' "$(echo "${usage// /}" | "$program" call "$address" 2>"$room/errors" >/dev/full; echo "$?$(cat "$room/errors")")"
+compare_fault "$unwritten" "$(echo "${usage// /}" | "$program" call "$address" 2>"$room/errors" >/dev/full; echo "$?$(cat "$room/errors")")"
 expect_served
-compare_fault 'path_server: ReadFault' "$("$program" call nowhere </ 2>"$room/errors"; echo "$?$(cat "$room/errors")")"
+compare_fault "$unread" "$("$program" call nowhere </ 2>"$room/errors"; echo "$?$(cat "$room/errors")")"
 
 # The server that the command line asks for ends with 0 once its standard input is closed.
 expect_listens() {
@@ -175,7 +179,7 @@ done
 for words in '--connections 1' '--memory 14680072' '--memory 64M' '--memory 15000k' '--memory 1G' '--idle 31536000' '--stall 1' '--frame-time 31536000' '--spare 1' '--log'; do
     expect_listens "$key" $words
 done
-expect 3 '' 'path_server: BadKeys' '' listen 127.0.0.1:0 "$key,"
+expect 3 '' "$bad_keys 2 $written" '' listen 127.0.0.1:0 "$key,"
 expect 4 '' "path_server: NetFault${newline}nowhere: invalid input parameter" '' listen nowhere "$key"
 expect 4 '' "path_server: ReadFault${newline}$room/none: entity not found" '' listen 127.0.0.1:0 --keys "$room/none"
 printf '%s\n' "$key" >"$room/keys"
@@ -192,7 +196,7 @@ for place in $(seq 1000 1256); do printf '%032d\n' "$place"; done >"$room/keys"
 expect 3 '' 'path_server: TooManyKeys' '' listen 127.0.0.1:0 --keys "$room/keys"
 times 70000 0 >"$room/keys"
 expect 3 '' 'path_server: BadKeys' '' listen 127.0.0.1:0 --keys "$room/keys"
-compare_fault 'path_server: WriteFault' "$("$program" listen 127.0.0.1:0 "$key" 2>"$room/errors" >/dev/full; echo "$?$(cat "$room/errors")")"
+compare_fault "$unwritten" "$("$program" listen 127.0.0.1:0 "$key" 2>"$room/errors" >/dev/full; echo "$?$(cat "$room/errors")")"
 
 echo "$tried cases, $failed of them differ"
 exit $((failed > 0))

@@ -122,6 +122,11 @@ def is_about(line, clauses):
     return any(goal.endswith(f"clause-{it}") or it == "returns" and goal.startswith("returns") and "-clause-" not in goal for it in clauses)
 
 
+def that_refuse(told, clauses):
+    """Of the open goals of an edit, those that count: all, or, if it names its clauses, those of these clauses that the prover found open itself."""
+    return [it for it in told if kind_of(it) == AT_CLAUSE and is_about(it, clauses)] if clauses else told
+
+
 class Function:
     """A function of a source file that has a body: its path in its crate, its lines from its first attribute on, and its parts."""
 

@@ -10,7 +10,7 @@ import threading
 import time
 from pathlib import Path
 
-from edits import AT_CLAUSE, KINDS, Edit, apply, goal_of, in_groups, is_about, is_open, joined, kind_of
+from edits import KINDS, Edit, apply, goal_of, in_groups, is_open, joined, kind_of, that_refuse
 from holes import PARTS, HoledCopy, front_end
 from proving import QUICK_RT, Task, run_all
 
@@ -182,7 +182,7 @@ class Trial:
         for edit in group:
             edit.lines = lines
             edit.told = self.told_of(edit, lines, now) if was_judged(lines) else []
-            told = [it for it in edit.told if kind_of(it) == AT_CLAUSE and is_about(it, edit.clauses)] if edit.clauses else edit.told
+            told = that_refuse(edit.told, edit.clauses)
             if told:
                 line = min(told, key=lambda it: KINDS.index(kind_of(it)))
                 self.tell(edit.name, kind_of(line), line, "refused")
