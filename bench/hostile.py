@@ -207,7 +207,7 @@ def depths():
     yield f"two objects {DEPTH} deep, turned at each level", f"[{turned(0)},{turned(1)}]", "$[?@==$[0]]"
     array = nested(DEPTH, lambda it, _: f"[{it}]")
     yield f"two arrays {DEPTH} deep", f"[{array},{array}]", "$[?@==$[0]]"
-    wide = nested(DEPTH, lambda it, _: "{" + ",".join(f'"{c}":0' for c in "bcdefghijklmnopqrst") + f',"a":{it}}}')
+    wide = nested(DEPTH, lambda it, _: "{" + ",".join(f'"b{at}":0' for at in range(64)) + f',"a":{it}}}')
     yield f"two wide objects {DEPTH} deep", f"[{wide},{wide}]", filled("@==$[0]", "&&")
     brackets = "[" * DEPTH + many("0", room=TEXT - 2 * DEPTH - 8) + "]" * DEPTH
     for query in ("$..[0]..[0]..zz", "$..*..zz", "$..[-1]..[-1]..zz", "$..[?@]..zz", "$..[:1]..[:1]..zz", "$..[?@[0]]..zz",
@@ -281,7 +281,7 @@ def readings():
     for name, made in of_names.items():
         text, _ = members(itertools.chain(made(), ["last"]))
         yield f"one object of {name}", text, "$.none"
-    few, _ = members(itertools.islice(meeting_by_places(), 20))
+    few, _ = members(itertools.islice(meeting_by_places(), 80))
     yield "many objects whose names meet by places", many(few), "$.none"
     text, _ = members(itertools.chain(["\u4000\u8000", "\u4001\u7f00"], long_names()), room=TEXT)
     yield "long names, and two that meet", text, "$.none"

@@ -1,5 +1,5 @@
 -- Hashes of what names mean.
-use Rattle.std.specs.Prelude.{◌≡◌, ◌≢◌, ℕ, ◌+◌, ◌-◌, ◌*◌, ◌%◌, ◌^◌, ◌<◌, ◌≤◌, cond, ltb, eqb, List, [], ◌∷◌, length, take, drop, get_or}
+use Rattle.std.specs.Prelude.{◌≡◌, ◌≢◌, ℕ, zero, suc, ◌+◌, ◌-◌, ◌*◌, ◌/◌, ◌%◌, ◌^◌, ◌<◌, ◌≤◌, cond, ltb, eqb, List, [], ◌∷◌, length, take, drop, get_or}
 use Rattle.json_strings.specs.Letters.{word_at}
 use Rattle.json_strings.specs.declared.hashes.Hashing.{Hashing}
 
@@ -42,13 +42,18 @@ digits w (b ∷ bs) = digits (w * 256 + b) bs
 abbrev pub fours_at : List ℕ → (i j : ℕ) → ℕ
 fours_at bs i j = word_at bs i * 2 ^ 32 + word_at bs j
 
--- the first eight bytes and the last eight, or the first four and the last four of fewer, or the second one of fewer than four, as one
--- word. No fact of a text rests on which word it is.
+-- a word, and behind it so many words of eight bytes from a place on
+abbrev pub words_from : (count : ℕ) → List ℕ → (at word : ℕ) → ℕ
+words_from zero bs at word = word
+words_from (suc n) bs at word = words_from n bs (at + 8) (joined word (fours_at bs at (at + 4)))
+
+-- the first eight bytes, the last eight and all between them, or the first four and the last four of fewer, or the second one of fewer
+-- than four, as one word. No fact of a text rests on which word it is.
 abbrev pub word_of_bytes : List ℕ → ℕ
 word_of_bytes bs =
     cond (ltb (length bs) 4) (get_or bs 1 0)
     (cond (ltb (length bs) 8) (fours_at bs 0 (length bs - 4))
-    (joined (fours_at bs 0 (length bs - 4)) (fours_at bs 4 (length bs - 8))))
+    (words_from ((length bs - 9) / 8) bs 8 (joined (fours_at bs 0 (length bs - 4)) (fours_at bs 4 (length bs - 8)))))
 
 -- so many bytes from a place on stand for themselves, and this is their word
 pub record IsPlainWord (text : List ℕ) (at len word : ℕ) : Type 0 where

@@ -1,10 +1,10 @@
 // Hashes of what names mean. Names that mean the same have one hash, so no name repeats where no hash does.
 
-ghost use Rattle.std.specs.Prelude.{◌≡◌, ◌+◌, ◌<◌, ◌≤◌, length, take, drop, IfSome};
+ghost use Rattle.std.specs.Prelude.{◌≡◌, ◌+◌, ◌-◌, ◌/◌, ◌<◌, ◌≤◌, length, take, drop, IfSome};
 ghost use Rattle.std.specs.Str.{chars};
 ghost use Rattle.json_text.specs.Limits.{bytes_at};
 ghost use Rattle.json_strings.specs.Spelling.{scalars_in, unquoted as inside, IsQuoted};
-ghost use Rattle.json_strings.specs.Hashes.{joined as word_joined, more, finished, hash_of, digits, word_of_bytes, fours_at as fours, IsPlainWord};
+ghost use Rattle.json_strings.specs.Hashes.{joined as word_joined, more, finished, hash_of, word_of_bytes, words_from, fours_at as fours, IsPlainWord};
 ghost use Rattle.json_strings.specs.Keys.{mixed as mix};
 
 use crate::scalars::{Scalars, unquoted};
@@ -139,7 +139,21 @@ fn fours_at(bytes: &[u8], first: usize, last: usize) -> u64
     u64::from(high) * HALF + u64::from(low)
 }
 
-/// A word of some bytes: of the first eight and the last eight, or of some of fewer.
+// A word, and behind it those of the bytes between the first eight and the last eight.
+#[inline(never)]
+fn with_middle(bytes: &[u8], word: u64) -> u64
+    requires { EIGHT < length bytes.now }
+    ensures { result ≡ words_from ((length bytes.now - 9) / 8) bytes.now 8 word }
+{
+    let mut hash = word;
+    for i in 0..(bytes.len() - 9) / EIGHT {
+        let k = EIGHT * i + EIGHT;
+        hash = joined(hash, fours_at(bytes, k, k + FOUR));
+    }
+    hash
+}
+
+/// A word of some bytes: of all, or of the second one of fewer than four.
 #[inline(always)]
 pub fn bytes_word(bytes: &[u8]) -> u64
     requires { 2 ≤ length bytes.now }
@@ -153,7 +167,11 @@ pub fn bytes_word(bytes: &[u8]) -> u64
     if len < EIGHT {
         return ends;
     }
-    joined(ends, fours_at(bytes, FOUR, len - EIGHT))
+    let word = joined(ends, fours_at(bytes, FOUR, len - EIGHT));
+    if len <= 2 * EIGHT {
+        return word;
+    }
+    with_middle(bytes, word)
 }
 
 // The hash of what so many bytes from a place on mean, word by word.

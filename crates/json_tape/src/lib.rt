@@ -3,7 +3,7 @@
 //! `Document::read` accepts exactly the texts within the limits that have no lone surrogate and no object with a repeated name. It keeps
 //! the text, and one entry for each value: 16 bytes, and 12 more for an array or an object. The methods of `Document` return each
 //! value's kind, bytes, length, children and name. Most take constant time. Those that read a string or a name take time linear in its
-//! length. `member`, `member_near` and `twin` use binary search in an object of more than 16 members, and go over the members of a
+//! length. `member`, `member_near` and `twin` use binary search in an object of more than 64 members, and go over the members of a
 //! smaller one.
 //!
 //! Reading has three steps. The index finds the places of all tokens (`structural_index`). One walk over the places makes the entries.

@@ -9,7 +9,7 @@ use Rattle.json_text.specs.declared.tape.Kind.TheVariants as kinds
 
 -- the most members of an object that keeps no order
 abbrev pub narrow : ℕ
-narrow = 16
+narrow = 64
 
 abbrev pub IsWide : Entry → Type 0
 IsWide e = (e.kind ≡ kinds.Object) × (narrow < e.children)

@@ -6,6 +6,3 @@ pub mod KeysLeft
 pub mod HashedWords
 pub mod Runs
 pub mod OrderWords
-pub mod SameBytes
-pub mod Abreast
-pub mod Alike

@@ -5,5 +5,5 @@ pub use Rattle.json_strings.specs.Keys.{key_name, name_cmp, Keyed}
 pub use Rattle.json_text.proofs.MembersLeft.{no_entry, all_left, next_left, same_entry}
 pub use Rattle.json_text.specs.declared.tape.Entry.{Entry}
 pub use Rattle.name_order.specs.Ordered.{keyed, word_of, AreKept, IsOrderOf, name_at, name_in}
-pub use Rattle.name_order.specs.Orders.{Order, onward}
+pub use Rattle.name_order.specs.Orders.{Order}
 pub use Rattle.tape_cells.specs.Cells.{members_in}

@@ -1,7 +1,7 @@
 -- The orders of objects, where the words of all stand in one list.
-use Rattle.json_text.proofs.Names.{◌≡◌, ℕ, ◌+◌, ◌-◌, ◌<◌, ◌≤◌, inl, inr, Ok, Err, List, [], ◌∷◌, ◌++◌, length, map, take, drop, get_or, refl, sym, ap}
-use Rattle.json_text.proofs.Names.{◌∙◌, subst, arith, length-append, All, AllByRecursion, Contains, nat_cmp, cases_lt, nat_tests, length-map}
-use Rattle.json_text.proofs.Names.{length-take, length-drop, drop_at, take_all, get_or-map, get_or_default, recursion_from_All}
+use Rattle.json_text.proofs.Names.{◌≡◌, ℕ, ◌+◌, ◌-◌, ◌<◌, ◌≤◌, inl, inr, Ok, Err, List, [], ◌∷◌, ◌++◌, length, take, drop, get_or, refl, sym, ap}
+use Rattle.json_text.proofs.Names.{◌∙◌, arith, length-append, All, AllByRecursion, Contains, nat_cmp, cases_lt, nat_tests, length-map}
+use Rattle.json_text.proofs.Names.{length-drop, drop_at, take_all, get_or-map, get_or_default, recursion_from_All}
 use Rattle.std.specs.List.Sorted.{IsNonDecreasingBy, IsBinarySearchResult}
 use Rattle.std.specs.Ordering.{ordering_index}
 use Rattle.std.specs.declared.cmp.Ordering.TheVariants.{Equal}
@@ -9,11 +9,8 @@ use Rattle.std.proofs.lemmas.Cmp.{ranked}
 use Rattle.std.proofs.lemmas.List.{take-append-le, drop-append-le, map_push}
 use Rattle.std.proofs.lemmas.List.Elements.{All-push}
 use Rattle.std.proofs.lemmas.List.Sorted.{IsNonDecreasingBy-push}
-use Rattle.name_order.specs.Orders.{Order, no_order, part, onward, order_in, orders_of, AreOrders}
+use Rattle.name_order.specs.Orders.{Order, no_order, part, order_in, orders_of, AreOrders}
 use Rattle.name_order.specs.declared.orders.Header.{Header}
-
-part_long : (start n : ℕ) (xs : List ℕ) → start + n ≤ length xs → length (part start n xs) ≡ n
-part_long start n xs h = let t = length-take n (drop start xs) in let d = length-drop start xs in omega arith
 
 part_left : (start n : ℕ) (xs ys : List ℕ) → start + n ≤ length xs → part start n (xs ++ ys) ≡ part start n xs
 part_left start n xs ys h = ap (take n) (drop-append-le start xs ys (omega arith)) ∙ take-append-le n (drop start xs) ys (let l = length-drop start xs in omega arith)
@@ -57,19 +54,11 @@ module _ (headers : List Header) (words new : List ℕ) (orders : List Order) (a
 
 -- the order at a place
 module _ (headers : List Header) (words : List ℕ) (orders : List Order) (shown : orders_of headers words ≡ orders) where
-  pub orders_many : length headers ≡ length orders
+  orders_many : length headers ≡ length orders
   orders_many = sym (length-map headers (order_in words)) ∙ ap length shown
 
-  pub order_at : (at : ℕ) (h : Header) → at < length orders → h ≡ get_or headers at h → get_or orders at no_order ≡ order_in words h
+  order_at : (at : ℕ) (h : Header) → at < length orders → h ≡ get_or headers at h → get_or orders at no_order ≡ order_in words h
   order_at at h l read = grind (arith, get_or-map, orders_many)
-
-  -- the words of a header that was read
-  module _ (are : AreOrders headers words) (at : ℕ) (h : Header) (l : at < length orders) (read : h ≡ get_or headers at h) where
-    inside_at : h.start + h.count ≤ length words
-    inside_at = subst (IsInside words) (sym read) (are.inside at h (omega (arith, orders_many, l)))
-
-    pub like_long : (shift : ℕ) → length (map (onward shift) (part h.start h.count words)) ≡ h.count
-    like_long shift = length-map (part h.start h.count words) (onward shift) ∙ part_long h.start h.count words inside_at
 
   module _ (object : ℕ) where
     -- an object that is found, with the parts of the words that were read

@@ -1,5 +1,5 @@
 -- The order of names in which objects of many members keep them: by a hash, and by the scalar values where hashes meet.
-use Rattle.std.specs.Prelude.{◌≡◌, ℕ, ◌+◌, ◌-◌, ◌*◌, ◌<◌, ◌≤◌, List, [], ◌∷◌, length, map, get_or}
+use Rattle.std.specs.Prelude.{◌≡◌, ℕ, ◌+◌, ◌*◌, ◌<◌, List, [], ◌∷◌, length, map, get_or}
 use Rattle.std.specs.List.{All, Contains}
 use Rattle.std.specs.declared.cmp.Ordering.TheVariants.{Less}
 use Rattle.std.specs.List.Sorted.{IsPermutation}
@@ -57,33 +57,3 @@ pub record IsOrderOf (text : List ℕ) (tape : List Entry) (n : ℕ) (words : Li
 pub record AreKept (text : List ℕ) (tape : List Entry) (below : ℕ) (orders : List Order) : Type 0 where
   pub each : All (λ (o : Order). (o.object < below) × IsOrderOf text tape o.object o.words) orders
   pub all : (n : ℕ) → n < below → IsWide (entry_in tape n) → (o : Order) × Contains orders o × (o.object ≡ n)
-
--- ---- An object like an earlier one
-
--- so many bytes from one place on are those from another on
-abbrev pub AreSameFrom : List ℕ → ℕ → ℕ → ℕ → Type 0
-AreSameFrom bytes left right n = (i : ℕ) → i < n → get_or bytes (left + i) 0 ≡ get_or bytes (right + i) 0
-
--- two values that hold no others stand under names of the same bytes
-abbrev pub IsLeafAlike : List ℕ → List Entry → ℕ → ℕ → Type 0
-IsLeafAlike text tape left right =
-    (bytes_at text (entry_in tape left).label ≡ bytes_at text (entry_in tape right).label) × ((entry_in tape left).after ≡ left + 1) × ((entry_in tape right).after ≡ right + 1)
-
--- so many from two numbers on
-abbrev pub AreLeavesAlike : List ℕ → List Entry → ℕ → ℕ → ℕ → Type 0
-AreLeavesAlike text tape left right n = (i : ℕ) → i < n → IsLeafAlike text tape (left + i) (right + i)
-
--- the name of an entry lies in the text
-abbrev pub IsNameInside : List ℕ → List Entry → ℕ → Type 0
-IsNameInside text tape n = (n < length tape) × ((entry_in tape n).label.start + (entry_in tape n).label.len ≤ length text)
-
--- the same name, so much further on
-abbrev pub moved : ℕ → Keyed → Keyed
-moved shift x = record { number = x.number + shift; name = x.name }
-
--- the members of an object stand as those of an earlier one do, under the same names
-pub record AreAlike (text : List ℕ) (tape : List Entry) (n earlier : ℕ) : Type 0 where
-  pub before : Members
-  pub was : IsObject text tape earlier before
-  pub behind : earlier < n
-  pub same : (ms : Members) → IsObject text tape n ms → keyed ms (n + 1) ≡ map (moved (n - earlier)) (keyed before (earlier + 1))

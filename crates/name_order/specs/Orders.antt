@@ -1,5 +1,5 @@
 -- The orders that are kept, one list of words for all, as lists of their own.
-use Rattle.std.specs.Prelude.{ℕ, ◌+◌, ◌*◌, ◌/◌, ◌%◌, ◌≤◌, List, [], length, map, take, drop}
+use Rattle.std.specs.Prelude.{ℕ, ◌+◌, ◌/◌, ◌%◌, ◌≤◌, List, [], length, map, take, drop}
 use Rattle.std.specs.List.{All}
 use Rattle.std.specs.List.Sorted.{IsNonDecreasingBy}
 use Rattle.name_order.specs.declared.orders.Header.{Header}
@@ -22,10 +22,6 @@ high_half word = word / 4294967296
 
 unfoldable pub low_half : ℕ → ℕ
 low_half word = word % 4294967296
-
--- a name of the same hash, whose member stands further on
-abbrev pub onward : ℕ → ℕ → ℕ
-onward shift word = high_half word * 4294967296 + (low_half word + shift)
 
 abbrev pub order_in : List ℕ → Header → Order
 order_in words h = record { object = h.object; words = part h.start h.count words }

@@ -11,7 +11,7 @@ ghost use Rattle.json_text.specs.Suspects.{AreSuspects};
 ghost use Rattle.tape_cells.specs.Cells.{members_in};
 ghost use Rattle.json_text.specs.declared.tape.TextFault.TheVariants.{LoneSurrogate, DuplicateName};
 
-use crate::order::{NARROW, SIZES, order_members, order_words};
+use crate::order::{NARROW, order_members, order_words};
 use crate::orders::NameOrder;
 use std::alloc::{AllocError, Global};
 use tape_cells::Tape;
@@ -35,13 +35,12 @@ pub fn order_names(
     let mut sorted = Vec::from_slice(alloc, suspects)?;
     sorted.sort_unstable();
     let mut words = Vec::new(alloc);
-    let mut latest = [0; SIZES];
     let mut order = NameOrder::new(alloc, room_for(tape, &sorted))?;
     // No object before it is left.
     let mut from = 0;
     for &n in &sorted {
         if is_left(tape, n, from) {
-            let found = repeats_at(alloc, text, tape, n, &mut words, &mut latest, &mut order)?;
+            let found = repeats_at(alloc, text, tape, n, &mut words, &mut order)?;
             if found {
                 return Ok(None);
             }
@@ -80,7 +79,6 @@ fn repeats_at(
     tape: &Tape,
     n: u32,
     words: &mut Vec<u64>,
-    latest: &mut [usize; SIZES],
     order: &mut NameOrder,
 ) -> Result<bool, AllocError>
     requires inside { n < length tape.now }
@@ -91,7 +89,7 @@ fn repeats_at(
     ensures kept { IfOk result (λ found. found ≡ false → AreKept text.now tape.now (n + 1) order.new) }
 {
     if tape.members(n) > NARROW {
-        order_members(alloc, text, tape, n, words, latest, order)
+        order_members(alloc, text, tape, n, words, order)
     } else {
         order_words(alloc, text, tape, n, words)
     }

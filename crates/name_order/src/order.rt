@@ -1,30 +1,26 @@
 // The members of an object in the order of their names: whether one comes again, and, of wide objects, that a name is found by halving.
 
-ghost use Rattle.std.specs.Prelude.{◌≡◌, ℕ, ◌+◌, ◌*◌, ◌<◌, ◌≤◌, ◌^◌, ◌++◌, ◌∷◌, [], length, map, IfSome, OnOk, get_or, IfOk, IsTrue, ◌↔◌, None, false, nat_eq};
+ghost use Rattle.std.specs.Prelude.{◌≡◌, ℕ, ◌+◌, ◌<◌, ◌^◌, length, map, IfSome, OnOk, get_or, IfOk, IsTrue, ◌↔◌, None, false, nat_eq};
 ghost use Rattle.std.specs.List.{Contains};
 ghost use Rattle.std.specs.List.Sorted.{IsPermutation, IsSorted};
 ghost use Rattle.std.specs.Ordering.{nat_cmp, on};
 ghost use Rattle.std.specs.Cmp.Lexicographic.{pointwise};
 ghost use Rattle.json_text.specs.Tree.{Members};
 ghost use Rattle.json_text.specs.Repeats.{repeats, repeats_next_by, meanings, IsObject};
-ghost use Rattle.json_text.specs.Limits.{bytes_at};
-ghost use Rattle.name_order.specs.Ordered.{AreNamed, IsNamed, IsOrderOf, AreKept, AreSameFrom, IsLeafAlike, AreLeavesAlike, IsNameInside, AreAlike, members_of, name_at, name_in, keyed, word_of};
-ghost use Rattle.name_order.specs.Orders.{no_order, high_half};
+ghost use Rattle.name_order.specs.Ordered.{AreNamed, IsNamed, IsOrderOf, AreKept, members_of, name_at, name_in, keyed, word_of};
+ghost use Rattle.name_order.specs.Orders.{high_half};
 ghost use Rattle.json_text.specs.Suspects.{IsWide};
-ghost use Rattle.json_text.specs.Tape.{entry_in};
-ghost use Rattle.json_strings.specs.Keys.{name_cmp, name_hash, key_name, key_number, key_hash, sought_name};
+ghost use Rattle.json_strings.specs.Keys.{name_cmp, name_hash, key_name, sought_name};
 
 use crate::orders::{NameOrder, hash_in, number_in, word};
-use json_strings::{Key, Sought, compare_sought, hash, mixed, part_at, sought_hash};
-use json_text::{Entry, Extent, Kind};
+use json_strings::{Key, Sought, compare_sought, hash, mixed, sought_hash};
+use json_text::{Entry, Kind};
 use std::alloc::{AllocError, Global};
 use std::cmp::Ordering;
-use std::simd::prelude::*;
-use structural_index::lanes_before;
-use tape_cells::{Tape, WORD_LIMIT, push};
+use tape_cells::{Tape, push};
 
 /// An object of more members keeps their order.
-pub const NARROW: u32 = 16;
+pub const NARROW: u32 = 64;
 
 /// Whether it is an object that keeps the order of its members.
 pub fn is_wide(entry: Entry) -> bool
@@ -180,165 +176,9 @@ pub fn order_words(
     Ok(false)
 }
 
-// So many bytes are compared at once.
-const LANES: usize = 16;
-
-// How many bytes of two loads of 16, from their first, are the same.
-#[inline(always)]
-fn same_run(bytes: &[u8], left: usize, right: usize) -> usize
-    requires left { left + LANES ≤ length bytes.now }
-    requires right { right + LANES ≤ length bytes.now }
-    ensures few { result ≤ LANES }
-    ensures same { AreSameFrom bytes.now left right result }
-{
-    let here = u8x16::from_slice(&bytes[left..]);
-    let there = u8x16::from_slice(&bytes[right..]);
-    lanes_before(here.simd_ne(there).to_bitmask(), LANES)
-}
-
-// Whether so many bytes from one place on are those from another on, where a load stands at both. Most are no more than the loads.
-#[inline(always)]
-fn are_same(bytes: &[u8], left: usize, right: usize, len: usize) -> bool
-    requires left { (left + LANES ≤ length bytes.now) × (left + len ≤ length bytes.now) }
-    requires right { (right + LANES ≤ length bytes.now) × (right + len ≤ length bytes.now) }
-    ensures { IsTrue result → AreSameFrom bytes.now left right len }
-{
-    let run = same_run(bytes, left, right);
-    run >= len
-        || run >= LANES && bytes[left + LANES..left + len] == bytes[right + LANES..right + len]
-}
-
-// Whether two values that hold no others stand under the same name, as far as loads tell, none of which begins behind the last place.
-#[inline(always)]
-fn is_leaf_alike(text: &str, last: u32, tape: &Tape, left: usize, right: usize) -> bool
-    requires last { last + LANES ≤ length text.now }
-    requires small { last < 2 ^ 24 }
-    requires here { IsNameInside text.now tape.now left }
-    requires there { IsNameInside text.now tape.now right }
-    ensures { IsTrue result → IsLeafAlike text.now tape.now left right }
-{
-    match tape.leaf_names(left, right, last) {
-        None => false,
-        Some((first, second)) => are_same(
-            text.as_bytes(),
-            first.start as usize,
-            second.start as usize,
-            first.len as usize,
-        ),
-    }
-}
-
-// How many values from two numbers on, of at most so many, hold no others and stand under the same names.
-#[inline(always)]
-fn leaves_alike(text: &str, tape: &Tape, left: usize, right: usize, count: usize) -> usize
-    requires short { length tape.now < 2 ^ 31 }
-    requires named { (k : ℕ) → k < count → AreLeavesAlike text.now tape.now left right k → IsNameInside text.now tape.now (left + k) × IsNameInside text.now tape.now (right + k) }
-    ensures few { result ≤ count }
-    ensures alike { AreLeavesAlike text.now tape.now left right result }
-{
-    if text.len() < LANES {
-        return 0;
-    }
-    let last = (text.len() - LANES).min(WORD_LIMIT as usize - 1) as u32;
-    for k in 0..count {
-        if !is_leaf_alike(text, last, tape, left + k, right + k) {
-            return k;
-        }
-    }
-    count
-}
-
-// Whether the members of an object stand as those of an earlier one do, under names of the same bytes.
+/// Keeps the order of the members of one more object, or finds a name that comes again. The words are room to work in.
 #[inline(never)]
-fn are_alike(text: &str, tape: &Tape, n: u32, earlier: u32) -> bool
-    requires inside { n < length tape.now }
-    requires object { (ms : Members) × IsObject text.now tape.now n ms }
-    requires wide { IsWide (entry_in tape.now n) }
-    requires short { length tape.now < 2 ^ 31 }
-    requires before { earlier < n }
-    ensures { IsTrue result → AreAlike text.now tape.now n earlier }
-{
-    let bytes = text.as_bytes();
-    let shift = n - earlier;
-    let end = tape.after(n);
-    if tape.members(earlier) != tape.members(n) || tape.after(earlier) != end - shift {
-        return false;
-    }
-    let mut from = n + 1;
-    while from < end {
-        let count = (end - from) as usize;
-        let member = from
-            + leaves_alike(text, tape, from as usize, (from - shift) as usize, count) as u32;
-        if member >= end {
-            return true;
-        }
-        let other = member - shift;
-        if part_at(bytes, tape.label(member)) != part_at(bytes, tape.label(other)) {
-            return false;
-        }
-        from = tape.after(member);
-        if tape.after(other) != from - shift {
-            return false;
-        }
-    }
-    true
-}
-
-/// How many sizes of objects are distinguished where one like the next is looked for.
-pub const SIZES: usize = 64;
-
-// The place in the list of an object whose members stand as those of this one do, where the latest one of its size is such. The place
-// that this one will have is left as the latest.
-#[inline(always)]
-fn find_alike(
-    text: &str,
-    tape: &Tape,
-    n: u32,
-    order: &NameOrder,
-    latest: &mut [usize; SIZES],
-) -> Option<usize>
-    requires inside { n < length tape.now }
-    requires object { (ms : Members) × IsObject text.now tape.now n ms }
-    requires wide { IsWide (entry_in tape.now n) }
-    requires short { length tape.now < 2 ^ 31 }
-    requires kept { AreKept text.now tape.now n order.now }
-    ensures { IfSome result (λ place. (place < length order.now) × AreAlike text.now tape.now n (get_or order.now place no_order).object) }
-{
-    let slot = (tape.after(n) - n) as usize % SIZES;
-    let place = latest[slot];
-    latest[slot] = order.len();
-    if place < order.len() && are_alike(text, tape, n, order.object(place)) {
-        Some(place)
-    } else {
-        None
-    }
-}
-
-// Keeps the order of the members of an object which stand as those of the object at this place do.
-#[inline(never)]
-fn order_like(
-    text: &str,
-    tape: &Tape,
-    n: u32,
-    place: usize,
-    order: &mut NameOrder,
-) -> Result<bool, AllocError>
-    requires place { place < length order.old }
-    requires alike { AreAlike text.now tape.now n (get_or order.old place no_order).object }
-    requires inside { n < length tape.now }
-    requires object { (ms : Members) × IsObject text.now tape.now n ms }
-    requires short { length tape.now < 2 ^ 31 }
-    requires kept { AreKept text.now tape.now n order.old }
-    ensures found { IfOk result (λ found. (ms : Members) → IsObject text.now tape.now n ms → found ≡ repeats (meanings ms)) }
-    ensures kept { IfOk result (λ found. found ≡ false → AreKept text.now tape.now (n + 1) order.new) }
-{
-    let shift = n - order.object(place);
-    order.push_like(n, place, shift)?;
-    Ok(false)
-}
-
-// Keeps the order of the members of one more object, or finds a name that comes again. The words are room to work in.
-fn order_anew(
+pub fn order_members(
     alloc: Global,
     text: &str,
     tape: &Tape,
@@ -358,29 +198,4 @@ fn order_anew(
     }
     order.push(n, words.as_slice())?;
     Ok(false)
-}
-
-/// The same, where an earlier object may be one like it. The latest objects say where that is looked for.
-#[inline(never)]
-pub fn order_members(
-    alloc: Global,
-    text: &str,
-    tape: &Tape,
-    n: u32,
-    words: &mut Vec<u64>,
-    latest: &mut [usize; SIZES],
-    order: &mut NameOrder,
-) -> Result<bool, AllocError>
-    requires inside { n < length tape.now }
-    requires object { (ms : Members) × IsObject text.now tape.now n ms }
-    requires wide { IsWide (entry_in tape.now n) }
-    requires short { length tape.now < 2 ^ 31 }
-    requires kept { AreKept text.now tape.now n order.old }
-    ensures found { IfOk result (λ found. (ms : Members) → IsObject text.now tape.now n ms → found ≡ repeats (meanings ms)) }
-    ensures kept { IfOk result (λ found. found ≡ false → AreKept text.now tape.now (n + 1) order.new) }
-{
-    match find_alike(text, tape, n, order, latest) {
-        Some(place) => order_like(text, tape, n, place, order),
-        None => order_anew(alloc, text, tape, n, words, order),
-    }
 }

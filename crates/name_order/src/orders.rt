@@ -1,9 +1,8 @@
 //! The orders of the members of wide objects, one behind the other in one list of words.
 
-ghost use Rattle.std.specs.Prelude.{◌≡◌, ℕ, ◌+◌, ◌*◌, ◌<◌, ◌≤◌, ◌^◌, ◌++◌, ◌∷◌, [], length, map, get_or, IfOk, OnOk, MatchOption, if◌then◌else◌};
-ghost use Rattle.std.specs.Result.{is_ok};
+ghost use Rattle.std.specs.Prelude.{◌≡◌, ◌+◌, ◌*◌, ◌<◌, ◌++◌, ◌∷◌, [], IfOk, OnOk, MatchOption};
 ghost use Rattle.std.specs.List.{All, Contains};
-ghost use Rattle.name_order.specs.Orders.{Order, no_order, part, onward, high_half, low_half};
+ghost use Rattle.name_order.specs.Orders.{Order, high_half, low_half};
 
 use std::alloc::{AllocError, Global};
 use std::marker::Model;
@@ -67,30 +66,6 @@ pub(crate) fn number_in(word: u64) -> u32
     (word % HALF) as u32
 }
 
-// Sets a list to the words of another one, whose members stand further on by the shift.
-fn set_onward(from: &[u64], to: &mut [u64], shift: u32)
-    requires len { length from.now ≡ length to.old }
-    requires small { (k : ℕ) → k < length from.now → low_half (get_or from.now k 0) + shift < 2 ^ 32 }
-    ensures { to.new ≡ map (onward shift) from.now }
-{
-    for k in 0..to.len() {
-        to[k] = word(hash_in(from[k]), number_in(from[k]) + shift);
-    }
-}
-
-// Adds the words that stand from a place on once more, with their members further on. Room that is filled first takes no test for each.
-fn add_onward(list: &mut Vec<u64>, start: usize, count: usize, shift: u32) -> Result<(), AllocError>
-    requires inside { start + count ≤ length list.old.items }
-    requires small { (k : ℕ) → k < count → low_half (get_or (part start count list.old.items) k 0) + shift < 2 ^ 32 }
-    ensures { list.new.items ≡ if is_ok result then list.old.items ++ map (onward shift) (part start count list.old.items) else list.old.items }
-{
-    let len = list.len();
-    list.resize(len + count, 0)?;
-    let (old, new) = list.as_mut_slice().split_at_mut(len);
-    set_onward(&old[start..start + count], new, shift);
-    Ok(())
-}
-
 impl NameOrder {
     /// The bytes of memory that it takes.
     pub fn memory(&self) -> usize {
@@ -117,21 +92,6 @@ impl NameOrder {
         self.words.shrink_to_fit();
     }
 
-    /// How many objects there are.
-    pub(crate) fn len(&self) -> usize
-        ensures { result ≡ length self.now }
-    {
-        self.headers.len()
-    }
-
-    /// The object at this place.
-    pub(crate) fn object(&self, at: usize) -> u32
-        requires { at < length self.now }
-        ensures { result ≡ (get_or self.now at no_order).object }
-    {
-        self.headers[at].object
-    }
-
     /// Adds an object behind all others, with its members as words in their order.
     pub(crate) fn push(&mut self, object: u32, words: &[u64]) -> Result<(), AllocError>
         requires { All (λ (o : Order). o.object < object) self.old }
@@ -143,24 +103,6 @@ impl NameOrder {
             start: self.words.len(),
         };
         self.words.extend_from_slice(words)?;
-        push(&mut self.headers, header)?;
-        Ok(())
-    }
-
-    /// Adds an object behind all others, whose members stand as those of the object at this place do, further on by the shift.
-    pub(crate) fn push_like(&mut self, object: u32, at: usize, shift: u32) -> Result<(), AllocError>
-        requires behind { All (λ (o : Order). o.object < object) self.old }
-        requires at { at < length self.old }
-        requires small { (k : ℕ) → k < length (get_or self.old at no_order).words → low_half (get_or (get_or self.old at no_order).words k 0) + shift < 2 ^ 32 }
-        ensures { OnOk result (self.new ≡ self.old ++ record { object = object; words = map (onward shift) (get_or self.old at no_order).words } ∷ []) }
-    {
-        let earlier = self.headers[at];
-        let header = Header {
-            object,
-            count: earlier.count,
-            start: self.words.len(),
-        };
-        add_onward(&mut self.words, earlier.start, earlier.count, shift)?;
         push(&mut self.headers, header)?;
         Ok(())
     }

@@ -1,11 +1,12 @@
 -- The duplicate check holds as a tape grows and is changed.
-use Rattle.json_text.proofs.Names.{◌≡◌, ◌≢◌, ℕ, zero, suc, ◌+◌, ◌*◌, ◌%◌, ◌<◌, ◌≤◌, ◌⊎◌, inl, inr, List, [], ◌∷◌, ◌++◌, length, get_or, Option, Some}
+use Rattle.json_text.proofs.Names.{◌≡◌, ◌≢◌, ℕ, zero, suc, ◌+◌, ◌*◌, ◌/◌, ◌%◌, ◌<◌, ◌≤◌, ◌⊎◌, inl, inr, List, [], ◌∷◌, ◌++◌, length, get_or, Option, Some}
 use Rattle.json_text.proofs.Names.{None, refl, sym, ap, ◌∙◌, subst, arith, length-append, Result, Ok, Err, OnOk, Contains, get_or_at, get_or_past}
 use Rattle.json_text.proofs.Names.{cases_lt, bytes_at, change_at, closed, kind_of_shape, level_of, entry_in, nothing_there}
 use Rattle.std.proofs.Common.{set}
 use Rattle.std.proofs.lemmas.List.{get_or_append_left, length-set, get_or-set_same, get_or-set_other}
 use Rattle.std.proofs.lemmas.List.Elements.{Contains-append_left, Contains-push}
 use Rattle.std.proofs.lemmas.Bool.{cases_eq}
+use Rattle.std.proofs.lemmas.Nat.{div-mul-add}
 use Rattle.json_text.specs.declared.tape.Entry.{Entry}
 use Rattle.json_text.specs.declared.tape.Extent.{Extent}
 use Rattle.json_text.specs.declared.tape.Role.TheVariants as roles
@@ -18,26 +19,26 @@ use Rattle.name_stamps.specs.declared.seen.SeenNames.{SeenNames}
 use Rattle.name_stamps.specs.declared.seen.Slot.{Slot}
 use Rattle.tape_cells.specs.Cells.{members_in}
 use Rattle.json_strings.specs.Keys.{mixed}
-use Rattle.name_stamps.specs.Stamps.{stamp, bytes_stamp, IsPlain, stamp_at, IsStamped, IsMemberOf, AreDistinct, AreMarked, IsUnsuspected, IsHeld, limit_under, AreHeld, DuplicateCheck, HasSlot, AddsSuspect, IsMarked, IsInserted, IsNew, IsFresh}
+use Rattle.name_stamps.specs.Stamps.{stamp, bytes_stamp, IsPlain, stamp_at, IsStamped, IsMemberOf, AreDistinct, mark_of, place_of, HasMark, HasStamp, AreMarked, IsUnsuspected, IsHeld, limit_under, AreHeld, DuplicateCheck, HasSlot, AddsSuspect, IsFree, IsMarked, IsPut, IsInserted, IsNew, IsFresh}
 use Rattle.json_text.specs.Suspects.{narrow}
 use Rattle.tape_cells.specs.Built.{Built, top_of, depth_of}
 
 -- ---- Suspects
 
-stamp_small : (bs : List ℕ) → bytes_stamp bs < 1024
+stamp_small : (bs : List ℕ) → bytes_stamp bs < 131072
 unfolding stamp mixed
 stamp_small bs = omega arith
 
--- what is the same at the depths of the containers is held as before
+-- what stands at the depths of the containers is held as before
 held_same : (text : List ℕ) (es : List Entry) (old new : SeenNames) (bound : ℕ) → ((n : ℕ) → IsUnsuspected new n → IsUnsuspected old n)
-    → ((depth s : ℕ) → 0 < depth → depth < bound → s < 1024 → get_or new.marks (depth * 1024 + s) 0 ≡ get_or old.marks (depth * 1024 + s) 0)
+    → ((n depth s : ℕ) → 0 < depth → depth < bound → s < 131072 → HasStamp old.marks n depth s → HasStamp new.marks n depth s)
     → (limit : ℕ) (os : List Open) → length os ≤ bound → AreHeld text es old limit os → AreHeld text es new limit os
 held_same text es old new bound unsuspected same limit [] l h = tt
 held_same text es old new bound unsuspected same limit (o ∷ os) l h = (one o.level h.0, held_same text es old new bound unsuspected same (limit_under o.level o.entry) os (omega arith) h.1)
   where
     one : (level : Level) → IsHeld text es old limit level o.entry (length os) → IsHeld text es new limit level o.entry (length os)
     one Root k = tt
-    one (Inside shape) k = (k.0, k.1, k.2, λ u m i. same (length os) (stamp_at text (entry_in es m).label) k.1 (omega arith) (stamp_small (bytes_at text (entry_in es m).label)) ∙ k.3 (unsuspected o.entry u) m i)
+    one (Inside shape) k = (k.0, k.1, k.2, λ u m i. same o.entry (length os) (stamp_at text (entry_in es m).label) k.1 (omega arith) (stamp_small (bytes_at text (entry_in es m).label)) (k.3 (unsuspected o.entry u) m i))
 
 module _ (text : List ℕ) (old new : SeenNames) (number : ℕ) (added : AddsSuspect number old new) where
   pub unsuspected_before : (n : ℕ) → IsUnsuspected new n → IsUnsuspected old n
@@ -47,7 +48,7 @@ module _ (text : List ℕ) (old new : SeenNames) (number : ℕ) (added : AddsSus
   suspect_now = subst (λ l. Contains l number) (sym added.1) (Contains-push old.suspects.items number)
 
   held_before : (es : List Entry) (limit : ℕ) (os : List Open) → AreHeld text es old limit os → AreHeld text es new limit os
-  held_before es limit os h = held_same text es old new (length os) unsuspected_before (λ depth s a b c. ap (λ (l : List ℕ). get_or l (depth * 1024 + s) 0) added.0) limit os (omega arith) h
+  held_before es limit os h = held_same text es old new (length os) unsuspected_before (λ n depth s a b c. subst (λ l. HasStamp l n depth s) (sym added.0)) limit os (omega arith) h
 
   pub check_suspect : (b : Built) → DuplicateCheck text b old → DuplicateCheck text b new
   check_suspect b t = record {
@@ -63,49 +64,108 @@ pub check_on : {A E : Type 0} (old new : SeenNames) (number : ℕ) (b : Built) (
 check_on old new number b (Ok x) h = λ text t. check_suspect text old new number h b t
 check_on old new number b (Err f) h = tt
 
+-- ---- Marks
+
+-- a mark stays where the marks of its object do
+kept_by : (old new : List ℕ) (from mark : ℕ) → ((i : ℕ) → i < 8 → get_or old (from + i) 0 / 256 ≡ mark / 256 → get_or new (from + i) 0 ≡ get_or old (from + i) 0) → HasMark old from mark → HasMark new from mark
+kept_by old new from mark same h = record {
+  away = h.away;
+  near = h.near;
+  here = same h.away h.near (ap (λ m. m / 256) h.here) ∙ h.here;
+  between = λ i l. ap (λ m. m / 256) (same i (let f = h.near in omega (arith, f, l)) (h.between i l)) ∙ h.between i l;
+}
+
+module _ (marks : List ℕ) (from mark place : ℕ) (free : IsFree marks from mark place) where
+  -- where a place is free for a mark, it does not stand
+  pub no_mark : HasMark marks from mark → ⊥
+  no_mark h = elim (cases_lt h.away free.away) [
+    | inl g ↦ (free.before h.away g).1 h.here
+    | inr g ↦ elim (cases_lt free.away h.away) [
+      | inl l ↦ free.other (ap (λ p. get_or marks p 0 / 256) free.at ∙ h.between free.away l)
+      | inr l ↦ (let same : from + free.away ≡ from + h.away = omega (arith, g, l) in free.other (ap (λ p. get_or marks p 0 / 256) (free.at ∙ same) ∙ ap (λ m. m / 256) h.here))
+    ]
+  ]
+
+  -- the marks of the same object stay
+  pub mark_kept : (f m : ℕ) → m / 256 ≡ mark / 256 → HasMark marks f m → HasMark (set marks place mark) f m
+  mark_kept f m e = kept_by marks (set marks place mark) f m
+      (λ i l t. get_or-set_other marks place (f + i) mark 0 (λ q. free.other (ap (λ p. get_or marks p 0 / 256) (sym q) ∙ t ∙ e)))
+
+  pub mark_put : place < length marks → HasMark (set marks place mark) from mark
+  mark_put l = record {
+    away = free.away;
+    near = free.near;
+    here = ap (λ p. get_or (set marks place mark) p 0) (sym free.at) ∙ get_or-set_same marks place mark 0 l;
+    between = λ i g. ap (λ m. m / 256) (get_or-set_other marks place (from + i) mark 0 (λ q. let a = free.at in absurd (omega (arith, a, q, g)))) ∙ (free.before i g).0;
+  }
+
+-- marks of one object
+same_object : (n s t : ℕ) → mark_of n s / 256 ≡ mark_of n t / 256
+unfolding mark_of
+same_object n s t = div-mul-add (n % 256) 256 (s % 256) (omega arith) ∙ sym (div-mul-add (n % 256) 256 (t % 256) (omega arith))
+
+module _ (number from mark : ℕ) (old new : SeenNames) (same : new.suspects.items ≡ old.suspects.items) where
+  pub put_free : (place : ℕ) → IsFree old.marks from mark place → new.marks ≡ set old.marks place mark → IsPut number from mark old new
+  put_free place free set_there = inl record { place = place; free = free; marks = set_there; suspects = same }
+
+  -- the first place is free
+  pub put_first : get_or old.marks from 0 / 256 ≢ mark / 256 → new.marks ≡ set old.marks from mark → IsPut number from mark old new
+  put_first other set_there = put_free from (record { away = 0; near = omega arith; at = omega arith; other = other; before = λ i l. absurd (omega (arith, l)) }) set_there
+
 -- ---- A name that is inserted
 
 module _ (text : List ℕ) (es : List Entry) (old new : SeenNames) (place value bound : ℕ) (marks : new.marks ≡ set old.marks place value) (suspects : new.suspects.items ≡ old.suspects.items) where
   same_suspects : (n : ℕ) → IsUnsuspected new n → IsUnsuspected old n
   same_suspects n u = subst (λ l. Contains l n → ⊥) suspects u
 
+  away_at : ((depth at : ℕ) → 0 < depth → depth < bound → at < 520 → depth * 520 + at ≢ place) → (n depth s : ℕ) → 0 < depth → depth < bound → s < 131072 → HasStamp old.marks n depth s → HasStamp new.marks n depth s
+  away_at away n depth s a b c h = subst (λ l. HasStamp l n depth s) (sym marks) (kept_by old.marks (set old.marks place value) (place_of (depth * 520) s) (mark_of n s)
+      (λ i l t. get_or-set_other old.marks place (place_of (depth * 520) s + i) value 0 (λ q. away depth (s / 256 + i) a b (omega (arith, c, l)) (omega (arith, q)))) h)
+
   -- what stands at other places is as it was
-  held_away : ((depth s : ℕ) → 0 < depth → depth < bound → s < 1024 → depth * 1024 + s ≢ place) → (limit : ℕ) (os : List Open) → length os ≤ bound → AreHeld text es old limit os → AreHeld text es new limit os
-  held_away away = held_same text es old new bound same_suspects (λ depth s a b c. ap (λ (l : List ℕ). get_or l (depth * 1024 + s) 0) marks ∙ get_or-set_other old.marks place (depth * 1024 + s) value 0 (away depth s a b c))
+  held_away : ((depth at : ℕ) → 0 < depth → depth < bound → at < 520 → depth * 520 + at ≢ place) → (limit : ℕ) (os : List Open) → length os ≤ bound → AreHeld text es old limit os → AreHeld text es new limit os
+  held_away away = held_same text es old new bound same_suspects (away_at away)
 
 -- what is held of the innermost container whose stamp is marked
-module _ (text : List ℕ) (b : Built) (slot : Slot) (old new : SeenNames) (s : ℕ) (x : Extent) (checked : DuplicateCheck text b old) (has_slot : HasSlot b slot old) (marked : IsMarked slot s old new) (stamped : IsStamped text x (Some s)) where
+module _ (text : List ℕ) (b : Built) (slot : Slot) (old new : SeenNames) (s : ℕ) (x : Extent) (checked : DuplicateCheck text b old) (has_slot : HasSlot b slot old)
+    (marked : IsMarked (place_of slot.table s) (mark_of slot.number s) old new) (stamped : IsStamped text x (Some s)) where
+  abbrev value : ℕ
+  value = mark_of slot.number s
+
+  in_table : (slot.table ≤ marked.place) × (marked.place < slot.table + 520)
+  in_table = let a = marked.free.at in let f = marked.free.near in let c = stamped.1 in (omega (arith, a), omega (arith, a, f, c))
+
   check_by : AreHeld text b.entries new (length b.entries) b.opens → DuplicateCheck text b new
   check_by held = record {
-    long = ap length marked.marks ∙ length-set old.marks (slot.table + s) (slot.number % 256) ∙ checked.long;
-    apart = λ n u. checked.apart n (same_suspects text b.entries old new (slot.table + s) (slot.number % 256) 0 marked.marks marked.suspects n u);
-    few = λ n u. checked.few n (same_suspects text b.entries old new (slot.table + s) (slot.number % 256) 0 marked.marks marked.suspects n u);
+    long = ap length marked.marks ∙ length-set old.marks marked.place value ∙ checked.long;
+    apart = λ n u. checked.apart n (same_suspects text b.entries old new marked.place value 0 marked.marks marked.suspects n u);
+    few = λ n u. checked.few n (same_suspects text b.entries old new marked.place value 0 marked.marks marked.suspects n u);
     held = held;
     above = checked.above;
   }
 
   slot_still : HasSlot b slot new
-  slot_still = record { number = has_slot.number; table = subst (λ l. ((slot.table ≡ depth_of b.opens * 1024) × (depth_of b.opens < 8)) ⊎ ((slot.table ≡ 0) × Contains l (top_of b.opens))) (sym marked.suspects) has_slot.table }
+  slot_still = record { number = has_slot.number; table = subst (λ l. ((slot.table ≡ depth_of b.opens * 520) × (depth_of b.opens < 8)) ⊎ ((slot.table ≡ 0) × Contains l (top_of b.opens))) (sym marked.suspects) has_slot.table }
 
   -- if the object is a suspect, the mark stands in a table that no object has
   marked_deep : slot.table ≡ 0 → Contains old.suspects.items (top_of b.opens) → DuplicateCheck text b new × IsFresh text b new (Some x)
-  marked_deep t a = grind (arith, check_by, held_away)
+  marked_deep t a = let p = in_table in (
+    check_by (held_away text b.entries old new marked.place value (length b.opens) marked.marks marked.suspects (λ depth at c d e q. absurd (omega (arith, t, p, c, e, q))) (length b.entries) b.opens (omega arith) checked.held),
+    λ u. absurd (u (subst (λ l. Contains l (top_of b.opens)) (sym marked.suspects) a)),
+  )
 
-  module _ (shape : Shape) (o : Open) (os : List Open) (is : b.opens ≡ o ∷ os) (level : o.level ≡ Inside shape) (table : slot.table ≡ length os * 1024) (few : length os < 8) where
+  module _ (shape : Shape) (o : Open) (os : List Open) (is : b.opens ≡ o ∷ os) (level : o.level ≡ Inside shape) (table : slot.table ≡ length os * 520) (few : length os < 8) where
     abbrev n : ℕ
     n = o.entry
 
     number : slot.number ≡ n
     number = has_slot.number ∙ ap top_of is
 
-    abbrev place : ℕ
-    place = slot.table + s
-
-    inside : place < length old.marks
-    inside = let k = stamped.1 in let l = checked.long in omega (arith, table)
+    inside : marked.place < length old.marks
+    inside = let p = in_table in let l = checked.long in omega (arith, table, few, p, l)
 
     before : IsUnsuspected new n → IsUnsuspected old n
-    before u = same_suspects text b.entries old new place (slot.number % 256) 0 marked.marks marked.suspects n u
+    before u = same_suspects text b.entries old new marked.place value 0 marked.marks marked.suspects n u
 
     held_old : AreHeld text b.entries old (length b.entries) (o ∷ os)
     held_old = subst (AreHeld text b.entries old (length b.entries)) is checked.held
@@ -113,17 +173,37 @@ module _ (text : List ℕ) (b : Built) (slot : Slot) (old new : SeenNames) (s : 
     head_old : IsHeld text b.entries old (length b.entries) (Inside shape) n (length os)
     head_old = subst (λ l. IsHeld text b.entries old (length b.entries) l n (length os)) level held_old.0
 
-    stands : (at : ℕ) → at ≡ s → get_or new.marks (length os * 1024 + at) 0 ≡ n % 256
-    stands at e = grind (arith, get_or-set_same, inside, number)
+    from_is : place_of (length os * 520) s ≡ place_of slot.table s
+    from_is = ap (λ k. place_of k s) (sym table)
+
+    mark_is : mark_of n s ≡ value
+    mark_is = ap (λ k. mark_of k s) (sym number)
+
+    stands : HasStamp new.marks n (length os) (stamp_at text x)
+    stands = subst (λ l. HasStamp l n (length os) (stamp_at text x)) (sym marked.marks) (subst (HasStamp (set old.marks marked.place value) n (length os)) stamped.0
+        (subst (λ f. HasMark (set old.marks marked.place value) f (mark_of n s)) (sym from_is)
+        (subst (HasMark (set old.marks marked.place value) (place_of slot.table s)) (sym mark_is) (mark_put old.marks (place_of slot.table s) value marked.place marked.free inside))))
+
+    other : IsUnsuspected new n → (k : ℕ) → IsMemberOf b.entries n k → stamp_at text (entry_in b.entries k).label ≢ stamp_at text x
+    other u k i q = no_mark old.marks (place_of slot.table s) value marked.place marked.free (subst (HasMark old.marks (place_of slot.table s)) mark_is
+        (subst (λ f. HasMark old.marks f (mark_of n s)) from_is (subst (HasStamp old.marks n (length os)) (q ∙ sym stamped.0) (head_old.3 (before u) k i))))
 
     all_marked : IsUnsuspected new n → AreMarked text b.entries new.marks n (length os)
-    all_marked u k i = search (arith, stands, get_or-set_other, before)
+    all_marked u k i = let t = stamp_at text (entry_in b.entries k).label in
+        subst (λ l. HasStamp l n (length os) t) (sym marked.marks) (mark_kept old.marks (place_of slot.table s) value marked.place marked.free (place_of (length os * 520) t) (mark_of n t)
+        (same_object n t s ∙ ap (λ m. mark_of m s / 256) (sym number)) (head_old.3 (before u) k i))
 
     held_new : AreHeld text b.entries new (length b.entries) (o ∷ os)
-    held_new = search (arith, all_marked, held_away)
+    held_new = let p = in_table in (
+      subst (λ l. IsHeld text b.entries new (length b.entries) l n (length os)) (sym level) (head_old.0, head_old.1, head_old.2, all_marked),
+      held_away text b.entries old new marked.place value (length os) marked.marks marked.suspects (λ depth at c d e q. absurd (omega (arith, table, p, d, e, q))) (limit_under o.level n) os (omega arith) held_old.1,
+    )
 
     pub marked_here : DuplicateCheck text b new × IsFresh text b new (Some x)
-    marked_here = grind (arith, check_by, held_new, before, number, stands)
+    marked_here = (
+      check_by (subst (AreHeld text b.entries new (length b.entries)) (sym is) held_new),
+      subst (λ l. IsUnsuspected new (top_of l) → IsNew text b.entries new (top_of l) (depth_of l) x) (sym is) (λ u. record { plain = stamped.2; other = other u; marked = stands }),
+    )
 
 suspect_checked : (text : List ℕ) (b : Built) (slot : Slot) (old new : SeenNames) (x : Extent) → DuplicateCheck text b old → HasSlot b slot old → AddsSuspect slot.number old new → DuplicateCheck text b new × IsFresh text b new (Some x) × HasSlot b slot new
 suspect_checked text b slot old new x checked has_slot added =
@@ -136,11 +216,11 @@ insert_checked text b slot old new (Some s) x shape level checked has_slot stamp
   still : HasSlot b slot new
   still = slot_still text b slot old new s x checked has_slot marked stamped
 
-  go : (os : List Open) → b.opens ≡ os → ((slot.table ≡ depth_of b.opens * 1024) × (depth_of b.opens < 8)) ⊎ ((slot.table ≡ 0) × Contains old.suspects.items (top_of b.opens)) → DuplicateCheck text b new × IsFresh text b new (Some x) × HasSlot b slot new
+  go : (os : List Open) → b.opens ≡ os → ((slot.table ≡ depth_of b.opens * 520) × (depth_of b.opens < 8)) ⊎ ((slot.table ≡ 0) × Contains old.suspects.items (top_of b.opens)) → DuplicateCheck text b new × IsFresh text b new (Some x) × HasSlot b slot new
   go os e (inr (t, a)) = let r = marked_deep text b slot old new s x checked has_slot marked stamped t a in (r.0, r.1, still)
   go [] e (inl (t, d)) = absurd (cc)
   go (o ∷ os) e (inl (t, d)) =
-      let r = marked_here text b slot old new s x checked has_slot marked stamped shape o os e (sym (ap level_of e) ∙ level) (t ∙ ap (λ l. depth_of l * 1024) e) (subst (λ k. k < 8) (ap depth_of e) d) in
+      let r = marked_here text b slot old new s x checked has_slot marked stamped shape o os e (sym (ap level_of e) ∙ level) (t ∙ ap (λ l. depth_of l * 520) e) (subst (λ k. k < 8) (ap depth_of e) d) in
       (r.0, r.1, still)
 insert_checked text b slot old new (Some s) x shape level checked has_slot stamped (inr suspects) = suspect_checked text b slot old new x checked has_slot suspects
 insert_checked text b slot old new None x shape level checked has_slot stamped suspects = suspect_checked text b slot old new x checked has_slot suspects
@@ -190,7 +270,7 @@ module _ (text : List ℕ) (es : List Entry) (e : Entry) (seen : SeenNames) wher
       k.1,
       ap (λ (x : Entry). x.kind) (entry_old o.entry (let q = k.0 in omega arith)) ∙ k.2,
       λ u m i. elim (cases_lt m (length es)) [
-        | inl g ↦ ap (λ (x : Entry). get_or seen.marks (length os * 1024 + stamp_at text x.label) 0) (entry_old m g) ∙ k.3 u m (member_old o.entry m g i)
+        | inl g ↦ subst (λ (x : Entry). HasStamp seen.marks o.entry (length os) (stamp_at text x.label)) (sym (entry_old m g)) (k.3 u m (member_old o.entry m g i))
         | inr g ↦ (let (r, w) = member_new o.entry m (last_one o.entry m g i) i in let b = a r in let q = k.0 in absurd (omega (arith, b, q, w)))
       ],
     )
@@ -224,8 +304,8 @@ module _ (text : List ℕ) (es : List Entry) (e : Entry) (seen : SeenNames) wher
       k.1,
       ap (λ (x : Entry). x.kind) (entry_old o.entry k.0) ∙ k.2,
       λ u m i. elim (cases_lt m (length es)) [
-        | inl g ↦ ap (λ (x : Entry). get_or seen.marks (length os * 1024 + stamp_at text x.label) 0) (entry_old m g) ∙ k.3 u m (member_old o.entry m g i)
-        | inr g ↦ (let z = last_one o.entry m g i in ap (λ (x : Entry). get_or seen.marks (length os * 1024 + stamp_at text x.label) 0) (entry_new m z) ∙ (name_of o.entry u (member_new o.entry m z i)).marked)
+        | inl g ↦ subst (λ (x : Entry). HasStamp seen.marks o.entry (length os) (stamp_at text x.label)) (sym (entry_old m g)) (k.3 u m (member_old o.entry m g i))
+        | inr g ↦ (let z = last_one o.entry m g i in subst (λ (x : Entry). HasStamp seen.marks o.entry (length os) (stamp_at text x.label)) (sym (entry_new m z)) (name_of o.entry u (member_new o.entry m z i)).marked)
       ],
     )
 
@@ -297,7 +377,7 @@ module _ (text : List ℕ) (es : List Entry) (i place children after : ℕ) (see
   held_shut limit (o ∷ os) h = (one o.level h.0, held_shut (limit_under o.level o.entry) os h.1) where
     one : (level : Level) → IsHeld text es seen limit level o.entry (length os) → IsHeld text shut seen limit level o.entry (length os)
     one Root k = tt
-    one (Inside shape) k = (k.0, k.1, kind_was o.entry ∙ k.2, λ u m j. ap (λ x. get_or seen.marks (length os * 1024 + stamp_at text x) 0) (label_was m) ∙ k.3 u m (member_was o.entry m j))
+    one (Inside shape) k = (k.0, k.1, kind_was o.entry ∙ k.2, λ u m j. subst (λ x. HasStamp seen.marks o.entry (length os) (stamp_at text x)) (sym (label_was m)) (k.3 u m (member_was o.entry m j)))
 
   more_room : (limit : ℕ) (os : List Open) → limit ≤ length es → AreHeld text shut seen limit os → AreHeld text shut seen (length shut) os
   more_room limit [] l h = tt

@@ -19,9 +19,9 @@ use Rattle.tape_cells.specs.Built.{Built, top_of, depth_of}
 use Rattle.json_strings.specs.Keys.{mixed}
 use Rattle.json_strings.specs.Hashes.{word_of_bytes}
 
--- the ten highest bits of it
+-- the seventeen highest bits of it
 unfoldable pub stamp : ℕ → ℕ
-stamp half = half / 4194304
+stamp half = half / 32768
 
 -- No fact of a text rests on which stamp it is.
 abbrev pub bytes_stamp : List ℕ → ℕ
@@ -36,7 +36,7 @@ stamp_at text x = bytes_stamp (bytes_at text x)
 
 -- a name has this stamp, if it has any
 abbrev pub IsStamped : List ℕ → Extent → Option ℕ → Type 0
-IsStamped text x (Some s) = (s ≡ stamp_at text x) × (s < 1024) × IsPlain text x
+IsStamped text x (Some s) = (s ≡ stamp_at text x) × (s < 131072) × IsPlain text x
 IsStamped text x None = Unit {0}
 
 -- entry k is that of a member of the object with the number n
@@ -50,9 +50,28 @@ pub record AreDistinct (text : List ℕ) (es : List Entry) (n : ℕ) : Type 0 wh
   pub plain : (k : ℕ) → IsMemberOf es n k → IsPlain text (entry_in es k).label
   pub apart : (j k : ℕ) → j < k → IsMemberOf es n j → IsMemberOf es n k → stamp_at text (entry_in es j).label ≢ stamp_at text (entry_in es k).label
 
--- the last byte of its number stands at the stamp of each, in the table of its depth
+-- the last byte of an object's number in front of that of a stamp
+unfoldable pub mark_of : (n s : ℕ) → ℕ
+mark_of n s = n % 256 * 256 + s % 256
+
+-- the place in a table at which a stamp's mark is looked for first
+abbrev pub place_of : (table s : ℕ) → ℕ
+place_of table s = table + s / 256
+
+-- a mark stands at one of eight places from one on, behind marks of the same object alone
+pub record HasMark (marks : List ℕ) (from mark : ℕ) : Type 0 where
+  pub away : ℕ
+  pub near : away < 8
+  pub here : get_or marks (from + away) 0 ≡ mark
+  pub between : (i : ℕ) → i < away → get_or marks (from + i) 0 / 256 ≡ mark / 256
+
+-- the stamp of an object has its mark in the table of the object's depth
+abbrev pub HasStamp : List ℕ → (n depth s : ℕ) → Type 0
+HasStamp marks n depth s = HasMark marks (place_of (depth * 520) s) (mark_of n s)
+
+-- that of each member's name
 abbrev pub AreMarked : List ℕ → List Entry → List ℕ → (n depth : ℕ) → Type 0
-AreMarked text es marks n depth = (k : ℕ) → IsMemberOf es n k → get_or marks (depth * 1024 + stamp_at text (entry_in es k).label) 0 ≡ n % 256
+AreMarked text es marks n depth = (k : ℕ) → IsMemberOf es n k → HasStamp marks n depth (stamp_at text (entry_in es k).label)
 
 abbrev pub IsUnsuspected : SeenNames → ℕ → Type 0
 IsUnsuspected seen n = Contains seen.suspects.items n → ⊥
@@ -73,7 +92,7 @@ AreHeld text es seen limit (o ∷ os) = IsHeld text es seen limit o.level o.entr
 
 -- each object so far that is no suspect is narrow, and its names have distinct stamps
 pub record DuplicateCheck (text : List ℕ) (b : Built) (seen : SeenNames) : Type 0 where
-  pub long : length seen.marks ≡ 8192
+  pub long : length seen.marks ≡ 4160
   pub apart : (n : ℕ) → IsUnsuspected seen n → AreDistinct text b.entries n
   pub few : (n : ℕ) → IsUnsuspected seen n → members_in (entry_in b.entries n) ≤ narrow
   pub held : AreHeld text b.entries seen (length b.entries) b.opens
@@ -81,12 +100,12 @@ pub record DuplicateCheck (text : List ℕ) (b : Built) (seen : SeenNames) : Typ
 
 -- the table lies within all
 abbrev pub HasTable : Slot → Type 0
-HasTable slot = slot.table + 1024 ≤ 8192
+HasTable slot = slot.table + 520 ≤ 4160
 
 -- the slot is that of the innermost container, whose table is the one of its depth, or which is a suspect
 pub record HasSlot (b : Built) (slot : Slot) (seen : SeenNames) : Type 0 where
   pub number : slot.number ≡ top_of b.opens
-  pub table : ((slot.table ≡ depth_of b.opens * 1024) × (depth_of b.opens < 8)) ⊎ ((slot.table ≡ 0) × Contains seen.suspects.items (top_of b.opens))
+  pub table : ((slot.table ≡ depth_of b.opens * 520) × (depth_of b.opens < 8)) ⊎ ((slot.table ≡ 0) × Contains seen.suspects.items (top_of b.opens))
 
 -- the same container is the innermost one
 abbrev pub IsSameTop : List Open → List Open → Type 0
@@ -96,22 +115,34 @@ IsSameTop old new = (top_of new ≡ top_of old) × (depth_of new ≡ depth_of ol
 abbrev pub AddsSuspect : (number : ℕ) → SeenNames → SeenNames → Type 0
 AddsSuspect number old new = (new.marks ≡ old.marks) × (new.suspects.items ≡ old.suspects.items ++ number ∷ [])
 
--- the stamp is marked for the slot's object, and was not before
-pub record IsMarked (slot : Slot) (s : ℕ) (old new : SeenNames) : Type 0 where
-  pub other : get_or old.marks (slot.table + s) 0 ≢ slot.number % 256
-  pub marks : new.marks ≡ set old.marks (slot.table + s) (slot.number % 256)
+-- the first of eight places from one on whose mark is of another object, where this mark does not stand before it
+pub record IsFree (marks : List ℕ) (from mark place : ℕ) : Type 0 where
+  pub away : ℕ
+  pub near : away < 8
+  pub at : place ≡ from + away
+  pub other : get_or marks place 0 / 256 ≢ mark / 256
+  pub before : (i : ℕ) → i < away → (get_or marks (from + i) 0 / 256 ≡ mark / 256) × (get_or marks (from + i) 0 ≢ mark)
+
+-- a mark is set at such a place
+pub record IsMarked (from mark : ℕ) (old new : SeenNames) : Type 0 where
+  pub place : ℕ
+  pub free : IsFree old.marks from mark place
+  pub marks : new.marks ≡ set old.marks place mark
   pub suspects : new.suspects.items ≡ old.suspects.items
+
+abbrev pub IsPut : (number from mark : ℕ) → SeenNames → SeenNames → Type 0
+IsPut number from mark old new = IsMarked from mark old new ⊎ AddsSuspect number old new
 
 -- a name of the slot's object is inserted: its stamp is marked, or the object is a suspect
 abbrev pub IsInserted : (slot : Slot) → Option ℕ → SeenNames → SeenNames → Type 0
-IsInserted slot (Some s) old new = IsMarked slot s old new ⊎ AddsSuspect slot.number old new
+IsInserted slot (Some s) old new = IsPut slot.number (place_of slot.table s) (mark_of slot.number s) old new
 IsInserted slot None old new = AddsSuspect slot.number old new
 
 -- the name of the next member has another stamp than those before it
 pub record IsNew (text : List ℕ) (es : List Entry) (seen : SeenNames) (n depth : ℕ) (x : Extent) : Type 0 where
   pub plain : IsPlain text x
   pub other : (k : ℕ) → IsMemberOf es n k → stamp_at text (entry_in es k).label ≢ stamp_at text x
-  pub marked : get_or seen.marks (depth * 1024 + stamp_at text x) 0 ≡ n % 256
+  pub marked : HasStamp seen.marks n depth (stamp_at text x)
 
 abbrev pub IsFresh : List ℕ → Built → SeenNames → Option Extent → Type 0
 IsFresh text b seen (Some x) = IsUnsuspected seen (top_of b.opens) → IsNew text b.entries seen (top_of b.opens) (depth_of b.opens) x

@@ -1,5 +1,5 @@
 -- Cells and sides, and the entries that they stand for.
-use Rattle.std.proofs.Common.{◌≡◌, inl, inr, ℕ, zero, suc, ◌+◌, ◌/◌, ◌^◌, ◌<◌, ◌≤◌, Bool, true, false, cond, List, [], ◌∷◌, ◌++◌, length, get_or, set, refl, sym, ap, ◌∙◌, arith, length-append, get_or-set_same, get_or-set_other}
+use Rattle.std.proofs.Common.{◌≡◌, inl, inr, ℕ, zero, suc, ◌+◌, ◌^◌, ◌<◌, ◌≤◌, Bool, true, false, cond, List, [], ◌∷◌, ◌++◌, length, get_or, set, refl, sym, ap, ◌∙◌, arith, length-append, get_or-set_same, get_or-set_other}
 use Rattle.std.proofs.lemmas.List.{get_or_append_left, get_or_default, get_or-append_right}
 use Rattle.std.proofs.lemmas.Bool.{false≢true, cases_Bool}
 use Rattle.json_text.specs.declared.tape.Kind.{Kind}
@@ -9,7 +9,7 @@ use Rattle.json_text.specs.declared.tape.Seat.{Seat}
 use Rattle.tape_cells.specs.declared.cells.Cell.{Cell}
 use Rattle.tape_cells.specs.declared.cells.Side.{Side}
 use Rattle.json_text.specs.Machine.{change_at, closed}
-use Rattle.tape_cells.specs.Cells.{low, high, holds, is_container, is_object, members_in, cell_kind, cell_role, cell_label, cell_start, cell_span, cell_up, leaf_entry, open_entry, leaf_seen, container_seen, seen, no_side, entries_from, entries_of, containers, container_at, AreNumbered, IsTape}
+use Rattle.tape_cells.specs.Cells.{holds, is_container, is_object, members_in, cell_kind, cell_role, cell_label, cell_start, cell_span, cell_up, leaf_entry, open_entry, leaf_seen, container_seen, seen, no_side, entries_from, entries_of, containers, container_at, AreNumbered, IsTape}
 
 pub length-entries : (k : ℕ) (cells : List Cell) (sides : List Side) → length (entries_from k cells sides) ≡ length cells
 length-entries k [] sides = refl
@@ -202,12 +202,3 @@ members_shown cells sides v n c s e q l f h b r g = grind (arith, container_show
 pub no_members_shown : (cells : List Cell) (sides : List Side) (v : List Entry) (n : ℕ) (c : Cell) (e : Entry) → entries_of cells sides ≡ v → n < length cells → c ≡ get_or cells n c → is_object (cell_kind c) ≡ false
     → e ≡ get_or v n e → 0 ≡ members_in e
 no_members_shown cells sides v n c e q l f h g = cc (entry_here cells sides v n c e q l f, seen_kind n c (get_or sides (cell_span c) no_side) (holds c))
-
--- the name of a leaf, where its length is in one byte
-short_label : (c : Cell) (len : ℕ) → c.label < 2 ^ 24 → c.up < 2 ^ 24 → len ≡ c.span / 16777216 → record { start = c.label; len = len } ≡ cell_label c
-unfolding low high
-short_label c len small short s = grind arith
-
-pub short_leaf : (cells : List Cell) (sides : List Side) (v : List Entry) (n : ℕ) (c : Cell) (e : Entry) (len : ℕ) → entries_of cells sides ≡ v → n < length cells → c ≡ get_or cells n c → holds c ≡ false
-    → c.label < 2 ^ 24 → c.up < 2 ^ 24 → len ≡ c.span / 16777216 → e ≡ get_or v n e → record { start = c.label; len = len } ≡ e.label × e.after ≡ n + 1
-short_leaf cells sides v n c e len q l f h small short s g = grind (arith, leaf_shown cells sides v n c e q l f h, short_label c len small short s)

@@ -3,13 +3,13 @@
 ghost use Rattle.std.specs.Prelude.{◌≡◌, ◌<◌, ◌^◌};
 ghost use Rattle.tape_cells.specs.Cells.{low as low_of, high as high_of, kind_coded as coded, role_coded as role_of_code, holds as is_container, is_object as is_object_kind, IsNear, cell_kind, cell_role, cell_label, cell_start, cell_span, cell_up};
 
-use json_text::{Entry, Extent, Kind, Role, Seat};
+use json_text::{Extent, Kind, Role, Seat};
 
 // The first kind code of values that hold others: one bit tells them.
 const CONTAINER: u32 = 8;
 
-/// No place, length, index or number of a tape reaches this.
-pub const WORD_LIMIT: u32 = 16_777_216;
+// No place, length, index or number of a tape reaches this.
+const WORD_LIMIT: u32 = 16_777_216;
 
 /// One value. The bytes over the four numbers hold its kind and its role, and the length of its name.
 #[derive(Clone, Copy)]

@@ -1,12 +1,12 @@
 //! The entries of a text in few bytes: 16 for each value, and 12 more for each container.
 
-ghost use Rattle.std.specs.Prelude.{◌≡◌, ◌+◌, ◌++◌, ◌∷◌, [], ◌<◌, ◌≤◌, ◌^◌, IfOk, IfSome, OnOk, OnErr, IsTrue, true, false, length, slice_index_or};
+ghost use Rattle.std.specs.Prelude.{◌≡◌, ◌+◌, ◌++◌, ◌∷◌, [], ◌<◌, ◌≤◌, ◌^◌, IfOk, OnOk, OnErr, true, false, length, slice_index_or};
 ghost use Rattle.json_text.specs.Machine.{change_at, closed};
 ghost use Rattle.tape_cells.specs.Cells.{IsNear, is_container, members_in, container_at, leaf_entry, open_entry};
 
-use crate::cells::{Cell, Side, WORD_LIMIT};
+use crate::cells::{Cell, Side};
 use crate::growth::push;
-use json_text::{Entry, Extent, Kind, Seat, Shape};
+use json_text::{Entry, Extent, Kind, Seat};
 use std::alloc::{AllocError, Global};
 use std::marker::Model;
 
@@ -33,15 +33,6 @@ impl Model for Tape {
     ghost view = { λ t. entries_of t.cells.items t.sides.items };
 
     ghost invariant = { λ t. IsTape t.cells.items t.sides.items };
-}
-
-// Whether a name begins no further than a place, and has its length in one byte.
-#[inline(always)]
-fn has_short_name(cell: Cell, last: u32) -> bool
-    ensures start { IsTrue result → cell.label ≤ last }
-    ensures len { IsTrue result → cell.up < 2 ^ 24 }
-{
-    cell.label <= last && cell.up < WORD_LIMIT
 }
 
 impl Tape {
@@ -200,37 +191,5 @@ impl Tape {
         ensures { (e : Entry) → e ≡ slice_index_or self.now n e → result ≡ e.label }
     {
         self.cells[n as usize].label()
-    }
-
-    /// The names of two values that hold no others, where both are of one length below 256 and neither begins behind the last place.
-    #[inline(always)]
-    pub fn leaf_names(&self, left: usize, right: usize, last: u32) -> Option<(Extent, Extent)>
-        requires last { last < 2 ^ 24 }
-        requires left { left < length self.now }
-        requires right { right < length self.now }
-        ensures left { IfSome result (λ names. (e : Entry) → e ≡ slice_index_or self.now left e → (names.0 ≡ e.label) × (e.after ≡ left + 1)) }
-        ensures right { IfSome result (λ names. (e : Entry) → e ≡ slice_index_or self.now right e → (names.1 ≡ e.label) × (e.after ≡ right + 1)) }
-        ensures len { IfSome result (λ names. names.0.len ≡ names.1.len) }
-        ensures starts { IfSome result (λ names. (names.0.start ≤ last) × (names.1.start ≤ last)) }
-    {
-        let here = self.cells[left];
-        let there = self.cells[right];
-        let len = here.span / WORD_LIMIT;
-        if len != there.span / WORD_LIMIT || here.holds() | there.holds() {
-            return None;
-        }
-        if has_short_name(here, last) && has_short_name(there, last) {
-            let first = Extent {
-                start: here.label,
-                len,
-            };
-            let second = Extent {
-                start: there.label,
-                len,
-            };
-            Some((first, second))
-        } else {
-            None
-        }
     }
 }

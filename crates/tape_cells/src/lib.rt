@@ -9,6 +9,5 @@ mod compact;
 mod growth;
 
 pub use builder::Builder;
-pub use cells::WORD_LIMIT;
 pub use compact::Tape;
 pub use growth::push;

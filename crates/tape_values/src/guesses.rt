@@ -2,8 +2,8 @@
 //!
 //! A guess only says where a search is to begin.
 
-ghost use Rattle.std.specs.Prelude.{◌≡◌, ◌<◌, IfSome, length};
-ghost use Rattle.json_tape.specs.Document.{count, node_at, following, IsIn};
+ghost use Rattle.std.specs.Prelude.{◌≡◌, ◌<◌, IfSome};
+ghost use Rattle.json_tape.specs.Document.{count, node_at, IsIn};
 ghost use Rattle.json_tape.specs.Nodes.{children};
 ghost use Rattle.tape_values.specs.Pairs.{same_name, IsAmong};
 

@@ -1,8 +1,7 @@
 //! Whether characters of a string leave an escape open, wherever a reading of it stands before them.
 
 ghost use Rattle.std.specs.Prelude.{◌≡◌, ℕ, List, [], ◌∷◌, IsTrue, true, false};
-ghost use Rattle.std.specs.Str.{chars, IsUtf8};
-ghost use Rattle.std.specs.Str.Iter.{chars_rest};
+ghost use Rattle.std.specs.Str.{chars};
 ghost use Rattle.tape_values.specs.Settling.{high_by, settles, settles_from, AreSettled};
 ghost use Rattle.json_strings.specs.Spelling.{hex_value as value_of_hex};
 

@@ -1,5 +1,5 @@
 use Rattle.std.proofs.Common.{arith}
-use Rattle.tape_cells.proofs.Sides.{entries_many, closing_inside, side_inside, closing_done}
+use Rattle.tape_cells.proofs.Sides.{closing_inside}
 use Rattle.tape_cells.proofs.compact.Tape.close.Goals as goal
 
 pub index-requires : goal.index-requires

@@ -1,5 +1,5 @@
-use Rattle.std.proofs.Common.{arith, slice_index_or}
-use Rattle.tape_cells.proofs.Sides.{entries_many, side_inside, object_holds, members_shown, no_members_shown}
+use Rattle.std.proofs.Common.{arith}
+use Rattle.tape_cells.proofs.Sides.{entries_many}
 use Rattle.tape_cells.proofs.compact.Tape.members.Goals as goal
 
 pub index-cell-requires : goal.index-cell-requires

@@ -1,6 +1,6 @@
 use Rattle.std.proofs.Common.{◌≡◌, length, ◌∙◌, arith}
 use Rattle.tape_cells.specs.Cells.{cell_span, no_side}
-use Rattle.tape_cells.proofs.Sides.{entries_many, holder_kind, containers_few, container_kept, container_added}
+use Rattle.tape_cells.proofs.Sides.{entries_many, holder_kind, container_kept}
 use Rattle.tape_cells.proofs.compact.Tape.open.Goals as goal
 
 pub invariant_of-self-in-Ok : goal.invariant_of-self-in-Ok

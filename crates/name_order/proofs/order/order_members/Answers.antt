@@ -1,6 +1,6 @@
 use Rattle.std.proofs.Common.{◌∙◌, ◌++◌, ◌∷◌, [], ap}
 use Rattle.name_order.proofs.Runs.{kept_more, objects_before}
-use Rattle.name_order.proofs.order.order_anew.Goals as goal
+use Rattle.name_order.proofs.order.order_members.Goals as goal
 
 pub push-requires : goal.push-requires
 push-requires c = objects_before _ _ _ _ c.requires.kept
