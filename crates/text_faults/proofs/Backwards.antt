@@ -1,7 +1,7 @@
 -- What completes a text behind a byte, with that byte before it completes the text before the byte.
-use Rattle.json_text.proofs.Names.{◌≡◌, ◌≢◌, ℕ, zero, suc, ◌+◌, ◌-◌, ◌*◌, ◌<◌, ◌≤◌, ◌⊎◌, inl, inr, Bool, true, false, cond, ◌&&◌, ◌||◌, eqb, leb, ltb, List, [], ◌∷◌, ◌++◌, length, Option, Some, None, refl, sym, ap, ◌∙◌, subst, arith, nat_tests, append_assoc}
-use Rattle.json_text.proofs.Names.{IsElements, IsMember, IsMembers, IsValue, array, member, next_element, next_member, object, one_element, one_member, scalar, no_array, no_object, at}
-use Rattle.json_text.proofs.Names.{IsString, AreChars, IsChar, IsHexDigit, IsBlank, IsShort, AreBlanks, is_blank, turn, Spelt, Plain, Short, Unit4, Null, True, False, Num, Str, Leaf, Tree}
+use Rattle.json_text.proofs.Names.{◌≡◌, ℕ, zero, suc, ◌+◌, ◌-◌, ◌*◌, ◌<◌, ◌≤◌, inl, inr, Bool, true, false, cond, ◌&&◌, ◌||◌, eqb, leb, ltb, List, [], ◌∷◌, ◌++◌, length, Option, Some, None, refl, sym, ap, ◌∙◌, subst, arith, nat_tests, append_assoc}
+use Rattle.json_text.proofs.Names.{array, member, next_element, next_member, object, one_element, one_member, scalar, no_array, no_object, at}
+use Rattle.json_text.proofs.Names.{IsChar, IsHexDigit, IsBlank, IsShort, AreBlanks, is_blank, turn, Spelt, Plain, Short, Unit4, Null, True, False, Num, Str, Leaf}
 use Rattle.std.specs.Char.{IsScalar}
 use Rattle.std.specs.Prelude.{codes}
 use Rattle.std.proofs.lemmas.Str.{encode_ascii}
@@ -11,18 +11,17 @@ use Rattle.json_text.specs.declared.modes.Mode.TheVariants.{Between, Escape, Hex
 use Rattle.json_text.specs.declared.modes.Turn.{Turn}
 use Rattle.json_text.specs.declared.tape.Shape.{Shape}
 use Rattle.json_text.specs.declared.tape.Shape.TheVariants as shapes
-use Rattle.decimal_order.specs.Number.{IsDigit, AreDigits, AreSomeDigits, Optional, IsMinus, IsSign, IsE, IsInt, IsFrac, IsExp, IsNumber}
+use Rattle.decimal_order.specs.Number.{IsDigit, AreDigits, IsSign, IsE, IsNumber}
 use Rattle.text_faults.specs.declared.marks.Digits.{Digits}
 use Rattle.text_faults.specs.declared.marks.Digits.TheVariants as digits
 use Rattle.text_faults.specs.declared.marks.Letters.{Letters}
 use Rattle.text_faults.specs.declared.marks.Letters.TheVariants as letters
-use Rattle.text_faults.specs.declared.marks.Move.{Move}
 use Rattle.text_faults.specs.declared.marks.Now.{Now}
 use Rattle.text_faults.specs.declared.marks.Now.TheVariants as now
 use Rattle.text_faults.specs.declared.marks.Purpose.{Purpose}
 use Rattle.text_faults.specs.declared.marks.Purpose.TheVariants as purposes
-use Rattle.text_faults.specs.Moves.{State, state, step, moved, top, next, to, into_array, begin, letter, after_letter, follow, in_container, name, quoted, after_string, number, number_next, number_end, digit, point, exp_digit, is_digit, is_e, ends}
-use Rattle.text_faults.proofs.Completions.{Val, Els, Mem, Mems, Closed, Closes, After, AValue, AColon, AName, Empty, AreHex, InQuotes, AfterString, Exponent, Fraction, InNumber, spelled, Completes, closes_now}
+use Rattle.text_faults.specs.Moves.{State, state, step, moved, top, to, into_array, begin, letter, after_letter, follow, in_container, name, quoted, after_string, number, number_next, number_end, digit, point, exp_digit, is_digit, is_e, ends}
+use Rattle.text_faults.proofs.Completions.{Els, Mem, Mems, Closed, Closes, After, AValue, AColon, AName, Empty, AreHex, AfterString, Exponent, Fraction, InNumber, Completes, closes_now}
 
 -- these bytes complete what the machine came to, if it came to anything
 abbrev pub Done : Option State → List ℕ → Type 0

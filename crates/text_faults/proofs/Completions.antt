@@ -1,13 +1,13 @@
 -- What completes a text, by what may come next and the open containers; and that something always does.
-use Rattle.json_text.proofs.Names.{◌≡◌, ◌≢◌, ℕ, zero, suc, ◌+◌, ◌≤◌, ◌⊎◌, inl, inr, List, [], ◌∷◌, ◌++◌, length, refl, sym, ap, ◌∙◌, subst, arith, append_assoc, append-nil}
-use Rattle.json_text.proofs.Names.{IsText, IsElements, IsMember, IsMembers, IsValue, array, member, next_element, next_member, object, one_element, one_member, scalar, no_array, no_object, at}
-use Rattle.json_text.proofs.Names.{IsString, AreChars, IsChar, IsHexDigit, AreBlanks, Spelt, Short, Unit4, Null, True, False, Num, Str, Leaf, Tree, Elements, Members, Name}
+use Rattle.json_text.proofs.Names.{◌≡◌, ℕ, zero, suc, ◌+◌, ◌⊎◌, inl, inr, List, [], ◌∷◌, ◌++◌, refl, arith}
+use Rattle.json_text.proofs.Names.{IsElements, IsMember, IsMembers, IsValue, scalar, at}
+use Rattle.json_text.proofs.Names.{IsString, AreChars, IsChar, IsHexDigit, AreBlanks, Spelt, Short, Num, Leaf, Tree, Elements, Members, Name}
 use Rattle.std.specs.Prelude.{codes}
 use Rattle.json_text.specs.declared.modes.Mode.{Mode}
 use Rattle.json_text.specs.declared.modes.Mode.TheVariants.{Between, Escape, Hex}
 use Rattle.json_text.specs.declared.tape.Shape.{Shape}
 use Rattle.json_text.specs.declared.tape.Shape.TheVariants as shapes
-use Rattle.decimal_order.specs.Number.{IsDigit, AreDigits, AreSomeDigits, Optional, IsMinus, IsSign, IsInt, IsFrac, IsExp, IsNumber}
+use Rattle.decimal_order.specs.Number.{AreDigits, AreSomeDigits, Optional, IsSign, IsInt, IsFrac, IsExp, IsNumber}
 use Rattle.text_faults.specs.declared.marks.Digits.{Digits}
 use Rattle.text_faults.specs.declared.marks.Digits.TheVariants as digits
 use Rattle.text_faults.specs.declared.marks.Letters.{Letters}

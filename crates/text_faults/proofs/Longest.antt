@@ -1,5 +1,5 @@
 -- Where the machine stops in a text of UTF-8, no JSON text goes on, and some goes on up to there.
-use Rattle.json_text.proofs.Names.{◌≡◌, ◌≢◌, ℕ, zero, suc, ◌+◌, ◌<◌, ◌≤◌, ◌⊎◌, inl, inr, Bool, true, false, leb, List, [], ◌∷◌, ◌++◌, length, take, drop, get_or, Option, Some, None, refl, sym, ap, ◌∙◌, subst, arith, nat_tests, append_assoc, append-nil, IsUtf8, encodes, cases_Bool, length-encode, len_utf8_bounds, IsText, Tree, turn, Plain, take-append-drop, length-append, length-take}
+use Rattle.json_text.proofs.Names.{◌≡◌, ◌≢◌, ℕ, zero, suc, ◌+◌, ◌<◌, ◌≤◌, ◌⊎◌, inl, inr, true, leb, List, [], ◌∷◌, ◌++◌, length, take, drop, get_or, Option, Some, None, refl, sym, ap, ◌∙◌, subst, arith, nat_tests, append_assoc, append-nil, IsUtf8, encodes, cases_Bool, length-encode, len_utf8_bounds, IsText, Tree, Plain, take-append-drop, length-take}
 use Rattle.json_text.proofs.Strings.{ArePlain, plain_bytes}
 use Rattle.std.specs.Char.{IsScalar}
 use Rattle.std.proofs.lemmas.Str.{encode_ascii, inside_one}
@@ -7,17 +7,14 @@ use Rattle.std.proofs.lemmas.Bool.{and_parts}
 use Rattle.std.proofs.Math.Seq.{take-add, drop-cons}
 use Rattle.std.proofs.lemmas.List.{take_more, drop_all}
 use lib.Utf8.{scalars, scalar, encode}
-use Rattle.json_text.specs.declared.modes.Mode.{Mode}
 use Rattle.json_text.specs.declared.modes.Mode.TheVariants.{Between, Escape, Hex}
 use Rattle.json_text.specs.declared.tape.Shape.{Shape}
-use Rattle.text_faults.specs.declared.marks.Digits.TheVariants as digits
-use Rattle.text_faults.specs.declared.marks.Letters.TheVariants as letters
 use Rattle.text_faults.specs.declared.marks.Now.{Now}
 use Rattle.text_faults.specs.declared.marks.Now.TheVariants as now
 use Rattle.text_faults.specs.declared.marks.Purpose.{Purpose}
-use Rattle.text_faults.specs.Moves.{State, state, step, step_on, run_on, start, next, top}
+use Rattle.text_faults.specs.Moves.{State, state, step, step_on, run_on, start}
 use Rattle.text_faults.specs.Prefixes.{Begins, IsLongest}
-use Rattle.text_faults.proofs.Runs.{run_append, run_none, none_begins, over}
+use Rattle.text_faults.proofs.Runs.{run_none, none_begins, over}
 use Rattle.text_faults.proofs.Completions.{Completes, some_completion}
 use Rattle.text_faults.proofs.Backwards.{Done, byte_back, char_back}
 

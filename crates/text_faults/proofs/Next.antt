@@ -1,15 +1,11 @@
 -- Each byte that is expected may stand there.
-use Rattle.json_text.proofs.Names.{◌≡◌, ℕ, ◌+◌, ◌<◌, ◌≤◌, Bool, true, false, eqb, leb, ltb, List, [], ◌∷◌, ◌++◌, length, take, drop, get_or, Option, Some, None, refl, sym, ap, ◌∙◌, subst, arith, nat_tests, append_assoc, IsUtf8, IsText, take-append-drop}
+use Rattle.json_text.proofs.Names.{◌≡◌, ℕ, ◌+◌, ◌<◌, Bool, true, false, leb, List, [], ◌∷◌, ◌++◌, length, take, drop, get_or, Option, Some, None, refl, sym, subst, arith, nat_tests, append_assoc, IsUtf8, IsText, take-append-drop}
 use Rattle.std.specs.Char.{IsScalar}
-use Rattle.json_text.specs.declared.modes.Mode.TheVariants.{Between, Escape, Hex}
 use Rattle.json_text.specs.declared.tape.Shape.{Shape}
 use Rattle.json_text.specs.declared.tape.Shape.TheVariants as shapes
-use Rattle.text_faults.specs.declared.marks.Digits.TheVariants as digits
-use Rattle.text_faults.specs.declared.marks.Letters.TheVariants as letters
 use Rattle.text_faults.specs.declared.marks.Now.{Now}
 use Rattle.text_faults.specs.declared.marks.Now.TheVariants as now
 use Rattle.text_faults.specs.declared.marks.Expected.{Expected}
-use Rattle.text_faults.specs.declared.marks.Expected.TheVariants as expected
 use Rattle.text_faults.specs.Moves.{State, state, step, run_on, start, top, begin, expected_of}
 use Rattle.text_faults.specs.Expectations.{begins_value, names}
 use Rattle.text_faults.specs.Prefixes.{Begins}

@@ -1,22 +1,20 @@
 -- Over the bytes of a JSON text the machine goes from its start to its end.
-use Rattle.json_text.proofs.Names.{◌≡◌, ◌≢◌, ℕ, suc, ◌+◌, ◌≤◌, ◌⊎◌, inl, inr, Bool, true, false, cond, List, [], ◌∷◌, ◌++◌, Option, Some, None, refl, sym, ap, ◌∙◌, subst, arith, nat_tests, common_steps, append_assoc, eqb, leb, false≢true}
+use Rattle.json_text.proofs.Names.{◌≡◌, ◌≢◌, ℕ, ◌+◌, ◌≤◌, ◌⊎◌, inl, inr, Bool, true, false, List, [], ◌∷◌, ◌++◌, Option, Some, None, refl, sym, ap, ◌∙◌, subst, arith, nat_tests, append_assoc, eqb, false≢true}
 use Rattle.json_text.proofs.Names.{IsText, IsScalarText, IsElements, IsMember, IsMembers, IsValue, array, member, next_element, next_member, object, one_element, one_member, scalar, no_array, no_object}
-use Rattle.json_text.proofs.Names.{IsString, AreChars, IsChar, IsHexDigit, IsBlank, IsShort, AreBlanks, is_blank, turn, Spelt, Plain, Short, Unit4, Scalar, Null, True, False, Num, Str, Tree, Elements, Members, Name}
+use Rattle.json_text.proofs.Names.{AreChars, IsChar, IsHexDigit, IsBlank, IsShort, AreBlanks, is_blank, Spelt, Plain, Short, Unit4, Scalar, Null, True, False, Num, Str, Tree, Elements, Members, Name}
 use Rattle.json_text.proofs.Strings.{ArePlain, plain_bytes}
 use Rattle.json_text.specs.Scanning.{is_short, is_hex}
-use Rattle.json_text.specs.declared.modes.Mode.TheVariants.{Between, Escape, Hex}
-use Rattle.json_text.specs.declared.modes.Turn.TheVariants.{Stop, Fail, Go}
+use Rattle.json_text.specs.declared.modes.Mode.TheVariants.{Between}
 use Rattle.json_text.specs.declared.tape.Shape.{Shape}
 use Rattle.json_text.specs.declared.tape.Shape.TheVariants as shapes
 use Rattle.decimal_order.specs.Number.{IsDigit, AreDigits, AreSomeDigits, Optional, IsMinus, IsSign, IsInt, IsFrac, IsExp, IsNumber}
 use Rattle.text_faults.specs.declared.marks.Digits.{Digits}
 use Rattle.text_faults.specs.declared.marks.Digits.TheVariants as digits
-use Rattle.text_faults.specs.declared.marks.Move.TheVariants.{To, Into, Out, Refused}
 use Rattle.text_faults.specs.declared.marks.Now.{Now}
 use Rattle.text_faults.specs.declared.marks.Now.TheVariants as now
 use Rattle.text_faults.specs.declared.marks.Purpose.{Purpose}
 use Rattle.text_faults.specs.declared.marks.Purpose.TheVariants as purposes
-use Rattle.text_faults.specs.Moves.{State, state, step, step_on, run_on, start, next, top, moved, digit, ends, begin, after_string, is_digit}
+use Rattle.text_faults.specs.Moves.{State, state, step, step_on, run_on, start, digit, ends, begin, after_string, is_digit}
 use Rattle.text_faults.specs.Prefixes.{Begins}
 
 pub run_append : (o : Option State) (a b : List ℕ) → run_on o (a ++ b) ≡ run_on (run_on o a) b

@@ -1,5 +1,5 @@
 -- Which bytes of ASCII what is expected names (RFC 8259, sections 2 to 7).
-use Rattle.std.specs.Prelude.{ℕ, Bool, true, false, ◌&&◌, ◌||◌, eqb, leb}
+use Rattle.std.specs.Prelude.{ℕ, Bool, false, ◌&&◌, ◌||◌, eqb, leb}
 use Rattle.json_text.specs.Scanning.{is_short, is_hex}
 use Rattle.text_faults.specs.declared.marks.Expected.{Expected}
 use Rattle.text_faults.specs.declared.marks.Expected.TheVariants.{Value, ValueOrBracket, Name, NameOrBrace, Colon, CommaOrBracket, CommaOrBrace, End, Character, Escape, Hexadecimal, Digit, Letter}

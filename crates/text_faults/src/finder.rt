@@ -10,7 +10,7 @@ ghost use Rattle.text_faults.specs.declared.marks.Now.TheVariants.{Value};
 
 use crate::marks::{Expected, Now, Place};
 use crate::moves::{ends, letter};
-use crate::steps::{Step, innermost, next_of, now_at, number_of, row, step_at};
+use crate::steps::{Step, find_step, innermost, next_of, now_at, number_of, row};
 use json_text::{Mode, Shape};
 use std::alloc::{AllocError, Global};
 
@@ -61,7 +61,10 @@ pub fn not_json(alloc: Global, text: &str) -> Result<Place, AllocError>
             number = next;
             continue;
         }
-        let step = step_at(&mut nows, &mut steps, number, place, &opens, *byte)?;
+        let mut step = Step::Unknown;
+        find_step(
+            &mut nows, &mut steps, number, place, &opens, *byte, &mut step,
+        )?;
         if !go(&mut number, &mut place, &mut opens, step)? {
             return Ok(Place {
                 at,

@@ -70,9 +70,8 @@ impl fmt::Display for Found {
 /// The most characters of a line before a place, and from it on, that are shown.
 const SHOWN: usize = 36;
 
-fn is_first_of_character(byte: u8) -> bool {
-    byte & 0xC0 != 0x80
-}
+/// In so many bytes stand all these, and one that is cut.
+const ROOM: usize = 4 * (SHOWN + 1);
 
 // The bytes behind the last line feed.
 fn last_line(text: &[u8]) -> &[u8] {
@@ -100,61 +99,39 @@ fn width(bytes: &[u8]) -> usize {
     bytes.len().saturating_sub(count(bytes, 0xC0, 0x80))
 }
 
-// The last of these bytes, which begin at most so many characters.
-fn last_characters(bytes: &[u8]) -> &[u8] {
-    let mut begun = 0usize;
-    for (back, byte) in bytes.iter().rev().enumerate() {
-        if is_first_of_character(*byte) {
-            begun = begun.saturating_add(1);
-            if begun == SHOWN {
-                return bytes.get(bytes.len() - 1 - back..).unwrap_or(bytes);
-            }
-        }
-    }
-    bytes
+// A character as it is shown, a blank for a control character.
+fn shown(c: char) -> char {
+    if c < ' ' || c == '\x7f' { ' ' } else { c }
 }
 
-// The first of these bytes up to a line feed, which begin at most so many characters.
-fn first_characters(bytes: &[u8]) -> &[u8] {
-    let mut begun = 0usize;
-    for (at, byte) in bytes.iter().enumerate() {
-        if *byte == b'\n' || (is_first_of_character(*byte) && begun == SHOWN) {
-            return bytes.get(..at).unwrap_or(bytes);
-        }
-        if is_first_of_character(*byte) {
-            begun = begun.saturating_add(1);
-        }
-    }
-    bytes
-}
-
-// Appends bytes, with blanks for control characters.
-fn append(bytes: &[u8], out: &mut Vec<u8>) -> Result<(), AllocError> {
-    for byte in bytes {
-        let byte = if *byte < 0x20 || *byte == 0x7F {
-            b' '
-        } else {
-            *byte
-        };
-        out.extend_from_slice(&[byte])?;
-    }
-    Ok(())
-}
-
-/// The line of a place, at most 72 characters of it, and below it a caret. Each of the two begins with a line feed.
+/// The line of a place, at most 72 characters of it, and below it a caret. Each of the two begins with a line feed. What is not UTF-8 is shown as
+/// U+FFFD.
 pub fn shown_at(alloc: Global, text: &[u8], at: usize) -> Result<String, AllocError> {
-    let before = last_characters(last_line(text.get(..at).unwrap_or(text)));
-    let from = first_characters(text.get(at..).unwrap_or(&text[..0]));
-    let mut out = Vec::new(alloc);
-    out.extend_from_slice(b"\n")?;
-    append(before, &mut out)?;
-    append(from, &mut out)?;
-    out.extend_from_slice(b"\n")?;
-    for _ in 0..width(before) {
-        out.extend_from_slice(b" ")?;
+    let line = last_line(text.get(..at).unwrap_or(text));
+    let near = line.get(line.len().saturating_sub(ROOM)..).unwrap_or(line);
+    let before = String::from_utf8_lossy(alloc, near)?;
+    let rest = text.get(at..).unwrap_or(&text[..0]);
+    let from = String::from_utf8_lossy(alloc, rest.get(..ROOM).unwrap_or(rest))?;
+    let count = before.chars().count();
+    let skipped = count.saturating_sub(SHOWN);
+    let mut out = String::from_str(alloc, "\n")?;
+    for (n, c) in before.chars().enumerate() {
+        if n >= skipped {
+            out.push(shown(c))?;
+        }
     }
-    out.extend_from_slice(b"^")?;
-    String::from_utf8_lossy(alloc, out.as_slice())
+    for (n, c) in from.chars().enumerate() {
+        if n == SHOWN || c == '\n' {
+            break;
+        }
+        out.push(shown(c))?;
+    }
+    out.push('\n')?;
+    for _ in skipped..count {
+        out.push(' ')?;
+    }
+    out.push('^')?;
+    Ok(out)
 }
 
 /// The same if it is to be shown, and nothing otherwise.

@@ -1,6 +1,6 @@
 //! What bytes were found to do, so that one look tells it the next time.
 
-ghost use Rattle.std.specs.Prelude.{◌≡◌, ◌+◌, ◌*◌, ◌<◌, List, length, get_or, reverse, Option, IfOk, IfSome, IsTrue};
+ghost use Rattle.std.specs.Prelude.{◌≡◌, ◌+◌, ◌*◌, ◌<◌, List, length, get_or, reverse, Option, IfOk, IfSome, IsTrue, OnOk};
 ghost use Rattle.json_text.specs.declared.tape.Shape.{Shape};
 ghost use Rattle.text_faults.specs.Moves.{top, next as move_at};
 ghost use Rattle.text_faults.specs.Steps.{row_of, move_of, AreSteps, IsInside, Keeps};
@@ -45,26 +45,28 @@ pub fn row(innermost: Option<Shape>) -> usize
     }
 }
 
-/// What a byte does, as it was found before or is found now.
+/// Tells what a byte does, as it was found before or is found now. The step is written and not returned, which keeps it in registers.
 #[inline(always)]
-pub fn step_at(
+pub fn find_step(
     nows: &mut Vec<Now>,
     steps: &mut Vec<Step>,
     number: usize,
     row: usize,
     opens: &Vec<Shape>,
     byte: u8,
-) -> Result<Step, AllocError>
+    step: &mut Step,
+) -> Result<(), AllocError>
     requires steps { AreSteps nows.old.items steps.old.items }
     requires inside { number < length nows.old.items }
     requires row { row ≡ row_of (top (reverse opens.now.items)) }
-    ensures steps { IfOk result (λ step. AreSteps nows.new.items steps.new.items × Keeps nows.old.items nows.new.items) }
-    ensures step { IfOk result (λ step. IsInside nows.new.items step × (move_of nows.new.items step ≡ move_at (get_or nows.old.items number Value) (top (reverse opens.now.items)) byte)) }
+    ensures steps { OnOk result (AreSteps nows.new.items steps.new.items × Keeps nows.old.items nows.new.items) }
+    ensures step { OnOk result (IsInside nows.new.items step.new × (move_of nows.new.items step.new ≡ move_at (get_or nows.old.items number Value) (top (reverse opens.now.items)) byte)) }
 {
-    match look(steps, number, row, byte) {
-        Step::Unknown => learn(nows, steps, number, innermost(opens), byte),
-        known => Ok(known),
+    *step = look(steps, number, row, byte);
+    if let Step::Unknown = *step {
+        *step = learn(nows, steps, number, innermost(opens), byte)?;
     }
+    Ok(())
 }
 
 /// The state that a byte goes on to, where that is known and no container is opened or left.

@@ -24,9 +24,9 @@ module _ (text : List ℕ) (tape : List Entry) where
       shared = λ i j g l m h k. elim (cases_lt j n) [ inl p ↦ old.shared i j g l p h k | inr p ↦ absurd (apart (ap (λ (x : Entry). x.role) q ∙ subst (λ k. (get_or tape k e).role ≡ roles.Member) (omega arith) (k.role e))) ];
     }
 
-    module _ (group count : ℕ) (is : group ≡ group_for text e) (inside : group < length counts) (some : 0 < count) (two : 0 < get_or counts group 0 → count ≡ 2) where
+    module _ (group count : ℕ) (is : group ≡ group_for text tape e) (inside : group < length counts) (some : 0 < count) (two : 0 < get_or counts group 0 → count ≡ 2) where
       here : (i g : ℕ) → i ≡ n → IsInGroup text tape i g → g ≡ group
-      here i g f h = h.group_is e ∙ ap (λ k. group_for text (get_or tape k e)) f ∙ ap (group_for text) (sym q) ∙ sym is
+      here i g f h = h.group_is e ∙ ap (λ k. group_for text tape (get_or tape k e)) f ∙ ap (group_for text tape) (sym q) ∙ sym is
 
       at_group : get_or (set counts group count) group 0 ≡ count
       at_group = get_or-set_same counts group count 0 inside

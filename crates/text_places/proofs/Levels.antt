@@ -29,6 +29,9 @@ mutual
 pub up_below : {t s : Tree} {n up : ℕ} {label : Label} → IsAt t 0 Top 0 n up label s → 0 < n → up < n
 up_below h p = elim (under h) [ inl f ↦ absurd (omega (arith, f.1)) | inr f ↦ f.1 ]
 
+pub up_first : {t s : Tree} {up : ℕ} {label : Label} → IsAt t 0 Top 0 0 up label s → up ≡ 0
+up_first h = elim (under h) [ inl f ↦ f.0 | inr f ↦ absurd (omega (arith, f.1)) ]
+
 -- there is one such number, and one level
 one_up : (t s r : Tree) (n up up' : ℕ) (label label' : Label) → IsAt t 0 Top 0 n up label s → IsAt t 0 Top 0 n up' label' r → up ≡ up'
 one_up t s r n up up' label label' h g =

@@ -1,5 +1,5 @@
 -- What the entry of a member shows of its name.
-use Rattle.json_text.proofs.Names.{◌≡◌, ℕ, ◌<◌, List, length, get_or, refl, sym, ap, ◌∙◌, subst, inl, inr, Source, Spelt, Tree, IsText, IsString, Label, Top, Index, Named, extent, Stands, IsAt, entry_of}
+use Rattle.json_text.proofs.Names.{◌≡◌, ℕ, ◌<◌, arith, cases_lt, List, length, get_or, refl, sym, ap, ◌∙◌, subst, inl, inr, Source, Spelt, Tree, IsText, IsString, Label, Top, Index, Named, extent, Stands, IsAt, entry_of}
 use Rattle.json_text.specs.declared.tape.Entry.{Entry}
 use Rattle.json_text.specs.declared.tape.Role.TheVariants as roles
 use Rattle.json_text.proofs.Entries.{role_is, label_is, up_is}
@@ -9,6 +9,7 @@ use Rattle.json_text.proofs.Numbers.{entry_at}
 use Rattle.json_strings.specs.Spelling.{IsQuoted}
 use Rattle.json_strings.proofs.Spelled.{quoted_at}
 use Rattle.json_tape.proofs.Holders.{holder, name_fits}
+use Rattle.text_places.proofs.Levels.{up_below, up_first}
 
 pub record Shown (text : List ℕ) (t : Tree) (n : ℕ) (e : Entry) : Type 0 where
   pub source : Source
@@ -42,3 +43,10 @@ shown text tape t h s n e l q r = let x = part_with tape t n s l in shown_at tex
 
 pub quoted : (text : List ℕ) (tape : List Entry) (t : Tree) → IsText text t → Stands tape t → (n : ℕ) (e : Entry) → n < length tape → e ≡ get_or tape n e → e.role ≡ roles.Member → IsQuoted text e.label
 quoted text tape t h s n e l q r = let x = shown text tape t h s n e l q r in quoted_at text text e.label x.source x.characters refl x.label x.lies x.string
+
+-- the object that a member lies in has a lower number
+pub up_inside : (text : List ℕ) (tape : List Entry) (t : Tree) → IsText text t → Stands tape t → (n : ℕ) (e : Entry) → n < length tape → e ≡ get_or tape n e → e.role ≡ roles.Member → e.up < length tape
+up_inside text tape t h s n e l q r = let x = shown text tape t h s n e l q r in elim (cases_lt 0 n) [
+  | inl p ↦ (let b = up_below x.is_at p in omega arith)
+  | inr p ↦ (let z : n ≡ 0 = omega arith in let u = up_first (subst (λ k. IsAt t 0 Top 0 k e.up (Named (extent x.source)) x.part) z x.is_at) in omega arith)
+]

@@ -73,7 +73,7 @@ module _ (text : List ℕ) (tape : List Entry) (t : Tree) (stands : Stands tape 
 -- ---- the groups of names
 
 module _ (text : List ℕ) (tape : List Entry) (t : Tree) (stands : Stands tape t) where
-  in_group : (n up at : ℕ) (means : List ℕ) → IsNamed text t n up at means → IsInGroup text tape n (group_of up means)
+  in_group : (n up at : ℕ) (means : List ℕ) → IsNamed text t n up at means → IsInGroup text tape n (group_of tape up means)
   in_group n up at means h = record {
     role = λ d. let e = get_or tape n d in named_role text tape t stands n e (same d) up at means h;
     group_is = λ d. let e = get_or tape n d in rw (named_up text tape t stands n e (same d) up at means h, ← named_means text tape t stands n e (same d) up at means h) refl;
@@ -81,8 +81,8 @@ module _ (text : List ℕ) (tape : List Entry) (t : Tree) (stands : Stands tape 
     same : (d : Entry) → get_or tape n d ≡ get_or tape n (get_or tape n d)
     same d = entry_at tape d stands h.is_at ∙ sym (entry_at tape (get_or tape n d) stands h.is_at)
 
-  twins_share : (counts : List ℕ) → AreCounted text tape counts (length tape) → (m n a b : ℕ) (w : AreTwins text t m n a b) → get_or counts (group_of w.up w.means) 0 ≡ 2
-  twins_share counts c m n a b w = c.shared m n (group_of w.up w.means) w.behind
+  twins_share : (counts : List ℕ) → AreCounted text tape counts (length tape) → (m n a b : ℕ) (w : AreTwins text t m n a b) → get_or counts (group_of tape w.up w.means) 0 ≡ 2
+  twins_share counts c m n a b w = c.shared m n (group_of tape w.up w.means) w.behind
       (number_below tape t w.other.value n w.up (Named (extent w.other.name)) stands w.other.is_at) (in_group m w.up a w.means w.one) (in_group n w.up b w.means w.other)
 
 -- ---- what the map keeps
@@ -92,7 +92,7 @@ Seen text tape t n q v = (v < n) × ((d : Entry) → IsNamed text t v q.0 (get_o
 
 pub record Keeps (text : List ℕ) (tape : List Entry) (counts : List ℕ) (t : Tree) (n : ℕ) (f : (ℕ × Keyed) → Option ℕ) : Type 0 where
   pub seen : (q : ℕ × Keyed) (v : ℕ) → f q ≡ Some v → Seen text tape t n q v
-  pub all : (i up at : ℕ) (means : List ℕ) → i < n → IsNamed text t i up at means → get_or counts (group_of up means) 0 ≡ 2 → (q : ℕ × Keyed) → q.0 ≡ up → q.1.name ≡ means → f q ≡ None → ⊥
+  pub all : (i up at : ℕ) (means : List ℕ) → i < n → IsNamed text t i up at means → get_or counts (group_of tape up means) 0 ≡ 2 → (q : ℕ × Keyed) → q.0 ≡ up → q.1.name ≡ means → f q ≡ None → ⊥
   pub alone : (i j a b : ℕ) → j < n → AreTwins text t i j a b → ⊥
 
 pub nothing_kept : (text : List ℕ) (tape : List Entry) (counts : List ℕ) (t : Tree) (f : (ℕ × Keyed) → Option ℕ) → ((q : ℕ × Keyed) → f q ≡ None) → Keeps text tape counts t 0 f
@@ -100,13 +100,13 @@ nothing_kept text tape counts t f none = record { seen = λ q v h. absurd (let x
 
 module _ (text : List ℕ) (tape : List Entry) (counts : List ℕ) (counted : AreCounted text tape counts (length tape)) (t : Tree) (h : IsText text t) (stands : Stands tape t) (n : ℕ) (e : Entry) (l : n < length tape) (q : e ≡ get_or tape n e) where
   -- the member of a group that has no other one
-  shares : (up at : ℕ) (means : List ℕ) → IsNamed text t n up at means → get_or counts (group_of up means) 0 ≡ 2 → IsShared text counts e
+  shares : (up at : ℕ) (means : List ℕ) → IsNamed text t n up at means → get_or counts (group_of tape up means) 0 ≡ 2 → IsShared text tape counts e
   shares up at means named two = (
     named_role text tape t stands n e q up at means named,
     rw (named_up text tape t stands n e q up at means named, ← named_means text tape t stands n e q up at means named) two,
   )
 
-  pub passed : (f : (ℕ × Keyed) → Option ℕ) → (IsShared text counts e → ⊥) → Keeps text tape counts t n f → Keeps text tape counts t (n + 1) f
+  pub passed : (f : (ℕ × Keyed) → Option ℕ) → (IsShared text tape counts e → ⊥) → Keeps text tape counts t n f → Keeps text tape counts t (n + 1) f
   passed f apart k = record {
     seen = λ x v g. (let y = k.seen x v g in (omega (arith, y.0), y.1));
     all = λ i up at means li named two. elim (cases_lt i n) [
@@ -159,7 +159,7 @@ module _ (text : List ℕ) (tape : List Entry) (counts : List ℕ) (counted : Ar
             )
         go false w = let old = k.seen x v (sym (puts_else x w) ∙ y) in (omega (arith, old.0), old.1)
 
-      new_all : (i up at : ℕ) (means : List ℕ) → i < n + 1 → IsNamed text t i up at means → get_or counts (group_of up means) 0 ≡ 2 → (x : ℕ × Keyed) → x.0 ≡ up → x.1.name ≡ means → g x ≡ None → ⊥
+      new_all : (i up at : ℕ) (means : List ℕ) → i < n + 1 → IsNamed text t i up at means → get_or counts (group_of tape up means) 0 ≡ 2 → (x : ℕ × Keyed) → x.0 ≡ up → x.1.name ≡ means → g x ≡ None → ⊥
       new_all i up at means li named two x a b y = go (is_eq (order key x)) refl where
         go : (c : Bool) → is_eq (order key x) ≡ c → ⊥
         go true w = let z = puts_here x w in cc

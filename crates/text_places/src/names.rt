@@ -1,6 +1,6 @@
 //! The first name that comes again in its object.
 
-ghost use Rattle.std.specs.Prelude.{◌≡◌, ◌≤◌, ◌↔◌, length, None, IfOk, IfSome, IsTrue};
+ghost use Rattle.std.specs.Prelude.{◌≡◌, ◌*◌, ◌<◌, ◌≤◌, ◌↔◌, length, None, IfOk, IfSome, IsTrue};
 ghost use Rattle.json_strings.specs.Spelling.{IsQuoted};
 ghost use Rattle.json_text.specs.Answer.{IsJson, StandsForAll};
 ghost use Rattle.json_text.specs.Verdict.{text_limit, Applies};
@@ -8,7 +8,7 @@ ghost use Rattle.json_text.specs.declared.tape.TextFault.TheVariants.{DuplicateN
 ghost use Rattle.text_places.specs.Groups.{IsShared};
 ghost use Rattle.text_places.specs.Twins.{AreFirstTwins};
 
-use crate::groups::{counted, group};
+use crate::groups::{counted, end_at, group};
 use crate::tapes::tape_of;
 use json_strings::Key;
 use json_tape::Tape;
@@ -46,7 +46,7 @@ fn first_twins(alloc: Global, text: &str, tape: &Tape) -> Result<Option<Twins>, 
     let mut seen = BTreeMap::new(alloc);
     for n in 0..tape.len() {
         let entry = tape.entry(n);
-        if is_shared(text, &counts, entry) {
+        if is_shared(text, tape, &counts, entry) {
             // a name of its object
             let name = (entry.up, Key::new(alloc, n, text, entry.label)?);
             if let Some(first) = seen.get(&name) {
@@ -63,13 +63,14 @@ fn first_twins(alloc: Global, text: &str, tape: &Tape) -> Result<Option<Twins>, 
 }
 
 // Whether an entry is that of a member whose group has another name.
-fn is_shared(text: &str, counts: &Vec<u8>, entry: Entry) -> bool
+fn is_shared(text: &str, tape: &Tape, counts: &Vec<u8>, entry: Entry) -> bool
     requires quoted { entry.role ≡ Role.Member → IsQuoted text.now entry.label }
-    requires long { length counts.now.items ≡ 4194304 }
-    ensures { IsTrue result ↔ IsShared text.now counts.now.items entry }
+    requires inside { entry.role ≡ Role.Member → entry.up < length tape.now }
+    requires long { length counts.now.items ≡ length tape.now * 8 }
+    ensures { IsTrue result ↔ IsShared text.now tape.now counts.now.items entry }
 {
     match entry.role {
-        Role::Member => counts[group(text, entry)] == 2,
+        Role::Member => counts[group(text, entry, end_at(tape, entry.up), tape.len())] == 2,
         Role::Whole | Role::Element => false,
     }
 }

@@ -1,6 +1,6 @@
 //! The first surrogate without its partner.
 
-ghost use Rattle.std.specs.Prelude.{◌≡◌, ◌<◌, ◌≤◌, ◌+◌, ◌↔◌, length, None, IfSome, IsTrue};
+ghost use Rattle.std.specs.Prelude.{◌≡◌, ◌<◌, ◌≤◌, ◌+◌, ◌↔◌, length, None, IfSome};
 ghost use Rattle.json_text.specs.Answer.{IsJson};
 ghost use Rattle.json_text.specs.Verdict.{Applies};
 ghost use Rattle.json_text.specs.declared.tape.TextFault.TheVariants.{LoneSurrogate};

@@ -21,9 +21,9 @@ pub returns-then-not-branch : goal.returns-then-not-branch
 returns-then-not-branch c =
     let i = c.loop-at.invariant in let v = c.as_bytes-byte-items.ensures.value in let os = reverse c.loop-at.opens.items in let now = get_or c.loop-at.nows.items c.loop-at.number Value in
     let l : c.loop-at.at < length c.args.text.now = (let m = ap length v in omega arith) in
-    let s = c.in_ok-step.ensures in let f = c.if-not-branch.true in let stays = c.in_ok-go.ensures.stays f in
-    let stop = ap (λ l. step (state now os) (get_or l c.loop-at.at 0)) (sym v) ∙ ap (λ m. moved m os) (sym s.step.1) ∙ c.in_ok-go.ensures.moves c.step_at.new.nows.items ∙ rw f refl in
-    let same : c.now_at.result ≡ now = c.now_at.ensures ∙ ap (λ k. get_or c.step_at.new.nows.items k Value) stays.0 ∙ s.steps.1.same c.loop-at.number i.1 in
+    let s = c.in_ok-find_step.ensures in let f = c.if-not-branch.true in let stays = c.in_ok-go.ensures.stays f in
+    let stop = ap (λ l. step (state now os) (get_or l c.loop-at.at 0)) (sym v) ∙ ap (λ m. moved m os) (sym s.step.1) ∙ c.in_ok-go.ensures.moves c.find_step.new.nows.items ∙ rw f refl in
+    let same : c.now_at.result ≡ now = c.now_at.ensures ∙ ap (λ k. get_or c.find_step.new.nows.items k Value) stays.0 ∙ s.steps.1.same c.loop-at.number i.1 in
     let inner : c.innermost.result ≡ top os = c.innermost.ensures ∙ ap (λ l. top (reverse l)) stays.1 in
     record {
       place = longest_before c.args.text.now c.loop-at.at (state now os) c.utf8.text l i.0 stop;
@@ -34,12 +34,12 @@ returns-then-not-branch c =
 pub loop-at-preserved : goal.loop-at-preserved
 loop-at-preserved c =
     let i = c.loop-at.invariant in let v = c.as_bytes-byte-items.ensures.value in let os = reverse c.loop-at.opens.items in let now = get_or c.loop-at.nows.items c.loop-at.number Value in
-    let s = c.in_ok-step.ensures in let f = c.if-not-branch.false in (
+    let s = c.in_ok-find_step.ensures in let f = c.if-not-branch.false in (
       run_more c.args.text.now c.loop-at.at (state now os) (let m = ap length v in omega arith) i.0
           ∙ ap (λ l. step (state now os) (get_or l c.loop-at.at 0)) (sym v)
           ∙ ap (λ m. moved m os) (sym s.step.1)
-          ∙ c.in_ok-go.ensures.moves c.step_at.new.nows.items ∙ rw f refl,
-      c.in_ok-go.ensures.inside c.step_at.new.nows.items (let k = s.steps.1.more in let l = i.1 in omega arith) s.step.0,
+          ∙ c.in_ok-go.ensures.moves c.find_step.new.nows.items ∙ rw f refl,
+      c.in_ok-go.ensures.inside c.find_step.new.nows.items (let k = s.steps.1.more in let l = i.1 in omega arith) s.step.0,
       c.in_ok-go.ensures.row i.2,
       s.steps.0,
     )

@@ -3,7 +3,7 @@ use Rattle.std.specs.BTreeMap as tree
 use Rattle.json_text.specs.declared.tape.Entry.{Entry}
 use Rattle.json_text.proofs.Parts.{placed}
 use Rattle.text_places.specs.Twins.{AreFirstTwins}
-use Rattle.text_places.proofs.Members.{quoted}
+use Rattle.text_places.proofs.Members.{quoted, up_inside}
 use Rattle.text_places.proofs.Repeated.{Keeps, order, no_twins, passed, added, first_twins}
 use Rattle.text_places.proofs.names.first_twins.Goals.{then-is_shared+in_ok-new+in_default+in_ok-insert, else-is_shared}
 use Rattle.text_places.proofs.names.first_twins.Goals as goal
@@ -13,6 +13,9 @@ is_shared-requires-clause-quoted c = λ r. (let j = c.requires.spelt in quoted c
 
 pub new-requires : goal.new-requires
 new-requires c = let j = c.requires.spelt in quoted c.args.text.now c.args.tape.now j.0 j.1 (c.requires.stands j.0 j.1) c.loop-n.n c.entry-entry.result (search rules) c.entry-entry.ensures (c.if-is_shared.ensures.0 (search rules)).0
+
+pub is_shared-requires-clause-inside : goal.is_shared-requires-clause-inside
+is_shared-requires-clause-inside c = λ r. (let j = c.requires.spelt in up_inside c.args.text.now c.args.tape.now j.0 j.1 (c.requires.stands j.0 j.1) c.loop-n.n c.entry-entry.result (search rules) c.entry-entry.ensures r)
 
 pub entry-requires : goal.entry-requires
 entry-requires c = let j = c.requires.spelt in let k = c.loop-n.invariant j.0 j.1 in
