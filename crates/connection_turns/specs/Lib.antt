@@ -3,3 +3,4 @@ pub mod Turning
 pub mod Owed
 pub mod Held
 pub mod Planning
+pub mod Expiring

@@ -1,9 +1,10 @@
 //! One connection and what is known of it.
-ghost use Rattle.std.specs.Prelude.{◌≡◌, ℕ, List, ◌<◌, ◌≤◌, ◌||◌, length, Some, None, false, IsTrue, if◌then◌else◌};
+ghost use Rattle.std.specs.Prelude.{◌≡◌, ◌<◌, ◌≤◌, ◌||◌, length, Some, None, false, IsTrue, if◌then◌else◌};
 ghost use Rattle.outbox.specs.Lines.{fresh, is_over};
 ghost use Rattle.outbox.specs.Told.{IsReadOn};
 ghost use Rattle.outbox.specs.Turns as turns;
 ghost use Rattle.outbox.specs.Turns.{Flushes};
+ghost use Rattle.connection_turns.specs.Expiring.{expiry_of, end_in, idle_end, is_quiet};
 ghost use Rattle.connection_turns.specs.Held.{renewed};
 ghost use Rattle.connection_turns.specs.Owed.{line_of, wire_of, is_lost, has_left, rests};
 ghost use Rattle.connection_turns.specs.Planning as planning;
@@ -26,6 +27,10 @@ pub const ALLOWANCE: usize = 16_384;
 
 /// The seconds for which what a peer still sends is read and thrown away, so that the last replies reach it.
 const LINGER: u64 = 2;
+
+/// The seconds that a peer has at least to take some of what it is owed. Its system tells only in steps that it was read: of 131,072 bytes and less
+/// with Linux's first receive buffer, which take 13 seconds at 10,000 bytes a second.
+const PATIENCE: u64 = 30;
 
 /// What is done with a connection.
 #[derive(Clone, Copy)]
@@ -147,6 +152,8 @@ impl<S: Peer> Connection<S> {
         ensures line { line_of self.new ≡ line_of self.old }
         ensures wire { wire_of S.told self.new ≡ wire_of S.told self.old }
         ensures claim { self.new.claim ≡ planning.granted ticket now self.old.claim }
+        ensures phase { self.new.phase ≡ self.old.phase }
+        ensures ready { self.new.ready ≡ self.old.ready }
     {
         self.moved = now;
         self.claim = granted(self.claim, ticket, now);
@@ -476,22 +483,57 @@ impl<S: Peer> Connection<S> {
     }
 
     /// How its time is up in this second, where it is; others may wait for what it holds. One that is to have a turn is not quiet.
-    pub fn expiry(&self, now: u64, limits: &Limits, is_waited_for: bool) -> Option<End> {
-        let quiet = now.saturating_sub(self.moved);
+    pub fn expiry(&self, now: u64, limits: &Limits, is_waited_for: bool) -> Option<End>
+        ensures { result ≡ expiry_of now limits.now is_waited_for self.now }
+    {
         match &self.claim {
-            Some(claim) if !claim.is_granted => return None,
-            Some(_) if is_waited_for && !self.is_due && quiet > limits.stall => {
-                return Some(End::Stalled);
-            }
-            Some(claim) if is_waited_for && now.saturating_sub(claim.since) > limits.frame_time => {
-                return Some(End::Slow);
-            }
-            _ => {}
+            Some(claim) => self.expiry_with(claim, now, limits, is_waited_for),
+            None => self.idle_end(now, limits.idle),
         }
-        match limits.idle {
-            Some(seconds) if !self.is_due && quiet > seconds => Some(End::Idle),
+    }
+
+    // The same of one with a share.
+    fn expiry_with(
+        &self,
+        claim: &Claim,
+        now: u64,
+        limits: &Limits,
+        is_waited_for: bool,
+    ) -> Option<End>
+        ensures { result ≡ end_in now limits.now is_waited_for (Some claim.now) self.now }
+    {
+        if !claim.is_granted {
+            return None;
+        }
+        if is_waited_for && self.is_quiet(now, limits.stall) {
+            return Some(End::Stalled);
+        }
+        if is_waited_for && now.saturating_sub(claim.since) > limits.frame_time {
+            return Some(End::Slow);
+        }
+        self.idle_end(now, limits.idle)
+    }
+
+    // By the limit on idle time.
+    fn idle_end(&self, now: u64, limit: Option<u64>) -> Option<End>
+        ensures { result ≡ idle_end now limit self.now }
+    {
+        match limit {
+            Some(seconds) if self.is_quiet(now, seconds) => Some(End::Idle),
             _ => None,
         }
+    }
+
+    // Whether no byte moved for longer than so many seconds, or [`PATIENCE`] where it is owed some, and it is not to have a turn.
+    fn is_quiet(&self, now: u64, seconds: u64) -> bool
+        ensures { result ≡ is_quiet now seconds self.now }
+    {
+        let seconds = if self.outbox.owes() {
+            seconds.max(PATIENCE)
+        } else {
+            seconds
+        };
+        !self.is_due && now.saturating_sub(self.moved) > seconds
     }
 }
 

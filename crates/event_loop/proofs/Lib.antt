@@ -1,1 +1,2 @@
 pub mod Deaf
+pub mod Serving

@@ -1,3 +1,4 @@
 pub mod Servers
 pub mod Clocked
 pub mod Drains
+pub mod Turns

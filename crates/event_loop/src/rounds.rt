@@ -1,9 +1,10 @@
 //! The rounds of a loop: each waits for what is ready, takes connections in, and gives turns.
-ghost use Rattle.std.specs.Prelude.{◌≡◌, ℕ, None, is_some, IfOk, OnOk, IsFalse, IsTrue};
+ghost use Rattle.std.specs.Prelude.{◌≡◌, ◌<◌, ◌^◌, ℕ, None, is_some, IfOk, OnOk, IsFalse, IsTrue};
 ghost use Rattle.outbox.specs.Told.{IsUnused};
-ghost use Rattle.open_connections.specs.Looping.{Stays, DoesSome, DoesOn, DoesAtMost, TurnsAtMost, LetGo};
-ghost use Rattle.open_connections.specs.Opened.{lanes_of, connected_in, has_time, is_there, IsPutOff};
+ghost use Rattle.open_connections.specs.Looping.{Stays, Does, DoesSome, DoesOn, DoesAtMost, TurnsAtMost, LetGo};
+ghost use Rattle.open_connections.specs.Opened.{lanes_of, connected_in, has_time, is_open_at, is_there, IsPutOff};
 ghost use Rattle.open_connections.specs.Shares.{fresh_budgets};
+ghost use Rattle.event_loop.specs.Turns.{Follows, GetsTurnAt, ServesOne, TakesTurnAt, TakesTurns};
 ghost use Rattle.event_loop.specs.Clocked.{IsNoted, NotesMoved};
 
 use crate::fault::LoopFault;
@@ -12,7 +13,7 @@ use crate::told::{Holding, Told};
 use admin_desk::Desk;
 use connection_turns::{End, Limits, Outcome};
 use open_connections::{Due, Journal, LoopCore, Open, Totals};
-use socket_poll::{Accepted, System, Time, Woken};
+use socket_poll::{Accepted, Report, System, Time, Woken};
 use std::alloc::Global;
 use std::net::SocketAddr;
 use std::time::Duration;
@@ -392,7 +393,8 @@ impl<S: System + Drop, C: LoopCore, T: Time + Drop> Rounds<S, C, T> {
 
     // One turn for each connection that is due.
     fn take_turns<J: Journal>(&mut self, journal: &mut J) -> Result<(), LoopFault>
-        ensures { DoesOn C.steps (lanes_of S.Stream.told self.old.opened) (lanes_of S.Stream.told self.new.opened) }
+        ensures lanes { DoesOn C.steps (lanes_of S.Stream.told self.old.opened) (lanes_of S.Stream.told self.new.opened) }
+        ensures each { OnOk result (TakesTurns C.steps S.Stream.told C.may_wait self.old.opened self.new.opened) }
     {
         let list = self.opened.take_due()?;
         'turns: for due in &list {
@@ -407,6 +409,7 @@ impl<S: System + Drop, C: LoopCore, T: Time + Drop> Rounds<S, C, T> {
         ensures lanes { DoesOn C.steps (lanes_of S.Stream.told self.old.opened) (lanes_of S.Stream.told self.new.opened) }
         ensures kept { IsFalse (has_time due self.old.opened) → OnOk result (IsPutOff due self.old.opened self.new.opened) }
         ensures gone { IsFalse (is_there due self.old.opened) → Stays (lanes_of S.Stream.told self.old.opened) (lanes_of S.Stream.told self.new.opened) }
+        ensures serves { OnOk result (ServesOne C.steps S.Stream.told C.may_wait due self.old.opened self.new.opened) }
     {
         if !self.opened.has_time(due) {
             return self.put_off(due);
@@ -427,7 +430,8 @@ impl<S: System + Drop, C: LoopCore, T: Time + Drop> Rounds<S, C, T> {
 
     // One turn for a connection, and what follows from it.
     fn take_turn<J: Journal>(&mut self, key: usize, journal: &mut J) -> Result<(), LoopFault>
-        ensures { DoesOn C.steps (lanes_of S.Stream.told self.old.opened) (lanes_of S.Stream.told self.new.opened) }
+        ensures lanes { DoesOn C.steps (lanes_of S.Stream.told self.old.opened) (lanes_of S.Stream.told self.new.opened) }
+        ensures takes { IsTrue (is_open_at key self.old.opened) → key < 2 ^ 32 → TakesTurnAt C.steps S.Stream.told C.may_wait key self.old.opened self.new.opened }
     {
         let outcome = self.turn(key);
         self.follow(key, outcome, journal)
@@ -437,6 +441,8 @@ impl<S: System + Drop, C: LoopCore, T: Time + Drop> Rounds<S, C, T> {
     fn turn(&mut self, key: usize) -> Outcome
         ensures lanes { TurnsAtMost C.steps key (lanes_of S.Stream.told self.old.opened) (lanes_of S.Stream.told self.new.opened) }
         ensures clock { NotesMoved key self.old.opened self.new.opened self.new.seconds.counted self.new.seconds.last }
+        ensures gets { key < 2 ^ 32 → (turned : Open S.Stream C T) × GetsTurnAt C.steps S.Stream.told C.may_wait key result self.old.opened turned × Stays (lanes_of S.Stream.told turned) (lanes_of S.Stream.told self.new.opened) }
+        ensures there { is_open_at key self.new.opened ≡ is_open_at key self.old.opened }
     {
         let (outcome, has_moved) = self.opened.turn(key, self.seconds.last());
         self.mark(key, has_moved);
@@ -447,6 +453,7 @@ impl<S: System + Drop, C: LoopCore, T: Time + Drop> Rounds<S, C, T> {
     fn mark(&mut self, key: usize, has_moved: bool)
         ensures lanes { Stays (lanes_of S.Stream.told self.old.opened) (lanes_of S.Stream.told self.new.opened) }
         ensures clock { IsTrue has_moved → IsNoted key self.new.opened self.new.seconds.counted self.new.seconds.last }
+        ensures there { is_open_at key self.new.opened ≡ is_open_at key self.old.opened }
     {
         if !has_moved {
             return;
@@ -462,7 +469,8 @@ impl<S: System + Drop, C: LoopCore, T: Time + Drop> Rounds<S, C, T> {
         outcome: Outcome,
         journal: &mut J,
     ) -> Result<(), LoopFault>
-        ensures { DoesAtMost C.steps (LetGo key) (lanes_of S.Stream.told self.old.opened) (lanes_of S.Stream.told self.new.opened) }
+        ensures lanes { DoesAtMost C.steps (LetGo key) (lanes_of S.Stream.told self.old.opened) (lanes_of S.Stream.told self.new.opened) }
+        ensures follows { IsTrue (is_open_at key self.old.opened) → key < 2 ^ 32 → Follows C.steps key outcome (lanes_of S.Stream.told self.old.opened) (lanes_of S.Stream.told self.new.opened) }
     {
         match outcome {
             Outcome::Over(how) => self.finish(key, how, journal),
@@ -499,7 +507,8 @@ impl<S: System + Drop, C: LoopCore, T: Time + Drop> Rounds<S, C, T> {
         how: End,
         journal: &mut J,
     ) -> Result<(), LoopFault>
-        ensures { DoesAtMost C.steps (LetGo key) (lanes_of S.Stream.told self.old.opened) (lanes_of S.Stream.told self.new.opened) }
+        ensures lanes { DoesAtMost C.steps (LetGo key) (lanes_of S.Stream.told self.old.opened) (lanes_of S.Stream.told self.new.opened) }
+        ensures closes { IsTrue (is_open_at key self.old.opened) → key < 2 ^ 32 → Does C.steps (LetGo key) (lanes_of S.Stream.told self.old.opened) (lanes_of S.Stream.told self.new.opened) }
     {
         self.tell_end(key, how, journal);
         match how {
@@ -516,13 +525,15 @@ impl<S: System + Drop, C: LoopCore, T: Time + Drop> Rounds<S, C, T> {
     }
 
     fn linger(&mut self, key: usize) -> Result<(), LoopFault>
-        ensures { DoesAtMost C.steps (LetGo key) (lanes_of S.Stream.told self.old.opened) (lanes_of S.Stream.told self.new.opened) }
+        ensures lanes { DoesAtMost C.steps (LetGo key) (lanes_of S.Stream.told self.old.opened) (lanes_of S.Stream.told self.new.opened) }
+        ensures closes { IsTrue (is_open_at key self.old.opened) → key < 2 ^ 32 → Does C.steps (LetGo key) (lanes_of S.Stream.told self.old.opened) (lanes_of S.Stream.told self.new.opened) }
     {
         Ok(self.opened.linger(key, self.seconds.last())?)
     }
 
     pub(crate) fn close(&mut self, key: usize) -> Result<(), LoopFault>
-        ensures { DoesAtMost C.steps (LetGo key) (lanes_of S.Stream.told self.old.opened) (lanes_of S.Stream.told self.new.opened) }
+        ensures lanes { DoesAtMost C.steps (LetGo key) (lanes_of S.Stream.told self.old.opened) (lanes_of S.Stream.told self.new.opened) }
+        ensures closes { IsTrue (is_open_at key self.old.opened) → key < 2 ^ 32 → Does C.steps (LetGo key) (lanes_of S.Stream.told self.old.opened) (lanes_of S.Stream.told self.new.opened) }
     {
         Ok(self.opened.close(key, self.seconds.last())?)
     }
@@ -556,8 +567,19 @@ impl<S: System + Drop, C: LoopCore, T: Time + Drop> Rounds<S, C, T> {
         match self.opened.expiry(key, self.seconds.last(), &self.limits) {
             Outcome::Over(how) => self.finish(key, how, journal),
             Outcome::Closed => self.close(key),
-            Outcome::Open => self.drain(key, journal),
+            Outcome::Open => self.tend(key, journal),
         }
+    }
+
+    // Has a connection that is owed bytes try to write, and does what a drain does to it. The system reports room only once a third of its buffer
+    // is free: a slow peer takes a minute and more for that.
+    fn tend<J: Journal>(&mut self, key: usize, journal: &mut J) -> Result<(), LoopFault>
+        ensures { DoesAtMost C.steps (LetGo key) (lanes_of S.Stream.told self.old.opened) (lanes_of S.Stream.told self.new.opened) }
+    {
+        if !self.opened.rests(key) {
+            self.opened.note(room_at(key))?;
+        }
+        self.drain(key, journal)
     }
 
     // Tells the journal what there is to tell.
@@ -572,5 +594,17 @@ impl<S: System + Drop, C: LoopCore, T: Time + Drop> Rounds<S, C, T> {
         let totals = self.totals();
         self.told
             .tell(self.seconds.last(), &holding, &totals, journal);
+    }
+}
+
+// A report that a connection may take bytes, which nobody gave.
+fn room_at(key: usize) -> Report {
+    Report {
+        key,
+        is_readable: false,
+        is_writable: true,
+        is_ending: false,
+        is_urgent: false,
+        is_gone: false,
     }
 }

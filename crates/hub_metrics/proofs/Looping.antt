@@ -7,7 +7,7 @@ use Rattle.outbox.specs.Told.{Told, moved}
 use Rattle.outbox.specs.Turns.{DoesAll}
 use Rattle.path_listen.specs.Answering as listen
 use Rattle.path_listen.specs.Acts as told
-use Rattle.path_listen.specs.Acts.{Act, Opened, Turned, Closed, Drained, changed, lines_after, told_in, events_of, IsKept}
+use Rattle.path_listen.specs.Acts.{Act, Opened, Turned, Closed, Drained, changed, lines_after, told_in, events_of}
 use Rattle.path_listen.specs.Wires.{AllMove, Moment, WiresShow}
 use Rattle.hub_metrics.specs.Measuring.{Measured, takes, Answers, hub_steps}
 use Rattle.path_listen.specs.Served.{IsServed, SessionIn, Serves, TurnsAreServed}

@@ -137,6 +137,7 @@ impl<T: Time + Drop> LoopCore for MeasuredHub<T> {
     ghost use Rattle.std.specs.Option.{option_map};
     ghost use Rattle.request_replies.specs.Tenants.{map_of};
     ghost use Rattle.tenant_map.specs.Quotas.{usage_of};
+    ghost use Rattle.path_listen.specs.Asking.{is_first_tenants};
     ghost use Rattle.path_listen.specs.Needs.{front_at};
     ghost use Rattle.hub_metrics.specs.Measuring.{hub_steps};
 
@@ -145,6 +146,8 @@ impl<T: Time + Drop> LoopCore for MeasuredHub<T> {
     ghost counted = { λ m. m.metrics };
 
     ghost fronts = { λ conn m. front_at conn m.hub };
+
+    ghost may_wait = { λ conn m. is_first_tenants conn m.hub };
 
     ghost held = { λ key m. option_map usage_of (map_of key m.hub.tenants) };
 

@@ -1,3 +1,6 @@
 pub mod Looping
 pub mod Steps
 pub mod Shares
+pub mod Turns
+pub mod Keeping
+pub mod Waking

@@ -24,13 +24,13 @@ stays_then a b c h k = record {
 }
 
 -- a step from where nothing changed, and one behind which nothing changes
-before_others : {C : Type 0} (conn : ℕ) (a b c : Lanes C) → Stays a b → OthersStay conn b c → OthersStay conn a c
+pub before_others : {C : Type 0} (conn : ℕ) (a b c : Lanes C) → Stays a b → OthersStay conn b c → OthersStay conn a c
 before_others conn a b c h k = record { lines_stay = λ q e. k.lines_stay q e ∙ h.lines_stay q; wires_stay = λ q e. k.wires_stay q e ∙ h.wires_stay q; limits_stay = k.limits_stay ∙ h.limits_stay }
 
 others_then : {C : Type 0} (conn : ℕ) (a b c : Lanes C) → OthersStay conn a b → Stays b c → OthersStay conn a c
 others_then conn a b c k h = record { lines_stay = λ q e. h.lines_stay q ∙ k.lines_stay q e; wires_stay = λ q e. h.wires_stay q ∙ k.wires_stay q e; limits_stay = h.limits_stay ∙ k.limits_stay }
 
-before_step : {C : Type 0} (s : CoreSteps C) (step : Step) (a b c : Lanes C) → Stays a b → Does s step b c → Does s step a c
+pub before_step : {C : Type 0} (s : CoreSteps C) (step : Step) (a b c : Lanes C) → Stays a b → Does s step b c → Does s step a c
 before_step {C} s (TakenIn conn) a b c h d = record {
   opens = subst (λ (x : C). s.opens conn x c.core) h.core_stays d.opens;
   was_free = sym (h.lines_stay conn) ∙ d.was_free;
@@ -60,7 +60,7 @@ before_step {C} s (Drained conn) a b c h d = record {
   bytes_stay = d.bytes_stay ∙ h.bytes_stay;
 }
 
-step_then : {C : Type 0} (s : CoreSteps C) (step : Step) (a b c : Lanes C) → Does s step a b → Stays b c → Does s step a c
+pub step_then : {C : Type 0} (s : CoreSteps C) (step : Step) (a b c : Lanes C) → Does s step a b → Stays b c → Does s step a c
 step_then {C} s (TakenIn conn) a b c d h = record {
   opens = subst (λ (x : C). s.opens conn a.core x) (sym h.core_stays) d.opens;
   was_free = d.was_free;

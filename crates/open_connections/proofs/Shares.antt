@@ -1,12 +1,11 @@
 -- What a release and a grant leave of a ticket.
-use Rattle.std.proofs.Common.{◌≡◌, ℕ, List, [], ◌++◌, Option, Some, Result, Ok, Err, sym, ap, ◌∙◌, refl, subst}
+use Rattle.std.proofs.Common.{◌≡◌, ℕ, List, [], ◌++◌, Option, Some, Result, Ok, Err, sym, ap, ◌∙◌, subst}
 use Rattle.std.specs.Prelude.{OnOk, OnErr}
 use Rattle.std.specs.declared.alloc.AllocError.{AllocError}
 use Rattle.memory_budget.specs.declared.share.Share.{Share}
 use Rattle.memory_budget.specs.declared.share.Answer.{Answer}
 use Rattle.memory_budget.specs.States.{State, Event, Asks, Releases, Next, after, own, party_at}
 use Rattle.connection_turns.specs.declared.claim.Claim.{Claim}
-use Rattle.connection_turns.specs.declared.claim.Pool.{Pool}
 use Rattle.connection_turns.specs.declared.claim.Pool.TheVariants.{Tenants, Strangers}
 use Rattle.open_connections.specs.declared.budgets.Budgets.{Budgets}
 use Rattle.open_connections.specs.Shares.{in_pool, IsFree, StayFree, IsGivenBack}

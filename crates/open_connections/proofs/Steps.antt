@@ -6,21 +6,18 @@ use Rattle.std.proofs.lemmas.Bool.{cases_Bool, eqb-true, eqb-false}
 use Rattle.slab.specs.Slab.{Slab, get, with_value, Updates}
 use Rattle.slab.proofs.SlabLemmas.{Updates-with_value}
 use Rattle.std.proofs.Math.ListN.{get_or-map}
-use Rattle.connection_turns.specs.declared.connection.Phase.{Phase}
-use Rattle.connection_turns.specs.declared.connection.Phase.TheVariants.{Served, Lingering}
 use Rattle.connection_turns.specs.declared.connection.Connection.{Connection}
-use Rattle.connection_turns.specs.Turning.{TakesTurn}
 use Rattle.outbox.specs.Lines.{Line, Event, Readable, Declined, Answered, Writable, Ends, Fails, Worked, after}
-use Rattle.outbox.specs.Told.{Told, IsReadOn}
+use Rattle.outbox.specs.Told.{Told}
 use Rattle.outbox.specs.Turns.{DoesAll}
-use Rattle.open_connections.specs.Looping.{CoreSteps, Lanes, LetGo, DoesAtMost, TurnsAtMost, OthersStay, Stays}
-use Rattle.connection_turns.specs.Owed.{line_in, line_of, wire_of}
+use Rattle.open_connections.specs.Looping.{CoreSteps, Lanes, LetGo, Does, OthersStay, Stays}
+use Rattle.connection_turns.specs.Owed.{line_of, wire_of}
 use Rattle.open_connections.specs.Opened.{lines_in, wires_in, listed, shown}
 
 abbrev pub lanes : {S C : Type 0} → (S → Option Told) → (limits bytes : ℕ × ℕ) → C → Slab (Connection S) → Lanes C
 lanes told limits bytes core slab = record { core = core; lines = lines_in slab; wires = wires_in told slab; limits = limits; bytes = bytes }
 
-line_at : {S : Type 0} (x y : Option (Connection S)) → x ≡ y → option_and_then (λ c. line_of c) x ≡ option_and_then (λ c. line_of c) y
+pub line_at : {S : Type 0} (x y : Option (Connection S)) → x ≡ y → option_and_then (λ c. line_of c) x ≡ option_and_then (λ c. line_of c) y
 line_at {S} x y e = ap (λ (z : Option (Connection S)). option_and_then (λ c. line_of c) z) e
 
 pub wire_at : {S : Type 0} (told : S → Option Told) (x y : Option (Connection S)) → x ≡ y → option_and_then (λ c. wire_of told c) x ≡ option_and_then (λ c. wire_of told c) y
@@ -31,13 +28,13 @@ pub written : {S : Type 0} (slab : Slab (Connection S)) (key : ℕ) (c c' : Conn
 written {S} slab key c c' h = Updates-with_value slab key c' (ap (λ (x : Option (Connection S)). is_some x) h)
 
 -- what is so at all others is so at all, if it is at this one
-everywhere : {A : Type 0} (key : ℕ) (f g : ℕ → A) → f key ≡ g key → ((q : ℕ) → q ≢ key → f q ≡ g q) → (q : ℕ) → f q ≡ g q
+pub everywhere : {A : Type 0} (key : ℕ) (f g : ℕ → A) → f key ≡ g key → ((q : ℕ) → q ≢ key → f q ≡ g q) → (q : ℕ) → f q ≡ g q
 everywhere {A} key f g here there q = elim (cases_Bool (q == key)) [
   | inl e ↦ let k : q ≡ key = eqb-true q key e in ap f k ∙ here ∙ sym (ap g k)
   | inr e ↦ there q (eqb-false q key e)
 ]
 
-others_stay : {S C : Type 0} (told : S → Option Told) (limits bytes bytes' : ℕ × ℕ) (core core' : C) (slab slab' : Slab (Connection S)) (key : ℕ) (slot : Option (Connection S)) → Updates slab slab' key slot
+pub others_stay : {S C : Type 0} (told : S → Option Told) (limits bytes bytes' : ℕ × ℕ) (core core' : C) (slab slab' : Slab (Connection S)) (key : ℕ) (slot : Option (Connection S)) → Updates slab slab' key slot
     → OthersStay key (lanes told limits bytes core slab) (lanes told limits bytes' core' slab')
 others_stay told limits bytes bytes' core core' slab slab' key slot u = record {
   lines_stay = λ q e. line_at (get slab' q) (get slab q) (u.others q e);
@@ -58,24 +55,8 @@ stays_at {S} {C} told limits bytes core slab key c c' h l w =
       wires_stay = everywhere key (wires_in told slab') (wires_in told slab) (wire_at told (get slab' key) (Some c') u.changed ∙ w ∙ sym (wire_at told (get slab key) (Some c) h)) o.wires_stay;
     }
 
--- one that is not served is read
-pub drained_at : {S C : Type 0} (s : CoreSteps C) (told : S → Option Told) (limits bytes : ℕ × ℕ) (core : C) (slab : Slab (Connection S)) (key : ℕ) (c c' : Connection S) → get slab key ≡ Some c → c.phase ≡ Lingering → line_of c' ≡ line_of c
-    → IsReadOn (wire_of told c) (wire_of told c') → TurnsAtMost s key (lanes told limits bytes core slab) (lanes told limits bytes core (with_value slab key c'))
-drained_at {S} {C} s told limits bytes core slab key c c' h p l r =
-    let slab' : Slab (Connection S) = with_value slab key c' in
-    let u : Updates slab slab' key (Some c') = written slab key c c' h in
-    let none : line_of c ≡ None = ap (λ (x : Phase). line_in x c.outbox) p in
-    inr (inl (record {
-      core_stays = refl;
-      was_gone = line_at (get slab key) (Some c) h ∙ none;
-      is_gone = line_at (get slab' key) (Some c') u.changed ∙ l ∙ none;
-      reads_on = subst (λ (x : Option Told). IsReadOn x (wires_in told slab' key)) (sym (wire_at told (get slab key) (Some c) h)) (subst (λ (x : Option Told). IsReadOn (wire_of told c) x) (sym (wire_at told (get slab' key) (Some c') u.changed)) r);
-      others = others_stay told limits bytes bytes core core slab slab' key (Some c') u;
-      bytes_stay = refl;
-    }))
-
 -- what a core that is counted has done, as a step has it
-does_all : {C : Type 0} (s : CoreSteps C) (conn : ℕ) (takes answers : C → List ℕ → C → Type 0) → ((old : C) (piece : List ℕ) (new : C) → takes old piece new → s.takes conn old piece new)
+pub does_all : {C : Type 0} (s : CoreSteps C) (conn : ℕ) (takes answers : C → List ℕ → C → Type 0) → ((old : C) (piece : List ℕ) (new : C) → takes old piece new → s.takes conn old piece new)
     → ((old : C) (reply : List ℕ) (new : C) → answers old reply new → s.answers conn old reply new)
     → (line : Line) (es : List Event) (old new : C) → DoesAll takes answers line es old new → DoesAll (s.takes conn) (s.answers conn) line es old new
 does_all s conn takes answers t a line [] old new d = d
@@ -87,42 +68,18 @@ does_all s conn takes answers t a line (Ends ∷ es) old new d = (d.0, d.1, does
 does_all s conn takes answers t a line (Fails ∷ es) old new d = (d.0, d.1, does_all s conn takes answers t a (after line Fails) es d.0 new d.2)
 does_all s conn takes answers t a line (Worked ∷ es) old new d = (d.0, d.1, does_all s conn takes answers t a line es d.0 new d.2)
 
-pub takes_turn : {C : Type 0} (s : CoreSteps C) (conn : ℕ) (takes answers : C → List ℕ → C → Type 0) → ((old : C) (piece : List ℕ) (new : C) → takes old piece new → s.takes conn old piece new)
-    → ((old : C) (reply : List ℕ) (new : C) → answers old reply new → s.answers conn old reply new)
-    → (line line' : Line) (wire wire' : Option Told) (old new : C) → TakesTurn takes answers line wire old line' wire' new → TakesTurn (s.takes conn) (s.answers conn) line wire old line' wire' new
-takes_turn s conn takes answers t a line line' wire wire' old new d = record { events = d.events; line_is = d.line_is; wire_is = d.wire_is; core_is = does_all s conn takes answers t a line d.events old new d.core_is }
-
-pub turn_steps : {S C : Type 0} (s : CoreSteps C) (told : S → Option Told) (limits bytes bytes' : ℕ × ℕ) (core core' : C) (slab : Slab (Connection S)) (key conn : ℕ) (c c' : Connection S) → conn ≡ key → get slab key ≡ Some c → c.phase ≡ Served → c'.phase ≡ c.phase →
-    TakesTurn (s.takes conn) (s.answers conn) c.outbox (wire_of told c) core c'.outbox (wire_of told c') core' → TurnsAtMost s key (lanes told limits bytes core slab) (lanes told limits bytes' core' (with_value slab key c'))
-turn_steps {S} {C} s told limits bytes bytes' core core' slab key conn c c' n h p k t =
-    let slab' : Slab (Connection S) = with_value slab key c' in
-    let u : Updates slab slab' key (Some c') = written slab key c c' h in
-    let was : line_of c ≡ Some c.outbox = ap (λ (x : Phase). line_in x c.outbox) p in
-    let is : line_of c' ≡ Some c'.outbox = ap (λ (x : Phase). line_in x c'.outbox) (k ∙ p) in
-    let here : TakesTurn (s.takes key) (s.answers key) c.outbox (wire_of told c) core c'.outbox (wire_of told c') core' = subst (λ (m : ℕ). TakesTurn (s.takes m) (s.answers m) c.outbox (wire_of told c) core c'.outbox (wire_of told c') core') n t in
-    let from : TakesTurn (s.takes key) (s.answers key) c.outbox (wires_in told slab key) core c'.outbox (wire_of told c') core' = subst (λ (x : Option Told). TakesTurn (s.takes key) (s.answers key) c.outbox x core c'.outbox (wire_of told c') core') (sym (wire_at told (get slab key) (Some c) h)) here in
-    let to : TakesTurn (s.takes key) (s.answers key) c.outbox (wires_in told slab key) core c'.outbox (wires_in told slab' key) core' = subst (λ (x : Option Told). TakesTurn (s.takes key) (s.answers key) c.outbox (wires_in told slab key) core c'.outbox x core') (sym (wire_at told (get slab' key) (Some c') u.changed)) from in
-    inl (record {
-      line = c.outbox;
-      line' = c'.outbox;
-      was = line_at (get slab key) (Some c) h ∙ was;
-      is = line_at (get slab' key) (Some c') u.changed ∙ is;
-      takes_turn = to;
-      others = others_stay told limits bytes bytes' core core' slab slab' key (Some c') u;
-    })
-
 -- one that is served no further: still there, with what moved so far, or gone
 pub gone_steps : {S C : Type 0} (s : CoreSteps C) (told : S → Option Told) (limits bytes : ℕ × ℕ) (core core' : C) (slab slab' : Slab (Connection S)) (key conn : ℕ) (slot : Option (Connection S)) → conn ≡ key → Updates slab slab' key slot
-    → option_and_then (λ c. line_of c) slot ≡ None → (option_and_then (λ c. wire_of told c) slot ≡ None) ⊎ (option_and_then (λ c. wire_of told c) slot ≡ wires_in told slab key) → s.closes conn core core' → DoesAtMost s (LetGo key) (lanes told limits bytes core slab) (lanes told limits bytes core' slab')
+    → option_and_then (λ c. line_of c) slot ≡ None → (option_and_then (λ c. wire_of told c) slot ≡ None) ⊎ (option_and_then (λ c. wire_of told c) slot ≡ wires_in told slab key) → s.closes conn core core' → Does s (LetGo key) (lanes told limits bytes core slab) (lanes told limits bytes core' slab')
 gone_steps {S} {C} s told limits bytes core core' slab slab' key conn slot n u h w k =
     let at : wires_in told slab' key ≡ option_and_then (λ c. wire_of told c) slot = wire_at told (get slab' key) slot u.changed in
-    inl (record {
+    record {
       closes = subst (λ (m : ℕ). s.closes m core core') n k;
       is_gone = line_at (get slab' key) slot u.changed ∙ h;
       wire_stays = elim w [ inl e ↦ inl (at ∙ e) | inr e ↦ inr (at ∙ e) ];
       others = others_stay told limits bytes bytes core core' slab slab' key slot u;
       bytes_stay = refl;
-    })
+    }
 
 -- lists of the lines and of what the streams show have those of the connections
 pub listed_at : {S : Type 0} (slab : Slab (Connection S)) (q : ℕ) → slice_index_or (listed slab) q None ≡ lines_in slab q

@@ -1,4 +1,4 @@
 pub mod Looping
 pub mod Opened
-pub mod Rounds
 pub mod Shares
+pub mod Turns

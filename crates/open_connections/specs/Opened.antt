@@ -1,15 +1,16 @@
 -- The connections that a loop has open, as its steps see them: this project's own.
-use Rattle.std.specs.Prelude.{◌≡◌, ℕ, List, [], ◌∷◌, ◌++◌, map, Option, IfSome, IsTrue, IsFalse, Bool, false, nat_lt, ◌==◌, slice_index}
+use Rattle.std.specs.Prelude.{◌≡◌, ℕ, List, [], ◌∷◌, ◌++◌, map, Option, IfSome, IsTrue, IsFalse, Bool, false, not, is_some, nat_lt, ◌==◌, ◌&&◌, ◌^◌, slice_index}
 use Rattle.std.specs.Option.{option_and_then, option_map_or}
 use Rattle.slab.specs.Slab.{Slab, get, slab_len}
 use Rattle.outbox.specs.Lines.{Line}
 use Rattle.outbox.specs.Told.{Told}
 use Rattle.connection_turns.specs.declared.connection.Connection.{Connection}
 use Rattle.open_connections.specs.declared.open.Open.{Open}
-use Rattle.open_connections.specs.declared.due.Due.{Due}
+use Rattle.due_list.specs.declared.due.Due.{Due}
 use Rattle.connection_turns.specs.Owed.{line_of, wire_of, is_lost, has_left, rests}
+use Rattle.connection_turns.specs.Planning.{can_go_on}
 use Rattle.open_connections.specs.Looping.{Lanes}
-use Rattle.open_connections.specs.Rounds.{IsLast, due_at}
+use Rattle.due_list.specs.Rounds.{IsLast, due_at}
 use Rattle.open_connections.specs.Shares.{limits_in}
 
 abbrev pub lines_in : {S : Type 0} → Slab (Connection S) → ℕ → Option Line
@@ -31,7 +32,11 @@ has_time due o = nat_lt (slice_index o.due.micros due.party) 1000
 
 -- it is open still
 abbrev pub is_there : {S C T : Type 0} → Due → Open S C T → Bool
-is_there due o = option_map_or (λ c. c.number == due.number) (get o.connections due.key) false
+is_there due o = option_map_or (λ c. c.number == due.number && nat_lt due.key (2 ^ 32)) (get o.connections due.key) false
+
+-- a connection with this key is open
+abbrev pub is_open_at : {S C T : Type 0} → (key : ℕ) → Open S C T → Bool
+is_open_at key o = is_some (get o.connections key)
 
 -- its turn comes in the next round
 abbrev pub IsPutOff : {S C T : Type 0} → Due → Open S C T → Open S C T → Type 0
@@ -63,6 +68,10 @@ shown told slab = map (λ slot. option_and_then (λ c. wire_of told c) slot) sla
 -- the second by which the connection with this key is idle is this one, if it is there
 abbrev pub IsMarked : {S C T : Type 0} → Open S C T → (key second : ℕ) → Type 0
 IsMarked o key second = IfSome (get o.connections key) (λ c. c.moved ≡ second)
+
+-- The one with this key has no turn to come, and could go on. Whether there is room for any reply changes what it does, and not whether it does anything.
+abbrev pub is_forgotten : {S C T : Type 0} → (key : ℕ) → Open S C T → Bool
+is_forgotten key o = option_map_or (λ c. not c.is_due && can_go_on false c) (get o.connections key) false
 
 -- a query of the connection with this key is under way only if it gets a further turn
 abbrev pub IsStanding : {S C T : Type 0} → (key : ℕ) → Open S C T → Type 0

@@ -1,10 +1,10 @@
 //! The budgets of memory that connections share.
 ghost use Rattle.std.specs.Prelude.{◌≡◌, ◌-◌, IfOk, OnOk, min};
-ghost use Rattle.memory_budget.specs.States.{Asks, after};
+ghost use Rattle.memory_budget.specs.States.{Asks, after, may_grow};
 ghost use Rattle.open_connections.specs.Shares.{fresh_budgets, in_pool, limits_in, spare_of, IsFree, IsWithin, StayFree};
 
-use crate::due::PARTIES;
 use connection_turns::{Claim, Pool};
+use due_list::PARTIES;
 use memory_budget::{Answer, Budget, Share, keeps};
 use std::alloc::{AllocError, Global};
 use wire_frames::{LONGEST_FRAME, MOST_REPLY};
@@ -33,7 +33,9 @@ impl Budgets {
     }
 
     /// Whether a tenant's share of so many bytes would be granted at once, whatever it holds.
-    pub fn has_room(&self, bytes: usize) -> bool {
+    pub fn has_room(&self, bytes: usize) -> bool
+        ensures { result ≡ may_grow self.now.tenants bytes }
+    {
         self.tenants.may_grow(bytes)
     }
 

@@ -4,8 +4,8 @@
 #![tactic(auto)]
 
 mod budgets;
+mod claims;
 mod core_calls;
-mod due;
 mod loop_core;
 mod needs;
 mod numbers;
@@ -14,7 +14,7 @@ mod waiting;
 
 pub use budgets::LEAST_MEMORY;
 pub use connection_turns::{Held, Journal, Slow, Totals};
-pub use due::Due;
+pub use due_list::Due;
 pub use loop_core::LoopCore;
 pub use open::Open;
 pub use waiting::Waiting;

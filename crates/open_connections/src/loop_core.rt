@@ -1,5 +1,5 @@
 //! What a loop asks of the core that answers its connections.
-ghost use Rattle.std.specs.Prelude.{◌≡◌, ℕ, List, Option};
+ghost use Rattle.std.specs.Prelude.{◌≡◌, ℕ, Bool, IsTrue, List, Option};
 ghost use Rattle.std.specs.Bool.{MatchBool};
 ghost use Rattle.admin_pages.specs.declared.counted.Metrics.{Metrics};
 ghost use Rattle.open_connections.specs.Looping.{CoreSteps};
@@ -21,6 +21,9 @@ pub trait LoopCore: Core + Drop {
 
     /// The place of the tenant whose key is in front of what waits on a connection.
     ghost fronts: { ℕ → Self → Option ℕ };
+
+    /// Whether the request that is answered next on a connection is one that may wait for a query under way.
+    ghost may_wait: { ℕ → Self → Bool };
 
     /// How much the tenant with a key holds.
     ghost held: { List ℕ → Self → Option Usage };
@@ -55,7 +58,8 @@ pub trait LoopCore: Core + Drop {
     fn is_working(&self) -> bool;
 
     /// Whether the request that is answered next on a connection waits for a query that another connection has under way.
-    fn waits(&self, conn: u32) -> bool;
+    fn waits(&self, conn: u32) -> bool
+        ensures { IsTrue result → IsTrue (may_wait conn self.now) };
 
     /// The number of bytes that came on a connection and are not answered.
     fn waiting(&self, conn: u32) -> usize;

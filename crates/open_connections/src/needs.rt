@@ -1,10 +1,11 @@
 //! What a connection needs of the budgets before its next step, and what it gives back behind a turn.
-ghost use Rattle.std.specs.Prelude.{◌<◌, ◌≤◌};
+ghost use Rattle.std.specs.Prelude.{◌<◌, ◌≤◌, IsFalse, IsTrue, is_some};
+ghost use Rattle.open_connections.specs.Turns.{is_queued_in};
 
-use crate::due::party_of;
 use crate::loop_core::LoopCore;
 use crate::open::PIECE;
 use connection_turns::{ALLOWANCE, Claim, Connection, Need, Plan, Pool, Purpose};
+use due_list::party_of;
 use socket_poll::Peer;
 
 /// The bytes owed up to which a connection wants no share.
@@ -27,7 +28,9 @@ pub(crate) fn is_for_reply(claim: Option<Claim>) -> bool {
 }
 
 /// Whether a share is held, and waits no more.
-pub(crate) fn is_held(claim: Option<Claim>) -> bool {
+pub(crate) fn is_held(claim: Option<Claim>) -> bool
+    ensures { IsFalse result → IsTrue (is_some claim) → IsTrue (is_queued_in claim) }
+{
     match claim {
         Some(claim) => claim.is_granted,
         None => false,

@@ -1,25 +1,27 @@
 //! The connections that are open, the core that answers them, and the memory that they share.
-ghost use Rattle.std.specs.Prelude.{◌≡◌, ◌<◌, ◌≤◌, ◌^◌, ◌++◌, ℕ, None, IfOk, OnErr, OnOk, IfSome, IsTrue, IsFalse, MatchOption};
+ghost use Rattle.std.specs.Prelude.{◌≡◌, ◌<◌, ◌^◌, ◌++◌, ◌&&◌, ℕ, None, IfOk, OnErr, OnOk, IfSome, IsTrue, IsFalse};
+ghost use Rattle.std.specs.Option.{option_map};
 ghost use Rattle.slab.specs.Slab.{get, slab_len};
 ghost use Rattle.open_connections.specs.Looping.{Stays, Does, DoesAtMost, TurnsAtMost, TakenIn, LetGo};
 ghost use Rattle.std.specs.Bool.{MatchBool};
 ghost use Rattle.outbox.specs.Told.{IsUnused};
-ghost use Rattle.open_connections.specs.Opened.{lanes_of, bytes_of, has_time, is_there, IsMarked, IsPutOff, IsStanding, IsListed, IsAsDue, HasLeft, lost_at, rests_at};
-ghost use Rattle.open_connections.specs.Shares.{fresh_budgets, IsWithin, StayFree, IsGivenBack, claim_at};
+ghost use Rattle.connection_turns.specs.Owed.{is_lost};
+ghost use Rattle.due_list.specs.Rounds.{IsFresh};
+ghost use Rattle.open_connections.specs.Opened.{lanes_of, bytes_of, has_time, is_there, is_open_at, IsMarked, IsPutOff, IsStanding, IsListed, IsAsDue, HasLeft, is_forgotten, lost_at, rests_at};
+ghost use Rattle.open_connections.specs.Shares.{fresh_budgets, IsWithin, IsGivenBack, claim_at};
+ghost use Rattle.open_connections.specs.Turns.{ClaimsStay, GetsTurn, HasTurnBy, Prepares, StatesStay, is_answering, plan_at};
 
 use crate::budgets::Budgets;
 use crate::core_calls::{begin, connect, disconnect, give_up_query, share, take_micros, take_slow};
-use crate::due::{Due, DueList};
 use crate::loop_core::LoopCore;
-use crate::needs::{After, covers, is_for_reply, is_held, left_of, need, need_of_reply, piece_of};
+use crate::needs::piece_of;
 use crate::numbers::{added, conn_of, has_moved};
 use crate::waiting::{Waiting, waiting_among};
 use admin_pages::Metrics;
 use connection_turns::{
-    Claim, Connection, Counted, Counts, End, Ending, Limits, Need, Outcome, Phase, Plan, Pool,
-    Purpose, Slow,
+    Claim, Connection, Counted, Counts, End, Ending, Limits, Outcome, Phase, Plan, Pool, Slow,
 };
-use memory_budget::Answer;
+use due_list::{Due, DueList};
 use outbox::CAP;
 use slab::Slab;
 use socket_poll::{Peer, Report, Time};
@@ -31,6 +33,9 @@ use wire_frames::MOST_REPLY;
 /// The most bytes that one turn reads.
 pub(crate) const PIECE: usize = 65_536;
 
+/// No connection's key is so large.
+const KEYS: usize = 1 << 32;
+
 /// The room in which a turn may answer whatever waits: it answers while less than the cap is owed.
 const ROOM: usize = CAP + MOST_REPLY;
 
@@ -38,9 +43,9 @@ const ROOM: usize = CAP + MOST_REPLY;
 #[derive(Drop)]
 pub struct Open<S: Peer, C: LoopCore, T: Time + Drop> {
     alloc: Global,
-    connections: Slab<Connection<S>>,
-    core: Counted<C, T>,
-    budgets: Budgets,
+    pub(crate) connections: Slab<Connection<S>>,
+    pub(crate) core: Counted<C, T>,
+    pub(crate) budgets: Budgets,
     buffer: Box<[u8; PIECE]>,
     // No key was above it.
     bound: usize,
@@ -205,7 +210,8 @@ impl<S: Peer, C: LoopCore, T: Time + Drop> Open<S, C, T> {
 
     /// Notes a report, and that the connection gets a turn.
     pub fn note(&mut self, report: Report) -> Result<(), AllocError>
-        ensures { Stays (lanes_of S.told self.old) (lanes_of S.told self.new) }
+        ensures lanes { Stays (lanes_of S.told self.old) (lanes_of S.told self.new) }
+        ensures awake { OnOk result (IsFalse (is_forgotten report.key self.new)) }
     {
         self.hear(report);
         self.schedule(report.key)
@@ -224,6 +230,7 @@ impl<S: Peer, C: LoopCore, T: Time + Drop> Open<S, C, T> {
     pub fn take_due(&mut self) -> Result<Vec<Due>, AllocError>
         ensures lanes { Stays (lanes_of S.told self.old) (lanes_of S.told self.new) }
         ensures all { IfOk result (λ list. list.items ≡ self.old.due.first.items ++ self.old.due.rest.items) }
+        ensures fresh { OnOk result (IsFresh self.new.due) }
     {
         self.due.take()
     }
@@ -240,7 +247,7 @@ impl<S: Peer, C: LoopCore, T: Time + Drop> Open<S, C, T> {
         ensures { result ≡ is_there due self.now }
     {
         match self.connections.get(due.key) {
-            Some(connection) => connection.number == due.number,
+            Some(connection) => connection.number == due.number && due.key < KEYS,
             None => false,
         }
     }
@@ -255,29 +262,10 @@ impl<S: Peer, C: LoopCore, T: Time + Drop> Open<S, C, T> {
 
     /// The list of a round.
     pub fn give_back(&mut self, list: Vec<Due>)
-        ensures { Stays (lanes_of S.told self.old) (lanes_of S.told self.new) }
+        ensures lanes { Stays (lanes_of S.told self.old) (lanes_of S.told self.new) }
+        ensures first { self.new.due.first.items ≡ self.old.due.first.items }
     {
         self.due.give_back(list);
-    }
-
-    // Whether there is room for the reply to the first request that waits; where it takes a share, that is asked for. The reply's length is
-    // looked at right before it is given, since other requests may change it.
-    fn may_answer(&mut self, key: usize, now: u64) -> Result<bool, AllocError>
-        ensures { Stays (lanes_of S.told self.old) (lanes_of S.told self.new) }
-    {
-        let Some(conn) = conn_of(key) else {
-            return Ok(false);
-        };
-        let most = self.core.inner().most_reply(conn);
-        let Some(connection) = self.connections.get(key) else {
-            return Ok(false);
-        };
-        if covers(connection.claim, most) {
-            return Ok(true);
-        }
-        let reply = need_of_reply(self.core.inner(), conn, most);
-        self.yield_share(key, now)?;
-        self.claim(key, &reply, now)
     }
 
     // Whether a connection is served although its peer is gone.
@@ -296,6 +284,8 @@ impl<S: Peer, C: LoopCore, T: Time + Drop> Open<S, C, T> {
         ensures bytes { IsFalse result.1 → bytes_of self.new ≡ bytes_of self.old }
         ensures lost { IsTrue (lost_at key self.old) → result.0 ≡ Outcome.Over End.ReadFault }
         ensures idle { IsTrue (lost_at key self.old) → Stays (lanes_of S.told self.old) (lanes_of S.told self.new) }
+        ensures given { IfSome (get self.old.connections key) (λ c. key < 2 ^ 32 → IsFalse (is_lost c) → GetsTurn C.steps S.told C.may_wait key c result.0 self.old self.new) }
+        ensures there { is_open_at key self.new ≡ is_open_at key self.old }
     {
         if self.is_lost(key) {
             return (Outcome::Over(End::ReadFault), false);
@@ -308,7 +298,9 @@ impl<S: Peer, C: LoopCore, T: Time + Drop> Open<S, C, T> {
 
     // What the turn of a connection does, which is due no more; an error is what comes of one that does nothing.
     fn prepare(&mut self, key: usize, now: u64) -> Result<Plan, Outcome>
-        ensures { Stays (lanes_of S.told self.old) (lanes_of S.told self.new) }
+        ensures lanes { Stays (lanes_of S.told self.old) (lanes_of S.told self.new) }
+        ensures ready { StatesStay self.old self.new }
+        ensures plan { IfSome (get self.old.connections key) (λ c. key < 2 ^ 32 → Prepares C.may_wait key (plan_at c self.old) result self.old self.new) }
     {
         let Some(plan) = self.plan(key) else {
             return Err(Outcome::Closed);
@@ -319,11 +311,20 @@ impl<S: Peer, C: LoopCore, T: Time + Drop> Open<S, C, T> {
                 Err(_) => Err(Outcome::Over(End::Memory)),
             };
         }
-        if plan != Plan::Answer {
-            return Ok(plan);
+        match plan {
+            Plan::Answer => self.prepare_answer(key, now),
+            Plan::Write | Plan::Read | Plan::All => Ok(plan),
         }
+    }
+
+    // The turn of a connection that answers one request, if there is memory for the reply.
+    fn prepare_answer(&mut self, key: usize, now: u64) -> Result<Plan, Outcome>
+        ensures lanes { Stays (lanes_of S.told self.old) (lanes_of S.told self.new) }
+        ensures ready { StatesStay self.old self.new }
+        ensures plan { IfSome (get self.old.connections key) (λ _. key < 2 ^ 32 → Prepares C.may_wait key Plan.Answer result self.old self.new) }
+    {
         match self.may_answer(key, now) {
-            Ok(true) => Ok(plan),
+            Ok(true) => Ok(Plan::Answer),
             Ok(false) => Err(Outcome::Open),
             Err(_) => Err(Outcome::Over(End::Memory)),
         }
@@ -331,18 +332,25 @@ impl<S: Peer, C: LoopCore, T: Time + Drop> Open<S, C, T> {
 
     // What a connection's turn would do, which begins. It is due no more.
     fn plan(&mut self, key: usize) -> Option<Plan>
-        ensures { Stays (lanes_of S.told self.old) (lanes_of S.told self.new) }
+        ensures lanes { Stays (lanes_of S.told self.old) (lanes_of S.told self.new) }
+        ensures ready { StatesStay self.old self.new }
+        ensures plan { result ≡ option_map (λ c. plan_at c self.old) (get self.old.connections key) }
     {
         let has_room = self.budgets.has_room(ROOM);
         let connection = self.connections.get_mut(key)?;
         connection.is_due = false;
         begin(&mut self.core, connection.worked, connection.is_working);
         share(&mut self.core, self.due.is_shared());
-        Some(connection.plan(has_room))
+        match connection.phase {
+            Phase::Served => Some(connection.plan(has_room)),
+            Phase::Lingering => Some(Plan::Read),
+        }
     }
 
     // Whether a turn would answer a request that waits for a query of its tenant, which another connection has under way.
-    fn stands_by(&self, key: usize, plan: Plan) -> bool {
+    fn stands_by(&self, key: usize, plan: Plan) -> bool
+        ensures { IsTrue result → IsTrue (is_answering plan && C.may_wait key self.now.core) }
+    {
         match conn_of(key) {
             Some(conn) => {
                 matches!(plan, Plan::Answer | Plan::All) && self.core.inner().waits(conn)
@@ -351,32 +359,12 @@ impl<S: Peer, C: LoopCore, T: Time + Drop> Open<S, C, T> {
         }
     }
 
-    // Gives up a share for a reply: a connection that waits for a query holds none.
-    fn yield_reply(&mut self, key: usize, now: u64) -> Result<(), AllocError>
-        ensures { Stays (lanes_of S.told self.old) (lanes_of S.told self.new) }
-    {
-        if !is_for_reply(self.claim_of(key)) {
-            return Ok(());
-        }
-        self.yield_share(key, now)
-    }
-
-    // Gives up the share that a connection has, if any.
-    fn yield_share(&mut self, key: usize, now: u64) -> Result<(), AllocError>
-        ensures { Stays (lanes_of S.told self.old) (lanes_of S.told self.new) }
-    {
-        let Some(connection) = self.connections.get_mut(key) else {
-            return Ok(());
-        };
-        let claim = connection.claim;
-        connection.claim = None;
-        self.give_up(claim, now)
-    }
-
     // One turn by a plan.
     fn work(&mut self, key: usize, plan: Plan) -> (Outcome, bool)
         ensures lanes { TurnsAtMost C.steps key (lanes_of S.told self.old) (lanes_of S.told self.new) }
         ensures bytes { IsFalse result.1 → bytes_of self.new ≡ bytes_of self.old }
+        ensures given { IfSome (get self.old.connections key) (λ c. key < 2 ^ 32 → HasTurnBy C.steps S.told plan key c result.0 self.old self.new) }
+        ensures there { is_open_at key self.new ≡ is_open_at key self.old }
     {
         let Some(conn) = conn_of(key) else {
             return (Outcome::Closed, false);
@@ -406,6 +394,7 @@ impl<S: Peer, C: LoopCore, T: Time + Drop> Open<S, C, T> {
     pub fn mark(&mut self, key: usize, now: u64)
         ensures lanes { Stays (lanes_of S.told self.old) (lanes_of S.told self.new) }
         ensures marked { IsMarked self.new key now }
+        ensures there { is_open_at key self.new ≡ is_open_at key self.old }
     {
         let Some(connection) = self.connections.get_mut(key) else {
             return;
@@ -418,6 +407,7 @@ impl<S: Peer, C: LoopCore, T: Time + Drop> Open<S, C, T> {
     pub fn settle(&mut self, key: usize, now: u64) -> Result<(), AllocError>
         ensures lanes { Stays (lanes_of S.told self.old) (lanes_of S.told self.new) }
         ensures standing { OnOk result (IsStanding key self.new) }
+        ensures awake { OnOk result (IsFalse (is_forgotten key self.new)) }
     {
         self.settle_memory(key, now)?;
         self.give_turn(key)
@@ -446,10 +436,6 @@ impl<S: Peer, C: LoopCore, T: Time + Drop> Open<S, C, T> {
         if let Some(connection) = self.connections.get_mut(key) {
             connection.has_part = waiting > 0;
         }
-    }
-
-    fn claim_of(&self, key: usize) -> Option<Claim> {
-        self.connections.get(key)?.claim
     }
 
     // Counts the time that a turn took.
@@ -496,106 +482,13 @@ impl<S: Peer, C: LoopCore, T: Time + Drop> Open<S, C, T> {
         }
     }
 
-    // Gives back what is done with of a share.
-    fn settle_claim(&mut self, key: usize, claim: &Claim, now: u64) -> Result<(), AllocError>
-        ensures { Stays (lanes_of S.told self.old) (lanes_of S.told self.new) }
-    {
-        let Some(connection) = self.connections.get_mut(key) else {
-            return Ok(());
-        };
-        let owed = connection.outbox.owed().len();
-        let has_answered = self.core.answered() > 0;
-        match left_of(claim, owed, has_answered) {
-            After::Kept => Ok(()),
-            After::Written => {
-                connection.claim = Some(Claim {
-                    purpose: Purpose::Written,
-                    ..*claim
-                });
-                self.budgets.shrink(claim, owed);
-                self.grant(now)
-            }
-            After::Released => {
-                connection.claim = None;
-                self.budgets.release(claim);
-                self.grant(now)
-            }
-        }
-    }
-
-    // Asks for what the next step needs, where that is above what each may have.
-    fn ask(&mut self, key: usize, conn: u32, now: u64) -> Result<(), AllocError>
-        ensures { Stays (lanes_of S.told self.old) (lanes_of S.told self.new) }
-    {
-        let Some(connection) = self.connections.get(key) else {
-            return Ok(());
-        };
-        if let Some(need) = need(connection, self.core.inner(), conn) {
-            self.claim(key, &need, now)?;
-        }
-        Ok(())
-    }
-
-    // Asks for a share, and tells whether it is granted. One that waits may come before those that wait already.
-    fn claim(&mut self, key: usize, need: &Need, now: u64) -> Result<bool, AllocError>
-        ensures { Stays (lanes_of S.told self.old) (lanes_of S.told self.new) }
-    {
-        self.ask_for(key, need, now)?;
-        self.grant(now)?;
-        Ok(is_held(self.claim_of(key)))
-    }
-
-    // Asks for a share.
-    fn ask_for(&mut self, key: usize, need: &Need, now: u64) -> Result<(), AllocError>
-        ensures { Stays (lanes_of S.told self.old) (lanes_of S.told self.new) }
-    {
-        let (ticket, is_granted) = match self.budgets.ask(need.pool, need.party, key, need.bytes)? {
-            Answer::Granted(ticket) => (ticket, true),
-            Answer::Waits(ticket) => (ticket, false),
-        };
-        if let Some(connection) = self.connections.get_mut(key) {
-            connection.claim = Some(need.claim(ticket, is_granted, now));
-        }
-        Ok(())
-    }
-
-    // Grants what there is room for, in order.
-    fn grant(&mut self, now: u64) -> Result<(), AllocError>
-        ensures lanes { Stays (lanes_of S.told self.old) (lanes_of S.told self.new) }
-        ensures free { StayFree self.old.budgets self.new.budgets }
-    {
-        'shares: for _ in 0..u64::MAX {
-            let Some(share) = self.budgets.next() else {
-                return Ok(());
-            };
-            self.wake(share.owner, share.ticket, now)?;
-        }
-        Ok(())
-    }
-
-    // A connection holds its share now.
-    fn wake(&mut self, key: usize, ticket: u64, now: u64) -> Result<(), AllocError>
-        ensures lanes { Stays (lanes_of S.told self.old) (lanes_of S.told self.new) }
-        ensures budgets { self.new.budgets ≡ self.old.budgets }
-    {
-        self.hold(key, ticket, now);
-        self.schedule(key)
-    }
-
-    // Notes that a connection holds its share.
-    fn hold(&mut self, key: usize, ticket: u64, now: u64)
-        ensures lanes { Stays (lanes_of S.told self.old) (lanes_of S.told self.new) }
-        ensures budgets { self.new.budgets ≡ self.old.budgets }
-    {
-        if let Some(connection) = self.connections.get_mut(key) {
-            connection.hold(ticket, now);
-        }
-    }
-
     // What [`Open::give_turn`] does, of which no more is said here than that nothing else changes.
-    fn schedule(&mut self, key: usize) -> Result<(), AllocError>
+    pub(crate) fn schedule(&mut self, key: usize) -> Result<(), AllocError>
         ensures lanes { Stays (lanes_of S.told self.old) (lanes_of S.told self.new) }
         ensures budgets { self.new.budgets ≡ self.old.budgets }
+        ensures ready { StatesStay self.old self.new }
+        ensures claims { ClaimsStay self.old self.new }
+        ensures awake { OnOk result (IsFalse (is_forgotten key self.new)) }
     {
         self.give_turn(key)
     }
@@ -607,6 +500,9 @@ impl<S: Peer, C: LoopCore, T: Time + Drop> Open<S, C, T> {
         ensures standing { OnOk result (IsStanding key self.new) }
         ensures listed { OnOk result (IsListed key self.old self.new) }
         ensures unlisted { OnErr result (IsAsDue key self.old self.new) }
+        ensures ready { StatesStay self.old self.new }
+        ensures claims { ClaimsStay self.old self.new }
+        ensures awake { OnOk result (IsFalse (is_forgotten key self.new)) }
     {
         let has_room = self.budgets.has_room(ROOM);
         let Some(connection) = self.connections.get_mut(key) else {
@@ -631,6 +527,9 @@ impl<S: Peer, C: LoopCore, T: Time + Drop> Open<S, C, T> {
         ensures budgets { self.new.budgets ≡ self.old.budgets }
         ensures due { IsAsDue key self.old self.new }
         ensures given_up { IfSome (get self.new.connections key) (λ c. IsFalse c.is_working) }
+        ensures ready { StatesStay self.old self.new }
+        ensures claims { ClaimsStay self.old self.new }
+        ensures forgotten { is_forgotten key self.new ≡ is_forgotten key self.old }
     {
         let Some(connection) = self.connections.get_mut(key) else {
             return;
@@ -672,6 +571,8 @@ impl<S: Peer, C: LoopCore, T: Time + Drop> Open<S, C, T> {
     pub fn linger(&mut self, key: usize, now: u64) -> Result<(), AllocError>
         ensures lanes { DoesAtMost C.steps (LetGo key) (lanes_of S.told self.old) (lanes_of S.told self.new) }
         ensures share { key < 2 ^ 32 → IsGivenBack (claim_at self.old.connections key) self.new.budgets }
+        ensures closes { IsTrue (is_open_at key self.old) → key < 2 ^ 32 → Does C.steps (LetGo key) (lanes_of S.told self.old) (lanes_of S.told self.new) }
+        ensures awake { OnOk result (IsFalse (is_forgotten key self.new)) }
     {
         let claim = self.end(key, now);
         self.give_up(claim, now)?;
@@ -682,6 +583,7 @@ impl<S: Peer, C: LoopCore, T: Time + Drop> Open<S, C, T> {
     fn end(&mut self, key: usize, now: u64) -> Option<Claim>
         ensures lanes { DoesAtMost C.steps (LetGo key) (lanes_of S.told self.old) (lanes_of S.told self.new) }
         ensures claim { key < 2 ^ 32 → result ≡ claim_at self.old.connections key }
+        ensures closes { IsTrue (is_open_at key self.old) → key < 2 ^ 32 → Does C.steps (LetGo key) (lanes_of S.told self.old) (lanes_of S.told self.new) }
     {
         let conn = conn_of(key)?;
         let connection = self.connections.get_mut(key)?;
@@ -695,6 +597,7 @@ impl<S: Peer, C: LoopCore, T: Time + Drop> Open<S, C, T> {
     pub fn close(&mut self, key: usize, now: u64) -> Result<(), AllocError>
         ensures lanes { DoesAtMost C.steps (LetGo key) (lanes_of S.told self.old) (lanes_of S.told self.new) }
         ensures share { key < 2 ^ 32 → IsGivenBack (claim_at self.old.connections key) self.new.budgets }
+        ensures closes { IsTrue (is_open_at key self.old) → key < 2 ^ 32 → Does C.steps (LetGo key) (lanes_of S.told self.old) (lanes_of S.told self.new) }
     {
         let claim = self.let_go(key);
         self.give_up(claim, now)
@@ -704,25 +607,12 @@ impl<S: Peer, C: LoopCore, T: Time + Drop> Open<S, C, T> {
     fn let_go(&mut self, key: usize) -> Option<Claim>
         ensures lanes { DoesAtMost C.steps (LetGo key) (lanes_of S.told self.old) (lanes_of S.told self.new) }
         ensures claim { key < 2 ^ 32 → result ≡ claim_at self.old.connections key }
+        ensures closes { IsTrue (is_open_at key self.old) → key < 2 ^ 32 → Does C.steps (LetGo key) (lanes_of S.told self.old) (lanes_of S.told self.new) }
     {
         let conn = conn_of(key)?;
         let connection = self.connections.try_remove(key)?;
         disconnect(&mut self.core, conn);
         connection.claim
-    }
-
-    // Gives a share back that a connection had.
-    fn give_up(&mut self, claim: Option<Claim>, now: u64) -> Result<(), AllocError>
-        ensures lanes { Stays (lanes_of S.told self.old) (lanes_of S.told self.new) }
-        ensures given { IsGivenBack claim self.new.budgets }
-    {
-        match claim {
-            Some(claim) => {
-                self.budgets.release(&claim);
-                self.grant(now)
-            }
-            None => Ok(()),
-        }
     }
 
     /// Whether a connection is open and served.

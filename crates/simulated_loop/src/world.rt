@@ -472,12 +472,12 @@ fn calls_of(pipes: &[RefCell<Pipe>]) -> u64 {
 }
 
 // The rounds in which a reply has come. Where memory is not ample, those that hold it and do not go on do so for --frame-time at most. They are
-// the deaf, and of the silent and the dripping ones the half that sends a long text: one in twelve.
+// the deaf, and of the silent and the dripping ones the half that sends a long text: one in twelve, and by chance one in eight.
 fn patience(limits: &Limits, peers: usize) -> u64 {
     if limits.memory >= AMPLE {
         return SWIFT;
     }
-    let holders = (peers / 12) as u64;
+    let holders = (peers / 8) as u64;
     let seconds = limits.frame_time.saturating_add(2);
     holders
         .saturating_add(2)

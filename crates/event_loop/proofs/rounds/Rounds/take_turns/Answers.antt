@@ -1,17 +1,30 @@
+use Rattle.std.proofs.Common.{◌∙◌, sym}
 use Rattle.open_connections.proofs.Looping.{no_step_on, on_then, stays}
+use Rattle.event_loop.proofs.Serving.{leads_on, leads_through}
 use Rattle.event_loop.proofs.rounds.Rounds.take_turns.Goals as goal
 
 pub turns-init : goal.turns-init
-turns-init g c = no_step_on g.C.LoopCore.steps _ _ (stays _)
+turns-init g c = record { lanes = no_step_on g.C.LoopCore.steps _ _ (stays _); leads = λ end e. e }
 
 pub turns-preserved : goal.turns-preserved
-turns-preserved g c = on_then g.C.LoopCore.steps _ _ _ c.turns.invariant c.serve.ensures.lanes
+turns-preserved g c = record {
+  lanes = on_then g.C.LoopCore.steps _ _ _ c.turns.invariant.lanes c.serve.ensures.lanes;
+  leads = leads_on g.C.LoopCore.steps g.S.Stream.Wire.told g.C.LoopCore.may_wait _ _ _ _ _ _ c.turns-test.true c.turns.invariant.leads c.in_ok-serve.ensures.serves;
+}
 
-pub returns-in_err-list : goal.returns-in_err-list
-returns-in_err-list g c = no_step_on g.C.LoopCore.steps _ _ c.in_err-list.ensures.lanes
+pub returns-in_err-list-clause-lanes : goal.returns-in_err-list-clause-lanes
+returns-in_err-list-clause-lanes g c = no_step_on g.C.LoopCore.steps _ _ c.in_err-list.ensures.lanes
 
-pub returns-in_err-serve : goal.returns-in_err-serve
-returns-in_err-serve g c = on_then g.C.LoopCore.steps _ _ _ (no_step_on g.C.LoopCore.steps _ _ c.in_ok-list.ensures.lanes) (on_then g.C.LoopCore.steps _ _ _ c.turns.invariant c.serve.ensures.lanes)
+pub returns-in_err-serve-clause-lanes : goal.returns-in_err-serve-clause-lanes
+returns-in_err-serve-clause-lanes g c = on_then g.C.LoopCore.steps _ _ _ (no_step_on g.C.LoopCore.steps _ _ c.in_ok-list.ensures.lanes) (on_then g.C.LoopCore.steps _ _ _ c.turns.invariant.lanes c.serve.ensures.lanes)
 
-pub returns : goal.returns
-returns g c = on_then g.C.LoopCore.steps _ _ _ (no_step_on g.C.LoopCore.steps _ _ c.in_ok-list.ensures.lanes) (on_then g.C.LoopCore.steps _ _ _ c.turns.invariant (no_step_on g.C.LoopCore.steps _ _ c.give_back.ensures))
+pub returns-clause-lanes : goal.returns-clause-lanes
+returns-clause-lanes g c = on_then g.C.LoopCore.steps _ _ _ (no_step_on g.C.LoopCore.steps _ _ c.in_ok-list.ensures.lanes) (on_then g.C.LoopCore.steps _ _ _ c.turns.invariant.lanes (no_step_on g.C.LoopCore.steps _ _ c.give_back.ensures.lanes))
+
+pub returns-clause-each : goal.returns-clause-each
+returns-clause-each g c = record {
+  start = c.take_due.new.self;
+  begins = c.in_ok-list.ensures.lanes;
+  fresh = c.in_ok-list.ensures.fresh;
+  serves = rw (sym (c.deref-due-items.ensures.value ∙ c.in_ok-list.ensures.all)) (leads_through g.C.LoopCore.steps g.S.Stream.Wire.told g.C.LoopCore.may_wait _ c.turns.due-index _ _ _ c.turns-test.false c.turns.invariant.leads (c.give_back.ensures.lanes, c.give_back.ensures.first));
+}

@@ -5,6 +5,7 @@ use Rattle.open_connections.specs.declared.open.Open.{Open}
 use Rattle.open_connections.specs.Looping.{Stays}
 use Rattle.open_connections.specs.Opened.{bytes_of, lanes_of}
 use Rattle.open_connections.proofs.Looping.{turn_then}
+use Rattle.event_loop.proofs.Serving.{if_small}
 use Rattle.event_loop.specs.Clocked.{IsNoted, NotesMoved}
 use Rattle.event_loop.proofs.rounds.Rounds.turn.Goals as goal
 
@@ -18,3 +19,13 @@ returns-clause-lanes g c = turn_then g.C.LoopCore.steps c.args.key _ _ _ c.turn-
 
 pub returns-clause-clock : goal.returns-clause-clock
 returns-clause-clock g c = noted _ c.turn-outcome.result.1 c.args.key c.args.self.now.opened c.turn-outcome.new.self c.mark.new.self.opened _ _ c.turn-outcome.ensures.bytes c.mark.ensures.lanes c.mark.ensures.clock
+
+pub returns-clause-gets : goal.returns-clause-gets
+returns-clause-gets g c = λ k. (
+  c.turn-outcome.new.self,
+  record {
+    gets = if_small _ c.args.key _ c.turn-outcome.ensures.given k;
+    lost = λ h. (c.turn-outcome.ensures.lost h, c.turn-outcome.ensures.idle h);
+  },
+  c.mark.ensures.lanes,
+)

@@ -6,4 +6,8 @@ use Rattle.open_connections.proofs.open.Open.let_go.Goals as goal
 
 pub returns-clause-lanes : goal.returns-clause-lanes
 returns-clause-lanes g c =
+    inl (gone_steps g.C.LoopCore.steps g.S.Wire.told (limits_in c.args.self.now.budgets) (bytes_of c.args.self.now) _ _ _ _ c.args.key c.in_ok-conn.conn _ c.in_ok-conn.ensures c.in_ok-connection.ensures.updates refl (inl refl) c.disconnect.ensures)
+
+pub returns-clause-closes : goal.returns-clause-closes
+returns-clause-closes g c = λ o k.
     gone_steps g.C.LoopCore.steps g.S.Wire.told (limits_in c.args.self.now.budgets) (bytes_of c.args.self.now) _ _ _ _ c.args.key c.in_ok-conn.conn _ c.in_ok-conn.ensures c.in_ok-connection.ensures.updates refl (inl refl) c.disconnect.ensures

@@ -1,8 +1,8 @@
 -- The connections that get a turn in a round, and the time of each tenant in it: this project's own.
-use Rattle.std.specs.Prelude.{◌≡◌, ℕ, ◌+◌, ◌-◌, ◌^◌, ◌==◌, List, [], ◌∷◌, ◌++◌, min, slice_index, slice_set, Option, Bool, true, false, if◌then◌else◌}
+use Rattle.std.specs.Prelude.{◌≡◌, ℕ, ◌+◌, ◌-◌, ◌^◌, ◌==◌, List, [], ◌∷◌, ◌++◌, min, replicate, slice_index, slice_set, Option, Bool, true, false, if◌then◌else◌}
 use Rattle.std.specs.Option.{option_map_or}
-use Rattle.open_connections.specs.declared.due.Due.{Due}
-use Rattle.open_connections.specs.declared.due.DueList.{DueList}
+use Rattle.due_list.specs.declared.due.Due.{Due}
+use Rattle.due_list.specs.declared.due.DueList.{DueList}
 
 -- whose time the turns of a connection take: the place of the tenant that asked on it last, and 256 where none did
 abbrev pub party_of : Option ℕ → ℕ
@@ -15,6 +15,12 @@ due_at key number tenant = record { key = key; number = number; party = party_of
 abbrev pub IsLast : Bool → Due → DueList → DueList → Type 0
 IsLast true due old new = (new.first.items ≡ old.first.items ++ (due ∷ [])) × (new.rest.items ≡ old.rest.items)
 IsLast false due old new = (new.first.items ≡ old.first.items) × (new.rest.items ≡ old.rest.items ++ (due ∷ []))
+
+-- none gets a further turn yet, and no time was taken
+pub record IsFresh (due : DueList) : Type 0 where
+  pub first : due.first.items ≡ []
+  pub rest : due.rest.items ≡ []
+  pub times : due.micros ≡ replicate 257 0
 
 -- a sum, up to the greatest number of 64 bits
 abbrev pub added : ℕ → ℕ → ℕ

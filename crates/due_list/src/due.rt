@@ -1,6 +1,6 @@
 //! The connections that get a turn, and the time that each tenant's turns took in a round.
 ghost use Rattle.std.specs.Prelude.{◌≡◌, ◌<◌, ◌++◌, ◌∷◌, [], IfOk, OnOk, nat_lt, replicate, slice_index};
-ghost use Rattle.open_connections.specs.Rounds.{IsLast, after_turn, charged, due_at, party_of};
+ghost use Rattle.due_list.specs.Rounds.{IsLast, after_turn, charged, due_at, party_of};
 
 use std::alloc::{AllocError, Global};
 use std::mem;
@@ -13,7 +13,7 @@ const SPAN: u64 = 1_000;
 const LONE_ROUNDS: u32 = 16;
 
 /// The tenants, and one for all connections on which none asked.
-pub(crate) const PARTIES: usize = 257;
+pub const PARTIES: usize = 257;
 
 /// A connection that gets a turn.
 #[derive(Clone, Copy)]
@@ -21,14 +21,14 @@ pub struct Due {
     /// Its key.
     pub key: usize,
     /// Its number: the key may be that of another one later.
-    pub(crate) number: u64,
+    pub number: u64,
     // Whose time its turns take.
     party: usize,
 }
 
 /// The connections that get a turn. Each has at most one to come.
 #[derive(Drop)]
-pub(crate) struct DueList {
+pub struct DueList {
     alloc: Global,
     // Those whose turn was put off, and those of which a query is under way: their turns come first.
     first: Vec<Due>,
@@ -183,7 +183,7 @@ fn are_apart(list: &[Due]) -> bool {
 }
 
 /// Whose time the turns of a connection take, on which this tenant asked last, and whose memory its bytes.
-pub(crate) fn party_of(tenant: Option<usize>) -> usize
+pub fn party_of(tenant: Option<usize>) -> usize
     ensures party { result ≡ party_of tenant }
     ensures within { result < 257 }
 {

@@ -1,0 +1,119 @@
+-- What becomes of a connection in its turn: this project's own.
+use Rattle.std.specs.Prelude.{◌≡◌, ◌⊎◌, ℕ, ◌+◌, Option, Some, None, is_some, Result, Ok, Err, Bool, true, false, not, ◌&&◌, IsTrue}
+use Rattle.std.specs.Option.{option_map}
+use Rattle.slab.specs.Slab.{Slab, get}
+use Rattle.memory_budget.specs.States.{may_grow}
+use Rattle.wire_frames.specs.declared.parts.TheConstants.{MOST_REPLY}
+use Rattle.outbox.specs.Lines.{cap, is_over}
+use Rattle.outbox.specs.Told.{Told}
+use Rattle.outbox.specs.Turns.{HasFallen, moves}
+use Rattle.outbox.specs.declared.readiness.Readiness.{Readiness}
+use Rattle.connection_turns.specs.declared.claim.Claim.{Claim}
+use Rattle.connection_turns.specs.declared.connection.Connection.{Connection}
+use Rattle.connection_turns.specs.declared.connection.Phase.{Phase}
+use Rattle.connection_turns.specs.declared.connection.Phase.TheVariants.{Served, Lingering}
+use Rattle.connection_turns.specs.declared.connection.Plan.{Plan}
+use Rattle.connection_turns.specs.declared.connection.Plan.TheVariants.{Write, Read, Answer, All}
+use Rattle.connection_turns.specs.declared.connection.Outcome.{Outcome}
+use Rattle.connection_turns.specs.declared.connection.Outcome.TheVariants as outcome
+use Rattle.connection_turns.specs.declared.ending.End.TheVariants as end
+use Rattle.connection_turns.specs.Planning.{can_go_by, ends, plan_of}
+use Rattle.connection_turns.specs.Turning.{DrainsOn}
+use Rattle.open_connections.specs.declared.budgets.Budgets.{Budgets}
+use Rattle.open_connections.specs.declared.open.Open.{Open}
+use Rattle.open_connections.specs.Looping.{CoreSteps, Drained, HasTurn, Does, Stays}
+use Rattle.open_connections.specs.Opened.{lanes_of}
+
+-- whether there is room for any reply
+abbrev pub has_room : Budgets → Bool
+has_room budgets = may_grow budgets.tenants (cap + MOST_REPLY)
+
+-- what is done with the connection with this key, and what may be done at it without a wait
+abbrev pub state_at : {S C T : Type 0} → (key : ℕ) → Open S C T → Option (Phase × Readiness)
+state_at key o = option_map {U = Phase × Readiness} (λ c. (c.phase, c.ready)) (get o.connections key)
+
+-- what is so of each connection stays so, and none comes or goes
+pub record Keep {S A : Type 0} (of : Connection S → A) (old new : Slab (Connection S)) : Type 0 where
+  pub at : (q : ℕ) → option_map of (get new q) ≡ option_map of (get old q)
+
+-- what is done with each, and what may be done at it without a wait
+abbrev pub StatesStay : {S C T : Type 0} → Open S C T → Open S C T → Type 0
+StatesStay old new = Keep {A = Phase × Readiness} (λ c. (c.phase, c.ready)) old.connections new.connections
+
+-- whether each has a share of memory, or waits for one
+abbrev pub ClaimsStay : {S C T : Type 0} → Open S C T → Open S C T → Type 0
+ClaimsStay old new = Keep (λ c. is_some c.claim) old.connections new.connections
+
+-- the one with this key has a share of memory, or waits for one
+abbrev pub HasClaim : {S C T : Type 0} → (key : ℕ) → Open S C T → Type 0
+HasClaim key o = option_map (λ c. is_some c.claim) (get o.connections key) ≡ Some true
+
+-- it waits for a share
+abbrev pub is_queued_in : Option Claim → Bool
+is_queued_in None = false
+is_queued_in (Some claim) = not claim.is_granted
+
+abbrev pub IsQueued : {S C T : Type 0} → (key : ℕ) → Open S C T → Type 0
+IsQueued key o = option_map (λ c. is_queued_in c.claim) (get o.connections key) ≡ Some true
+
+-- whether a turn by this plan answers
+abbrev pub is_answering : Plan → Bool
+is_answering Write = false
+is_answering Read = false
+is_answering Answer = true
+is_answering All = true
+
+-- One that is served has its turn by this plan. If that can do something, bytes or requests of this turn move, or what might have been done wants a wait. It is over if nothing is
+-- read or written any more.
+pub record TurnsBy {S C T : Type 0} (s : CoreSteps C) (told : S → Option Told) (plan : Plan) (key : ℕ) (ready : Readiness) (result : Outcome) (old new : Open S C T) : Type 0 where
+  pub turn : Does s (HasTurn key) (lanes_of told old) (lanes_of told new)
+  pub ready' : Readiness
+  pub is_ready : state_at key new ≡ Some (Served, ready')
+  pub goes_on : can_go_by plan ready turn.line ≡ true → (moves turn.line turn.takes_turn.events ≡ true) ⊎ HasFallen ready ready'
+  pub over : ends result ≡ is_over turn.line'
+
+-- What still comes on one that is served no further is thrown away: bytes came, or a read would wait, or the connection is to be closed.
+pub record DrainsAt {S C T : Type 0} (s : CoreSteps C) (told : S → Option Told) (key : ℕ) (result : Outcome) (old new : Open S C T) : Type 0 where
+  pub drained : Does s (Drained key) (lanes_of told old) (lanes_of told new)
+  pub ready' : Readiness
+  pub is_ready : state_at key new ≡ Some (Lingering, ready')
+  pub goes_on : DrainsOn ((lanes_of told old).wires key) ((lanes_of told new).wires key) ready' result
+
+-- a turn by a plan
+abbrev pub HasTurnIn : {S C T : Type 0} → Phase → CoreSteps C → (S → Option Told) → Plan → (key : ℕ) → Readiness → Outcome → Open S C T → Open S C T → Type 0
+HasTurnIn Served s told plan key ready result old new = TurnsBy s told plan key ready result old new
+HasTurnIn Lingering s told plan key ready result old new = DrainsAt s told key result old new
+
+abbrev pub HasTurnBy : {S C T : Type 0} → CoreSteps C → (S → Option Told) → Plan → (key : ℕ) → Connection S → Outcome → Open S C T → Open S C T → Type 0
+HasTurnBy s told plan key c result old new = HasTurnIn c.phase s told plan key c.ready result old new
+
+-- the plan of the connection's next turn: one that lingers is read
+abbrev pub plan_in : Phase → Plan → Plan
+plan_in Served plan = plan
+plan_in Lingering plan = Read
+
+abbrev pub plan_at : {S C T : Type 0} → Connection S → Open S C T → Plan
+plan_at c o = plan_in c.phase (plan_of (has_room o.budgets) c)
+
+-- the plan answers, and the request may wait for a query of its tenant
+abbrev pub StandsBy : {S C T : Type 0} → (ℕ → C → Bool) → (key : ℕ) → Plan → Open S C T → Type 0
+StandsBy may_wait key plan o = IsTrue (is_answering plan && may_wait key o.core)
+
+-- What comes of a turn before it begins: its plan, or a write alone where it stands by. If it answers, memory may be refused for it. If it answers one request, the reply may wait
+-- for a share.
+abbrev pub Prepares : {S C T : Type 0} → (ℕ → C → Bool) → (key : ℕ) → Plan → Result Plan Outcome → Open S C T → Open S C T → Type 0
+Prepares may_wait key plan (Ok next) old new = (next ≡ plan) ⊎ ((next ≡ Write) × StandsBy may_wait key plan old)
+Prepares may_wait key plan (Err result) old new =
+    ((result ≡ outcome.Over end.Memory) × IsTrue (is_answering plan)) ⊎ ((result ≡ outcome.Open) × (plan ≡ Answer) × IsQueued key new)
+
+-- One that is served has its turn by its plan. If the plan answers, what is owed may be written in place of that, where the request may wait for a query. Or nothing is done: memory is
+-- refused, or the reply waits for a share.
+abbrev pub GetsTurnIn : {S C T : Type 0} → Phase → CoreSteps C → (S → Option Told) → (ℕ → C → Bool) → Plan → (key : ℕ) → Readiness → Outcome → Open S C T → Open S C T → Type 0
+GetsTurnIn Served s told may_wait plan key ready result old new =
+    TurnsBy s told plan key ready result old new
+    ⊎ ((StandsBy may_wait key plan old × TurnsBy s told Write key ready result old new)
+    ⊎ (Stays (lanes_of told old) (lanes_of told new) × Prepares may_wait key plan (Err result) old new))
+GetsTurnIn Lingering s told may_wait plan key ready result old new = DrainsAt s told key result old new
+
+abbrev pub GetsTurn : {S C T : Type 0} → CoreSteps C → (S → Option Told) → (ℕ → C → Bool) → (key : ℕ) → Connection S → Outcome → Open S C T → Open S C T → Type 0
+GetsTurn s told may_wait key c result old new = GetsTurnIn c.phase s told may_wait (plan_at c old) key c.ready result old new
