@@ -1,6 +1,5 @@
 //! What a request's method and target ask.
-ghost use Rattle.std.specs.Prelude.{◌≡◌, codes};
-ghost use Rattle.std.specs.Str.{bytes_eq};
+ghost use Rattle.std.specs.Prelude.{◌≡◌};
 ghost use Rattle.admin_pages.specs.Routes.{grace_of, target_of, route, seconds_from};
 
 /// What is asked of the administration address.

@@ -1,5 +1,5 @@
 -- From lanes to the bits of a mask.
-use Rattle.std.proofs.Common.{◌≡◌, ℕ, ◌+◌, ◌-◌, ◌*◌, ◌/◌, ◌%◌, ◌^◌, ◌<◌, ◌≤◌, min, ◌⊎◌, inl, inr, Bool, true, false, not, cond, if◌then◌else◌, nat_lt, List, length, get_or, replicate, map, refl, sym, ap, ap₂, subst, ◌∙◌, arith, ◌==◌, ◌||◌, ◌++◌, w8, Fits, zero-add}
+use Rattle.std.proofs.Common.{◌≡◌, ℕ, ◌+◌, ◌-◌, ◌*◌, ◌/◌, ◌%◌, ◌^◌, ◌<◌, ◌≤◌, min, ◌⊎◌, inl, inr, Bool, true, false, not, cond, if◌then◌else◌, nat_lt, List, length, get_or, replicate, map, refl, sym, ap, subst, ◌∙◌, arith, ◌==◌, ◌||◌, ◌++◌, w8, Fits, zero-add}
 use Rattle.std.specs.List.{range_with_len}
 use Rattle.std.proofs.lemmas.Simd.{tops_compared, mask_l-mod, mask_l-lt, bit_mask_l, length-zip2, get_or-zip2, length-replicate, get_or-replicate, get_or-sel_l, Each1-get_or, Each1-from_get_or, SwzOk, SwzOk-from_Each1, swz_l, get_or-swz_l, get_or-chunk, pick_l-range_with_len, pick_l_left}
 use Rattle.std.proofs.lemmas.Nat.Bits.{bit_at_above}

@@ -1,6 +1,6 @@
 //! The hits of a query in one document that the client has whole.
 
-ghost use Rattle.std.specs.Prelude.{◌≡◌, ◌<◌, ◌++◌, map, flat_map, take, IfErr, IfOk, OnOk};
+ghost use Rattle.std.specs.Prelude.{◌≡◌, ◌<◌, ◌++◌, map, take, IfErr, OnOk};
 ghost use Rattle.std.specs.List.{All};
 ghost use Rattle.json_tape.specs.Document.{count, node_at};
 ghost use Rattle.normal_paths.specs.NormalPath.{normal_path};

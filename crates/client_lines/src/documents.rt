@@ -1,6 +1,6 @@
 //! The lines of a dump.
 
-ghost use Rattle.std.specs.Prelude.{◌≡◌, ◌≢◌, ◌↔◌, ◌++◌, Some, codes, option_and_then, string_bytes, IfErr, IfOk, IsOk, IsUtf8, OnOk};
+ghost use Rattle.std.specs.Prelude.{◌≡◌, ◌++◌, Some, codes, option_and_then, string_bytes, IfErr, IfOk, IsOk, IsUtf8, OnOk};
 ghost use Rattle.std.specs.Option.{option_map};
 ghost use Rattle.serde_json.specs.Find.{as_str, get};
 ghost use Rattle.serde_json.specs.Read.{read};

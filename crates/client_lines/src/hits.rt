@@ -1,6 +1,6 @@
 //! The lines of hits and names.
 
-ghost use Rattle.std.specs.Prelude.{◌≡◌, ◌++◌, map, codes, string_bytes, IfErr, IfOk, IsOk, IsUtf8, OnOk};
+ghost use Rattle.std.specs.Prelude.{◌≡◌, ◌++◌, map, string_bytes, IfErr, IfOk, IsOk, IsUtf8, OnOk};
 ghost use Rattle.json.specs.Print.{quoted};
 ghost use Rattle.client_frames.specs.Readings.{found_of, name_of};
 ghost use Rattle.client_lines.specs.Lines.{AreUtf8, RefusesHits, RefusesPath, documents_of, hit_line, hit_lines, json_line, json_lines, name_lines};

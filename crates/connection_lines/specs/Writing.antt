@@ -1,5 +1,5 @@
 -- Lines that go out whole or not at all: this project's own.
-use Rattle.std.specs.Prelude.{◌≡◌, ◌⊎◌, ℕ, ◌+◌, ◌-◌, ◌^◌, List, ◌++◌, drop, min, String, string_bytes, Option}
+use Rattle.std.specs.Prelude.{◌≡◌, ◌⊎◌, ℕ, ◌+◌, ◌-◌, ◌^◌, List, ◌++◌, drop, min, string_bytes, Option}
 use Rattle.std.specs.Option.{option_map}
 use Rattle.connection_lines.specs.declared.line_writer.LineWriter.{LineWriter}
 

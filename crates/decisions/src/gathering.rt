@@ -3,7 +3,6 @@
 ghost use Rattle.std.specs.Prelude.{◌≡◌, ◌++◌, map, Some, IfOk, OnOk};
 ghost use Rattle.std.specs.List.{All, Contains};
 ghost use Rattle.std.specs.List.Sorted.{IsPermutation, IsSortedByKey};
-ghost use Rattle.path_grammar.specs.View.{literal_view};
 ghost use Rattle.path_meaning.specs.Comparison.{literal_value};
 ghost use Rattle.decisions.specs.Order.{value_cmp};
 ghost use Rattle.decisions.specs.Tree.{tests_of};

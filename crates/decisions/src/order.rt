@@ -1,9 +1,8 @@
 //! The order of literals and of values.
 
-ghost use Rattle.std.specs.Prelude.{◌≡◌, Some, IsTrue};
+ghost use Rattle.std.specs.Prelude.{◌≡◌, Some};
 ghost use Rattle.std.specs.Ordering.{is_lt, is_le};
 ghost use Rattle.path_grammar.specs.View.{literal_view};
-ghost use Rattle.path_types.specs.Validity.{is_literal};
 ghost use Rattle.path_meaning.specs.Comparison.{literal_value};
 ghost use Rattle.decisions.specs.Order.{kind, value_cmp};
 ghost use Rattle.decisions.specs.Views.{constant_value};

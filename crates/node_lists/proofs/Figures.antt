@@ -1,7 +1,7 @@
 -- Charges of small queries, by computation.
 use Rattle.std.proofs.Common.{◌≡◌, ℕ, zero, suc, List, [], ◌∷◌, true, false, Option, None, Some, ℤ, pos, negsuc, refl}
 use Rattle.std.specs.Prelude.{codes}
-use Rattle.path_grammar.specs.Tree.{Segments, no_segments, segment, Selectors, no_selectors, selector, Selector, name, wild, index, filter, slice, compare, test, each, Exprs, no_exprs, expr, Expr, nested, lit, single, func, call, no_arguments, argument, nodes_argument}
+use Rattle.path_grammar.specs.Tree.{Segments, no_segments, segment, no_selectors, selector, Selector, name, wild, index, filter, slice, compare, test, each, no_exprs, expr, nested, lit, single, func, call, no_arguments, argument, nodes_argument}
 use Rattle.path_grammar.specs.Tree as query
 use Rattle.path_grammar.specs.declared.ast.IntLit.{IntLit}
 use Rattle.path_grammar.specs.declared.ast.IntLit.TheVariants.{Within}

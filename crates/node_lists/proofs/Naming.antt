@@ -1,5 +1,5 @@
 -- A name that is looked for at all depths, and a wildcard.
-use Rattle.std.proofs.Common.{◌≡◌, ◌≢◌, ℕ, suc, ◌+◌, ◌-◌, ◌≤◌, List, [], ◌∷◌, ◌++◌, length, Result, Ok, Err, refl, sym, ap, ◌∙◌, arith, append_assoc, length-append}
+use Rattle.std.proofs.Common.{◌≡◌, ◌≢◌, ℕ, suc, ◌+◌, ◌-◌, List, [], ◌∷◌, ◌++◌, length, Result, Ok, Err, refl, sym, ap, ◌∙◌, arith, append_assoc, length-append}
 use Rattle.std.specs.Prelude.{MatchResult, flat_map}
 use Rattle.node_lists.specs.Evaluation.{selected}
 use Rattle.path_grammar.specs.Tree.{Selector, selector, no_selectors, name, wild, selectors_of}

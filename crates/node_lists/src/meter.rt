@@ -1,6 +1,6 @@
 //! The units that are left.
 
-ghost use Rattle.std.specs.Prelude.{◌≡◌, ◌*◌};
+ghost use Rattle.std.specs.Prelude.{◌*◌};
 ghost use Rattle.node_lists.specs.Paying.{Pays};
 
 use crate::fault::SelectFault;

@@ -1,6 +1,6 @@
 //! What a lone name or index selects from several nodes.
 
-ghost use Rattle.std.specs.Prelude.{◌≡◌, length, flat_map};
+ghost use Rattle.std.specs.Prelude.{length, flat_map};
 ghost use Rattle.json_tape.specs.Document.{node_at};
 ghost use Rattle.node_lists.specs.Evaluation.{selected_by};
 ghost use Rattle.node_lists.specs.Nodelists.{nodes_of};

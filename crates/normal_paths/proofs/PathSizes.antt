@@ -2,13 +2,13 @@
 use Rattle.std.specs.Prelude.{nat_lt, decimal, encode_utf8, flat_map, Result, Ok, Err, IfOk}
 use Rattle.std.specs.Result.{is_err}
 use Rattle.std.specs.declared.alloc.AllocError.{AllocError}
-use Rattle.std.proofs.Common.{◌≡◌, ℕ, ◌+◌, ◌*◌, ◌<◌, ◌≤◌, ◌^◌, Bool, true, false, cond, eqb, List, [], ◌∷◌, ◌++◌, length, reverse, refl, ap, ◌∙◌, arith, length-append}
+use Rattle.std.proofs.Common.{◌≡◌, ℕ, ◌+◌, ◌*◌, ◌<◌, ◌≤◌, ◌^◌, Bool, true, false, cond, eqb, List, [], ◌∷◌, ◌++◌, length, reverse, ap, ◌∙◌, arith, length-append}
 use Rattle.std.proofs.lemmas.Grind.{flat_map-append, reverse_onto}
 use Rattle.std.proofs.lemmas.Fmt.{length-decimal-le_succ}
 use Rattle.std.proofs.lemmas.Str.{length-encode, len_utf8_bounds}
 use Rattle.json_tape.specs.Nodes.{Node, Step, key, place, step_size, way_size}
 use Rattle.json_tape.specs.Verdict.{text_limit}
-use Rattle.normal_paths.specs.NormalPath.{hex_digit, scalar_text, name_text, step_text, path_text, normal_path, path_limit}
+use Rattle.normal_paths.specs.NormalPath.{scalar_text, name_text, step_text, path_text, normal_path, path_limit}
 
 either : (b : Bool) (xs ys : List ℕ) → length xs ≤ 6 → length ys ≤ 6 → length (cond b xs ys) ≤ 6
 either true xs ys h g = h

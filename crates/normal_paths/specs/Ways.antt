@@ -1,5 +1,5 @@
 -- The way from a node up to the root, by the numbers of the nodes on it.
-use Rattle.std.specs.Prelude.{◌≡◌, ℕ, ◌<◌, ◌++◌, List, [], ◌∷◌, reverse, flat_map}
+use Rattle.std.specs.Prelude.{◌≡◌, ℕ, ◌<◌, List, [], ◌∷◌, reverse, flat_map}
 use Rattle.std.specs.List.{All}
 use Rattle.json_tape.specs.Nodes.{Node, Step}
 use Rattle.json_tape.specs.Document.{Doc, node_at, count}

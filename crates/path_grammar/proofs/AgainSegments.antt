@@ -4,7 +4,7 @@ use Rattle.std.proofs.lemmas.Bool.{and_parts}
 use Rattle.std.proofs.lemmas.Bool.Decides.{nat_tests}
 use Rattle.std.specs.List.{list_all}
 use Rattle.path_grammar.specs.Tree as tree
-use Rattle.path_grammar.specs.Tree.{OneSegment, segments_of, selectors_of}
+use Rattle.path_grammar.specs.Tree.{OneSegment}
 use Rattle.path_grammar.specs.Characters.{Text, is_blank, is_digit, is_first, Blanks}
 use Rattle.path_grammar.specs.Lists.{Repeated, Separated, first}
 use Rattle.path_grammar.specs.Numbers.{Int}

@@ -1,6 +1,6 @@
 -- Queries under way, as tenants and their queries change.
 use Rattle.std.proofs.Common.{◌≡◌, ◌≢◌, ◌<◌, ℕ, List, [], ◌∷◌, Bool, true, false, not, ◌&&◌, ◌||◌, eqb, Option, Some, None, Result, Ok, Err, cond, refl, sym, ap, ◌∙◌, subst, arith}
-use Rattle.std.specs.Prelude.{slice_get, IfOk, IfSome, OnOk}
+use Rattle.std.specs.Prelude.{slice_get, IfOk, IfSome}
 use Rattle.std.specs.Bool.{MatchBool}
 use Rattle.std.specs.BTreeMap.{is_at}
 use Rattle.std.specs.List.{list_any}
@@ -9,12 +9,9 @@ use Rattle.std.specs.Option.{option_map_or}
 use Rattle.std.specs.Ordering.{nat_cmp}
 use Rattle.std.proofs.lemmas.Bool.Decides.{nat_tests}
 use Rattle.std.proofs.lemmas.Option.{none-some, same_Some}
-use Rattle.path_grammar.specs.Tree.{Segments}
-use Rattle.path_grammar.specs.Laws.{HaveOneTree}
-use Rattle.path_types.specs.Verdict.{IsValidQuery}
-use Rattle.tenant_map.specs.Maps.{Map, documents_of}
-use Rattle.tenant_map.specs.Tenancy.{Tenancy, place_in, with_map}
-use Rattle.tenant_store.specs.Walks.{IsOnWay, work_left}
+use Rattle.tenant_map.specs.Maps.{Map}
+use Rattle.tenant_map.specs.Tenancy.{Tenancy, place_in}
+use Rattle.tenant_store.specs.Walks.{work_left}
 use Rattle.tenant_store.specs.declared.tasks.QueryTask.{QueryTask}
 use Rattle.wire_frames.specs.Frames.{Whole, front}
 use Rattle.wire_frames.specs.Framing.{Framing}
@@ -24,7 +21,7 @@ use Rattle.path_hub.specs.declared.tasks.Asked.{Asked}
 use Rattle.path_hub.specs.declared.tasks.Tasks.{Tasks}
 use Rattle.path_hub.specs.declared.tasks.Share.{Share}
 use Rattle.path_hub.specs.declared.tasks.Share.TheVariants as share
-use Rattle.request_replies.specs.Answers.{Gives, is_no_memory}
+use Rattle.request_replies.specs.Answers.{is_no_memory}
 use Rattle.request_replies.specs.Tenants.{Serves, ServesBody, ServesBy, map_of, put_at, is_short}
 use Rattle.path_hub.specs.Sessions.{Sessions, session, Sets}
 use Rattle.path_hub.specs.HubState.{state}

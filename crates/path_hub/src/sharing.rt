@@ -1,6 +1,6 @@
 //! One request of a tenant, whose query is answered a share at a time.
 
-ghost use Rattle.std.specs.Prelude.{◌≡◌, ◌+◌, ◌<◌, ◌≤◌, IfErr, IfOk, OnOk, OnErr, IfSome, false, length, slice_get, vec_len};
+ghost use Rattle.std.specs.Prelude.{◌≡◌, ◌+◌, ◌<◌, ◌≤◌, IfErr, IfOk, OnOk, OnErr, IfSome, false, length, vec_len};
 ghost use Rattle.std.specs.Vec.{vec_capacity};
 ghost use Rattle.path_grammar.specs.View.{query_view};
 ghost use Rattle.path_types.specs.Verdict.{RefusesQueryText};

@@ -1,6 +1,6 @@
 //! The call over a wire whose lines a reader has, answered to a writer.
 
-ghost use Rattle.std.specs.Prelude.{◌≡◌, ◌-◌, ◌^◌, ◌<◌, ℕ, List, IfOk, IfSome};
+ghost use Rattle.std.specs.Prelude.{◌-◌, ◌^◌, ◌<◌, ℕ, List, IfOk, IfSome};
 ghost use Rattle.path_server.specs.CallStream.{CallsStream, IsReadFrom};
 
 use crate::call::call_over;

@@ -4,7 +4,7 @@ ghost use Rattle.std.specs.Prelude.{◌≡◌, ◌<◌, ◌≤◌, ◌++◌, len
 ghost use Rattle.std.specs.List.{All};
 ghost use Rattle.path_grammar.specs.Tree.{exprs_of, arguments_of};
 ghost use Rattle.path_grammar.specs.View.{literal_view, call_view, argument_view, comparable_view, expr_view, nested_view as query_tree};
-ghost use Rattle.path_types.specs.Validity.{is_literal, is_valid_comparable, is_valid_expr, are_valid_exprs};
+ghost use Rattle.path_types.specs.Validity.{is_valid_comparable, is_valid_expr, are_valid_exprs};
 ghost use Rattle.condition_reader.specs.Turns.{dealt};
 ghost use Rattle.decisions.specs.Views.{constant_view as known_view};
 ghost use Rattle.decisions.specs.Told.{is_alone, is_free_call, are_free, is_free_argument, is_free, is_written, is_told_pair, is_told, are_told, whole, totals, literal_lengths, argument_lengths, lengths, call_lengths, side_literals, literals, all_literals, are_told_on};

@@ -1,6 +1,6 @@
 //! Queries that are evaluated in shares.
 
-ghost use Rattle.std.specs.Prelude.{◌≡◌, ◌<◌, ◌≤◌, ◌+◌, ◌∷◌, [], None, Some, false, true, IfOk, IfSome, IsErrOf, MatchOption, MatchResult};
+ghost use Rattle.std.specs.Prelude.{◌≡◌, ◌<◌, ◌≤◌, ◌+◌, ◌∷◌, [], None, Some, false, IfOk, IfSome, IsErrOf, MatchOption, MatchResult};
 ghost use Rattle.std.specs.List.{All};
 ghost use Rattle.json_tape.specs.Document.{count, node_at, tree_of};
 ghost use Rattle.path_grammar.specs.View.{query_view};

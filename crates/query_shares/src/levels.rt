@@ -7,10 +7,10 @@ ghost use Rattle.std.specs.Prelude.{◌≡◌, ◌<◌, ◌∷◌, [], Some, IfS
 ghost use Rattle.json_tape.specs.Document.{count, node_at};
 ghost use Rattle.node_lists.specs.Charge.{charge_from};
 ghost use Rattle.node_lists.specs.Paying.{Refuses};
-ghost use Rattle.query_plan.specs.Planned.{claims_of, look, numbered, query_of};
+ghost use Rattle.query_plan.specs.Planned.{claims_of, numbered, query_of};
 ghost use Rattle.query_plan.specs.Slots.{AreClaimed};
 ghost use Rattle.tape_select.specs.Awaiting.{Awaits};
-ghost use Rattle.tape_select.specs.Memo.{IsFoundAt, Keeps};
+ghost use Rattle.tape_select.specs.Memo.{Keeps};
 ghost use Rattle.query_shares.specs.Levels.{top_segments, Finished, IsAbove, IsOnWay, Moved, MovedOn, Opens, Stack};
 ghost use Rattle.query_shares.specs.Passes.{segments_in, whole_due, Begins};
 ghost use Rattle.query_shares.specs.declared.passes.Cursor.{Cursor};

@@ -1,5 +1,5 @@
 -- The words that `spans` makes of the parities of the real quotes.
-use Rattle.std.proofs.Common.{◌≡◌, ℕ, suc, ◌+◌, ◌/◌, ◌^◌, ◌<◌, Bool, true, false, not, ◌&&◌, ◌==◌, cond, refl, sym, ap, ap₂, ◌∙◌, arith, zero-add, one-add}
+use Rattle.std.proofs.Common.{◌≡◌, ℕ, suc, ◌+◌, ◌/◌, ◌^◌, ◌<◌, Bool, ◌==◌, cond, sym, ap₂, ◌∙◌, arith}
 use lib.Bits.{bit_and, bit_xor, xor_lt}
 use Rattle.bit_words.specs.Words.{is_set, is_odd, HasBits}
 use Rattle.bit_words.proofs.Bits.{xor, odd_suc, is_set-and, is_set-xor, complement, is_set-complement, top_bit, spread, is_set-spread, spread_lt}

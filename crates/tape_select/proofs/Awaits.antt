@@ -1,5 +1,5 @@
 -- What a condition awaits: its queries in turn.
-use Rattle.std.proofs.Common.{◌≡◌, Bor, ℕ, zero, suc, ◌+◌, ◌*◌, ◌<◌, ◌≤◌, Bool, true, false, List, map, length, drop, get_or, Option, Some, None, is_some, sym, ap, ◌∙◌, arith}
+use Rattle.std.proofs.Common.{◌≡◌, Bor, ℕ, zero, suc, ◌+◌, ◌*◌, ◌<◌, ◌≤◌, false, List, map, length, drop, get_or, Option, Some, None, is_some, sym, ap, ◌∙◌, arith}
 use Rattle.std.proofs.Math.Nat.{suc-mul}
 use Rattle.path_grammar.specs.Tree as tree
 use Rattle.path_grammar.specs.Tree.{exprs_of}
@@ -11,7 +11,7 @@ use Rattle.query_plan.specs.Planned.{Claims, trees, all_claims, calling, conditi
 use Rattle.query_plan.specs.Slots.{AreClaimed}
 use Rattle.query_plan.specs.declared.plan.Condition.{Condition}
 use Rattle.query_plan.specs.declared.plan.Nested.{Nested}
-use Rattle.tape_select.specs.Awaiting.{Awaits, AwaitsSome}
+use Rattle.tape_select.specs.Awaiting.{AwaitsSome}
 use Rattle.query_plan.proofs.Claims.{operand_claims}
 use Rattle.query_plan.proofs.Deciding.{charge_decided}
 use Rattle.query_plan.proofs.Joining.{charge_listed}

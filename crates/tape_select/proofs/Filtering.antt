@@ -6,7 +6,7 @@ use Rattle.std.proofs.lemmas.Bool.Decides.{nat_tests}
 use Rattle.std.proofs.lemmas.List.{drop_more}
 use Rattle.std.proofs.Math.Nat.{suc-mul}
 use Rattle.path_grammar.specs.Tree as tree
-use Rattle.path_grammar.specs.Tree.{OneSegment, Segments, Selectors, Selector, exprs_of, selectors_of}
+use Rattle.path_grammar.specs.Tree.{OneSegment, Selectors, Selector, exprs_of, selectors_of}
 use Rattle.path_grammar.specs.declared.ast.IntLit.{IntLit}
 use Rattle.path_grammar.specs.declared.ast.IntLit.TheVariants.{Within, Beyond}
 use Rattle.json_tape.specs.Tree.{Tree, Leaf, Arr, Obj}

@@ -1,36 +1,30 @@
 -- Conditions that the marks of `@` and its length tell.
-use Rattle.std.proofs.Common.{◌≡◌, ℕ, zero, suc, ◌+◌, ◌<◌, Bool, true, false, ◌&&◌, ◌||◌, List, [], ◌∷◌, ◌++◌, map, length, get_or, Option, Some, None, refl, sym, ap, subst, ◌∙◌, arith}
-use Rattle.std.specs.Prelude.{IsTrue, IfSome, nat_eq, bytes_eq, codes, if◌then◌else◌}
+use Rattle.std.proofs.Common.{◌≡◌, ℕ, zero, suc, ◌+◌, ◌<◌, Bool, true, false, ◌&&◌, ◌||◌, List, [], ◌∷◌, ◌++◌, length, get_or, Option, Some, None, refl, sym, ap, subst, ◌∙◌, arith}
+use Rattle.std.specs.Prelude.{IsTrue, bytes_eq, codes, if◌then◌else◌}
 use Rattle.std.specs.Prelude.{not as opposite}
 use Rattle.std.specs.List.{Contains}
 use Rattle.std.specs.Ordering.{is_eq}
 use Rattle.std.specs.declared.cmp.Ordering.{Ordering}
 use Rattle.std.specs.declared.cmp.Ordering.TheVariants.{Less, Equal, Greater}
-use Rattle.std.proofs.lemmas.Bool.Decides.{nat_tests}
 use Rattle.std.proofs.lemmas.List.Elements.{Contains-append_left, Contains-append_right, Contains-push}
 use Rattle.path_grammar.specs.Tree as tree
-use Rattle.path_grammar.specs.Tree.{Literal, Comparable, Call, Arguments, Argument, Expr, Exprs, OneSegment, segments_of}
-use Rattle.path_grammar.specs.View.{segment_view, nested_view, argument_step, comparable_step, expr_step, selector_step, call_step, segment_step, nested_step}
-use Rattle.path_grammar.specs.declared.ast.Argument.TheFolds.{fold_out-SubQuery}
-use Rattle.path_grammar.specs.declared.ast.SubQuery.{SubQuery, out-SubQuery}
+use Rattle.path_grammar.specs.Tree.{Literal, Comparable, Call, Arguments, Argument, Expr, Exprs}
 use Rattle.path_grammar.specs.declared.ast.Op.{Op}
-use Rattle.path_grammar.specs.declared.ast.Segment.{Segment}
 use Rattle.json_tape.specs.Nodes.{Node}
 use Rattle.json_tape.specs.Document.{Doc, node_at, length_of}
 use Rattle.tape_values.specs.Comparison.{Value, a_null, a_boolean, a_number, a_text, a_container, value_of, literal_value, compared}
-use Rattle.tape_values.specs.Functions.{Argued, only_value, value_argued, nodes_argued, whole_number, whole_number_of, length_value, applied}
+use Rattle.tape_values.specs.Functions.{only_value, value_argued, nodes_argued, whole_number, whole_number_of, length_value, applied}
 use Rattle.decisions.specs.Laws.{TellsAsCompared, TellsByMarks}
 use Rattle.decisions.specs.Marks.{mark, cell, is_among, are_among}
 use Rattle.decisions.specs.Order.{kind, value_cmp}
 use Rattle.decisions.specs.Places.{HasTie}
-use Rattle.decisions.specs.Tree.{listed}
 use Rattle.decisions.specs.declared.scale.Scale.{Scale}
 use Rattle.decisions.specs.Truth.{no_relation}
 use Rattle.node_lists.specs.Charge.{charge_expr, charge_exprs, charge_side, charge_call, charge_arguments, charge_argument}
 use Rattle.node_lists.specs.Evaluation.{holds, some_hold, all_hold, result, called, argued}
 use Rattle.tape_select.specs.Memo.{IsTruth}
 use Rattle.query_plan.specs.Planned.{Claimed, a_condition}
-use Rattle.decisions.specs.Told.{is_alone, is_free_call, are_free, is_free_argument, is_free, is_written, is_told_pair, is_told, are_told, whole, totals, argument_lengths, call_lengths, side_literals, literals, all_literals, values_on, beside, values_in, is_told_on, are_told_on, HasLength, AreApart, IsCell}
+use Rattle.decisions.specs.Told.{is_alone, is_free_call, are_free, is_free_argument, is_free, is_written, is_told_pair, is_told, are_told, whole, totals, argument_lengths, call_lengths, side_literals, literals, all_literals, values_on, beside, values_in, is_told_on, HasLength, AreApart, IsCell}
 use Rattle.query_plan.proofs.Deciding.{forth, back}
 
 and_first : (a b : Bool) → IsTrue (a && b) → IsTrue a

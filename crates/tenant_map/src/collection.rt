@@ -1,7 +1,7 @@
 //! The documents of one collection.
 
 ghost use Rattle.std.specs.Prelude.{◌≡◌, ◌+◌, ◌*◌, ◌≤◌, ◌++◌, IfSome, OnOk, OnErr, [], length};
-ghost use Rattle.std.specs.Option.{option_map, option_copied};
+ghost use Rattle.std.specs.Option.{option_map};
 ghost use Rattle.std.specs.Map.{lookup, remove_entry};
 ghost use Rattle.std.specs.Vec.{vec_capacity};
 ghost use Rattle.json_tape.specs.Document.{tree_of};

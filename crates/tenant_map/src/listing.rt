@@ -1,11 +1,11 @@
 //! The payload of a list's reply.
 
-ghost use Rattle.std.specs.Prelude.{◌≡◌, ◌+◌, ◌*◌, ◌≤◌, ◌++◌, ◌∷◌, IfOk, OnOk, OnErr, length, take};
+ghost use Rattle.std.specs.Prelude.{◌≡◌, ◌+◌, ◌*◌, ◌≤◌, ◌++◌, ◌∷◌, OnOk, OnErr, length, take};
 ghost use Rattle.std.specs.BTreeMap.{btree_map_len};
 ghost use Rattle.std.specs.Vec.{vec_capacity};
 ghost use Rattle.std.specs.Map.{keys_of};
 ghost use Rattle.tenant_map.specs.Kept.{AreKept, texts};
-ghost use Rattle.tenant_map.specs.Listings.{number, names_listed, listing};
+ghost use Rattle.tenant_map.specs.Listings.{names_listed, listing};
 ghost use Rattle.tenant_map.specs.Quotas.{document_quota};
 
 use crate::numbers::big_endian;

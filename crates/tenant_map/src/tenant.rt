@@ -1,13 +1,13 @@
 //! One tenant.
 
-ghost use Rattle.std.specs.Prelude.{◌≡◌, ◌+◌, ◌≤◌, ◌<◌, ◌++◌, ℕ, IfOk, IfErr, OnOk, OnErr, OnSome, IfSome, MatchOption, IfNone, [], ◌∷◌, length, vec_len, Some, None, is_some};
+ghost use Rattle.std.specs.Prelude.{◌≡◌, ◌+◌, ◌≤◌, ◌<◌, ◌++◌, ℕ, IfOk, IfErr, OnOk, OnErr, OnSome, IfSome, MatchOption, IfNone, [], length, vec_len, Some, None, is_some};
 ghost use Rattle.std.specs.Option.{option_map, option_copied};
 ghost use Rattle.std.specs.Map.{lookup};
 ghost use Rattle.std.specs.Vec.{vec_capacity};
 ghost use Rattle.json_tape.specs.Document.{tree_of};
 ghost use Rattle.json_tape.specs.Verdict.{text_limit, IsAccepted};
 ghost use Rattle.tenant_map.specs.Keyed.{at, by_bytes};
-ghost use Rattle.tenant_map.specs.Maps.{IsMap, text_at, documents_of, put_text, remove_text, drop_texts, documents_in, bytes_in};
+ghost use Rattle.tenant_map.specs.Maps.{IsMap, text_at, documents_of, put_text, remove_text, drop_texts};
 ghost use Rattle.tenant_map.specs.Quotas.{document_quota, usage_of, quota_by, quota_fault, replaced};
 ghost use Rattle.store_names.specs.Lengths.{payload_limit};
 ghost use Rattle.tenant_map.specs.Listings.{listing};

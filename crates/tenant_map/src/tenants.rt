@@ -1,6 +1,6 @@
 //! All tenants, by key.
 
-ghost use Rattle.std.specs.Prelude.{◌≡◌, ◌+◌, ◌<◌, ◌≤◌, ℕ, List, IfOk, IfErr, IfSome, [], length, replicate, slice_get, Some, false};
+ghost use Rattle.std.specs.Prelude.{◌≡◌, ◌<◌, ◌≤◌, ℕ, List, IfOk, IfErr, IfSome, [], length, replicate, slice_get, Some, false};
 ghost use Rattle.std.specs.Map.{lookup};
 ghost use Rattle.tenant_map.specs.Keyed.{at};
 ghost use Rattle.tenant_map.specs.declared.tenants.TenantsFault.TheVariants.{Memory};

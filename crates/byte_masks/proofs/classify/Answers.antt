@@ -1,4 +1,4 @@
-use Rattle.std.proofs.Common.{◌-◌, ◌<◌, length, ◌&&◌, not, get_or, arith, sym, ap, ap₂, ◌∙◌}
+use Rattle.std.proofs.Common.{◌-◌, ◌<◌, length, get_or, arith, sym, ◌∙◌}
 use Rattle.std.proofs.lemmas.Simd.{Each1-get_or}
 use Rattle.std.proofs.Common.{Fits, w8}
 use Rattle.bit_words.proofs.Bits.{is_set-and, is_set-complement, is_set-zero}

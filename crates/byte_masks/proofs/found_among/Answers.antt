@@ -1,4 +1,4 @@
-use Rattle.std.proofs.Common.{◌==◌, slice_index, ap, ◌∙◌, arith, w8}
+use Rattle.std.proofs.Common.{◌==◌, ◌∙◌, arith, w8}
 use Rattle.std.proofs.lemmas.Simd.{length-swz_l}
 use Rattle.byte_masks.proofs.Lanes.{compared_at, compared_lt, spots_long, in_table, found_at}
 use Rattle.byte_masks.proofs.found_among.Goals as goal

@@ -1,7 +1,5 @@
-use Rattle.std.proofs.Common.{◌==◌, get_or, ap, ◌∙◌, arith}
+use Rattle.std.proofs.Common.{get_or, arith}
 use lib.Bits.{bit_or}
-use Rattle.byte_masks.specs.Classes.{found}
-use Rattle.byte_masks.specs.declared.TheConstants.{OPS}
 use Rattle.byte_masks.proofs.Classes.{ops_found}
 use Rattle.byte_masks.proofs.Lanes.{masked, byte_at}
 use Rattle.byte_masks.proofs.near_ops.Goals as goal

@@ -1,4 +1,4 @@
-use Rattle.std.proofs.Common.{length, ap, sym, arith, ◌∷◌, ◌∙◌, reverse}
+use Rattle.std.proofs.Common.{length, ap, arith, ◌∷◌, reverse}
 use Rattle.json_tape.specs.Document.{node_at}
 use Rattle.normal_paths.specs.Ways.{way_text}
 use Rattle.normal_paths.proofs.PathSizes.{path_short, appended}

@@ -1,4 +1,3 @@
-use Rattle.std.proofs.Common.{Some}
 use Rattle.path_server.proofs.WholeTexts.{answered_stream, failed_stream}
 use Rattle.path_server.proofs.streams.query_stream.Goals as goal
 

@@ -1,4 +1,4 @@
-use Rattle.std.proofs.Common.{map, ap, sym, ◌∙◌, ◌++◌}
+use Rattle.std.proofs.Common.{map, ap, ◌∙◌, ◌++◌}
 use Rattle.path_grammar.specs.Tree.{exprs_of}
 use Rattle.path_grammar.specs.View.{expr_view}
 use Rattle.condition_reader.specs.Turns.{dealt}
