@@ -9,4 +9,7 @@ pub use Rattle.json_text.specs.Verdict
 pub use Rattle.json_text.specs.Answer
 pub use Rattle.tape_cells.specs.Cells
 pub mod Document
+pub mod Shares
+pub mod Going
+pub mod Reads
 pub mod Siblings

@@ -3,17 +3,20 @@
 ghost use Rattle.std.specs.Prelude.{false, IfSome, ◌≡◌, ◌∷◌, [], ℕ, List, ◌^◌, ◌<◌, ◌≤◌, ◌+◌, ◌-◌, ◌↔◌, length, MatchResult, MatchOption, IsUtf8, IsTrue, slice_index_or};
 ghost use Rattle.std.specs.List.{Contains, All};
 ghost use Rattle.std.specs.Str.{chars};
+ghost use Rattle.std.specs.String.{string_bytes};
 ghost use Rattle.json_strings.specs.Spelling.{scalars_in, AreWordsOf};
 ghost use Rattle.decimal_order.specs.Number.{IsNumber};
 ghost use Rattle.decimal_order.specs.Limits.{IsWithinLimits};
 ghost use Rattle.structural_index.specs.Answer.{IsIndexOf};
-ghost use Rattle.json_text.specs.Answer.{Explains, IsJson, StandsForAll};
+ghost use Rattle.json_text.specs.Answer.{Explains};
 ghost use Rattle.json_text.specs.Tree.{source_of};
-ghost use Rattle.json_text.specs.Verdict.{text_limit, IsAccepted, IsFaultless};
+ghost use Rattle.json_text.specs.Verdict.{text_limit, IsAccepted};
 ghost use Rattle.json_text.specs.Nodes.{size, children, visit, is_named, first_where};
 ghost use Rattle.json_text.specs.Tape.{Top, tape_of, entry_in, kind_of};
 ghost use Rattle.json_tape.specs.Siblings.{numbered};
 ghost use Rattle.name_order.specs.Ordered.{AreKept, IsOrderOf};
+ghost use Rattle.json_walk.specs.UnderWay.{IsReading};
+ghost use Rattle.json_tape.specs.Shares.{IsKept, fault_is};
 ghost use Rattle.json_text.specs.Suspects.{IsWide};
 ghost use Rattle.json_strings.specs.Keys.{sought_name};
 ghost use Rattle.json_tape.specs.Document.{tree_of, count, node_at, later, seen, following, single, root_of, counting, IsIn, IsDocument, IsMember, HasName, LeadIs, ParentIs, StandsIn, length_of, string_meaning};
@@ -25,7 +28,7 @@ use json_strings::{
     words_of,
 };
 use json_text::{BuildFault, Entry, Kind, Lead, NodeId, Role, TextFault};
-use json_walk::walk;
+use json_walk::{Reading, walk};
 use name_order::{NameOrder, is_wide, member_in};
 use std::alloc::Global;
 use std::marker::Model;
@@ -58,7 +61,7 @@ impl Model for Document {
 }
 
 // The characters of a text that is not too long.
-fn characters(text: &[u8]) -> Result<&str, TextFault>
+pub(crate) fn characters(text: &[u8]) -> Result<&str, TextFault>
     ensures { MatchResult result (λ characters. (characters.now ≡ text.now) × (length text.now ≤ text_limit) × IsUtf8 text.now) (λ f. Explains text.now f) }
 {
     if text.len() > TEXT_LIMIT {
@@ -72,30 +75,50 @@ fn characters(text: &[u8]) -> Result<&str, TextFault>
 
 // What a text that has no fault is kept with.
 #[derive(Drop)]
-struct Parts {
-    tape: Tape,
-    names: NameOrder,
+pub(crate) struct Parts {
+    pub(crate) tape: Tape,
+    pub(crate) names: NameOrder,
 }
 
-// The tape and the order of the members of wide objects of a text that has this index, or its first fault.
-fn read_indexed(alloc: Global, text: &str, index: &Index) -> Result<Parts, TextFault>
+pub(crate) fn fault_of(fault: BuildFault) -> TextFault
+    ensures { result ≡ fault_is fault }
+{
+    match fault {
+        BuildFault::NotJson => TextFault::NotJson,
+        BuildFault::Memory => TextFault::Memory,
+    }
+}
+
+// The tape and the order of the members of wide objects of a text that was walked, or its first fault.
+pub(crate) fn judged(
+    alloc: Global,
+    text: &str,
+    index: &Index,
+    reading: Reading,
+) -> Result<Parts, TextFault>
     requires short { length text.now ≤ text_limit }
     requires index { IsIndexOf index.now text.now }
-    ensures { MatchResult result (λ p. IsJson text.now × StandsForAll text.now p.tape × (length p.tape < 2 ^ 31) × IsFaultless text.now
-        × AreKept text.now p.tape (length p.tape) p.names)
-        (λ fault. Explains text.now fault) }
+    requires reading { (before : ℕ) × (now : ℕ) × IsReading text.now before now reading }
+    ensures { MatchResult result (λ p. IsKept text.now p.tape p.names) (λ fault. Explains text.now fault) }
 {
-    let reading = match walk(alloc, index, &mut Looks::new(text.as_bytes())) {
-        Ok(reading) => reading,
-        Err(BuildFault::NotJson) => return Err(TextFault::NotJson),
-        Err(BuildFault::Memory) => return Err(TextFault::Memory),
-    };
     match judge_tape(alloc, text, index.lone_surrogate, &reading) {
         Ok(names) => Ok(Parts {
             tape: reading.tape,
             names,
         }),
         Err(fault) => Err(fault),
+    }
+}
+
+// The same of a text that has this index.
+fn read_indexed(alloc: Global, text: &str, index: &Index) -> Result<Parts, TextFault>
+    requires short { length text.now ≤ text_limit }
+    requires index { IsIndexOf index.now text.now }
+    ensures { MatchResult result (λ p. IsKept text.now p.tape p.names) (λ fault. Explains text.now fault) }
+{
+    match walk(alloc, index, &mut Looks::new(text.as_bytes())) {
+        Ok(reading) => judged(alloc, text, index, reading),
+        Err(fault) => Err(fault_of(fault)),
     }
 }
 
@@ -126,11 +149,10 @@ impl Document {
             return Err(TextFault::Memory);
         };
         match read_indexed(alloc, checked, &index) {
-            Ok(parts) => Ok(Document {
-                text: unsafe { String::from_utf8_unchecked(copy) },
-                tape: parts.tape,
-                names: parts.names,
-            }),
+            Ok(parts) => Ok(Document::of_parts(
+                unsafe { String::from_utf8_unchecked(copy) },
+                parts,
+            )),
             Err(fault) => Err(fault),
         }
     }
@@ -148,12 +170,23 @@ impl Document {
             return Err(TextFault::Memory);
         };
         match read_indexed(alloc, checked, &index) {
-            Ok(parts) => Ok(Document {
-                text: unsafe { String::from_utf8_unchecked(text) },
-                tape: parts.tape,
-                names: parts.names,
-            }),
+            Ok(parts) => Ok(Document::of_parts(
+                unsafe { String::from_utf8_unchecked(text) },
+                parts,
+            )),
             Err(fault) => Err(fault),
+        }
+    }
+
+    // The document of a text and what it is kept with.
+    pub(crate) fn of_parts(text: String, parts: Parts) -> Document
+        requires { IsKept (string_bytes text) parts.tape parts.names }
+        ensures { (result.text ≡ string_bytes text) × IsAccepted result.text (tree_of result) }
+    {
+        Document {
+            text,
+            tape: parts.tape,
+            names: parts.names,
         }
     }
 

@@ -15,6 +15,9 @@ mod children;
 mod document;
 mod judge;
 pub mod laws;
+mod progress;
+mod read_task;
+mod verdict;
 
 pub use children::Children;
 pub use document::{Document, TEXT_LIMIT};
@@ -22,4 +25,7 @@ pub use json_strings::Scalars;
 pub use json_text::{BuildFault, Kind, Lead, NodeId, TextFault};
 pub use json_walk::build;
 pub use judge::DEPTH_LIMIT;
+pub use progress::Progress;
+pub use read_task::ReadTask;
 pub use tape_cells::Tape;
+pub use verdict::{Refusal, Verdict};

@@ -24,3 +24,4 @@ pub mod WalkSteps
 pub mod WalkContainer
 pub mod WholeWalk
 pub mod CheckSteps
+pub mod UnderWay

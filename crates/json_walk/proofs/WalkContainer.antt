@@ -11,7 +11,7 @@ use Rattle.json_text.specs.declared.tape.Kind.TheVariants as kinds
 use Rattle.json_text.specs.declared.tape.Want.TheVariants as wants
 use Rattle.json_walk.specs.declared.lexing.Lexed.TheVariants as lexed
 use Rattle.json_text.specs.Machine.{Comma}
-use Rattle.json_walk.specs.Walked.{AsksValue, AsksName, byte_at, Outlasts, few, AsksChild, shape_of, width, ending, WalksInto, WalksTo, spot_behind, price_of, behind, is_whole, spot_after}
+use Rattle.json_walk.specs.Walked.{AsksValue, AsksName, byte_at, Outlasts, few, AsksChild, shape_of, width, ending, paid, WalksInto, WalksTo, spot_behind, price_of, behind, is_whole, spot_after}
 use Rattle.json_walk.proofs.WalkSteps.{not_root, first_byte, blocked, here_halts, halts_more, walked_more, one, over_sign, refused_halts, value_only, name_only, colon_only, value_any, named_step, open_level}
 use Rattle.json_walk.proofs.Listed.{in_text}
 use Rattle.json_walk.proofs.TokensAt.{sign_token}
@@ -94,37 +94,42 @@ module _ (bytes items : List ℕ) (listed : IsListed bytes items) where
   -- a container that a sign ends
   pub ended_walks : (k now : ℕ) (mark : Bool) (old new : Built) (shape : Shape) (made : Result (Unit {0}) BuildFault) (r : Result Spot BuildFault) → k < length items → byte_at bytes items k ≡ ending shape → Took (step (Closing shape (place items k)) (standing old wants.Next None)) made (standing new wants.Next None) → r ≡ spot_behind made k
       → WalksTo bytes items (point k (standing old wants.Next None) now mark) r new now mark
-  ended_walks k now mark old new shape (Ok x) r l q took e = rw e (close_walks k now (now + 1) mark old new shape l q took (omega arith))
+  ended_walks k now mark old new shape (Ok x) r l q took e = rw e (close_walks k now now mark old new shape l q took (omega arith))
   ended_walks k now mark old new shape (Err NotJson) r l q took e =
       rw e (refused_halts bytes items listed k now mark (Closing shape (place items k)) _ l (sign_token bytes (place items k) (Closing shape (place items k)) (in_text bytes items listed k l) (ap (sign_at (place items k)) q ∙ ending_sign shape (place items k))) took)
   ended_walks k now mark old new shape (Err Memory) r l q took e = rw e tt
+
+  paid_least : (behind : Bool) (now : ℕ) → now ≤ paid behind now
+  paid_least true now = omega arith
+  paid_least false now = omega arith
 
   -- the state before a container's first child, or behind one
   entry_state : (b : Built) (shape : Shape) (behind : Bool) → level_of b.opens ≡ Inside shape → standing b (want_at behind (level_of b.opens)) None ≡ standing b (want_at behind (Inside shape)) None
   entry_state b shape behind l = ap (λ v. standing b (want_at behind v) None) l
 
   pub closed_entered : (k next now later : ℕ) (mark : Bool) (behind : Bool) (old new : Built) (shape : Shape) (made : Result (Unit {0}) BuildFault) (r : Result (Option ℕ) BuildFault) → next ≡ k + 1 → k < length items → level_of old.opens ≡ Inside shape → byte_at bytes items k ≡ ending shape → Took (step (Closing shape (place items k)) (standing old wants.Next None)) made (standing new wants.Next None) → later ≤ now + 1 → r ≡ no_more made
-      → WalksInto bytes items (point k (standing old (want_at behind (level_of old.opens)) None) (now + 1) mark) shape next r new later mark
+      → WalksInto bytes items (point k (standing old (want_at behind (level_of old.opens)) None) (paid behind now) mark) shape next r new later mark
   closed_entered k next now later mark behind old new shape (Ok x) r e l level q took p is =
-      rw is (subst (λ n. Walked bytes items (point k (standing old (want_at behind (level_of old.opens)) None) (now + 1) mark) (point n (standing new wants.Next None) (later + 1) mark)) (sym e) (over_sign bytes items k (ending shape) (now + 1) (later + 1) mark (Closing shape (place items k)) _ _ l (in_text bytes items listed k l) q (ending_sign shape (place items k)) (ending_atom shape) (close_any shape (place items k) old behind level ∙ took) (omega (arith, p))))
+      let least = paid_least behind now in
+      rw is (subst (λ n. Walked bytes items (point k (standing old (want_at behind (level_of old.opens)) None) (paid behind now) mark) (point n (standing new wants.Next None) later mark)) (sym e) (over_sign bytes items k (ending shape) (paid behind now) later mark (Closing shape (place items k)) _ _ l (in_text bytes items listed k l) q (ending_sign shape (place items k)) (ending_atom shape) (close_any shape (place items k) old behind level ∙ took) (omega (arith, p, least))))
   closed_entered k next now later mark behind old new shape (Err NotJson) r e l level q took p is =
-      rw is (refused_halts bytes items listed k (now + 1) mark (Closing shape (place items k)) _ l (sign_token bytes (place items k) (Closing shape (place items k)) (in_text bytes items listed k l) (ap (sign_at (place items k)) q ∙ ending_sign shape (place items k))) (close_any shape (place items k) old behind level ∙ took))
+      rw is (refused_halts bytes items listed k (paid behind now) mark (Closing shape (place items k)) _ l (sign_token bytes (place items k) (Closing shape (place items k)) (in_text bytes items listed k l) (ap (sign_at (place items k)) q ∙ ending_sign shape (place items k))) (close_any shape (place items k) old behind level ∙ took))
   closed_entered k next now later mark behind old new shape (Err Memory) r e l level q took p is = rw is tt
 
   pub first_entered : (k next now later : ℕ) (mark : Bool) (behind : Bool) (b : Built) (shape : Shape) → true ≡ not behind → k ≤ next → level_of b.opens ≡ Inside shape → byte_at bytes items k ≢ ending shape → later ≤ now + 1
-      → WalksInto bytes items (point k (standing b (want_at behind (level_of b.opens)) None) (now + 1) mark) shape next (Ok (Some k)) b later mark
+      → WalksInto bytes items (point k (standing b (want_at behind (level_of b.opens)) None) (paid behind now) mark) shape next (Ok (Some k)) b later mark
   first_entered k next now later mark behind b shape e' le level n p = let e = is_first behind e' in
-      (level, le, (first_of shape, first_asks shape k n, stays refl (sym (ap (λ x. standing b (want_at x (level_of b.opens)) None) e ∙ entry_state b shape false level)) refl p))
+      (level, le, (first_of shape, first_asks shape k n, stays refl (sym (ap (λ x. standing b (want_at x (level_of b.opens)) None) e ∙ entry_state b shape false level)) refl (subst (λ x. later ≤ paid x now) (sym e) p)))
 
   pub comma_entered : (k next now later : ℕ) (mark : Bool) (behind : Bool) (b : Built) (shape : Shape) → false ≡ not behind → next ≡ k + 1 → k < length items → level_of b.opens ≡ Inside shape → byte_at bytes items k ≡ 44 → later ≤ now + 1
-      → WalksInto bytes items (point k (standing b (want_at behind (level_of b.opens)) None) (now + 1) mark) shape next (Ok (Some next)) b later mark
+      → WalksInto bytes items (point k (standing b (want_at behind (level_of b.opens)) None) (paid behind now) mark) shape next (Ok (Some next)) b later mark
   comma_entered k next now later mark behind b shape e' f l level q p = let e = is_behind behind e' in
-      let w = comma_walks k (now + 1) later mark b shape l level q (omega (arith, p)) in grind arith
+      let w = comma_walks k now later mark b shape l level q (omega (arith, p)) in grind arith
 
   pub none_entered : (k now : ℕ) (mark : Bool) (behind : Bool) (b : Built) (shape : Shape) → false ≡ not behind → k < length items → level_of b.opens ≡ Inside shape → byte_at bytes items k ≢ 44 → byte_at bytes items k ≢ ending shape
-      → Halts bytes items (point k (standing b (want_at behind (level_of b.opens)) None) (now + 1) mark)
+      → Halts bytes items (point k (standing b (want_at behind (level_of b.opens)) None) (paid behind now) mark)
   none_entered k now mark behind b shape e' l level comma end = let e = is_behind behind e' in
-      subst (λ x. Halts bytes items (point k (standing b (want_at x (level_of b.opens)) None) (now + 1) mark)) (sym e) (no_sign_halts k (now + 1) mark b shape l level comma end)
+      subst (λ x. Halts bytes items (point k (standing b (want_at x (level_of b.opens)) None) (paid x now) mark)) (sym e) (no_sign_halts k now mark b shape l level comma end)
 
   pub over_halts : (k now : ℕ) (mark : Bool) (s : State) (shape : Shape) → length items ≤ k → level_of s.opens ≡ Inside shape → Halts bytes items (point k s now mark)
   over_halts k now mark s shape l level = here_halts bytes items _ (few 0 (omega (arith, l)) (λ h. not_root level h.0))
@@ -223,7 +228,7 @@ module _ (bytes items : List ℕ) (listed : IsListed bytes items) where
   pub may_continue : (a : Point) (k : ℕ) (level : Level) (shape : Shape) (b : Built) (looked : ℕ) (mark : Bool) → level ≡ Inside shape → (w : Want) × AsksChild bytes items k shape w × Walked bytes items a (point k (standing b w None) looked mark) → MayContinue bytes items a k level b looked mark
   may_continue a k level shape b looked mark e (w, asks, walked) = λ other f. (w, subst (λ s. AsksChild bytes items k s w) (same_inside shape other (sym e ∙ f)) asks, walked)
 
-  pub entered_none : (a : Point) (shape : Shape) (next looked : ℕ) (o : Option ℕ) (b : Built) (mark : Bool) → o ≡ None → WalksInto bytes items a shape next (Ok o) b looked mark → Walked bytes items a (point next (standing b wants.Next None) (looked + 1) mark)
+  pub entered_none : (a : Point) (shape : Shape) (next looked : ℕ) (o : Option ℕ) (b : Built) (mark : Bool) → o ≡ None → WalksInto bytes items a shape next (Ok o) b looked mark → Walked bytes items a (point next (standing b wants.Next None) looked mark)
   entered_none a shape next looked o b mark e h = subst (λ x. WalksInto bytes items a shape next (Ok x) b looked mark) e h
 
   pub entered_some : (a : Point) (shape : Shape) (next looked k : ℕ) (o : Option ℕ) (b : Built) (mark : Bool) → o ≡ Some k → WalksInto bytes items a shape next (Ok o) b looked mark → WalksInto bytes items a shape next (Ok (Some k)) b looked mark
@@ -258,9 +263,9 @@ module _ (bytes items : List ℕ) (listed : IsListed bytes items) where
 
   first_taken : (now later : ℕ) (mark mark' : Bool) (old new : Built) (l : Lexed) → 0 < length items → TokenAt bytes (place items 0) (token_of (place items 0) l) → Marked bytes (place items 0) mark (Ok (end_of (place items 0) l)) mark' → later ≤ now + price_of l
       → step (token_of (place items 0) l) (standing old wants.Value None) ≡ Some (standing new (behind l) None) → First (point 0 (standing old wants.Value None) now mark) (Ok (record { number = 1; behind = is_whole l })) new later mark'
-  first_taken now later mark mark' old new (lexed.Text x) l t m p took = (one bytes items 0 now (later + 1) mark mark' (Text x) _ _ l t took (omega (arith, p)) m, λ e. absurd (cc))
-  first_taken now later mark mark' old new (lexed.Number x) l t m p took = (one bytes items 0 now (later + 1) mark mark' (Word x kinds.Number) _ _ l t took (omega (arith, p)) m, λ e. absurd (cc))
-  first_taken now later mark mark' old new (lexed.Word kind x) l t m p took = (one bytes items 0 now (later + 1) mark mark' (Word x kind) _ _ l t took (omega (arith, p)) m, λ e. absurd (cc))
+  first_taken now later mark mark' old new (lexed.Text x) l t m p took = (one bytes items 0 now later mark mark' (Text x) _ _ l t took (omega (arith, p)) m, λ e. absurd (cc))
+  first_taken now later mark mark' old new (lexed.Number x) l t m p took = (one bytes items 0 now later mark mark' (Word x kinds.Number) _ _ l t took (omega (arith, p)) m, λ e. absurd (cc))
+  first_taken now later mark mark' old new (lexed.Word kind x) l t m p took = (one bytes items 0 now later mark mark' (Word x kind) _ _ l t took (omega (arith, p)) m, λ e. absurd (cc))
   first_taken now later mark mark' old new (lexed.Opens shape) l t m p took = grind (
     arith,
     open_level shape (place items 0) old.entries old.opens None old.deep _ took,

@@ -9,7 +9,7 @@ use Rattle.json_walk.proofs.Names.{Walked, stays, moves, Halts, want_at, no_more
 use Rattle.json_text.specs.declared.tape.Want.TheVariants as wants
 use Rattle.json_walk.specs.declared.lexing.Lexed.TheVariants as lexed
 use Rattle.json_text.specs.Machine.{Comma, Between}
-use Rattle.json_walk.specs.Walked.{NoneAt, IsNameAt, price_of, byte_at, IsBlocked, refused, AsksValue, AsksName, with_sign}
+use Rattle.json_walk.specs.Walked.{NoneAt, IsNameAt, price_of, byte_at, IsBlocked, refused, few, AsksValue, AsksName, with_sign}
 use Rattle.json_walk.proofs.Tokens.{refused_all}
 use Rattle.json_walk.proofs.TokensAt.{sign_token, token_size, size, ends_at, no_word_marked}
 use Rattle.json_walk.proofs.Listed.{in_text}
@@ -54,6 +54,10 @@ value_only tok b w name t n c = grind arith
 
 -- ---- Points
 
+-- so many looks later
+abbrev pub later : ℕ → Point → Point
+later d a = point a.number a.state (a.looked + d) a.exceeds
+
 module _ (bytes items : List ℕ) where
   -- more looks may be paid for
   walked_paid : (k now more : ℕ) (mark : Bool) (s : State) (c : Point) → now ≤ more → Walked bytes items (point k s now mark) c → Walked bytes items (point k s more mark) c
@@ -67,6 +71,18 @@ module _ (bytes items : List ℕ) where
   pub walked_more : {a b c : Point} → Walked bytes items a b → Walked bytes items b c → Walked bytes items a c
   walked_more {a = a} {b = b} {c = c} (stays n s x l) w = walked_paid a.number b.looked a.looked a.exceeds a.state c l (walked_same a b c n s x w)
   walked_more (moves m v) w = moves m (walked_more v w)
+
+  pub walked_later : (d : ℕ) {a b : Point} → Walked bytes items a b → Walked bytes items (later d a) (later d b)
+  walked_later d (stays n s x l) = stays n s x (omega (arith, l))
+  walked_later d (moves m v) = let price = m.looks in
+      moves (record { inside = m.inside; end = m.end; taken = m.taken; next = m.next; looks = omega (arith, price); marked = m.marked }) (walked_later d v)
+
+  blocked_later : (d : ℕ) (a : Point) → IsBlocked bytes items a → IsBlocked bytes items (later d a)
+  blocked_later d a (refused l r) = refused l r
+  blocked_later d a (few n l out) = few n l out
+
+  pub halts_later : (d : ℕ) {a : Point} → Halts bytes items a → Halts bytes items (later d a)
+  halts_later d (b, w, h) = (later d b, walked_later d w, blocked_later d b h)
 
   pub here : (a : Point) → Walked bytes items a a
   here a = stays refl refl refl (omega arith)

@@ -6,7 +6,7 @@ use Rattle.json_walk.proofs.Names.{places, IsBounded, Root, BuildFault, NotJson,
 use Rattle.json_walk.proofs.Names.{Point, point, Walked, stays, moves, Halts, want_at, at}
 use Rattle.json_text.specs.declared.tape.Want.TheVariants as wants
 use Rattle.tape_cells.specs.Built.{nothing}
-use Rattle.json_walk.specs.Walked.{Outlasts, IsBlocked, refused, few, WalksTo}
+use Rattle.json_walk.specs.Walked.{Outlasts, IsBlocked, refused, few, WalksTo, paid}
 use Rattle.json_text.proofs.Complete.{blank_class}
 use Rattle.json_walk.proofs.Listed.{in_text, next_is, no_blank}
 use Rattle.json_walk.proofs.Marks.{Kept, kept_start, kept_token}
@@ -35,6 +35,10 @@ no_root_close shape p es os d l = grind arith
 
 nothing_more : (tok : Token) (b : Built) → level_of b.opens ≡ Root → step tok (standing b wants.Next None) ≡ None
 nothing_more tok b l = grind arith
+
+paid_least : (behind : Bool) (now : ℕ) → now ≤ paid behind now
+paid_least true now = omega arith
+paid_least false now = omega arith
 
 module _ (bytes items : List ℕ) (listed : IsListed bytes items) (before : ℕ) where
   -- what is known at a point of a walk
@@ -103,12 +107,12 @@ module _ (bytes items : List ℕ) (listed : IsListed bytes items) (before : ℕ)
   pub whole_walk : (spot : Spot) (b : Built) (looked : ℕ) (mark : Bool) → Walked bytes items first_point (at spot b looked mark) → level_of b.opens ≡ Root → spot.behind ≡ true → length items ≤ spot.number → WholeWalk b.entries b.deep looked mark
   whole_walk spot b looked mark w level behind l =
       let known = known_walked first_point (at spot b looked mark) w known_first in let k = spot.number in
-      let i = get_or (places bytes) k (length bytes) in let walks = known.walks in let over = past_places k (looked + 1) _ walks l in
+      let i = get_or (places bytes) k (length bytes) in let walks = known.walks in let over = past_places k (paid spot.behind looked) _ walks l in
       let want : want_at spot.behind (level_of b.opens) ≡ wants.Next = ap (λ x. want_at x (level_of b.opens)) behind in
-      let end = walks_end bytes k i before (looked + 1) _ walks over (level, want) in let short = listed.short in record {
+      let end = walks_end bytes k i before (paid spot.behind looked) _ walks over (level, want) in let short = listed.short in record {
         json = end.json;
         stands = end.stands;
-        bounded = λ t x. (let most = end.bounded t x in omega (arith, most));
+        bounded = λ t x. (let most = end.bounded t x in let least = paid_least spot.behind looked in omega (arith, most, least));
         short = omega (arith, short, walks.knows.within, walks.knows.small.entries);
         depth = λ t x. reads_depth bytes i _ walks.knows over t x;
         numbers = known.kept.good;

@@ -5,3 +5,4 @@ pub mod Walking
 pub mod Building
 pub mod Placing
 pub mod Walked
+pub mod UnderWay

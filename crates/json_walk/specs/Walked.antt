@@ -167,9 +167,14 @@ want_at true level = wants.Next
 want_at false Root = wants.Value
 want_at false (Inside shape) = first_of shape
 
--- the point of a spot, with the look at the next sign paid for
+-- the looks that are paid for at a spot: in front of a first child one more, at its place; a sign behind a value has three of its own
+abbrev pub paid : Bool → ℕ → ℕ
+paid true looked = looked
+paid false looked = looked + 1
+
+-- the point of a spot
 abbrev pub at : Spot → Built → ℕ → Bool → Point
-at spot b looked exceeds = point spot.number (standing b (want_at spot.behind (level_of b.opens)) None) (looked + 1) exceeds
+at spot b looked exceeds = point spot.number (standing b (want_at spot.behind (level_of b.opens)) None) (paid spot.behind looked) exceeds
 
 -- the walk leads to the spot that the call gives; a call that finds no JSON halts, and one without memory says nothing
 abbrev pub WalksTo : (text items : List ℕ) → Point → Result Spot BuildFault → Built → ℕ → Bool → Type 0
@@ -246,6 +251,6 @@ abbrev pub WalksInto : (text items : List ℕ) → Point → Shape → ℕ → R
 WalksInto text items a shape next (Ok (Some k)) b looked exceeds =
     (level_of b.opens ≡ Inside shape) × (k ≤ next)
     × ((w : Want) × AsksChild text items k shape w × Walked text items a (point k (standing b w None) looked exceeds))
-WalksInto text items a shape next (Ok None) b looked exceeds = Walked text items a (point next (standing b wants.Next None) (looked + 1) exceeds)
+WalksInto text items a shape next (Ok None) b looked exceeds = Walked text items a (point next (standing b wants.Next None) looked exceeds)
 WalksInto text items a shape next (Err NotJson) b looked exceeds = Halts text items a
 WalksInto text items a shape next (Err Memory) b looked exceeds = Unit {0}

@@ -11,4 +11,4 @@ mod second_stage;
 mod short_numbers;
 
 pub use exponents::has_short_exponent;
-pub use second_stage::{Reading, build, walk};
+pub use second_stage::{Reading, Way, begin, build, go_on, walk};

@@ -9,6 +9,7 @@ ghost use Rattle.tape_cells.specs.Built.{Built, standing, nothing, top_of, child
 ghost use Rattle.json_text.specs.Limits.{AreWithinLimits};
 ghost use Rattle.json_text.specs.Answer.{IsJson, StandsForAll, HasDepth, IsNoJson};
 ghost use Rattle.json_walk.specs.Building.{IsBounded};
+ghost use Rattle.json_walk.specs.UnderWay.{IsUnderWay, IsOver, Ends, left};
 ghost use Rattle.tape_cells.specs.Opened.{HasRoom};
 ghost use Rattle.json_text.specs.Suspects.{AreSuspects, narrow};
 ghost use Rattle.json_text.specs.Verdict.{text_limit};
@@ -346,7 +347,8 @@ fn take_slot<const OBJECT: bool>(
     }
 }
 
-// The children of the innermost container from here on, up to one that holds others or to the end of the container.
+// The children of the innermost container from here on, up to one that holds others, to the end of the container, or to the comma behind a child
+// that begins at the bound or later.
 #[tactic(auto, using(crate::proofs::Listed::number_below, crate::proofs::WalkContainer::small_state, crate::proofs::WalkContainer::walked_small, crate::proofs::WalkContainer::walked_onward, crate::proofs::Listed::near))]
 #[inline(always)]
 fn run<const OBJECT: bool>(
@@ -356,6 +358,7 @@ fn run<const OBJECT: bool>(
     builder: &mut Builder,
     may_exceed: &mut bool,
     seen: &mut SeenNames,
+    bound: usize,
 ) -> Result<Spot, BuildFault>
     requires listed { IsListed looks.old.0 places.now }
     requires small { IsSmall spot.number (standing builder.old Want.Next None) }
@@ -391,7 +394,15 @@ fn run<const OBJECT: bool>(
                     behind: false,
                 });
             }
-            Ok(Some(b',')) => k += width::<OBJECT>() + 1,
+            Ok(Some(b',')) => {
+                if k >= bound {
+                    return Ok(Spot {
+                        number: k + width::<OBJECT>(),
+                        behind: true,
+                    });
+                }
+                k += width::<OBJECT>() + 1;
+            }
             Ok(Some(sign)) => {
                 return ended::<OBJECT>(places, k + width::<OBJECT>(), sign, builder, seen);
             }
@@ -410,6 +421,7 @@ fn children(
     builder: &mut Builder,
     may_exceed: &mut bool,
     seen: &mut SeenNames,
+    bound: usize,
 ) -> Result<Spot, BuildFault>
     requires listed { IsListed looks.old.0 places.now }
     requires small { IsSmall spot.number (standing builder.old Want.Next None) }
@@ -422,12 +434,12 @@ fn children(
     ensures same { looks.new.0 ≡ looks.old.0 }
 {
     match shape {
-        Shape::Array => run::<false>(looks, places, spot, builder, may_exceed, seen),
-        Shape::Object => run::<true>(looks, places, spot, builder, may_exceed, seen),
+        Shape::Array => run::<false>(looks, places, spot, builder, may_exceed, seen, bound),
+        Shape::Object => run::<true>(looks, places, spot, builder, may_exceed, seen, bound),
     }
 }
 
-// What lies in the containers that are open here, up to the end of the outermost one.
+// What lies in the containers that are open here, up to the end of the outermost one, or to a spot at the bound or later.
 #[inline(always)]
 fn containers(
     looks: &mut Batch<'_>,
@@ -436,6 +448,7 @@ fn containers(
     builder: &mut Builder,
     may_exceed: &mut bool,
     seen: &mut SeenNames,
+    bound: usize,
 ) -> Result<Spot, BuildFault>
     requires listed { IsListed looks.old.0 places.now }
     requires inside { spot.number ≤ length places.now }
@@ -443,13 +456,18 @@ fn containers(
     requires opened { spot.behind ≡ false → level_of builder.old.opens ≡ Level.Root → ⊥ }
     requires checked { DuplicateCheck looks.old.0 builder.old seen.old }
     ensures walks { WalksTo looks.old.0 places.now (at spot builder.old looks.old.1 may_exceed.old) result builder.new looks.new.1 may_exceed.new }
-    ensures over { IfOk result (λ next. (level_of builder.new.opens ≡ Level.Root) × (next.behind ≡ true)) }
+    ensures over { IfOk result (λ next. next.number < bound → level_of builder.new.opens ≡ Level.Root) }
+    ensures inside { IfOk result (λ next. next.number ≤ length places.now) }
+    ensures opened { IfOk result (λ next. next.behind ≡ false → level_of builder.new.opens ≡ Level.Root → ⊥) }
     ensures checked { IfOk result (λ next. DuplicateCheck looks.old.0 builder.new seen.new) }
     ensures same { looks.new.0 ≡ looks.old.0 }
 {
     let mut next = spot;
     while let Level::Inside(shape) = builder.level() {
-        match children(looks, places, next, shape, builder, may_exceed, seen) {
+        if next.number >= bound {
+            return Ok(next);
+        }
+        match children(looks, places, next, shape, builder, may_exceed, seen, bound) {
             Ok(spot) => next = spot,
             Err(fault) => return Err(fault),
         }
@@ -520,8 +538,129 @@ pub struct Reading {
     pub suspects: Vec<u32>,
 }
 
-/// The tape of the text that is looked at and what else was found of it, from the places of its index, or why it has no tape.
+/// A walk that is under way: what it has built, the spot to which it came, and whether a number may be beyond the limits.
+#[derive(Drop)]
+pub struct Way {
+    builder: Builder,
+    number: usize,
+    behind: bool,
+    may_exceed: bool,
+}
+
+/// Begins a walk over the places of a text's index with the first token, or says why the text has no tape.
+///
+/// # Errors
+///
+/// `NotJson` if the bytes are not a text of the grammar; `Memory` if an allocation failed.
 #[inline(never)]
+pub fn begin(alloc: Global, index: &Index, looks: &mut Looks<'_>) -> Result<Way, BuildFault>
+    requires short { length looks.old.0 ≤ text_limit }
+    requires utf8 { IsUtf8 looks.old.0 }
+    requires index { IsIndexOf index.now looks.old.0 }
+    ensures same { looks.new.0 ≡ looks.old.0 }
+    ensures on_way { IfOk result (λ way. (seen : SeenNames) → DuplicateCheck looks.old.0 nothing seen → IsUnderWay looks.old.0 index.now looks.old.1 looks.new.1 seen way) }
+    ensures refused { IsErrOf result BuildFault.NotJson → IsNoJson looks.old.0 }
+{
+    if index.unclosed || index.control_inside || index.wrong_escape {
+        return Err(BuildFault::NotJson);
+    }
+    let places = index.places.as_slice();
+    let mut builder = Builder::new(alloc, places.len() / 2 + 1)?;
+    let mut may_exceed = false;
+    let mut batch = looks.batch();
+    let first = whole(&mut batch, places, &mut builder, &mut may_exceed);
+    looks.settle(batch);
+    match first {
+        Ok(spot) => Ok(Way {
+            builder,
+            number: spot.number,
+            behind: spot.behind,
+            may_exceed,
+        }),
+        Err(fault) => Err(fault),
+    }
+}
+
+/// Goes on with a walk to the end of the text's value, or over so many places and a few more. The names that it passes are seen.
+///
+/// # Errors
+///
+/// `NotJson` if the bytes are not a text of the grammar; `Memory` if an allocation failed.
+#[inline(never)]
+pub fn go_on(
+    begun: Way,
+    index: &Index,
+    looks: &mut Looks<'_>,
+    seen: &mut SeenNames,
+    most: usize,
+) -> Result<Way, BuildFault>
+    requires { (before : ℕ) × IsUnderWay looks.old.0 index.now before looks.old.1 seen.old begun }
+    ensures same { looks.new.0 ≡ looks.old.0 }
+    ensures on_way { IfOk result (λ way. (before : ℕ) → IsUnderWay looks.old.0 index.now before looks.old.1 seen.old begun → IsUnderWay looks.old.0 index.now before looks.new.1 seen.new way) }
+    ensures over { IfOk result (λ way. left index.now begun < left index.now way + most → IsOver way) }
+    ensures refused { IsErrOf result BuildFault.NotJson → IsNoJson looks.old.0 }
+{
+    let Way {
+        mut builder,
+        number,
+        behind,
+        mut may_exceed,
+    } = begun;
+    let mut batch = looks.batch();
+    let last = containers(
+        &mut batch,
+        index.places.as_slice(),
+        Spot { number, behind },
+        &mut builder,
+        &mut may_exceed,
+        seen,
+        number.saturating_add(most),
+    );
+    looks.settle(batch);
+    match last {
+        Ok(spot) => Ok(Way {
+            builder,
+            number: spot.number,
+            behind: spot.behind,
+            may_exceed,
+        }),
+        Err(fault) => Err(fault),
+    }
+}
+
+impl Way {
+    /// Whether the text's value is behind it.
+    #[inline(always)]
+    pub fn is_over(&self) -> bool
+        ensures over { IsTrue result → IsOver self.now }
+        ensures left { result ≡ false → IsOver self.now → ⊥ }
+    {
+        matches!(self.builder.level(), Level::Root)
+    }
+
+    /// The result of a walk that is over, which has seen these names.
+    ///
+    /// # Errors
+    ///
+    /// `NotJson` if more tokens stand behind the text's value.
+    #[inline(always)]
+    pub fn finish(self, index: &Index, seen: SeenNames) -> Result<Reading, BuildFault>
+        ensures { (text : List ℕ) (before now : ℕ) → IsUnderWay text index.now before now seen self → IsOver self → Ends text before now result }
+    {
+        if self.number < index.places.len() {
+            return Err(BuildFault::NotJson);
+        }
+        let depth = self.builder.deepest();
+        Ok(Reading {
+            tape: self.builder.into_tape(),
+            depth,
+            may_exceed: self.may_exceed,
+            suspects: seen.suspects,
+        })
+    }
+}
+
+/// The tape of the text that is looked at and what else was found of it, from the places of its index, or why it has no tape.
 pub fn walk(alloc: Global, index: &Index, looks: &mut Looks<'_>) -> Result<Reading, BuildFault>
     requires short { length looks.old.0 ≤ text_limit }
     requires utf8 { IsUtf8 looks.old.0 }
@@ -539,46 +678,15 @@ pub fn walk(alloc: Global, index: &Index, looks: &mut Looks<'_>) -> Result<Readi
     ensures looked { IfOk result (λ reading. IsBounded looks.old.0 looks.old.1 looks.new.1) }
     ensures suspects { IfOk result (λ reading. AreSuspects looks.old.0 reading.tape reading.suspects.items) }
 {
-    if index.unclosed || index.control_inside || index.wrong_escape {
-        return Err(BuildFault::NotJson);
-    }
-    let places = index.places.as_slice();
-    let mut builder = Builder::new(alloc, places.len() / 2 + 1)?;
-    let mut may_exceed = false;
     let mut seen = SeenNames::new(alloc);
-    let mut batch = looks.batch();
-    let first = match whole(&mut batch, places, &mut builder, &mut may_exceed) {
-        Ok(first) => first,
-        Err(fault) => {
-            looks.settle(batch);
-            return Err(fault);
-        }
+    let first = match begin(alloc, index, looks) {
+        Ok(way) => way,
+        Err(fault) => return Err(fault),
     };
-    let last = match containers(
-        &mut batch,
-        places,
-        first,
-        &mut builder,
-        &mut may_exceed,
-        &mut seen,
-    ) {
-        Ok(last) => last,
-        Err(fault) => {
-            looks.settle(batch);
-            return Err(fault);
-        }
-    };
-    looks.settle(batch);
-    if last.number < places.len() {
-        return Err(BuildFault::NotJson);
+    match go_on(first, index, looks, &mut seen, usize::MAX) {
+        Ok(last) => last.finish(index, seen),
+        Err(fault) => Err(fault),
     }
-    let depth = builder.deepest();
-    Ok(Reading {
-        tape: builder.into_tape(),
-        depth,
-        may_exceed,
-        suspects: seen.suspects,
-    })
 }
 
 /// Builds the tape of a text from the places of its index.

@@ -88,3 +88,7 @@ returns-clause-walks g c =
     let continues = c.loop-k.invariant.continues _ c.requires.level in let test = c.loop-k-test.false in let size = c.width.ensures.value in
     halts_more c.args.looks.now.0 c.args.places.now continues.2
     (few_halts c.args.looks.now.0 c.args.places.now c.requires.listed c.loop-k.k c.loop-k.looks.1 c.loop-k.may_exceed c.loop-k.builder _ continues.0 (omega (arith, test, size)) (c.loop-k.invariant.level ∙ c.requires.level) continues.1)
+
+pub returns-then-k-bound-clause-walks : goal.returns-then-k-bound-clause-walks
+returns-then-k-bound-clause-walks g c =
+    (walks g (goal.at.returns-then-k-bound-clause-walks g c).After-child _ _ (c.in-Ok-Some-eq44.is ∙ ap Ok c.in-Ok-Some-eq44.field-0-is) (ap (λ x. c.loop-k.k + x) c.width-then-k-bound.ensures.value)).0

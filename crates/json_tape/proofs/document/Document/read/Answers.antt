@@ -1,18 +1,12 @@
-use Rattle.json_text.proofs.Names.{◌∙◌, ap, sym, subst, IsAccepted, arith}
-use Rattle.std.specs.String.{string_bytes}
+use Rattle.json_text.proofs.Names.{◌∙◌, ap, sym, subst, IsAccepted}
 use Rattle.json_tape.specs.Document.{tree_of}
-use Rattle.json_tape.proofs.TreeBuilt.{is_accepted, document}
+use Rattle.json_tape.specs.Shares.{IsKept}
 use Rattle.json_tape.proofs.document.Document.read.Goals as goal
+
+pub of_parts-requires : goal.of_parts-requires
+of_parts-requires c = let same = ap (λ v. v.items) c.from_utf8_unchecked.ensures.value ∙ c.in-Ok-index_and_copy.ensures.copy in let parts = c.in-Ok-read_indexed.parts in
+    subst (λ t. IsKept t parts.tape parts.names) (sym (same ∙ sym c.in-Ok.ensures.0)) c.in-Ok-read_indexed.ensures
 
 pub returns-in-Ok-read_indexed : goal.returns-in-Ok-read_indexed
 returns-in-Ok-read_indexed c = let same = ap (λ v. v.items) c.from_utf8_unchecked.ensures.value ∙ c.in-Ok-index_and_copy.ensures.copy in
-    let found = c.in-Ok-read_indexed.ensures in let tape = c.in-Ok-read_indexed.parts.tape in (
-      same,
-      subst (λ t. IsAccepted t (tree_of (record { text = string_bytes c.from_utf8_unchecked.result; entries = tape }))) c.in-Ok.ensures.0
-          (is_accepted c.in-Ok.checked.now (string_bytes c.from_utf8_unchecked.result) tape (same ∙ sym c.in-Ok.ensures.0) found.0 found.1 found.3),
-    )
-
-pub invariant_of-result : goal.invariant_of-result
-invariant_of-result c =
-    let same = ap (λ v. v.items) c.from_utf8_unchecked.ensures.value ∙ c.in-Ok-index_and_copy.ensures.copy ∙ sym c.in-Ok.ensures.0 in
-    let found = c.in-Ok-read_indexed.ensures in let tape = c.in-Ok-read_indexed.parts.tape in (search (arith, document), search arith)
+    let text = c.of_parts.ensures.0 ∙ same in (text, subst (λ t. IsAccepted t (tree_of c.of_parts.result)) text c.of_parts.ensures.1)

@@ -1,0 +1,60 @@
+//! A text that is read a share at a time.
+
+ghost use Rattle.std.specs.Prelude.{◌≡◌, MatchResult};
+ghost use Rattle.json_text.specs.Answer.{Explains};
+
+use crate::document::{characters, fault_of};
+use json_text::TextFault;
+use json_walk::{Way, begin};
+use name_stamps::SeenNames;
+use std::alloc::Global;
+use std::marker::Model;
+use structural_index::{Index, Looks, index_and_copy};
+
+/// A text that is being read: its index is made, and the walk over the places of the index goes on.
+#[derive(Drop)]
+pub struct ReadTask {
+    pub(crate) text: String,
+    pub(crate) index: Index,
+    pub(crate) way: Way,
+    pub(crate) seen: SeenNames,
+}
+
+impl Model for ReadTask {
+    ghost use Rattle.std.specs.String.{string_bytes};
+    ghost use Rattle.json_walk.specs.UnderWay.{left};
+    ghost use Rattle.json_tape.specs.Shares.{Share, IsRead};
+
+    ghost Value = { Share };
+
+    ghost view = { λ t. record { text = string_bytes t.text; left = left t.index t.way } };
+
+    ghost invariant = { λ t. IsRead (string_bytes t.text) t.index t.seen t.way };
+}
+
+impl ReadTask {
+    /// Begins to read a text: the bytes are copied, and their index is made.
+    ///
+    /// # Errors
+    ///
+    /// `TooLong`, `NotUtf8` and `NotJson` as of [`Document::read`], and `Memory`.
+    pub fn begin(alloc: Global, text: &[u8]) -> Result<ReadTask, TextFault>
+        ensures { MatchResult result (λ task. task.text ≡ text.now) (λ f. Explains text.now f) }
+    {
+        if let Err(fault) = characters(text) {
+            return Err(fault);
+        }
+        let Ok((index, copy)) = index_and_copy(alloc, text) else {
+            return Err(TextFault::Memory);
+        };
+        match begin(alloc, &index, &mut Looks::new(text)) {
+            Ok(way) => Ok(ReadTask {
+                text: unsafe { String::from_utf8_unchecked(copy) },
+                index,
+                way,
+                seen: SeenNames::new(alloc),
+            }),
+            Err(fault) => Err(fault_of(fault)),
+        }
+    }
+}
