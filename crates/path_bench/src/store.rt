@@ -32,7 +32,7 @@ fn fill(
         let Some(document) = DocName::read(name.as_bytes()) else {
             return false;
         };
-        if tenant.put(alloc, collection, document, text).is_err() {
+        if tenant.put(alloc, collection, document, text, None).is_err() {
             return false;
         }
     }

@@ -1,5 +1,5 @@
 -- Queries under way, as tenants and their queries change.
-use Rattle.std.proofs.Common.{◌≡◌, ◌≢◌, ◌<◌, ℕ, List, [], ◌∷◌, Bool, true, false, not, ◌&&◌, ◌||◌, eqb, Option, Some, None, Result, Ok, Err, cond, refl, sym, ap, ◌∙◌, subst, arith}
+use Rattle.std.proofs.Common.{◌≡◌, ◌≢◌, ◌<◌, inl, ℕ, List, [], ◌∷◌, Bool, true, false, not, ◌&&◌, ◌||◌, eqb, Option, Some, None, Result, Ok, Err, cond, refl, sym, ap, ◌∙◌, subst, arith}
 use Rattle.std.specs.Prelude.{slice_get, IfOk, IfSome}
 use Rattle.std.specs.Bool.{MatchBool}
 use Rattle.std.specs.BTreeMap.{is_at}
@@ -17,7 +17,12 @@ use Rattle.wire_frames.specs.Frames.{Whole, front}
 use Rattle.wire_frames.specs.Framing.{Framing}
 use Rattle.wire_frames.specs.Splitting.{Splitting}
 use Rattle.wire_frames.specs.Requests.{Asks, Query, key_of, reading}
+use Rattle.json_tape.specs.Shares.{Share as ReadShare}
+use Rattle.json_tape.specs.Going as Reached
+use Rattle.json_tape.specs.declared.progress.Progress.{Progress}
+use Rattle.json_tape.specs.declared.progress.Progress.TheVariants.{Paused}
 use Rattle.path_hub.specs.declared.tasks.Asked.{Asked}
+use Rattle.path_hub.specs.declared.tasks.Reading.{Reading}
 use Rattle.path_hub.specs.declared.tasks.Tasks.{Tasks}
 use Rattle.path_hub.specs.declared.tasks.Share.{Share}
 use Rattle.path_hub.specs.declared.tasks.Share.TheVariants as share
@@ -25,7 +30,7 @@ use Rattle.request_replies.specs.Answers.{is_no_memory}
 use Rattle.request_replies.specs.Tenants.{Serves, ServesBody, ServesBy, map_of, put_at, is_short}
 use Rattle.path_hub.specs.Sessions.{Sessions, session, Sets}
 use Rattle.path_hub.specs.HubState.{state}
-use Rattle.path_hub.specs.UnderWay.{AreOnWay, AsksQuery, Goes, GoesOn, IsBodyCharge, IsCharge, IsChargeAt, IsFirstCharge, IsOf, SetsTask, SharesBody, SharesFirst, SharesQuery, Shares, has_other, is_held, is_other, task_at, tenant_asked}
+use Rattle.path_hub.specs.UnderWay.{AreOnWay, AsksQuery, Goes, GoesOn, IsBodyCharge, IsCharge, IsChargeAt, IsFirstCharge, IsOf, ReadsOn, SetsReading, SetsTask, SharesBody, SharesFirst, SharesQuery, Shares, has_other, is_behind, is_held, is_kept, is_long, is_other, may_read, reading_at, task_at, tenant_asked}
 use Rattle.request_replies.proofs.Keys.{read_other, with_map_at}
 use Rattle.request_replies.proofs.Steps.{serves_command}
 use Rattle.path_hub.proofs.Calls.{one_step}
@@ -120,8 +125,52 @@ found conn place q a (e ∷ es) h n p = by (is_at (nat_cmp q) e.0) refl (λ h. f
         ap (λ b. b || rest) (both e.0 conn e.1.place place (λ k. n (sym key ∙ k)) (ap (λ (x : Asked). x.place) same ∙ p))
     by false r again = ap (λ b. is_other place conn e || b) (again (sym (ap (λ b. cond b (Some e.1) (lookup (is_at (nat_cmp q)) es)) r) ∙ h)) ∙ or_true (is_other place conn e)
 
+-- a body that does not wait is behind no query of its tenant
+pub held_behind : (conn : ℕ) (body : List ℕ) (t : Tenancy) (tasks : Tasks) → is_held conn body t tasks ≡ false → is_behind conn body t tasks ≡ false
+held_behind conn body t tasks h = by (tenant_asked t body) h
+  where
+    first : (a b : Bool) → (a || b) ≡ false → a ≡ false
+    first false b e = refl
+    first true b e = absurd cc
+
+    by : (o : Option ℕ) → option_map_or (λ place. is_kept place conn body tasks) o false ≡ false → option_map_or (λ place. has_other place conn tasks) o false ≡ false
+    by None e = refl
+    by (Some place) e = first (has_other place conn tasks) (is_long body && not (may_read place conn tasks)) e
+
+pub behind_same : (conn : ℕ) (body : List ℕ) (t : Tenancy) (old new : Tasks) → new.asked.entries ≡ old.asked.entries → is_behind conn body t old ≡ false → is_behind conn body t new ≡ false
+behind_same conn body t old new same h = ap (λ es. option_map_or (λ place. list_any (is_other place conn) es) (tenant_asked t body) false) same ∙ h
+
+-- a text is read on, and no query goes on
+pub read_on_way : (t : Tenancy) (old new : Tasks) → new.asked.entries ≡ old.asked.entries → AreOnWay t old → AreOnWay t new
+read_on_way t old new same w q a m k h = w q a m (sym (ap (λ es. lookup (is_at (nat_cmp q)) es) same) ∙ k) h
+
+-- no reading differs over tasks of which queries differ
+pub reading_still : (conn : ℕ) (v : Option Reading) (old mid new : Tasks) → mid.readings.entries ≡ old.readings.entries → SetsReading conn v mid new → SetsReading conn v old new
+reading_still conn v old mid new same s q = s q ∙ ap (λ es. cond (is_at (nat_cmp conn) q) v (lookup (is_at (nat_cmp q)) es)) same
+
+reading_twice : (conn : ℕ) (v w : Option Reading) (old mid new : Tasks) → SetsReading conn v old mid → SetsReading conn w mid new → SetsReading conn w old new
+reading_twice conn v w old mid new a b q = b q ∙ ap (cond (is_at (nat_cmp conn) q) w) (a q) ∙ twice (is_at (nat_cmp conn) q)
+  where
+    twice : (c : Bool) → cond c w (cond c v (reading_at q old)) ≡ cond c w (reading_at q old)
+    twice true = refl
+    twice false = refl
+
+-- a text that was taken out and read on is put back
+pub reads_on : (conn place places : ℕ) (old mid new : Tasks) (reading : Option Reading) (progress : Option Progress) (task : ReadShare) → 0 < places → new.asked.entries ≡ old.asked.entries → reading ≡ reading_at conn old
+    → SetsReading conn None old mid → progress ≡ Some (Paused task) → ((r : Reading) → reading ≡ Some r → IfSome progress (Reached.GoesOn r.task places)) → SetsReading conn (Some (record { place = place; task = task })) mid new → ReadsOn conn old new
+reads_on conn place places old mid new reading progress task some same was out p goes put = record {
+  same = same;
+  reading = record { place = place; task = task };
+  sets = reading_twice conn None _ old mid new out put;
+  less = λ r e. (let on = subst (λ o. IfSome o (Reached.GoesOn r.task places)) p (goes r (was ∙ e)) in omega (arith, some, on.1));
+}
+
+-- what a share of another task is, over tasks of which readings differ
+pub sets_before : (conn : ℕ) (v : Option Asked) (old mid new : Tasks) → mid.asked.entries ≡ old.asked.entries → SetsTask conn v mid new → SetsTask conn v old new
+sets_before conn v old mid new same s q = s q ∙ ap (λ es. cond (is_at (nat_cmp conn) q) v (lookup (is_at (nat_cmp q)) es)) same
+
 -- a body that does not wait is answered beside what others have under way
-pub served_on_way : (conn : ℕ) (t t' : Tenancy) (body before after : List ℕ) (old new : Tasks) → AreOnWay t old → is_held conn body t old ≡ false → SetsTask conn None old new → Serves t body before after t' → AreOnWay t' new
+pub served_on_way : (conn : ℕ) (t t' : Tenancy) (body before after : List ℕ) (old new : Tasks) → AreOnWay t old → is_behind conn body t old ≡ false → SetsTask conn None old new → Serves t body before after t' → AreOnWay t' new
 served_on_way conn t t' body before after old new w free s served q a m k h = by (is_at (nat_cmp conn) q) refl
   where
     by : (b : Bool) → is_at (nat_cmp conn) q ≡ b → Goes a.collection.items a.query.items m a.task
@@ -189,7 +238,7 @@ asked_shares s conn place number key collection text body t tasks tasks' before 
     by : (s : Share) → SharesQuery s conn place number collection text t tasks before tasks' after → SharesBody s conn body t tasks before t tasks' after
     by (share.Replied charge) (m, h, g, out, c) =
         (subst (λ x. Serves t body before after x) (with_map_at t place m h) (serves_command t body before after number place key (Query collection text) m m r p h g), out, body_charge charge body t asks m h c)
-    by share.Working s = (refl, s.0, (asks, s.1))
+    by share.Working s = (refl, s.0, inl (asks, s.1))
     by share.Idle s = absurd s
 
 -- ---- A share of work on a connection is one of the hub

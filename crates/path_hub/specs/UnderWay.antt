@@ -1,5 +1,5 @@
--- Queries under way (this project's own): one of a connection's at most. They are no part of a hub's state.
-use Rattle.std.specs.Prelude.{◌≡◌, ◌<◌, ℕ, List, slice_get, Option, Some, None, Bool, false, not, ◌&&◌, ◌==◌, if◌then◌else◌}
+-- Queries and readings under way (this project's own): one of a connection's at most. They are no part of a hub's state.
+use Rattle.std.specs.Prelude.{◌≡◌, ◌⊎◌, ◌<◌, ℕ, List, length, slice_get, Option, Some, None, is_some, Bool, true, false, not, ◌&&◌, ◌||◌, ◌==◌, nat_lt, if◌then◌else◌}
 use Rattle.std.specs.BTreeMap.{is_at}
 use Rattle.std.specs.List.{list_any}
 use Rattle.std.specs.Map.{lookup}
@@ -18,6 +18,7 @@ use Rattle.wire_frames.specs.declared.framing.Next.{Next}
 use Rattle.wire_frames.specs.declared.framing.Next.TheVariants as next
 use Rattle.wire_frames.specs.Requests.{Asks, Query, key_of, reading}
 use Rattle.path_hub.specs.declared.tasks.Asked.{Asked}
+use Rattle.path_hub.specs.declared.tasks.Reading.{Reading}
 use Rattle.path_hub.specs.declared.tasks.Tasks.{Tasks}
 use Rattle.path_hub.specs.declared.tasks.Share.{Share}
 use Rattle.path_hub.specs.declared.tasks.Share.TheVariants as share
@@ -55,6 +56,36 @@ pub record GoesOn (conn place : ℕ) (collection text : List ℕ) (old new : Tas
   pub its : IsOf asked place collection text
   pub less : (a : Asked) → task_at conn old ≡ Some a → IsOf a place collection text → work_left asked.task < work_left a.task
 
+-- ---- Readings
+
+-- the text that a connection has read
+abbrev pub reading_at : ℕ → Tasks → Option Reading
+reading_at conn tasks = lookup (is_at (nat_cmp conn)) tasks.readings.entries
+
+abbrev pub SetsReading : ℕ → Option Reading → Tasks → Tasks → Type 0
+SetsReading conn v old new = (q : ℕ) → reading_at q new ≡ (if is_at (nat_cmp conn) q then v else reading_at q old)
+
+-- the connection's text is read on, with fewer places left than there were, and no query goes on
+pub record ReadsOn (conn : ℕ) (old new : Tasks) : Type 0 where
+  pub same : new.asked.entries ≡ old.asked.entries
+  pub reading : Reading
+  pub sets : SetsReading conn (Some reading) old new
+  pub less : (r : Reading) → reading_at conn old ≡ Some r → reading.task.left < r.task.left
+
+-- a body that may have a text to be read a share at a time
+abbrev pub is_long : List ℕ → Bool
+is_long body = nat_lt 65536 (length body)
+
+abbrev pub is_of_tenant : (place : ℕ) → ℕ × Reading → Bool
+is_of_tenant place e = e.1.place == place
+
+abbrev pub is_read_for : (place : ℕ) → Tasks → Bool
+is_read_for place tasks = list_any (is_of_tenant place) tasks.readings.entries
+
+-- a text of the tenant may be read on the connection
+abbrev pub may_read : (place conn : ℕ) → Tasks → Bool
+may_read place conn tasks = is_some (reading_at conn tasks) || (nat_lt (length tasks.readings.entries) 4 && not (is_read_for place tasks))
+
 -- ---- Who waits
 
 -- the place of the tenant whose key is in a body
@@ -70,8 +101,15 @@ abbrev pub has_other : (place conn : ℕ) → Tasks → Bool
 has_other place conn tasks = list_any (is_other place conn) tasks.asked.entries
 
 -- so it has one of the tenant that the body asks
+abbrev pub is_behind : ℕ → List ℕ → Tenancy → Tasks → Bool
+is_behind conn body t tasks = option_map_or (λ place. has_other place conn tasks) (tenant_asked t body) false
+
+-- a body of the tenant waits for another connection's query, or for those whose texts are read
+abbrev pub is_kept : (place conn : ℕ) → List ℕ → Tasks → Bool
+is_kept place conn body tasks = has_other place conn tasks || (is_long body && not (may_read place conn tasks))
+
 abbrev pub is_held : ℕ → List ℕ → Tenancy → Tasks → Bool
-is_held conn body t tasks = option_map_or (λ place. has_other place conn tasks) (tenant_asked t body) false
+is_held conn body t tasks = option_map_or (λ place. is_kept place conn body tasks) (tenant_asked t body) false
 
 abbrev pub is_next_held : ℕ → Next → Tenancy → Tasks → Bool
 is_next_held conn (next.Frame body) t tasks = is_held conn body t tasks
@@ -104,9 +142,9 @@ abbrev pub IsBodyCharge : Option ℕ → List ℕ → Tenancy → Type 0
 IsBodyCharge None body t = Unit {0}
 IsBodyCharge (Some units) body t = (a : AsksQuery body t) × (m : Map) × (slice_get t.maps a.place ≡ Some m) × IsCharge (Some units) a.collection a.text m
 
--- it goes on
+-- it goes on, or the text of a long body is read on
 abbrev pub WorksOn : ℕ → List ℕ → Tenancy → (old new : Tasks) → Type 0
-WorksOn conn body t old new = (a : AsksQuery body t) × GoesOn conn a.place a.collection a.text old new
+WorksOn conn body t old new = ((a : AsksQuery body t) × GoesOn conn a.place a.collection a.text old new) ⊎ ((is_long body ≡ true) × ReadsOn conn old new)
 
 -- the same of the first body that waits
 abbrev pub IsFirstCharge : Option ℕ → Framing → Tenancy → Type 0

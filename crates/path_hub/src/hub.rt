@@ -175,7 +175,8 @@ impl Hub {
         )
     }
 
-    /// Whether the first request that waits on a connection waits for a query of its tenant, which another connection has under way.
+    /// Whether the first request that waits on a connection waits for others: for a query of its tenant that another connection has under way. One of
+    /// more than 64 KiB also waits for texts that are read, [`crate::READINGS`] at most and one of a tenant.
     pub fn waits(&self, conn: u32, tasks: &Tasks) -> bool
         ensures { result ≡ is_first_held conn self.now tasks.now }
     {
@@ -186,10 +187,11 @@ impl Hub {
     }
 
     /// Does a share of work on the first frame, or the framing fault, that waits on a connection. It is answered and its reply appended, or
-    /// its query goes on for about so many units.
+    /// its query goes on for about so many units. A put with a body of more than 64 KiB has its text read in shares too, five places of the text's
+    /// index for a unit. The first share makes the index. The last one judges the text, looks at the quotas and changes the map.
     ///
-    /// Between two shares of a query other connections may be served, but for requests of its tenant ([`Hub::waits`]). Nothing of it is to be
-    /// seen in the hub. The tasks are those that earlier calls left.
+    /// Between two shares of a query other connections may be served, but for requests of its tenant ([`Hub::waits`]). Between two of a reading all
+    /// may be, as far as they do not wait. Nothing of either is to be seen in the hub. The tasks are those that earlier calls left.
     ///
     /// # Errors
     ///

@@ -1,6 +1,6 @@
-//! One request of a tenant, whose query is answered a share at a time.
+//! One request of a tenant, whose query is answered a share at a time, and whose text is read so.
 
-ghost use Rattle.std.specs.Prelude.{◌≡◌, ◌+◌, ◌<◌, ◌≤◌, IfErr, IfOk, OnOk, OnErr, IfSome, false, length, vec_len};
+ghost use Rattle.std.specs.Prelude.{◌≡◌, ◌+◌, ◌<◌, ◌≤◌, IfErr, IfOk, OnOk, OnErr, IfSome, None, true, false, length, vec_len};
 ghost use Rattle.std.specs.Vec.{vec_capacity};
 ghost use Rattle.path_grammar.specs.View.{query_view};
 ghost use Rattle.path_types.specs.Verdict.{RefusesQueryText};
@@ -11,11 +11,13 @@ ghost use Rattle.tenant_store.specs.Walks.{IsOnWay, Reaches, left_in, work_left}
 ghost use Rattle.wire_frames.specs.NextFrame.{next_of};
 ghost use Rattle.wire_frames.specs.Requests.{Query};
 ghost use Rattle.request_replies.specs.Answers.{Gives};
+ghost use Rattle.request_replies.specs.Tenants.{Serves};
 ghost use Rattle.path_hub.specs.Pending.{IsDue};
-ghost use Rattle.path_hub.specs.UnderWay.{AreOnWay, Goes, IsCharge, SharesBody, SharesFirst, SharesQuery, is_held, is_next_held, tenant_asked};
+ghost use Rattle.path_hub.specs.UnderWay.{AreOnWay, Goes, IsCharge, ReadsOn, SetsTask, SharesBody, SharesFirst, SharesQuery, is_behind, is_held, is_kept, is_long, is_next_held, tenant_asked};
 
 use crate::step::FRAME_FAULT;
-use crate::tasks::{Share, Tasks, task_of};
+use crate::tasks::{Read, Share, Tasks, task_of};
+use json_tape::Verdict;
 use path_grammar::queries_have_one_tree;
 use path_types::{QueryFault, ValidQuery};
 use query_cache::Cache;
@@ -32,6 +34,12 @@ const KEY_AT: usize = 5;
 /// Where it ends.
 const KEY_END: usize = 21;
 
+/// A body of more bytes may have a text that is read a share at a time.
+const LONG: usize = 65_536;
+
+/// The places of a text that are read for a unit of a query's work.
+const PLACES: u64 = 5;
+
 /// The place of the tenant whose key is in a request's body.
 pub fn place_asked(tenants: &Tenants, body: &[u8]) -> Option<usize>
     ensures { result ≡ tenant_asked tenants.now body.now }
@@ -44,13 +52,26 @@ pub fn place_asked(tenants: &Tenants, body: &[u8]) -> Option<usize>
     tenants.place_of(&key)
 }
 
-/// Whether another connection has a query of the tenant under way that the first body asks.
+fn is_long(body: &[u8]) -> bool
+    ensures { result ≡ is_long body.now }
+{
+    body.len() > LONG
+}
+
+// Whether a body of the tenant at a place waits.
+fn is_kept(tasks: &Tasks, place: usize, conn: u32, body: &[u8]) -> bool
+    ensures { result ≡ is_kept place conn body.now tasks.now }
+{
+    tasks.has_other(place, conn) || (is_long(body) && !tasks.may_read(place, conn))
+}
+
+/// Whether the first body waits: for a query of its tenant that another connection has under way, or for texts that are read.
 pub fn waits_first(framer: &Framer, tenants: &Tenants, tasks: &Tasks, conn: u32) -> bool
     ensures { result ≡ is_next_held conn (next_of framer.now) tenants.now tasks.now }
 {
     match framer.front() {
         Front::Frame(body) => match place_asked(tenants, body) {
-            Some(place) => tasks.has_other(place, conn),
+            Some(place) => is_kept(tasks, place, conn, body),
             None => false,
         },
         Front::Wait | Front::Fault => false,
@@ -176,17 +197,82 @@ fn serve_whole(
     alloc: Global,
     conn: u32,
     body: &[u8],
+    known: Option<Verdict>,
+    out: &mut Vec<u8>,
+)
+    requires room { vec_len out.old + 21 ≤ vec_capacity out.old }
+    requires on_way { AreOnWay tenants.old tasks.old }
+    requires free { is_behind conn body.now tenants.old tasks.old ≡ false }
+    ensures served { Serves tenants.old body.now out.old.items out.new.items tenants.new }
+    ensures sets { SetsTask conn None tasks.old tasks.new }
+    ensures on_way { AreOnWay tenants.new tasks.new }
+{
+    tasks.abandon(conn);
+    serve_body(tenants, cache, alloc, body, known, out);
+}
+
+// The text of a put.
+fn text_of<'a>(command: &Command<'a>) -> Option<&'a [u8]> {
+    match command {
+        Command::Put { text, .. } => Some(text),
+        Command::PutNew { text, .. } => Some(text),
+        Command::Get { .. }
+        | Command::Query { .. }
+        | Command::List { .. }
+        | Command::Remove { .. }
+        | Command::DropCollection { .. }
+        | Command::Usage => None,
+    }
+}
+
+// Reads on in the text of a long body, if it is a tenant's put. The verdict, where there is one.
+fn read_some(
+    tenants: &Tenants,
+    tasks: &mut Tasks,
+    alloc: Global,
+    conn: u32,
+    units: u64,
+    body: &[u8],
+) -> Read
+    ensures same { tasks.new.asked.entries ≡ tasks.old.asked.entries }
+    ensures further { result ≡ Read.Further → ReadsOn conn tasks.old tasks.new }
+{
+    if let Ok(request) = read_request(body) {
+        if let Some(text) = text_of(&request.command) {
+            if let Some(place) = tenants.place_of(&request.key) {
+                let places = units.saturating_mul(PLACES).max(1) as usize;
+                return tasks.read_on(alloc, conn, place, text, places);
+            }
+        }
+    }
+    Read::Over(None)
+}
+
+// Reads on in the text of a long body, or answers it where the verdict on the text is there.
+fn serve_long(
+    tenants: &mut Tenants,
+    cache: &mut Cache,
+    tasks: &mut Tasks,
+    alloc: Global,
+    conn: u32,
+    units: u64,
+    body: &[u8],
     out: &mut Vec<u8>,
 ) -> Share
     requires room { vec_len out.old + 21 ≤ vec_capacity out.old }
     requires on_way { AreOnWay tenants.old tasks.old }
     requires free { is_held conn body.now tenants.old tasks.old ≡ false }
+    requires long { is_long body.now ≡ true }
     ensures shares { SharesBody result conn body.now tenants.old tasks.old out.old.items tenants.new tasks.new out.new.items }
     ensures on_way { AreOnWay tenants.new tasks.new }
 {
-    tasks.abandon(conn);
-    serve_body(tenants, cache, alloc, body, out);
-    Share::Replied { charge: None }
+    match read_some(tenants, tasks, alloc, conn, units, body) {
+        Read::Further => Share::Working,
+        Read::Over(known) => {
+            serve_whole(tenants, cache, tasks, alloc, conn, body, known, out);
+            Share::Replied { charge: None }
+        }
+    }
 }
 
 // Does a share of work on a body: answers it, or goes on with the query that it asks. There is room for a short reply.
@@ -206,6 +292,9 @@ fn serve_some(
     ensures shares { SharesBody result conn body.now tenants.old tasks.old out.old.items tenants.new tasks.new out.new.items }
     ensures on_way { AreOnWay tenants.new tasks.new }
 {
+    if is_long(body) {
+        return serve_long(tenants, cache, tasks, alloc, conn, units, body, out);
+    }
     if let Ok(request) = read_request(body) {
         if let Command::Query { collection, query } = request.command {
             if let Some(place) = tenants.place_of(&request.key) {
@@ -225,7 +314,8 @@ fn serve_some(
             }
         }
     }
-    serve_whole(tenants, cache, tasks, alloc, conn, body, out)
+    serve_whole(tenants, cache, tasks, alloc, conn, body, None, out);
+    Share::Replied { charge: None }
 }
 
 /// Does a share of work, for about so many units, on the frame or fault that is first on a connection. Only where there is one, growth may

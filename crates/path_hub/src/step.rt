@@ -42,7 +42,7 @@ pub fn answer_next(
         }
         Front::Frame(body) => {
             out.reserve(SHORT_REPLY)?;
-            serve_body(tenants, cache, alloc, body, out);
+            serve_body(tenants, cache, alloc, body, None, out);
             framer.pass();
             Ok(true)
         }

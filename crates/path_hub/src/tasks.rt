@@ -1,13 +1,19 @@
-//! Queries under way, which are no part of a hub's state.
+//! Queries and readings under way, which are no part of a hub's state.
 
-ghost use Rattle.std.specs.Prelude.{◌≡◌, IfSome, OnOk, OnErr, None, Some, []};
+ghost use Rattle.std.specs.Prelude.{◌≡◌, ◌<◌, IfSome, OnOk, OnErr, None, Some, []};
 ghost use Rattle.tenant_map.specs.Tenancy.{Tenancy};
 ghost use Rattle.path_hub.specs.declared.tasks.Asked.{Asked};
-ghost use Rattle.path_hub.specs.UnderWay.{AreOnWay, IsOf, SetsTask, has_other, task_at};
+ghost use Rattle.path_hub.specs.UnderWay.{AreOnWay, IsOf, ReadsOn, SetsReading, SetsTask, has_other, is_read_for, may_read, reading_at, task_at};
+ghost use Rattle.path_hub.specs.declared.tasks.Reading.{Reading};
+ghost use Rattle.json_tape.specs.Going.{GoesOn};
 
+use json_tape::{Progress, ReadTask, Verdict};
 use std::alloc::{AllocError, Global};
 use std::collections::BTreeMap;
 use tenant_store::QueryTask;
+
+/// The most texts that are read a share at a time side by side, each of another tenant.
+pub const READINGS: usize = 4;
 
 /// What came of a share of work on a connection.
 #[derive(Clone, Copy, Debug, PartialEq, Eq)]
@@ -19,7 +25,7 @@ pub enum Share {
     },
     /// No frame is whole, and no fault waits.
     Idle,
-    /// The query in front is under way.
+    /// The query in front is under way, or the text of the put in front is read.
     Working,
 }
 
@@ -32,29 +38,48 @@ pub struct Asked {
     pub task: QueryTask,
 }
 
-/// The queries under way, one of each tenant at most: its other connections wait. Each has a payload and lists of nodes.
+/// A text that is read: the place of its tenant, and how far the reading came.
+#[derive(Drop)]
+pub struct Reading {
+    pub place: usize,
+    pub task: ReadTask,
+}
+
+/// What comes of a share of a reading.
+#[derive(Drop)]
+pub(crate) enum Read {
+    Further,
+    Over(Option<Verdict>),
+}
+
+/// The queries under way, one of each tenant at most: its other connections wait. Each has a payload and lists of nodes. And the texts that are
+/// read: each has an index, and a tape that grows.
 #[derive(Drop)]
 pub struct Tasks {
     asked: BTreeMap<u32, Asked>,
+    readings: BTreeMap<u32, Reading>,
 }
 
 impl Tasks {
-    /// No query under way.
+    /// Nothing under way.
     pub fn new(alloc: Global) -> Tasks
         ensures none { result.asked.entries ≡ [] }
         ensures on_way { (t : Tenancy) → AreOnWay t result }
     {
         Tasks {
             asked: BTreeMap::new(alloc),
+            readings: BTreeMap::new(alloc),
         }
     }
 
-    /// Drops the query that a connection has under way, as where it is gone. No request waits for it any more.
+    /// Drops what a connection has under way, as where it is gone. No request waits for it any more.
     pub fn abandon(&mut self, conn: u32)
         ensures sets { SetsTask conn None self.old self.new }
+        ensures read { SetsReading conn None self.old self.new }
         ensures on_way { (t : Tenancy) → AreOnWay t self.old → AreOnWay t self.new }
     {
         self.take(conn);
+        self.take_reading(conn);
     }
 
     /// Whether another connection has a query of the tenant under way.
@@ -68,10 +93,69 @@ impl Tasks {
         held
     }
 
+    /// Whether a text of the tenant may be read on a connection: it is read there already, or none of the tenant is, and too few are.
+    pub(crate) fn may_read(&self, place: usize, conn: u32) -> bool
+        ensures { result ≡ may_read place conn self.now }
+    {
+        self.readings.contains_key(&conn)
+            || (self.readings.len() < READINGS && !self.is_read_for(place))
+    }
+
+    fn is_read_for(&self, place: usize) -> bool
+        ensures { result ≡ is_read_for place self.now }
+    {
+        let mut is_read = false;
+        for (_, reading) in &self.readings {
+            is_read |= reading.place == place;
+        }
+        is_read
+    }
+
+    /// Begins to read a text on a connection, or goes on over so many places.
+    pub(crate) fn read_on(
+        &mut self,
+        alloc: Global,
+        conn: u32,
+        place: usize,
+        text: &[u8],
+        places: usize,
+    ) -> Read
+        requires { 0 < places }
+        ensures same { self.new.asked.entries ≡ self.old.asked.entries }
+        ensures further { result ≡ Read.Further → ReadsOn conn self.old self.new }
+    {
+        let reading = self.take_reading(conn);
+        match read_further(alloc, reading, text, places) {
+            Some(Progress::Paused(task)) => match self.keep_reading(conn, Reading { place, task }) {
+                Ok(()) => Read::Further,
+                Err(_) => Read::Over(None),
+            },
+            Some(Progress::Complete(verdict)) => Read::Over(Some(verdict)),
+            None => Read::Over(None),
+        }
+    }
+
+    fn take_reading(&mut self, conn: u32) -> Option<Reading>
+        ensures was { result ≡ reading_at conn self.old }
+        ensures same { self.new.asked.entries ≡ self.old.asked.entries }
+        ensures sets { SetsReading conn None self.old self.new }
+    {
+        self.readings.remove(&conn)
+    }
+
+    fn keep_reading(&mut self, conn: u32, reading: Reading) -> Result<(), AllocError>
+        ensures same { self.new.asked.entries ≡ self.old.asked.entries }
+        ensures ok { OnOk result (SetsReading conn (Some reading) self.old self.new) }
+    {
+        self.readings.insert(conn, reading)?;
+        Ok(())
+    }
+
     /// Takes the connection's query out.
     pub(crate) fn take(&mut self, conn: u32) -> Option<Asked>
         ensures was { result ≡ task_at conn self.old }
         ensures sets { SetsTask conn None self.old self.new }
+        ensures same { self.new.readings.entries ≡ self.old.readings.entries }
     {
         self.asked.remove(&conn)
     }
@@ -97,6 +181,24 @@ impl Tasks {
         };
         self.asked.insert(conn, asked)?;
         Ok(())
+    }
+}
+
+// Begins to read a text, or goes on.
+fn read_further(
+    alloc: Global,
+    reading: Option<Reading>,
+    text: &[u8],
+    places: usize,
+) -> Option<Progress>
+    ensures { (r : Reading) → reading ≡ Some r → IfSome result (GoesOn r.task places) }
+{
+    match reading {
+        Some(reading) => Some(reading.task.step(alloc, places)),
+        None => match ReadTask::begin(alloc, text) {
+            Ok(task) => Some(task.step(alloc, places)),
+            Err(_) => None,
+        },
     }
 }
 

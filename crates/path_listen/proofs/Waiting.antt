@@ -1,5 +1,5 @@
--- Who waits for another connection's query waits with a request of a tenant.
-use Rattle.std.proofs.Common.{◌≡◌, ℕ, true, false, Option, Some, None, refl}
+-- Who waits for another connection's query, or for readings, waits with a request of a tenant.
+use Rattle.std.proofs.Common.{◌≡◌, ℕ, Bool, true, false, Option, Some, None, refl}
 use Rattle.std.specs.Prelude.{is_some}
 use Rattle.std.specs.Option.{option_map_or}
 use Rattle.wire_frames.specs.Framing.{Framing}
@@ -8,15 +8,15 @@ use Rattle.wire_frames.specs.declared.framing.Next.{Next}
 use Rattle.wire_frames.specs.declared.framing.Next.TheVariants as next
 use Rattle.tenant_map.specs.Tenancy.{Tenancy}
 use Rattle.path_hub.specs.declared.tasks.Tasks.{Tasks}
-use Rattle.path_hub.specs.UnderWay.{has_other, is_next_held, tenant_asked}
+use Rattle.path_hub.specs.UnderWay.{is_kept, is_next_held, tenant_asked}
 use Rattle.path_listen.specs.Asking.{is_next_tenants}
 
-asked_some : (conn : ℕ) (tasks : Tasks) (asked : Option ℕ) → option_map_or (λ place. has_other place conn tasks) asked false ≡ true → is_some asked ≡ true
-asked_some conn tasks None h = absurd cc
-asked_some conn tasks (Some place) h = refl
+asked_some : (waits : ℕ → Bool) (asked : Option ℕ) → option_map_or waits asked false ≡ true → is_some asked ≡ true
+asked_some waits None h = absurd cc
+asked_some waits (Some place) h = refl
 
 next_tenants : (conn : ℕ) (t : Tenancy) (tasks : Tasks) (n : Next) → is_next_held conn n t tasks ≡ true → is_next_tenants t n ≡ true
-next_tenants conn t tasks (next.Frame body) h = asked_some conn tasks (tenant_asked t body) h
+next_tenants conn t tasks (next.Frame body) h = asked_some (λ place. is_kept place conn body tasks) (tenant_asked t body) h
 next_tenants conn t tasks next.Wait h = absurd cc
 next_tenants conn t tasks next.Fault h = absurd cc
 

@@ -19,18 +19,18 @@ use std::marker::Model;
 use tenant_map::Usage;
 use wire_frames::Part;
 
-/// The units for which a query goes on, unless another number is told.
+/// The units for which a query goes on, or the reading of a text, unless another number is told.
 const SHARE: u64 = 10_000;
 
-/// A hub that answers one request at a time, and a query a share at a time, as [`outbox::turn`] needs it. Its value is the hub's.
+/// A hub that answers one request at a time, and a query or a long put a share at a time, as [`outbox::turn`] needs it. Its value is the hub's.
 #[derive(Drop)]
 pub struct HubCore {
     hub: Hub,
     alloc: Global,
     tasks: Tasks,
-    // The units for which a query goes on before others are served.
+    // The units for which a query or a reading goes on before others are served.
     share: u64,
-    // The last step went on with a query.
+    // The last step went on with a query or a reading.
     has_gone_on: bool,
     // The units of the request that was answered last, where hits are its reply.
     charge: Option<u64>,
@@ -84,26 +84,27 @@ impl HubCore {
         self.hub.disconnect(conn)
     }
 
-    /// Whether the request that is answered next on a connection waits for a query of its tenant, which another connection has under way.
+    /// Whether the request that is answered next on a connection waits for a query of its tenant that another connection has under way, or for texts
+    /// that are read.
     pub fn waits(&self, conn: u32) -> bool
         ensures { IsTrue result → IsTrue (is_first_tenants conn self.now) }
     {
         self.hub.waits(conn, &self.tasks)
     }
 
-    /// Has a query go on for so many units from now on before others are served.
+    /// Has a query go on for so many units from now on before others are served, and a text be read for five places a unit.
     pub fn share(&mut self, units: u64)
         ensures { self.new ≡ self.old }
     {
         self.share = units;
     }
 
-    /// Whether the step that was done last went on with a query, which is under way.
+    /// Whether the step that was done last went on with a query or a text, which is under way.
     pub fn has_gone_on(&self) -> bool {
         self.has_gone_on
     }
 
-    /// Gives up the work on the query that a connection has under way, so that no request waits for it. It begins anew where it is answered next.
+    /// Gives up the work that a connection has under way, so that no request waits for it. It begins anew where the request is answered next.
     pub fn give_up(&mut self, conn: u32)
         ensures { self.new ≡ self.old }
     {

@@ -98,7 +98,7 @@ fn put_twice<R: Print + AllocGlobal>(rt: &R, is_new: bool) -> io::Result<()> {
         return unprepared(rt);
     };
     let mut tenant = Tenant::new(rt.alloc());
-    if tenant.put(rt.alloc(), c, d, b"[1]").is_err() {
+    if tenant.put(rt.alloc(), c, d, b"[1]", None).is_err() {
         return unprepared(rt);
     }
     for _ in 0..2 {
@@ -119,9 +119,9 @@ fn put(
 ) -> Result<(), StoreFault> {
     let text = b"{\"q\":[1,2]}";
     if is_new {
-        tenant.put_new(alloc, collection, document, text)
+        tenant.put_new(alloc, collection, document, text, None)
     } else {
-        tenant.put(alloc, collection, document, text)
+        tenant.put(alloc, collection, document, text, None)
     }
 }
 
@@ -152,7 +152,7 @@ fn list_twice<R: Print + AllocGlobal>(rt: &R) -> io::Result<()> {
         let Some(name) = DocName::read(name.as_bytes()) else {
             return unprepared(rt);
         };
-        if tenant.put(rt.alloc(), c, name, b"1").is_err() {
+        if tenant.put(rt.alloc(), c, name, b"1", None).is_err() {
             return unprepared(rt);
         }
     }
@@ -175,7 +175,7 @@ fn query_twice<R: Print + AllocGlobal>(rt: &R) -> io::Result<()> {
         return unprepared(rt);
     };
     let mut tenant = Tenant::new(rt.alloc());
-    if tenant.put(rt.alloc(), c, d, b"[\"s\"]").is_err() {
+    if tenant.put(rt.alloc(), c, d, b"[\"s\"]", None).is_err() {
         return unprepared(rt);
     }
     let mut out = Vec::from_slice(rt.alloc(), b"p")?;
@@ -201,8 +201,8 @@ fn step_twice<R: Print + AllocGlobal>(rt: &R) -> io::Result<()> {
         return unprepared(rt);
     };
     let mut tenant = Tenant::new(rt.alloc());
-    if tenant.put(rt.alloc(), c, d, b"[[\"s\"]]").is_err()
-        || tenant.put(rt.alloc(), c, e, b"[[1,2]]").is_err()
+    if tenant.put(rt.alloc(), c, d, b"[[\"s\"]]", None).is_err()
+        || tenant.put(rt.alloc(), c, e, b"[[1,2]]", None).is_err()
     {
         return unprepared(rt);
     }

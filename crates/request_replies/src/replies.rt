@@ -7,6 +7,7 @@ ghost use Rattle.request_replies.specs.Answers.{Gives};
 ghost use Rattle.request_replies.specs.Tenants.{Serves};
 
 use crate::writing::{NO_MEMORY, OK, begin, finish, status_of_query, take_back, write_small};
+use json_tape::Verdict;
 use query_cache::Cache;
 use std::alloc::Global;
 use tenant_store::{CollName, DocName, Queries, Tenant, Tenants};
@@ -27,12 +28,13 @@ fn answer_put(
     collection: CollName<'_>,
     document: DocName<'_>,
     text: &[u8],
+    known: Option<Verdict>,
     out: &mut Vec<u8>,
 )
     requires { vec_len out.old + 21 ≤ vec_capacity out.old }
     ensures { Gives map.old (Put collection.entry.bytes.now document.entry.bytes.now text.now) number out.old.items out.new.items map.new }
 {
-    match map.put(alloc, collection, document, text) {
+    match map.put(alloc, collection, document, text, known) {
         Ok(()) => write_small(OK, number, &[], out),
         Err(fault) => write_small(fault.status(), number, &[], out),
     }
@@ -45,12 +47,13 @@ fn answer_put_new(
     collection: CollName<'_>,
     document: DocName<'_>,
     text: &[u8],
+    known: Option<Verdict>,
     out: &mut Vec<u8>,
 )
     requires { vec_len out.old + 21 ≤ vec_capacity out.old }
     ensures { Gives map.old (PutNew collection.entry.bytes.now document.entry.bytes.now text.now) number out.old.items out.new.items map.new }
 {
-    match map.put_new(alloc, collection, document, text) {
+    match map.put_new(alloc, collection, document, text, known) {
         Ok(()) => write_small(OK, number, &[], out),
         Err(fault) => write_small(fault.status(), number, &[], out),
     }
@@ -158,6 +161,7 @@ fn answer_command(
     alloc: Global,
     number: u32,
     command: Command<'_>,
+    known: Option<Verdict>,
     out: &mut Vec<u8>,
 )
     requires { vec_len out.old + 21 ≤ vec_capacity out.old }
@@ -168,7 +172,7 @@ fn answer_command(
             collection,
             document,
             text,
-        } => answer_put(map, alloc, number, collection, document, text, out),
+        } => answer_put(map, alloc, number, collection, document, text, known, out),
         Command::Get {
             collection,
             document,
@@ -187,17 +191,18 @@ fn answer_command(
             collection,
             document,
             text,
-        } => answer_put_new(map, alloc, number, collection, document, text, out),
+        } => answer_put_new(map, alloc, number, collection, document, text, known, out),
     }
 }
 
 /// Appends the reply to the body of a request, and does what it asks for its tenant. There is room for a short reply. Where an allocation fails
-/// the reply has the status [`NO_MEMORY`], and no map is changed.
+/// the reply has the status [`NO_MEMORY`], and no map is changed. A verdict that is known on the text of a put spares its reading.
 pub fn serve_body(
     tenants: &mut Tenants,
     cache: &mut Cache,
     alloc: Global,
     body: &[u8],
+    known: Option<Verdict>,
     out: &mut Vec<u8>,
 )
     requires { vec_len out.old + 21 ≤ vec_capacity out.old }
@@ -209,7 +214,15 @@ pub fn serve_body(
             None => write_small(NO_TENANT, request.number, &[], out),
             Some(place) => {
                 let map = tenants.tenant_mut(place);
-                answer_command(map, cache, alloc, request.number, request.command, out)
+                answer_command(
+                    map,
+                    cache,
+                    alloc,
+                    request.number,
+                    request.command,
+                    known,
+                    out,
+                )
             }
         },
     }

@@ -18,7 +18,7 @@ use crate::collection::Collection;
 use crate::faults::StoreFault;
 use crate::numbers::big_endian;
 use crate::usage::Usage;
-use json_tape::Document;
+use json_tape::{Document, Verdict};
 use std::alloc::{AllocError, Global};
 use std::collections::BTreeMap;
 use std::marker::Model;
@@ -101,7 +101,7 @@ impl Tenant {
         }
     }
 
-    /// Puts a text, in place of the one that is there.
+    /// Puts a text, in place of the one that is there. A verdict on the text that is known spares its reading.
     ///
     /// Refused is, in this order, what the text's verdict refuses (`TooLong` to `DuplicateName`), then what would pass a
     /// quota as counted after the put. `NoMemory` if an allocation failed. A refusal changes nothing.
@@ -111,18 +111,19 @@ impl Tenant {
         collection: CollName<'_>,
         document: DocName<'_>,
         text: &[u8],
+        known: Option<Verdict>,
     ) -> Result<(), StoreFault>
         ensures accepted { OnOk result (AcceptsPut collection.entry.bytes.now document.entry.bytes.now text.now self.old self.new) }
         ensures refused { IfErr result (λ fault. RefusesPut collection.entry.bytes.now document.entry.bytes.now text.now self.old fault) }
         ensures unchanged { OnErr result (self.new ≡ self.old) }
     {
-        match read_text(alloc, text) {
+        match read_text(alloc, text, known) {
             Ok(read) => self.keep(alloc, collection, document, read),
             Err(fault) => Err(fault),
         }
     }
 
-    /// Puts a text if there is no such document.
+    /// Puts a text if there is no such document. A verdict on the text that is known spares its reading.
     ///
     /// Refused is, in this order, what the text's verdict refuses (`TooLong` to `DuplicateName`), `Exists` if the document
     /// is there, and what would pass a quota as counted after the put. `NoMemory` if an allocation failed. A refusal
@@ -133,12 +134,13 @@ impl Tenant {
         collection: CollName<'_>,
         document: DocName<'_>,
         text: &[u8],
+        known: Option<Verdict>,
     ) -> Result<(), StoreFault>
         ensures accepted { OnOk result (AcceptsPutNew collection.entry.bytes.now document.entry.bytes.now text.now self.old self.new) }
         ensures refused { IfErr result (λ fault. RefusesPutNew collection.entry.bytes.now document.entry.bytes.now text.now self.old fault) }
         ensures unchanged { OnErr result (self.new ≡ self.old) }
     {
-        match read_text(alloc, text) {
+        match read_text(alloc, text, known) {
             Ok(read) => {
                 if self.has(collection.bytes, document.bytes) {
                     return Err(StoreFault::Exists);
@@ -286,12 +288,12 @@ impl Tenant {
 }
 
 // The document that a text is, or its verdict.
-fn read_text(alloc: Global, text: &[u8]) -> Result<Document, StoreFault>
+fn read_text(alloc: Global, text: &[u8], known: Option<Verdict>) -> Result<Document, StoreFault>
     ensures text { IfOk result (λ document. document.text ≡ text.now) }
     ensures accepted { IfOk result (λ document. IsAccepted text.now (tree_of document)) }
     ensures refused { IfErr result (FailsVerdict text.now) }
 {
-    match Document::read(alloc, text) {
+    match Document::read_known(alloc, text, known) {
         Ok(document) => Ok(document),
         Err(fault) => Err(StoreFault::from(fault)),
     }
