@@ -81,11 +81,8 @@ impl Outbox {
         ensures { self.new ≡ after self.old (Writable count) }
     {
         self.start += count;
-        if self.start == self.bytes.len() {
-            self.bytes.clear();
-            self.bytes.shrink_to_fit();
-            self.start = 0;
-        }
+        self.shift();
+        self.fit();
     }
 
     /// Notes the end of the input: the bytes owed are still written.
@@ -117,11 +114,12 @@ impl Outbox {
         step
     }
 
-    // Gives back room that a reply took and did not keep, as one that was refused for its length.
+    // Gives back room that a reply took and did not keep, as one that was refused for its length or written for the most part.
     fn fit(&mut self)
         ensures { self.new ≡ self.old }
     {
-        if self.bytes.capacity() > FIT && self.bytes.len() < self.bytes.capacity() / 4 {
+        let room = self.bytes.capacity();
+        if self.bytes.is_empty() || (room > FIT && self.bytes.len() <= room / 2) {
             self.bytes.shrink_to_fit();
         }
     }
