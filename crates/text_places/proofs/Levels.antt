@@ -9,20 +9,20 @@ use Rattle.text_places.specs.Firsts.{IsContainer}
 
 -- the value around one has a lower number
 
-abbrev Under : (up k n up' : ℕ) → Type 0
+abbrev pub Under : (up k n up' : ℕ) → Type 0
 Under up k n up' = ((up' ≡ up) × (k ≤ n)) ⊎ ((k ≤ up') × (up' < n))
 
 mutual
-  under : {t s : Tree} {up k n up' : ℕ} {label label' : Label} → IsAt t up label k n up' label' s → ((up' ≡ up) × (k ≡ n)) ⊎ ((k ≤ up') × (up' < n))
+  pub under : {t s : Tree} {up k n up' : ℕ} {label label' : Label} → IsAt t up label k n up' label' s → ((up' ≡ up) × (k ≡ n)) ⊎ ((k ≤ up') × (up' < n))
   under itself = inl (refl, refl)
   under (in_array h) = elim (under_elements h) [ inl f ↦ inr (omega (arith, f.0), omega (arith, f.0, f.1)) | inr f ↦ inr (omega (arith, f.0), f.1) ]
   under (in_object h) = elim (under_members h) [ inl f ↦ inr (omega (arith, f.0), omega (arith, f.0, f.1)) | inr f ↦ inr (omega (arith, f.0), f.1) ]
 
-  under_elements : {es : Elements} {s : Tree} {up i k n up' : ℕ} {label' : Label} → IsInElements es up i k n up' label' s → Under up k n up'
+  pub under_elements : {es : Elements} {s : Tree} {up i k n up' : ℕ} {label' : Label} → IsInElements es up i k n up' label' s → Under up k n up'
   under_elements (in_element h) = elim (under h) [ inl f ↦ inl (f.0, omega (arith, f.1)) | inr f ↦ inr f ]
   under_elements (in_later_element h) = elim (under_elements h) [ inl f ↦ inl (f.0, omega (arith, f.1)) | inr f ↦ inr (omega (arith, f.0), f.1) ]
 
-  under_members : {ms : Members} {s : Tree} {up k n up' : ℕ} {label' : Label} → IsInMembers ms up k n up' label' s → Under up k n up'
+  pub under_members : {ms : Members} {s : Tree} {up k n up' : ℕ} {label' : Label} → IsInMembers ms up k n up' label' s → Under up k n up'
   under_members (in_member h) = elim (under h) [ inl f ↦ inl (f.0, omega (arith, f.1)) | inr f ↦ inr f ]
   under_members (in_later_member h) = elim (under_members h) [ inl f ↦ inl (f.0, omega (arith, f.1)) | inr f ↦ inr (omega (arith, f.0), f.1) ]
 

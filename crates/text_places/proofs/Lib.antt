@@ -3,6 +3,8 @@ mod Counted
 mod Depths
 mod Escaped
 mod Found
+mod Inside
 mod Levels
 mod Members
 mod Repeated
+mod Suspected

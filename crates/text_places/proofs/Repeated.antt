@@ -1,16 +1,18 @@
 -- The names that were seen, as the loop keeps them, and the first that comes again.
-use Rattle.json_text.proofs.Names.{◌≡◌, ℕ, zero, suc, ◌+◌, ◌<◌, ◌≤◌, inl, inr, Bool, true, false, cond, List, length, get_or, Option, Some, None, refl, sym, ap, ◌∙◌, subst, arith, cases_lt, bytes_decides, nat_cmp, on, is_eq, false≢true}
+use Rattle.json_text.proofs.Names.{◌≡◌, ℕ, zero, suc, ◌+◌, ◌<◌, ◌≤◌, inl, inr, Bool, true, false, cond, List, [], ◌∷◌, ◌++◌, length, get_or, Option, Some, None, refl, sym, ap, ◌∙◌, subst, arith, cases_lt, bytes_decides, nat_cmp, on, is_eq, false≢true}
 use Rattle.json_text.proofs.Names.{Source, Name, Tree, Obj, Members, NoMember, Member, IsText, Label, Top, Named, extent, Stands, IsAt, in_object, IsInMembers, in_member, in_later_member, itself, size}
 use Rattle.std.specs.Prelude.{slice_get}
 use Rattle.std.specs.Ordering.{ordering_then}
 use Rattle.std.specs.declared.cmp.Ordering.{Ordering}
 use Rattle.std.specs.declared.cmp.Ordering.TheVariants.{Less, Equal, Greater}
 use Rattle.std.specs.Cmp.{nat_cmp_total, tied_itself}
+use Rattle.std.proofs.lemmas.List.{get_or_append_left, get_or_default, get_or_push}
 use Rattle.std.proofs.lemmas.Map.Lookups.{exact_unsigned}
-use Rattle.json_strings.specs.Keys.{Keyed, key_name, name_cmp}
+use Rattle.json_strings.specs.Keys.{Keyed, key_name, name_cmp, name_hash}
 use Rattle.json_strings.specs.KeyOrder.{names_total, names_tie}
 use Rattle.json_strings.proofs.Spelled.{scalars_at}
 use Rattle.json_text.specs.Meaning.{meaning}
+use Rattle.json_text.specs.Tape.{nothing_there}
 use Rattle.json_text.specs.Parts.{IsNameOf, first_name, later_name}
 use Rattle.json_text.specs.Verdict.{names, HasTwins}
 use Rattle.json_text.specs.declared.tape.Entry.{Entry}
@@ -22,9 +24,12 @@ use Rattle.json_text.proofs.Judging.{number_below}
 use Rattle.json_text.proofs.Meanings.{meaning_is}
 use Rattle.json_text.proofs.Numbers.{entry_at, at_trans}
 use Rattle.json_tape.proofs.Holders.{name_fits}
-use Rattle.text_places.specs.Groups.{spelled, group_of, IsInGroup, AreCounted, IsShared}
+use Rattle.text_places.specs.Marks.{spelled, mark_from, mark_of, mark_for, AreFlagged, AreMarked, KeepsShared, AreLeft, IsLeft}
 use Rattle.text_places.specs.Twins.{IsNamed, AreTwins, AreFirstTwins}
+use Rattle.json_text.specs.Suspects.{AreSuspects}
+use Rattle.text_places.proofs.Levels.{up_below}
 use Rattle.text_places.proofs.Members.{Shown, shown}
+use Rattle.text_places.proofs.Suspected.{twins_repeat}
 
 -- the order of names in their objects
 
@@ -70,115 +75,147 @@ module _ (text : List ℕ) (tape : List Entry) (t : Tree) (stands : Stands tape 
     meant = scalars_at text text e.label s.source s.characters refl s.label s.lies s.string;
   }
 
--- ---- the groups of names
+-- ---- the marks of names
 
-module _ (text : List ℕ) (tape : List Entry) (t : Tree) (stands : Stands tape t) where
-  in_group : (n up at : ℕ) (means : List ℕ) → IsNamed text t n up at means → IsInGroup text tape n (group_of tape up means)
-  in_group n up at means h = record {
-    role = λ d. let e = get_or tape n d in named_role text tape t stands n e (same d) up at means h;
-    group_is = λ d. let e = get_or tape n d in rw (named_up text tape t stands n e (same d) up at means h, ← named_means text tape t stands n e (same d) up at means h) refl;
-  } where
-    same : (d : Entry) → get_or tape n d ≡ get_or tape n (get_or tape n d)
-    same d = entry_at tape d stands h.is_at ∙ sym (entry_at tape (get_or tape n d) stands h.is_at)
+mark_some : (up hash : ℕ) → 0 < mark_from up hash
+unfolding mark_from
+mark_some up hash = one_more _ where
+  one_more : (n : ℕ) → 0 < n + 1
+  one_more n = omega arith
 
-  twins_share : (counts : List ℕ) → AreCounted text tape counts (length tape) → (m n a b : ℕ) (w : AreTwins text t m n a b) → get_or counts (group_of tape w.up w.means) 0 ≡ 2
-  twins_share counts c m n a b w = c.shared m n (group_of tape w.up w.means) w.behind
-      (number_below tape t w.other.value n w.up (Named (extent w.other.name)) stands w.other.is_at) (in_group m w.up a w.means w.one) (in_group n w.up b w.means w.other)
+module _ (text : List ℕ) (tape : List Entry) (t : Tree) (stands : Stands tape t) (n up at : ℕ) (means : List ℕ) (h : IsNamed text t n up at means) where
+  same_there : (d : Entry) → get_or tape n d ≡ get_or tape n (get_or tape n d)
+  same_there d = entry_at tape d stands h.is_at ∙ sym (entry_at tape (get_or tape n d) stands h.is_at)
+
+  member_there : (d : Entry) → (get_or tape n d).role ≡ roles.Member
+  member_there d = named_role text tape t stands n (get_or tape n d) (same_there d) up at means h
+
+  named_marked : (flags marks : List ℕ) → AreMarked text tape flags marks (length tape) → 0 < get_or flags up 0 → get_or marks n 0 ≡ mark_of up means
+  named_marked flags marks marked flag = let e = get_or tape n nothing_there in
+      marked n nothing_there (number_below tape t h.value n up (Named (extent h.name)) stands h.is_at) (member_there nothing_there) (subst (λ u. 0 < get_or flags u 0) (sym (named_up text tape t stands n e (same_there nothing_there) up at means h)) flag)
+      ∙ ap (λ u. mark_of u (spelled text e)) (named_up text tape t stands n e (same_there nothing_there) up at means h)
+      ∙ ap (mark_of up) (sym (named_means text tape t stands n e (same_there nothing_there) up at means h))
+
+pub marked_more : (text : List ℕ) (tape : List Entry) (flags marks : List ℕ) (v n : ℕ) (e : Entry) → n < length tape → e ≡ get_or tape n e → length marks ≡ n → (e.role ≡ roles.Member → 0 < get_or flags e.up 0 → v ≡ mark_for text e)
+    → AreMarked text tape flags marks n → AreMarked text tape flags (marks ++ v ∷ []) (n + 1)
+marked_more text tape flags marks v n e l q c is marked i d li role flag = elim (cases_lt i n) [
+  | inl p ↦ get_or_append_left marks (v ∷ []) 0 i (omega arith) ∙ marked i d p role flag
+  | inr p ↦
+      let z : i ≡ n = omega arith in let same : get_or tape i d ≡ e = ap (λ k. get_or tape k d) z ∙ get_or_default tape n d e l ∙ sym q in
+      ap (λ k. get_or (marks ++ v ∷ []) k 0) z ∙ get_or_push marks v 0 n c ∙ is (ap (λ (x : Entry). x.role) (sym same) ∙ role) (subst (λ (x : Entry). 0 < get_or flags x.up 0) same flag) ∙ ap (mark_for text) (sym same)
+]
+
+-- the object of two names that mean the same has a flag
+is_flagged : (text : List ℕ) (tape : List Entry) (suspects flags : List ℕ) → AreSuspects text tape suspects → AreFlagged (length tape) suspects flags (length suspects) → (t : Tree) → IsText text t → Stands tape t → (m n a b : ℕ) (w : AreTwins text t m n a b) → 0 < get_or flags w.up 0
+is_flagged text tape suspects flags are flagged t h stands m n a b w = elim (cases_lt 0 (get_or flags w.up 0)) [
+  | inl p ↦ p
+  | inr p ↦
+      let less = w.behind in let below = up_below w.other.is_at (omega arith) in let last = number_below tape t w.other.value n w.up (Named (extent w.other.name)) stands w.other.is_at in
+      absurd (twins_repeat text tape t h stands m n a b w (λ ms o. are.apart w.up ms (λ (k, l, e). (let z : get_or suspects k 0 ≡ w.up = get_or_default suspects k 0 w.up l ∙ e in
+      let f = subst (λ u. 0 < get_or flags u 0) z (flagged k l (omega arith)) in omega arith)) o))
+]
+
+pub still_left : (text : List ℕ) (tape : List Entry) (suspects flags a b : List ℕ) → AreSuspects text tape suspects → AreFlagged (length tape) suspects flags (length suspects) → AreMarked text tape flags a (length tape) → KeepsShared a b → AreLeft text tape b
+still_left text tape suspects flags a b are flagged marked k t h stands m n x y w =
+    let flag = is_flagged text tape suspects flags are flagged t h stands m n x y w in
+    let p = named_marked text tape t stands m w.up x w.means w.one flags a marked flag in
+    let q = named_marked text tape t stands n w.up y w.means w.other flags a marked flag in
+    let some : 0 < get_or a m 0 = subst (λ i. 0 < i) (sym p) (mark_some w.up (name_hash w.means)) in
+    let same : get_or a m 0 ≡ get_or a n 0 = p ∙ sym q in
+    let apart : m ≡ n → ⊥ = (λ e. let less = w.behind in omega arith) in
+    let other = subst (λ i. 0 < i) same some in
+    (subst (λ i. 0 < i) (sym (k m n apart some same)) some, subst (λ i. 0 < i) (sym (k n m (λ e. apart (sym e)) other (sym same))) other)
 
 -- ---- what the map keeps
 
 abbrev pub Seen : List ℕ → List Entry → Tree → ℕ → (ℕ × Keyed) → ℕ → Type 0
 Seen text tape t n q v = (v < n) × ((d : Entry) → IsNamed text t v q.0 (get_or tape v d).label.start q.1.name)
 
-pub record Keeps (text : List ℕ) (tape : List Entry) (counts : List ℕ) (t : Tree) (n : ℕ) (f : (ℕ × Keyed) → Option ℕ) : Type 0 where
+pub record Keeps (text : List ℕ) (tape : List Entry) (marks : List ℕ) (t : Tree) (n : ℕ) (f : (ℕ × Keyed) → Option ℕ) : Type 0 where
   pub seen : (q : ℕ × Keyed) (v : ℕ) → f q ≡ Some v → Seen text tape t n q v
-  pub all : (i up at : ℕ) (means : List ℕ) → i < n → IsNamed text t i up at means → get_or counts (group_of tape up means) 0 ≡ 2 → (q : ℕ × Keyed) → q.0 ≡ up → q.1.name ≡ means → f q ≡ None → ⊥
+  pub all : (i up at : ℕ) (means : List ℕ) → i < n → IsNamed text t i up at means → 0 < get_or marks i 0 → (q : ℕ × Keyed) → q.0 ≡ up → q.1.name ≡ means → f q ≡ None → ⊥
   pub alone : (i j a b : ℕ) → j < n → AreTwins text t i j a b → ⊥
 
-pub nothing_kept : (text : List ℕ) (tape : List Entry) (counts : List ℕ) (t : Tree) (f : (ℕ × Keyed) → Option ℕ) → ((q : ℕ × Keyed) → f q ≡ None) → Keeps text tape counts t 0 f
-nothing_kept text tape counts t f none = record { seen = λ q v h. absurd (let x = none q in cc); all = λ i up at means l. absurd (omega arith); alone = λ i j a b l. absurd (omega arith) }
+pub nothing_kept : (text : List ℕ) (tape : List Entry) (marks : List ℕ) (t : Tree) (f : (ℕ × Keyed) → Option ℕ) → ((q : ℕ × Keyed) → f q ≡ None) → Keeps text tape marks t 0 f
+nothing_kept text tape marks t f none = record { seen = λ q v h. absurd (let x = none q in cc); all = λ i up at means l. absurd (omega arith); alone = λ i j a b l. absurd (omega arith) }
 
-module _ (text : List ℕ) (tape : List Entry) (counts : List ℕ) (counted : AreCounted text tape counts (length tape)) (t : Tree) (h : IsText text t) (stands : Stands tape t) (n : ℕ) (e : Entry) (l : n < length tape) (q : e ≡ get_or tape n e) where
-  -- the member of a group that has no other one
-  shares : (up at : ℕ) (means : List ℕ) → IsNamed text t n up at means → get_or counts (group_of tape up means) 0 ≡ 2 → IsShared text tape counts e
-  shares up at means named two = (
-    named_role text tape t stands n e q up at means named,
-    rw (named_up text tape t stands n e q up at means named, ← named_means text tape t stands n e q up at means named) two,
-  )
-
-  pub passed : (f : (ℕ × Keyed) → Option ℕ) → (IsShared text tape counts e → ⊥) → Keeps text tape counts t n f → Keeps text tape counts t (n + 1) f
+module _ (text : List ℕ) (tape : List Entry) (marks : List ℕ) (left : AreLeft text tape marks) (t : Tree) (h : IsText text t) (stands : Stands tape t) (n : ℕ) where
+  pub passed : (f : (ℕ × Keyed) → Option ℕ) → (IsLeft tape marks n → ⊥) → Keeps text tape marks t n f → Keeps text tape marks t (n + 1) f
   passed f apart k = record {
     seen = λ x v g. (let y = k.seen x v g in (omega (arith, y.0), y.1));
-    all = λ i up at means li named two. elim (cases_lt i n) [
-      | inl p ↦ k.all i up at means p named two
-      | inr p ↦ (let z : i ≡ n = omega arith in absurd (apart (shares up at means (subst (λ m. IsNamed text t m up at means) z named) two)))
+    all = λ i up at means li named some. elim (cases_lt i n) [
+      | inl p ↦ k.all i up at means p named some
+      | inr p ↦ (let z : i ≡ n = omega arith in absurd (apart (subst (λ m. 0 < get_or marks m 0) z some, member_there text tape t stands n up at means (subst (λ m. IsNamed text t m up at means) z named))))
     ];
     alone = λ i j a b lj twins. elim (cases_lt j n) [
       | inl p ↦ k.alone i j a b p twins
-      | inr p ↦ (let z : j ≡ n = omega arith in apart (shares twins.up b twins.means (subst (λ m. IsNamed text t m twins.up b twins.means) z twins.other)
-          (twins_share text tape t stands counts counted i j a b twins)))
+      | inr p ↦ (let z : j ≡ n = omega arith in apart (
+        subst (λ m. 0 < get_or marks m 0) z (left t h stands i j a b twins).1,
+        member_there text tape t stands n twins.up b twins.means (subst (λ m. IsNamed text t m twins.up b twins.means) z twins.other),
+      ))
     ];
   }
 
-  module _ (r : e.role ≡ roles.Member) (key : ℕ × Keyed) (o : key.0 ≡ e.up) (s : key.1.name ≡ spelled text e) (f : (ℕ × Keyed) → Option ℕ) (k : Keeps text tape counts t n f) where
-    here : IsNamed text t n e.up e.label.start (spelled text e)
-    here = named_here text tape t stands n e q (shown text tape t h stands n e l q r)
+  module _ (e : Entry) (l : n < length tape) (q : e ≡ get_or tape n e) where
+    module _ (r : e.role ≡ roles.Member) (key : ℕ × Keyed) (o : key.0 ≡ e.up) (s : key.1.name ≡ spelled text e) (f : (ℕ × Keyed) → Option ℕ) (k : Keeps text tape marks t n f) where
+      here : IsNamed text t n e.up e.label.start (spelled text e)
+      here = named_here text tape t stands n e q (shown text tape t h stands n e l q r)
 
-    pub first_twins : (v : ℕ) (d : Entry) → f key ≡ Some v → AreFirstTwins text (get_or tape v d).label.start e.label.start
-    first_twins v d g = let y = k.seen key v g in record {
-      tree = t;
-      is_text = h;
-      m = v;
-      n = n;
-      twins = record {
-        behind = y.0;
-        up = e.up;
-        means = spelled text e;
-        one = subst (λ m. IsNamed text t v e.up (get_or tape v d).label.start m) s (subst (λ u. IsNamed text t v u (get_or tape v d).label.start key.1.name) o (y.1 d));
-        other = here;
-      };
-      none_before = k.alone;
-    }
+      pub first_twins : (v : ℕ) (d : Entry) → f key ≡ Some v → AreFirstTwins text (get_or tape v d).label.start e.label.start
+      first_twins v d g = let y = k.seen key v g in record {
+        tree = t;
+        is_text = h;
+        m = v;
+        n = n;
+        twins = record {
+          behind = y.0;
+          up = e.up;
+          means = spelled text e;
+          one = subst (λ m. IsNamed text t v e.up (get_or tape v d).label.start m) s (subst (λ u. IsNamed text t v u (get_or tape v d).label.start key.1.name) o (y.1 d));
+          other = here;
+        };
+        none_before = k.alone;
+      }
 
-    module _ (none : f key ≡ None) (g : (ℕ × Keyed) → Option ℕ) (puts : (x : ℕ × Keyed) → g x ≡ cond (is_eq (order key x)) (Some n) (f x)) where
-      puts_here : (x : ℕ × Keyed) → is_eq (order key x) ≡ true → g x ≡ Some n
-      puts_here x y = puts x ∙ ap (λ c. cond c (Some n) (f x)) y
+      module _ (none : f key ≡ None) (g : (ℕ × Keyed) → Option ℕ) (puts : (x : ℕ × Keyed) → g x ≡ cond (is_eq (order key x)) (Some n) (f x)) where
+        puts_here : (x : ℕ × Keyed) → is_eq (order key x) ≡ true → g x ≡ Some n
+        puts_here x y = puts x ∙ ap (λ c. cond c (Some n) (f x)) y
 
-      puts_else : (x : ℕ × Keyed) → is_eq (order key x) ≡ false → g x ≡ f x
-      puts_else x y = puts x ∙ ap (λ c. cond c (Some n) (f x)) y
+        puts_else : (x : ℕ × Keyed) → is_eq (order key x) ≡ false → g x ≡ f x
+        puts_else x y = puts x ∙ ap (λ c. cond c (Some n) (f x)) y
 
-      new_seen : (x : ℕ × Keyed) (v : ℕ) → g x ≡ Some v → Seen text tape t (n + 1) x v
-      new_seen x v y = go (is_eq (order key x)) refl where
-        go : (c : Bool) → is_eq (order key x) ≡ c → Seen text tape t (n + 1) x v
-        go true w =
-            let z : n ≡ v = (let a = puts_here x w in cc) in let same = order_same key x w in
-            subst (λ m. Seen text tape t (n + 1) x m) z (
-              omega arith,
-              λ d. subst (λ a. IsNamed text t n x.0 a x.1.name) (ap (λ (y : Entry). y.label.start) (q ∙ entry_at tape e stands here.is_at ∙ sym (entry_at tape d stands here.is_at)))
-                  (subst (λ m. IsNamed text t n x.0 e.label.start m) (sym s ∙ same.1) (subst (λ u. IsNamed text t n u e.label.start (spelled text e)) (sym o ∙ same.0) here)),
-            )
-        go false w = let old = k.seen x v (sym (puts_else x w) ∙ y) in (omega (arith, old.0), old.1)
+        new_seen : (x : ℕ × Keyed) (v : ℕ) → g x ≡ Some v → Seen text tape t (n + 1) x v
+        new_seen x v y = go (is_eq (order key x)) refl where
+          go : (c : Bool) → is_eq (order key x) ≡ c → Seen text tape t (n + 1) x v
+          go true w =
+              let z : n ≡ v = (let a = puts_here x w in cc) in let same = order_same key x w in
+              subst (λ m. Seen text tape t (n + 1) x m) z (
+                omega arith,
+                λ d. subst (λ a. IsNamed text t n x.0 a x.1.name) (ap (λ (y : Entry). y.label.start) (q ∙ entry_at tape e stands here.is_at ∙ sym (entry_at tape d stands here.is_at)))
+                    (subst (λ m. IsNamed text t n x.0 e.label.start m) (sym s ∙ same.1) (subst (λ u. IsNamed text t n u e.label.start (spelled text e)) (sym o ∙ same.0) here)),
+              )
+          go false w = let old = k.seen x v (sym (puts_else x w) ∙ y) in (omega (arith, old.0), old.1)
 
-      new_all : (i up at : ℕ) (means : List ℕ) → i < n + 1 → IsNamed text t i up at means → get_or counts (group_of tape up means) 0 ≡ 2 → (x : ℕ × Keyed) → x.0 ≡ up → x.1.name ≡ means → g x ≡ None → ⊥
-      new_all i up at means li named two x a b y = go (is_eq (order key x)) refl where
-        go : (c : Bool) → is_eq (order key x) ≡ c → ⊥
-        go true w = let z = puts_here x w in cc
-        go false w = elim (cases_lt i n) [
-          | inl p ↦ k.all i up at means p named two x a b (sym (puts_else x w) ∙ y)
-          | inr p ↦ (let z : i ≡ n = omega arith in let there = subst (λ m. IsNamed text t m up at means) z named in
-              let eq = same_order key x (o ∙ named_up text tape t stands n e q up at means there ∙ sym a) (s ∙ sym (named_means text tape t stands n e q up at means there) ∙ sym b) in
-              false≢true (sym w ∙ eq))
+        new_all : (i up at : ℕ) (means : List ℕ) → i < n + 1 → IsNamed text t i up at means → 0 < get_or marks i 0 → (x : ℕ × Keyed) → x.0 ≡ up → x.1.name ≡ means → g x ≡ None → ⊥
+        new_all i up at means li named some x a b y = go (is_eq (order key x)) refl where
+          go : (c : Bool) → is_eq (order key x) ≡ c → ⊥
+          go true w = let z = puts_here x w in cc
+          go false w = elim (cases_lt i n) [
+            | inl p ↦ k.all i up at means p named some x a b (sym (puts_else x w) ∙ y)
+            | inr p ↦ (let z : i ≡ n = omega arith in let there = subst (λ m. IsNamed text t m up at means) z named in
+                let eq = same_order key x (o ∙ named_up text tape t stands n e q up at means there ∙ sym a) (s ∙ sym (named_means text tape t stands n e q up at means there) ∙ sym b) in
+                false≢true (sym w ∙ eq))
+          ]
+
+        new_alone : (i j a b : ℕ) → j < n + 1 → AreTwins text t i j a b → ⊥
+        new_alone i j a b lj twins = elim (cases_lt j n) [
+          | inl p ↦ k.alone i j a b p twins
+          | inr p ↦ (let z : j ≡ n = omega arith in let there = subst (λ m. IsNamed text t m twins.up b twins.means) z twins.other in let less = twins.behind in
+              k.all i twins.up a twins.means (omega arith) twins.one (left t h stands i j a b twins).0 key (o ∙ named_up text tape t stands n e q twins.up b twins.means there) (s ∙ sym (named_means text tape t stands n e q twins.up b twins.means there)) none)
         ]
 
-      new_alone : (i j a b : ℕ) → j < n + 1 → AreTwins text t i j a b → ⊥
-      new_alone i j a b lj twins = elim (cases_lt j n) [
-        | inl p ↦ k.alone i j a b p twins
-        | inr p ↦ (let z : j ≡ n = omega arith in let there = subst (λ m. IsNamed text t m twins.up b twins.means) z twins.other in let less = twins.behind in
-            k.all i twins.up a twins.means (omega arith) twins.one (twins_share text tape t stands counts counted i j a b twins) key (o ∙ named_up text tape t stands n e q twins.up b twins.means there) (s ∙ sym (named_means text tape t stands n e q twins.up b twins.means there)) none)
-      ]
-
-      pub added : Keeps text tape counts t (n + 1) g
-      added = record { seen = new_seen; all = new_all; alone = new_alone }
+        pub added : Keeps text tape marks t (n + 1) g
+        added = record { seen = new_seen; all = new_all; alone = new_alone }
 
 -- ---- two names of an object that mean the same are twins
 
@@ -229,11 +266,11 @@ module _ (text : List ℕ) (tape : List Entry) (t : Tree) (h : IsText text t) (s
     meant = sym e;
   }
 
-  pub no_twins : (counts : List ℕ) (n : ℕ) (f : (ℕ × Keyed) → Option ℕ) → length tape ≤ n → Keeps text tape counts t n f → (part : Tree) (k up : ℕ) (label : Label) → IsAt t 0 Top 0 k up label part → HasTwins part → ⊥
-  no_twins counts n f l keeps (Obj s ms) k up label a (j, j', m, m', means, less, e, g, x, y) =
+  pub no_twins : (marks : List ℕ) (n : ℕ) (f : (ℕ × Keyed) → Option ℕ) → length tape ≤ n → Keeps text tape marks t n f → (part : Tree) (k up : ℕ) (label : Label) → IsAt t 0 Top 0 k up label part → HasTwins part → ⊥
+  no_twins marks n f l keeps (Obj s ms) k up label a (j, j', m, m', means, less, e, g, x, y) =
       let r = two ms k (k + 1) j j' m m' less e g in
       let other = named_member s ms k up label a m' means r.other (meaning_is y) in
       let b = number_below tape t other.value r.other.number k (Named (extent other.name)) stands other.is_at in
       keeps.alone r.one.number r.other.number m.source.place m'.source.place (omega arith)
       (record { behind = r.behind; up = k; means = means; one = named_member s ms k up label a m means r.one (meaning_is x); other = other })
-  no_twins counts n f l keeps _ k up label a q = absurd q
+  no_twins marks n f l keeps _ k up label a q = absurd q

@@ -1,5 +1,5 @@
 pub mod Firsts
-pub mod Groups
 pub mod Levels
+pub mod Marks
 pub mod Surrogates
 pub mod Twins

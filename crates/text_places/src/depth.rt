@@ -34,7 +34,7 @@ fn first_deep(alloc: Global, text: &[u8], tape: &Tape) -> Result<Option<usize>, 
     for n in 0..tape.len() {
         let entry = tape.entry(n);
         let level = level_of(levels.as_slice(), n, entry.up);
-        if level == DEPTH_LIMIT && is_container(entry.kind) {
+        if level as usize == DEPTH_LIMIT && is_container(entry.kind) {
             return Ok(Some(entry.source.start as usize));
         }
         levels.push(level)?;
@@ -42,9 +42,9 @@ fn first_deep(alloc: Global, text: &[u8], tape: &Tape) -> Result<Option<usize>, 
     Ok(None)
 }
 
-fn level_of(levels: &[usize], n: u32, up: u32) -> usize
+fn level_of(levels: &[u32], n: u32, up: u32) -> u32
     requires inside { 0 < n → up < length levels.now }
-    requires small { 0 < n → get_or levels.now up 0 < 2 ^ 32 }
+    requires small { 0 < n → get_or levels.now up 0 < 2 ^ 24 }
     ensures { result ≡ level_in levels.now n up }
 {
     if n == 0 {

@@ -4,7 +4,7 @@
 #![tactic(auto)]
 
 mod depth;
-mod groups;
+mod marks;
 mod messages;
 mod names;
 mod numbers;

@@ -1,18 +1,18 @@
 //! The first name that comes again in its object.
 
-ghost use Rattle.std.specs.Prelude.{◌≡◌, ◌*◌, ◌<◌, ◌≤◌, ◌↔◌, length, None, IfOk, IfSome, IsTrue};
-ghost use Rattle.json_strings.specs.Spelling.{IsQuoted};
+ghost use Rattle.std.specs.Prelude.{◌≡◌, ◌<◌, ◌≤◌, ◌↔◌, length, None, IfOk, IfSome, IsTrue};
 ghost use Rattle.json_text.specs.Answer.{IsJson, StandsForAll};
+ghost use Rattle.json_text.specs.Suspects.{AreSuspects};
 ghost use Rattle.json_text.specs.Verdict.{text_limit, Applies};
 ghost use Rattle.json_text.specs.declared.tape.TextFault.TheVariants.{DuplicateName};
-ghost use Rattle.text_places.specs.Groups.{IsShared};
+ghost use Rattle.text_places.specs.Marks.{IsLeft};
 ghost use Rattle.text_places.specs.Twins.{AreFirstTwins};
 
-use crate::groups::{counted, end_at, group};
-use crate::tapes::tape_of;
+use crate::marks::left;
+use crate::tapes::reading_of;
 use json_strings::Key;
 use json_tape::Tape;
-use json_text::{Entry, Role};
+use json_text::Role;
 use std::alloc::{AllocError, Global};
 use std::collections::BTreeMap;
 
@@ -30,23 +30,29 @@ pub fn duplicate_name(alloc: Global, text: &str) -> Result<Option<Twins>, AllocE
     ensures found { IfOk result (λ found. IfSome found (λ twins. AreFirstTwins text.now twins.first twins.second)) }
     ensures none { IfOk result (λ found. found ≡ None → Applies text.now DuplicateName → ⊥) }
 {
-    match tape_of(alloc, text)? {
-        Some(tape) => first_twins(alloc, text, &tape),
+    match reading_of(alloc, text)? {
+        Some(reading) => first_twins(alloc, text, &reading.tape, reading.suspects.as_slice()),
         None => Ok(None),
     }
 }
 
-fn first_twins(alloc: Global, text: &str, tape: &Tape) -> Result<Option<Twins>, AllocError>
+fn first_twins(
+    alloc: Global,
+    text: &str,
+    tape: &Tape,
+    suspects: &[u32],
+) -> Result<Option<Twins>, AllocError>
     requires spelt { IsJson text.now }
     requires stands { StandsForAll text.now tape.now }
+    requires suspects { AreSuspects text.now tape.now suspects.now }
     ensures found { IfOk result (λ found. IfSome found (λ twins. AreFirstTwins text.now twins.first twins.second)) }
     ensures none { IfOk result (λ found. found ≡ None → Applies text.now DuplicateName → ⊥) }
 {
-    let counts = counted(alloc, text, tape)?;
+    let marks = left(alloc, text, tape, suspects)?;
     let mut seen = BTreeMap::new(alloc);
     for n in 0..tape.len() {
-        let entry = tape.entry(n);
-        if is_shared(text, tape, &counts, entry) {
+        if is_left(tape, &marks, n) {
+            let entry = tape.entry(n);
             // a name of its object
             let name = (entry.up, Key::new(alloc, n, text, entry.label)?);
             if let Some(first) = seen.get(&name) {
@@ -62,15 +68,17 @@ fn first_twins(alloc: Global, text: &str, tape: &Tape) -> Result<Option<Twins>, 
     Ok(None)
 }
 
-// Whether an entry is that of a member whose group has another name.
-fn is_shared(text: &str, tape: &Tape, counts: &Vec<u8>, entry: Entry) -> bool
-    requires quoted { entry.role ≡ Role.Member → IsQuoted text.now entry.label }
-    requires inside { entry.role ≡ Role.Member → entry.up < length tape.now }
-    requires long { length counts.now.items ≡ length tape.now * 8 }
-    ensures { IsTrue result ↔ IsShared text.now tape.now counts.now.items entry }
+// Whether a value is that of a member whose name may come again.
+fn is_left(tape: &Tape, marks: &Vec<u32>, n: u32) -> bool
+    requires inside { n < length tape.now }
+    requires long { length marks.now.items ≡ length tape.now }
+    ensures { IsTrue result ↔ IsLeft tape.now marks.now.items n }
 {
-    match entry.role {
-        Role::Member => counts[group(text, entry, end_at(tape, entry.up), tape.len())] == 2,
-        Role::Whole | Role::Element => false,
-    }
+    marks[n as usize] != 0 && is_member(tape.entry(n).role)
+}
+
+fn is_member(role: Role) -> bool
+    ensures { IsTrue result ↔ role ≡ Role.Member }
+{
+    matches!(role, Role::Member)
 }

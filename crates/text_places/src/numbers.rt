@@ -2,7 +2,8 @@
 
 ghost use Rattle.std.specs.Prelude.{◌≡◌, ◌≤◌, ◌↔◌, length, None, IfOk, IfSome, IsTrue};
 ghost use Rattle.json_text.specs.Answer.{IsJson, StandsForAll};
-ghost use Rattle.json_text.specs.Limits.{IsLimited, IsBadNumber};
+ghost use Rattle.decimal_order.specs.Number.{IsNumber};
+ghost use Rattle.json_text.specs.Limits.{bytes_at as stands_at, IsLimited, IsBadNumber};
 ghost use Rattle.json_text.specs.Verdict.{text_limit, Applies};
 ghost use Rattle.json_text.specs.declared.tape.TextFault.TheVariants.{NumberLimit};
 ghost use Rattle.text_places.specs.Firsts.{IsFirst, IsBeyond};
@@ -12,6 +13,7 @@ use decimal_order::{scan, within_limits};
 use json_strings::bytes_at;
 use json_tape::{Kind, Tape};
 use json_text::Entry;
+use json_walk::has_short_exponent;
 use std::alloc::{AllocError, Global};
 
 /// Where the first number beyond the limits begins, if a text has one.
@@ -42,10 +44,14 @@ fn first_beyond(text: &[u8], tape: &Tape) -> Option<usize>
 }
 
 fn is_bad_number(text: &[u8], entry: Entry) -> bool
-    ensures { IsTrue result ↔ IsBadNumber text.now entry }
+    ensures sound { IsTrue result → IsBadNumber text.now entry }
+    ensures complete { IsNumber (stands_at text.now entry.source) → IsBadNumber text.now entry → IsTrue result }
 {
     match entry.kind {
-        Kind::Number => !is_limited(bytes_at(text, entry.source)),
+        Kind::Number => {
+            let bytes = bytes_at(text, entry.source);
+            !(has_short_exponent(bytes) || is_limited(bytes))
+        }
         Kind::Null | Kind::Bool(_) | Kind::Text | Kind::Array | Kind::Object => false,
     }
 }

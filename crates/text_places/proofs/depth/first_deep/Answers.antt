@@ -14,7 +14,7 @@ pub level_of-level-requires-clause-small : goal.level_of-level-requires-clause-s
 level_of-level-requires-clause-small c = λ p. (let j = c.requires.spelt in
     let b = up_before c.args.tape.now j.0 (c.requires.stands j.0 j.1) c.loop-n.n c.entry-entry.result (search rules) c.entry-entry.ensures p in
     let s = (c.loop-n.invariant.1 j.0 j.1 c.entry-entry.result.up b).small in let l = c.loop-n-test.true in let m = c.len-n-end.ensures.small in let k = c.len-n-end.ensures.value in
-    subst (λ xs. get_or xs c.entry-entry.result.up 0 < 2 ^ 32) (sym c.as_slice.ensures.value) (omega arith))
+    subst (λ xs. get_or xs c.entry-entry.result.up 0 < 2 ^ 24) (sym c.as_slice.ensures.value) (omega arith))
 
 pub returns-then-is_container-clause-found : goal.returns-then-is_container-clause-found
 returns-then-is_container-clause-found c = let j = c.requires.spelt in
