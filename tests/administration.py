@@ -191,7 +191,7 @@ FILES = [
 BAD_FILES = [
     ("{0} acme\n{1} two words\n", "BadKeys", 2), ('{0} ac"me\n', "BadKeys", 1), ("{0} ac\\me\n", "BadKeys", 1), ("{0} m\u00fcller\n", "BadKeys", 1),
     ("\n{0} " + 65 * "n" + "\n", "BadKeys", 2), ("{0},{1} both\n", "BadKeys", 1), ("acme {0}\n", "BadKeys", 1), ("{0} \x00\n", "BadKeys", 1),
-    ("{0} acme\n{1} acme\n", "RepeatedName", "acme"), ("{0}\n{1} {label0}\n", "RepeatedName", "{label0}"), ("{0} a\n{0} b\n", "RepeatedKey", None),
+    ("{0} acme\n{1} acme\n", "RepeatedName", "acme"), ("{0}\n{1} {label0}\n", "RepeatedName", "{label0}"), ("{0} a\n{0} b\n", "RepeatedKey", "key 2 is key 1 again"),
 ]
 
 

@@ -71,7 +71,7 @@ expect 1 '' 'path_server: BadLine 2' '1 open\n\n1 close\n' replay "$key"
 expect 1 '' 'path_server: BadLine 1' '01 open' replay "$key"
 expect 1 '' 'path_server: BadLine 1' '4294967296 open' replay "$key"
 expect 1 '' 'path_server: BadLine 3' '1 open\n1 \n1 0' replay "$key,$key"
-expect 3 '' 'path_server: RepeatedKey' '1 open' replay "$key,$key"
+expect 3 '' "path_server: RepeatedKey${newline}key 2 is key 1 again" '1 open' replay "$key,$key"
 expect 3 '' 'path_server: TooManyKeys' '1 open' replay "$(printf '%032x,' $(seq 256))$other"
 expect 3 '' "$bad_keys 1 $written" '1 open' replay "${key}0"
 expect 3 '' "$bad_keys 2 $written" '' replay "$key,"
@@ -114,7 +114,7 @@ done
 expect 3 '' any '' call
 expect 3 '' "$bad_keys 3 $written" '' serve 127.0.0.1:0 "$key,$other,$key " 1
 expect 3 '' 'path_server: BadKeys' '' serve nowhere '' 1
-expect 3 '' 'path_server: RepeatedKey' '' serve nowhere "$key,$key" 1
+expect 3 '' "path_server: RepeatedKey${newline}key 3 is key 2 again" '' serve nowhere "$other,$key,$key" 1
 expect 3 '' 'path_server: TooManyKeys' '' serve nowhere "$(printf '%032x,' $(seq 256))$other" 1
 expect 4 '' "path_server: NetFault${newline}nowhere: invalid input parameter" '' serve nowhere "$key" 1
 expect 4 '' 'path_server: NetFault' '' serve 127.0.0.1:65536 "$key" 1
@@ -183,7 +183,7 @@ expect 3 '' "$bad_keys 2 $written" '' listen 127.0.0.1:0 "$key,"
 expect 4 '' "path_server: NetFault${newline}nowhere: invalid input parameter" '' listen nowhere "$key"
 expect 4 '' "path_server: ReadFault${newline}$room/none: entity not found" '' listen 127.0.0.1:0 --keys "$room/none"
 printf '%s\n' "$key" >"$room/keys"
-expect 3 '' 'path_server: RepeatedKey' '' listen 127.0.0.1:0 "$key" --keys "$room/keys"
+expect 3 '' "path_server: RepeatedKey${newline}key 3 is key 1 again" '' listen 127.0.0.1:0 "$other,$key" --keys "$room/keys"
 printf '# tenants\r\n\r\n%s\r\n  # more\n\n %s \n' "$key" "$other" >"$room/keys"
 expect_listens --keys "$room/keys"
 printf '%s,%s' "$key" "$other" >"$room/keys"

@@ -20,7 +20,7 @@ use Rattle.path_server.specs.declared.keys.KeysFault.TheVariants as keys
 use Rattle.tenant_map.specs.declared.tenants.TenantsFault.{TenantsFault}
 use Rattle.tenant_map.specs.declared.tenants.TenantsFault.TheVariants as tenants
 use Rattle.command_line.specs.declared.failure.Failure.{Failure}
-use Rattle.command_line.specs.declared.failure.Failure.TheVariants.{CommandLine, Words, Value, Query, Refused, Keys, Replay, Tenants, Net, Address, Key, KeyLine, File, RepeatedName, Write, Read, Call, Broken, Memory}
+use Rattle.command_line.specs.declared.failure.Failure.TheVariants.{CommandLine, Words, Value, Query, Refused, Keys, Replay, Tenants, RepeatedKey, Net, Address, Key, KeyLine, File, RepeatedName, Write, Read, Call, Broken, Memory}
 
 abbrev pub status_of_kind : ErrorKind → ℕ
 status_of_kind DisplayHelp = 0
@@ -89,6 +89,7 @@ status_of (Refused at) = status_of_refusal at.fault
 status_of (Keys fault) = status_of_keys fault
 status_of (Replay fault) = status_of_replay fault
 status_of (Tenants fault) = status_of_tenants fault
+status_of (RepeatedKey _ _) = 3
 status_of Net = 4
 status_of (Address _) = 4
 status_of (Key _) = 3

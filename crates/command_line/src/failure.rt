@@ -1,9 +1,9 @@
 //! Why the program fails, and its exit status.
 
-ghost use Rattle.std.specs.Prelude.{◌≡◌, ◌≢◌, ◌⊎◌, ◌↔◌, IsTrue};
+ghost use Rattle.std.specs.Prelude.{◌≡◌, ◌≢◌, ◌+◌, ◌≤◌, ◌⊎◌, ◌↔◌, IsTrue, length, IfSome};
 ghost use Rattle.std.specs.IoError.{error_kind};
 ghost use Rattle.clap.specs.Values.{kind_of};
-ghost use Rattle.command_line.specs.Causes.{IsBrokenOff, IsOfAddress, IsOfCall, IsOfFile, IsOfQuery};
+ghost use Rattle.command_line.specs.Causes.{AreDigits, IsBrokenOff, IsFirstBad, IsKeyAt, IsOfAddress, IsOfCall, IsOfFile, IsOfKeys, IsOfQuery, IsOfTenants, AreEqual};
 ghost use Rattle.command_line.specs.Statuses.{status_of, status_of_refusal, status_of_query, status_of_keys, status_of_tenants, status_of_script, status_of_replay, status_of_call, status_of_call_stream, status_of_kind};
 
 use clap::error::ErrorKind as ParseKind;
@@ -38,6 +38,8 @@ pub enum Failure {
     Replay(ReplayStreamFault),
     /// The keys are refused: none, too many, or one key twice.
     Tenants(TenantsFault),
+    /// A key stands twice: the numbers of the second and of the first, from 1 on.
+    RepeatedKey(u64, u64),
     /// The address is invalid, or could not be bound or connected to, or a connection could not be accepted.
     Net,
     /// The same, with the address and the system's reason.
@@ -181,11 +183,40 @@ impl Failure {
 
     /// The failure of keys on the command line, with the number of the first that is not in its written form.
     pub fn of_keys(words: &str, fault: KeysFault) -> Failure
+        ensures cause { IsOfKeys words.now fault result }
         ensures status { status_of result ≡ status_of_keys fault }
     {
         match fault {
-            KeysFault::BadKeys => Failure::Key(bad_key(words)),
+            KeysFault::BadKeys => Failure::Key(bad_key(words.as_bytes())),
             KeysFault::Memory => Failure::Keys(fault),
+        }
+    }
+
+    /// The failure of keys that make no tenants, with the numbers of two that are equal.
+    pub fn of_tenants(keys: &[[u8; 16]], fault: TenantsFault) -> Failure
+        ensures cause { IsOfTenants keys.now fault result }
+        ensures status { status_of result ≡ status_of_tenants fault }
+    {
+        match (fault, repeated(keys)) {
+            (TenantsFault::RepeatedKey, Some((n, first))) => {
+                Failure::RepeatedKey(n as u64 + 1, first as u64 + 1)
+            }
+            _ => Failure::Tenants(fault),
+        }
+    }
+
+    /// The failure of a script that was not replayed for these keys.
+    pub fn of_replay(keys: &[[u8; 16]], fault: ReplayStreamFault) -> Failure
+        ensures { status_of result ≡ status_of_replay fault }
+    {
+        match fault {
+            ReplayStreamFault::Refused(ScriptFault::Keys(refused)) => {
+                match Failure::of_tenants(keys, refused) {
+                    Failure::Tenants(_) => Failure::Replay(fault),
+                    failure => failure,
+                }
+            }
+            _ => Failure::Replay(fault),
         }
     }
 
@@ -240,6 +271,7 @@ impl Failure {
             Failure::Keys(fault) => keys_status(*fault),
             Failure::Replay(fault) => replay_status(*fault),
             Failure::Tenants(fault) => tenants_status(*fault),
+            Failure::RepeatedKey(..) => 3,
             Failure::Net => 4,
             Failure::Address(_) => 4,
             Failure::Key(_) => 3,
@@ -285,6 +317,10 @@ impl fmt::Display for Failure {
             Failure::Keys(fault) => writeln!(f, "path_server: {fault}"),
             Failure::Replay(fault) => writeln!(f, "path_server: {fault}"),
             Failure::Tenants(fault) => writeln!(f, "path_server: {fault}"),
+            Failure::RepeatedKey(number, first) => writeln!(
+                f,
+                "path_server: RepeatedKey\nkey {number} is key {first} again"
+            ),
             Failure::Net => writeln!(f, "path_server: NetFault"),
             Failure::Address(fault) => writeln!(f, "path_server: NetFault\n{fault}"),
             Failure::Key(number) => writeln!(
@@ -303,21 +339,50 @@ impl fmt::Display for Failure {
     }
 }
 
-// The number of the first key that is not 32 hexadecimal digits, or of the last one.
-fn bad_key(words: &str) -> u64 {
-    let mut number = 1u64;
-    let mut digits = 0;
-    for byte in words.as_bytes() {
-        if *byte == b',' && digits == 32 {
-            number = number.saturating_add(1);
-            digits = 0;
-        } else if byte.is_ascii_hexdigit() && digits < 32 {
-            digits += 1;
-        } else {
-            return number;
+// The number of the first key that is not 32 hexadecimal digits with a comma behind them, from 1 on.
+fn bad_key(words: &[u8]) -> u64
+    ensures { IsFirstBad words.now result }
+{
+    let keys = words.len() / 33;
+    for n in 0..keys {
+        if !is_key_at(words, 33 * n) {
+            return n as u64 + 1;
         }
     }
-    number
+    keys as u64 + 1
+}
+
+// The places of a key and of one before it that is equal.
+fn repeated(keys: &[[u8; 16]]) -> Option<(usize, usize)>
+    ensures { IfSome result (λ places. AreEqual keys.now places.0 places.1) }
+{
+    for n in 0..keys.len() {
+        for first in 0..n {
+            if keys[first] == keys[n] {
+                return Some((n, first));
+            }
+        }
+    }
+    None
+}
+
+fn is_key_at(words: &[u8], at: usize) -> bool
+    requires { at + 33 ≤ length words.now }
+    ensures { IsTrue result ↔ IsKeyAt words.now at }
+{
+    words[at + 32] == b',' && are_digits(words, at)
+}
+
+fn are_digits(words: &[u8], at: usize) -> bool
+    requires { at + 33 ≤ length words.now }
+    ensures { IsTrue result ↔ AreDigits words.now at }
+{
+    for j in 0..32 {
+        if !words[at + j].is_ascii_hexdigit() {
+            return false;
+        }
+    }
+    true
 }
 
 // What is said of the place at which a text or a query is refused.

@@ -51,7 +51,7 @@ fn replay<R: Input + Print + AllocGlobal>(rt: &R, keys: &str) -> Result<(), Fail
         rt.reader(),
         &mut io::writer(rt),
     )
-    .map_err(Failure::Replay)
+    .map_err(|fault| Failure::of_replay(keys.as_slice(), fault))
 }
 
 // Answers `path_server serve ADDR KEYS COUNT`.
@@ -64,7 +64,10 @@ fn serve<R: Print + Eprint + Net + AllocGlobal>(
     let keys = read_keys(rt.alloc(), keys.as_bytes()).map_err(|fault| Failure::of_keys(
         keys, fault,
     ))?;
-    let mut hub = Hub::new(rt.alloc(), keys.as_slice()).map_err(Failure::Tenants)?;
+    let mut hub = Hub::new(rt.alloc(), keys.as_slice()).map_err(|fault| Failure::of_tenants(
+        keys.as_slice(),
+        fault,
+    ))?;
     let listener = listen(rt, address)?;
     serve_streams(
         rt.alloc(),

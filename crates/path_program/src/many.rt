@@ -228,7 +228,7 @@ fn core_of<'r, R: Net + Clock + AllocGlobal>(
     keys: &[[u8; 16]],
 ) -> Result<Measured<'r, R>, Failure> {
     let clock = clock_of(rt, wanted)?;
-    let hub = Hub::new(rt.alloc(), keys).map_err(Failure::Tenants)?;
+    let hub = Hub::new(rt.alloc(), keys).map_err(|fault| Failure::of_tenants(keys, fault))?;
     Ok(measured(rt.alloc(), wanted, hub, clock))
 }
 
