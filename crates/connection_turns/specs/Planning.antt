@@ -1,5 +1,5 @@
 -- What the next turn of a connection does, whether it does anything, and what comes of it: this project's own.
-use Rattle.std.specs.Prelude.{ℕ, length, nat_lt, Option, Some, None, Bool, true, false, not, ◌==◌, ◌&&◌, ◌||◌, if◌then◌else◌}
+use Rattle.std.specs.Prelude.{◌≡◌, ℕ, length, nat_lt, Option, Some, None, Bool, true, false, not, ◌==◌, ◌&&◌, ◌||◌, if◌then◌else◌}
 use Rattle.outbox.specs.Lines.{Line, is_over}
 use Rattle.outbox.specs.Turns as turns
 use Rattle.outbox.specs.declared.readiness.Readiness.{Readiness}
@@ -66,6 +66,10 @@ goes_in Served readable served = served
 -- whether a turn does anything: one whose peer is gone is ended by it
 abbrev pub can_go_on : {S : Type 0} → (has_room : Bool) → Connection S → Bool
 can_go_on has_room c = is_lost c || goes_in c.phase c.ready.readable (can_go_by (plan_of has_room c) c.ready c.outbox)
+
+-- it stays the same one, and gets a turn just if it did
+abbrev pub KeepsTurn : {S : Type 0} → Connection S → Connection S → Type 0
+KeepsTurn old new = (new.number ≡ old.number) × (new.is_due ≡ old.is_due)
 
 -- how one ends that is over, by what became of its stream
 abbrev pub end_of : Fate → (has_faulted : Bool) → End

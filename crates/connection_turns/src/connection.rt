@@ -1,5 +1,5 @@
 //! One connection and what is known of it.
-ghost use Rattle.std.specs.Prelude.{◌≡◌, ◌<◌, ◌≤◌, ◌||◌, length, Some, None, false, IsTrue, if◌then◌else◌};
+ghost use Rattle.std.specs.Prelude.{◌≡◌, ◌<◌, ◌≤◌, ◌||◌, length, Bool, Some, None, false, IsTrue, if◌then◌else◌};
 ghost use Rattle.outbox.specs.Lines.{fresh, is_over};
 ghost use Rattle.outbox.specs.Told.{IsReadOn};
 ghost use Rattle.outbox.specs.Turns as turns;
@@ -8,7 +8,7 @@ ghost use Rattle.connection_turns.specs.Expiring.{expiry_of, end_in, idle_end, i
 ghost use Rattle.connection_turns.specs.Held.{renewed};
 ghost use Rattle.connection_turns.specs.Owed.{line_of, wire_of, is_lost, has_left, rests};
 ghost use Rattle.connection_turns.specs.Planning as planning;
-ghost use Rattle.connection_turns.specs.Planning.{raised, ends, end_of, outcome_of, plan_of, next_of, plan_in, can_go_by};
+ghost use Rattle.connection_turns.specs.Planning.{raised, ends, end_of, outcome_of, plan_of, next_of, plan_in, can_go_by, KeepsTurn};
 ghost use Rattle.connection_turns.specs.Turning.{DrainsOn, Progresses, dried, moment_of};
 
 use crate::claim::{Claim, Pool, Purpose};
@@ -108,6 +108,7 @@ impl<S: Peer> Connection<S> {
     pub fn new(alloc: Global, number: u64, peer: SocketAddr, stream: S, now: u64) -> Connection<S>
         ensures line { line_of result ≡ Some fresh }
         ensures wire { wire_of S.told result ≡ S.told stream }
+        ensures quiet { (result.is_due ≡ false) × (planning.can_go_on false result ≡ false) }
     {
         Connection {
             number,
@@ -140,6 +141,7 @@ impl<S: Peer> Connection<S> {
         ensures wire { wire_of S.told self.new ≡ wire_of S.told self.old }
         ensures gone { self.new.is_gone ≡ (self.old.is_gone || report.is_gone) }
         ensures ready { self.new.ready ≡ raised report self.old.ready }
+        ensures due { KeepsTurn self.old self.new }
     {
         self.is_gone = self.is_gone || report.is_gone;
         self.socket.report(report.is_ending || report.is_urgent);
@@ -154,16 +156,20 @@ impl<S: Peer> Connection<S> {
         ensures claim { self.new.claim ≡ planning.granted ticket now self.old.claim }
         ensures phase { self.new.phase ≡ self.old.phase }
         ensures ready { self.new.ready ≡ self.old.ready }
+        ensures due { KeepsTurn self.old self.new }
     {
         self.moved = now;
         self.claim = granted(self.claim, ticket, now);
     }
 
-    /// Its query went on in this second: the time for which it may hold its share begins anew.
+    /// Its query went on in this second, or it stands by for others: the time for which it may hold its share begins anew.
     pub fn renew(&mut self, now: u64)
         ensures line { line_of self.new ≡ line_of self.old }
         ensures wire { wire_of S.told self.new ≡ wire_of S.told self.old }
         ensures claim { self.new.claim ≡ renewed now self.old.claim }
+        ensures phase { self.new.phase ≡ self.old.phase }
+        ensures ready { self.new.ready ≡ self.old.ready }
+        ensures due { KeepsTurn self.old self.new }
     {
         self.claim = renewed(self.claim, now);
     }
@@ -233,6 +239,7 @@ impl<S: Peer> Connection<S> {
         ensures turn { Progresses (C.takes conn) (C.answers conn) (can_go_by plan self.old.ready self.old.outbox) (moment_of S.told core.old self.old) (moment_of S.told core.new self.new) }
         ensures writes { plan ≡ Plan.Write → core.new ≡ core.old }
         ensures phase { self.new.phase ≡ self.old.phase }
+        ensures due { KeepsTurn self.old self.new }
     {
         self.socket.begin();
         core.begin(plan == Plan::Answer);
@@ -250,6 +257,7 @@ impl<S: Peer> Connection<S> {
     fn note_drained(&mut self)
         ensures drained { self.new ≡ (if self.old.socket.is_drained then dried self.old else self.old) }
         ensures phase { self.new.phase ≡ self.old.phase }
+        ensures due { KeepsTurn self.old self.new }
     {
         if self.socket.is_drained() {
             self.ready.readable = false;
@@ -266,6 +274,7 @@ impl<S: Peer> Connection<S> {
         requires { 0 < length buffer.old }
         ensures turn { Progresses (C.takes conn) (C.answers conn) (turns.can_go_on self.old.ready self.old.outbox) (moment_of S.told core.old self.old) (moment_of S.told core.new self.new) }
         ensures phase { self.new.phase ≡ self.old.phase }
+        ensures due { KeepsTurn self.old self.new }
     {
         turn(
             &mut self.outbox,
@@ -288,6 +297,7 @@ impl<S: Peer> Connection<S> {
         requires { 0 < length buffer.old }
         ensures turn { Progresses (C.takes conn) (C.answers conn) (turns.can_read self.old.ready self.old.outbox) (moment_of S.told core.old self.old) (moment_of S.told core.new self.new) }
         ensures phase { self.new.phase ≡ self.old.phase }
+        ensures due { KeepsTurn self.old self.new }
     {
         feed(
             &mut self.outbox,
@@ -304,6 +314,7 @@ impl<S: Peer> Connection<S> {
     fn write(&mut self)
         ensures turn { Flushes self.old.outbox (wire_of S.told self.old) self.old.ready self.new.outbox (wire_of S.told self.new) self.new.ready }
         ensures phase { self.new.phase ≡ self.old.phase }
+        ensures due { KeepsTurn self.old self.new }
     {
         flush(&mut self.outbox, &mut self.socket, &mut self.ready);
     }
@@ -399,6 +410,8 @@ impl<S: Peer> Connection<S> {
         ensures line { line_of self.new ≡ line_of self.old }
         ensures wire { wire_of S.told self.new ≡ wire_of S.told self.old }
         ensures left { IsTrue (has_left self.new) }
+        ensures due { KeepsTurn self.old self.new }
+        ensures goes { (has_room : Bool) → planning.can_go_on has_room self.new ≡ planning.can_go_on has_room self.old }
     {
         self.socket.leave();
     }
@@ -407,6 +420,7 @@ impl<S: Peer> Connection<S> {
     pub fn linger(&mut self, now: u64)
         ensures line { line_of self.new ≡ None }
         ensures wire { wire_of S.told self.new ≡ wire_of S.told self.old }
+        ensures due { KeepsTurn self.old self.new }
     {
         self.socket.stream.end_writing();
         self.claim = None;
@@ -426,6 +440,7 @@ impl<S: Peer> Connection<S> {
         ensures wire { IsReadOn (wire_of S.told self.old) (wire_of S.told self.new) }
         ensures goes_on { 0 < length buffer.old → DrainsOn (wire_of S.told self.old) (wire_of S.told self.new) self.new.ready result }
         ensures phase { self.new.phase ≡ self.old.phase }
+        ensures due { KeepsTurn self.old self.new }
     {
         match self.socket.stream.read(buffer) {
             Given::Bytes(_) => Outcome::Open,

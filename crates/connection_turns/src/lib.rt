@@ -12,6 +12,7 @@ mod ending;
 mod journal;
 mod limits;
 mod socket;
+mod waiting;
 
 pub use claim::{Claim, Need, Pool, Purpose};
 pub use connection::{ALLOWANCE, Connection, Outcome, Phase, Plan};
@@ -20,3 +21,4 @@ pub use counts::Counts;
 pub use ending::{End, Ending};
 pub use journal::{Held, Journal, Slow, Totals};
 pub use limits::Limits;
+pub use waiting::{Waiting, waiting_among};

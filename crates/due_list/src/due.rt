@@ -1,5 +1,5 @@
 //! The connections that get a turn, and the time that each tenant's turns took in a round.
-ghost use Rattle.std.specs.Prelude.{◌≡◌, ◌<◌, ◌++◌, ◌∷◌, [], IfOk, OnOk, nat_lt, replicate, slice_index};
+ghost use Rattle.std.specs.Prelude.{◌≡◌, ◌<◌, ◌++◌, ◌∷◌, [], IfOk, OnErr, OnOk, nat_lt, replicate, slice_index};
 ghost use Rattle.due_list.specs.Rounds.{IsLast, after_turn, charged, due_at, party_of};
 
 use std::alloc::{AllocError, Global};
@@ -79,7 +79,8 @@ impl DueList {
         tenant: Option<usize>,
         is_under_way: bool,
     ) -> Result<(), AllocError>
-        ensures { OnOk result (IsLast is_under_way (due_at key number tenant) self.old self.new) }
+        ensures last { OnOk result (IsLast is_under_way (due_at key number tenant) self.old self.new) }
+        ensures unchanged { OnErr result ((self.new.first.items ≡ self.old.first.items) × (self.new.rest.items ≡ self.old.rest.items)) }
     {
         let due = Due {
             key,

@@ -1,2 +1,4 @@
 pub mod Deaf
 pub mod Serving
+pub mod Waking
+pub mod Seats

@@ -30,7 +30,7 @@ leads_on {S} {C} {T} s told may_wait all i d start now next l h k = λ end e.
     let more : drop i all ≡ get_or all i d ∷ drop (i + 1) all = drop-cons all i d l ∙ ap (λ (n : ℕ). get_or all i d ∷ drop n all) (sym (add-one i)) in
     h end (subst (λ (ds : List Due). ServesEach s told may_wait ds now end) (sym more) (next, k, e))
 
-none_dropped : (dues : List Due) (i : ℕ) → length dues ≤ i → drop i dues ≡ []
+pub none_dropped : (dues : List Due) (i : ℕ) → length dues ≤ i → drop i dues ≡ []
 none_dropped [] zero l = refl
 none_dropped [] (suc i) l = refl
 none_dropped (d ∷ dues) zero l = let f : ⊥ = omega arith in absurd f

@@ -1,3 +1,4 @@
+pub mod Seats
 pub mod Servers
 pub mod Clocked
 pub mod Drains

@@ -1,8 +1,10 @@
 //! What a round does for the administration address.
-ghost use Rattle.std.specs.Prelude.{◌≡◌, is_some, IsTrue, IsFalse};
+ghost use Rattle.std.specs.Prelude.{◌≡◌, ◌-◌, is_some, IsTrue, IsFalse};
 ghost use Rattle.admin_pages.specs.Standings.{takes_in};
 ghost use Rattle.open_connections.specs.Looping.{Stays};
 ghost use Rattle.open_connections.specs.Opened.{lanes_of, connected_in};
+ghost use Rattle.open_connections.specs.Shares.{left_of, limit_of};
+ghost use Rattle.open_connections.specs.Woken.{StaysWoken};
 
 use crate::rounds::Rounds;
 use admin_desk::PLACES;
@@ -25,6 +27,7 @@ impl<S: System + Drop, C: LoopCore, T: Time + Drop> Rounds<S, C, T> {
     pub fn administer<J: Journal>(&mut self, journal: &J)
         ensures lanes { Stays (lanes_of S.Stream.told self.old.opened) (lanes_of S.Stream.told self.new.opened) }
         ensures drains { IsTrue (is_some self.new.desk.standing.grace) → IsFalse self.new.acceptor.listens }
+        ensures woken { StaysWoken self.old.opened self.new.opened }
     {
         'places: for place in 0..PLACES {
             self.serve_caller(place, journal);
@@ -35,7 +38,8 @@ impl<S: System + Drop, C: LoopCore, T: Time + Drop> Rounds<S, C, T> {
 
     // One step of a connection. A page tells what is so as it begins.
     fn serve_caller<J: Journal>(&mut self, place: usize, journal: &J)
-        ensures { Stays (lanes_of S.Stream.told self.old.opened) (lanes_of S.Stream.told self.new.opened) }
+        ensures lanes { Stays (lanes_of S.Stream.told self.old.opened) (lanes_of S.Stream.told self.new.opened) }
+        ensures woken { StaysWoken self.old.opened self.new.opened }
     {
         if self.desk.wants_page(place) {
             self.begin_page(place, journal.dropped(), journal.lost());
@@ -44,7 +48,8 @@ impl<S: System + Drop, C: LoopCore, T: Time + Drop> Rounds<S, C, T> {
     }
 
     fn begin_page(&mut self, place: usize, dropped: u64, lost: u64)
-        ensures { Stays (lanes_of S.Stream.told self.old.opened) (lanes_of S.Stream.told self.new.opened) }
+        ensures lanes { Stays (lanes_of S.Stream.told self.old.opened) (lanes_of S.Stream.told self.new.opened) }
+        ensures woken { StaysWoken self.old.opened self.new.opened }
     {
         let gauges = self.gauges(dropped, lost);
         self.desk.begin_page(place, self.opened.metrics(), &gauges);
@@ -52,7 +57,8 @@ impl<S: System + Drop, C: LoopCore, T: Time + Drop> Rounds<S, C, T> {
 
     // Accepts connections of the address, as long as there is room.
     fn receive(&mut self)
-        ensures { Stays (lanes_of S.Stream.told self.old.opened) (lanes_of S.Stream.told self.new.opened) }
+        ensures lanes { Stays (lanes_of S.Stream.told self.old.opened) (lanes_of S.Stream.told self.new.opened) }
+        ensures woken { StaysWoken self.old.opened self.new.opened }
     {
         'callers: for _ in 0..PLACES {
             if !self.receive_one() {
@@ -63,7 +69,8 @@ impl<S: System + Drop, C: LoopCore, T: Time + Drop> Rounds<S, C, T> {
 
     // Accepts one, and tells whether another one may wait. Once the server has nothing more to do, it accepts none.
     fn receive_one(&mut self) -> bool
-        ensures { Stays (lanes_of S.Stream.told self.old.opened) (lanes_of S.Stream.told self.new.opened) }
+        ensures lanes { Stays (lanes_of S.Stream.told self.old.opened) (lanes_of S.Stream.told self.new.opened) }
+        ensures woken { StaysWoken self.old.opened self.new.opened }
     {
         if !self.acceptor.listens && self.opened.count() == 0 {
             return false;
@@ -82,7 +89,8 @@ impl<S: System + Drop, C: LoopCore, T: Time + Drop> Rounds<S, C, T> {
     }
 
     fn take_caller(&mut self, key: usize, mut stream: S::Stream)
-        ensures { Stays (lanes_of S.Stream.told self.old.opened) (lanes_of S.Stream.told self.new.opened) }
+        ensures lanes { Stays (lanes_of S.Stream.told self.old.opened) (lanes_of S.Stream.told self.new.opened) }
+        ensures woken { StaysWoken self.old.opened self.new.opened }
     {
         if self.system.watch(&mut stream, key) {
             self.desk.take_in(stream, self.seconds.last());
@@ -94,6 +102,8 @@ impl<S: System + Drop, C: LoopCore, T: Time + Drop> Rounds<S, C, T> {
         ensures ready { result.is_ready ≡ takes_in self.now.desk.standing }
         ensures open_ones { result.open ≡ connected_in self.now.opened }
         ensures accepted { result.connections ≡ self.now.acceptor.taken }
+        ensures buffered { result.buffered ≡ limit_of self.now.opened.budgets - left_of self.now.opened.budgets }
+        ensures most { result.limit ≡ limit_of self.now.opened.budgets }
         ensures bytes_read { result.read ≡ self.now.opened.read }
         ensures bytes_written { result.written ≡ self.now.opened.written }
     {

@@ -3,9 +3,9 @@ ghost use Rattle.std.specs.Prelude.{◌≡◌, is_some, IfSome, IsTrue, IsFalse}
 ghost use Rattle.outbox.specs.Told.{IsUnused};
 ghost use Rattle.open_connections.specs.Looping.{Stays, DoesAtMost, LetGo};
 ghost use Rattle.open_connections.specs.Opened.{lanes_of, rests_at};
+ghost use Rattle.open_connections.specs.Woken.{StaysWoken};
 ghost use Rattle.event_loop.specs.Drains.{LeavesAt, Parts, parting_at, parting_of};
 
-use crate::fault::LoopFault;
 use crate::rounds::{ACCEPTS, Rounds};
 use connection_turns::End;
 use open_connections::{Journal, LoopCore};
@@ -32,6 +32,7 @@ impl<S: System + Drop, C: LoopCore, T: Time + Drop> Rounds<S, C, T> {
         ensures asked { self.new.desk.standing ≡ self.old.desk.standing }
         ensures deaf { IsTrue (is_some self.old.desk.standing.grace) → IsFalse self.new.acceptor.listens }
         ensures begun { IsTrue (is_some self.old.desk.standing.grace) → IsTrue (is_some self.new.drained) }
+        ensures woken { StaysWoken self.old.opened self.new.opened }
     {
         if self.desk.standing().grace.is_none() {
             return;
@@ -44,7 +45,8 @@ impl<S: System + Drop, C: LoopCore, T: Time + Drop> Rounds<S, C, T> {
 
     /// Closes the connections that wait, without a byte.
     pub fn turn_away(&mut self)
-        ensures { Stays (lanes_of S.Stream.told self.old.opened) (lanes_of S.Stream.told self.new.opened) }
+        ensures lanes { Stays (lanes_of S.Stream.told self.old.opened) (lanes_of S.Stream.told self.new.opened) }
+        ensures woken { StaysWoken self.old.opened self.new.opened }
     {
         'asking: for _ in 0..ACCEPTS {
             if !self.may_accept() {
@@ -58,6 +60,7 @@ impl<S: System + Drop, C: LoopCore, T: Time + Drop> Rounds<S, C, T> {
     fn late(&mut self) -> Option<S::Stream>
         ensures lanes { Stays (lanes_of S.Stream.told self.old.opened) (lanes_of S.Stream.told self.new.opened) }
         ensures unused { IfSome result (λ stream. IsUnused (S.Stream.told stream)) }
+        ensures woken { StaysWoken self.old.opened self.new.opened }
     {
         match self.system.accept() {
             Accepted::Stream(stream, _) => Some(stream),
@@ -74,12 +77,13 @@ impl<S: System + Drop, C: LoopCore, T: Time + Drop> Rounds<S, C, T> {
     }
 
     /// What a drain does to a connection that is open. Behind the grace it is closed if it rests, and else leaves; some seconds later it is closed.
-    pub fn drain<J: Journal>(&mut self, key: usize, journal: &mut J) -> Result<(), LoopFault>
+    pub fn drain<J: Journal>(&mut self, key: usize, journal: &mut J)
         ensures lanes { DoesAtMost C.steps (LetGo key) (lanes_of S.Stream.told self.old.opened) (lanes_of S.Stream.told self.new.opened) }
-        ensures parts { Parts S.Stream.told (parting_of self.old.drained self.old.desk.standing.grace self.old.seconds.last) key result self.old.opened self.new.opened }
+        ensures parts { Parts S.Stream.told (parting_of self.old.drained self.old.desk.standing.grace self.old.seconds.last) key self.old.opened self.new.opened }
+        ensures woken { StaysWoken self.old.opened self.new.opened }
     {
         match self.parting() {
-            Parting::Served => Ok(()),
+            Parting::Served => {}
             Parting::Leaves => self.part(key, journal),
             Parting::Cut => self.cut(key, journal),
         }
@@ -96,33 +100,36 @@ impl<S: System + Drop, C: LoopCore, T: Time + Drop> Rounds<S, C, T> {
     }
 
     // One at rest is closed at once, and any other leaves.
-    fn part<J: Journal>(&mut self, key: usize, journal: &mut J) -> Result<(), LoopFault>
+    fn part<J: Journal>(&mut self, key: usize, journal: &mut J)
         ensures lanes { DoesAtMost C.steps (LetGo key) (lanes_of S.Stream.told self.old.opened) (lanes_of S.Stream.told self.new.opened) }
-        ensures busy { IsFalse (rests_at key self.old.opened) → LeavesAt S.Stream.told key result self.old.opened self.new.opened }
+        ensures busy { IsFalse (rests_at key self.old.opened) → LeavesAt S.Stream.told key self.old.opened self.new.opened }
+        ensures woken { StaysWoken self.old.opened self.new.opened }
     {
         if self.opened.rests(key) {
-            self.cut(key, journal)
+            self.cut(key, journal);
         } else {
-            self.leave(key)
+            self.leave(key);
         }
     }
 
     // A connection leaves.
-    fn leave(&mut self, key: usize) -> Result<(), LoopFault>
-        ensures { LeavesAt S.Stream.told key result self.old.opened self.new.opened }
+    fn leave(&mut self, key: usize)
+        ensures lanes { LeavesAt S.Stream.told key self.old.opened self.new.opened }
+        ensures woken { StaysWoken self.old.opened self.new.opened }
     {
-        Ok(self.opened.leave(key)?)
+        self.opened.leave(key);
     }
 
     // Closes one that is served.
-    fn cut<J: Journal>(&mut self, key: usize, journal: &mut J) -> Result<(), LoopFault>
-        ensures { DoesAtMost C.steps (LetGo key) (lanes_of S.Stream.told self.old.opened) (lanes_of S.Stream.told self.new.opened) }
+    fn cut<J: Journal>(&mut self, key: usize, journal: &mut J)
+        ensures lanes { DoesAtMost C.steps (LetGo key) (lanes_of S.Stream.told self.old.opened) (lanes_of S.Stream.told self.new.opened) }
+        ensures woken { StaysWoken self.old.opened self.new.opened }
     {
         if !self.opened.is_served(key) {
-            return Ok(());
+            return;
         }
         self.tell_end(key, End::Drained, journal);
-        self.close(key)
+        self.close(key);
     }
 }
 

@@ -1,10 +1,11 @@
 //! The rounds of a loop: each waits for what is ready, takes connections in, and gives turns.
-ghost use Rattle.std.specs.Prelude.{◌≡◌, ◌<◌, ◌^◌, ℕ, None, is_some, IfOk, OnOk, IsFalse, IsTrue};
+ghost use Rattle.std.specs.Prelude.{◌≡◌, ◌<◌, ◌^◌, [], ℕ, None, is_some, IfOk, OnOk, IsFalse, IsTrue};
 ghost use Rattle.outbox.specs.Told.{IsUnused};
 ghost use Rattle.open_connections.specs.Looping.{Stays, Does, DoesSome, DoesOn, DoesAtMost, TurnsAtMost, LetGo};
 ghost use Rattle.open_connections.specs.Opened.{lanes_of, connected_in, has_time, is_open_at, is_there, IsPutOff};
 ghost use Rattle.open_connections.specs.Shares.{fresh_budgets};
 ghost use Rattle.event_loop.specs.Turns.{Follows, GetsTurnAt, ServesOne, TakesTurnAt, TakesTurns};
+ghost use Rattle.open_connections.specs.Woken.{IsWoken, Passes, Serves, StaysWoken, TakesOff, Wakes};
 ghost use Rattle.event_loop.specs.Clocked.{IsNoted, NotesMoved};
 
 use crate::fault::LoopFault;
@@ -92,6 +93,7 @@ impl<S: System + Drop, C: LoopCore, T: Time + Drop> Rounds<S, C, T> {
         ensures core { IfOk result (λ rounds. (lanes_of S.Stream.told rounds.opened).core ≡ core) }
         ensures none { IfOk result (λ rounds. (q : ℕ) → (lanes_of S.Stream.told rounds.opened).lines q ≡ None) }
         ensures budgets { IfOk result (λ rounds. rounds.opened.budgets ≡ fresh_budgets limits.memory) }
+        ensures woken { IfOk result (λ rounds. IsWoken [] rounds.opened) }
     {
         let opened = Open::new(alloc, turns, core, limits.memory)?;
         Ok(Rounds {
@@ -139,6 +141,7 @@ impl<S: System + Drop, C: LoopCore, T: Time + Drop> Rounds<S, C, T> {
         ensures deaf { IsFalse self.old.acceptor.listens → IsFalse self.new.acceptor.listens }
         ensures on { IsFalse self.old.acceptor.listens → DoesOn C.steps (lanes_of S.Stream.told self.old.opened) (lanes_of S.Stream.told self.new.opened) }
         ensures drains { OnOk result (IsTrue (is_some self.new.desk.standing.grace) → IsFalse self.new.acceptor.listens) }
+        ensures woken { IsWoken [] self.old.opened → OnOk result (IsWoken [] self.new.opened) }
     {
         let listens = self.acceptor.listens;
         let done = self.go_round(listens, journal);
@@ -152,6 +155,7 @@ impl<S: System + Drop, C: LoopCore, T: Time + Drop> Rounds<S, C, T> {
         ensures deaf { IsFalse listens → IsFalse self.new.acceptor.listens }
         ensures fewer { IsFalse self.old.acceptor.listens → IsFalse self.new.acceptor.listens }
         ensures asked { self.new.desk.standing ≡ self.old.desk.standing }
+        ensures woken { StaysWoken self.old.opened self.new.opened }
     {
         self.acceptor.listens = self.acceptor.listens && listens;
     }
@@ -161,13 +165,15 @@ impl<S: System + Drop, C: LoopCore, T: Time + Drop> Rounds<S, C, T> {
         ensures lanes { DoesSome C.steps (lanes_of S.Stream.told self.old.opened) (lanes_of S.Stream.told self.new.opened) }
         ensures on { IsFalse listens → DoesOn C.steps (lanes_of S.Stream.told self.old.opened) (lanes_of S.Stream.told self.new.opened) }
         ensures drains { OnOk result (IsTrue (is_some self.new.desk.standing.grace) → IsFalse self.new.acceptor.listens) }
+        ensures woken { IsWoken [] self.old.opened → OnOk result (IsWoken [] self.new.opened) }
     {
         // the clock is read before the wait: what it says of idle connections is so only if nothing was reported since
         let is_later = self.is_later();
         self.wait(is_later)?;
-        self.look(is_later, journal)?;
+        self.look(is_later, journal);
         self.stay_deaf(listens);
-        self.accept(journal)?;
+        self.accept(journal);
+        self.opened.recall();
         self.take_turns(journal)?;
         self.administer(journal);
         Ok(())
@@ -175,14 +181,16 @@ impl<S: System + Drop, C: LoopCore, T: Time + Drop> Rounds<S, C, T> {
 
     // Reads the clock, and tells whether a second passed since that was last told.
     fn is_later(&mut self) -> bool
-        ensures { Stays (lanes_of S.Stream.told self.old.opened) (lanes_of S.Stream.told self.new.opened) }
+        ensures lanes { Stays (lanes_of S.Stream.told self.old.opened) (lanes_of S.Stream.told self.new.opened) }
+        ensures woken { StaysWoken self.old.opened self.new.opened }
     {
         self.seconds.is_later()
     }
 
     // Notes what is ready. Where a second passed, that is all that is ready by now; else it is waited for.
     fn wait(&mut self, is_later: bool) -> Result<(), LoopFault>
-        ensures { Stays (lanes_of S.Stream.told self.old.opened) (lanes_of S.Stream.told self.new.opened) }
+        ensures lanes { Stays (lanes_of S.Stream.told self.old.opened) (lanes_of S.Stream.told self.new.opened) }
+        ensures woken { StaysWoken self.old.opened self.new.opened }
     {
         if is_later {
             return self.catch_up();
@@ -192,7 +200,8 @@ impl<S: System + Drop, C: LoopCore, T: Time + Drop> Rounds<S, C, T> {
 
     // Notes what is ready by now, a wait's reports at a time.
     fn catch_up(&mut self) -> Result<(), LoopFault>
-        ensures { Stays (lanes_of S.Stream.told self.old.opened) (lanes_of S.Stream.told self.new.opened) }
+        ensures lanes { Stays (lanes_of S.Stream.told self.old.opened) (lanes_of S.Stream.told self.new.opened) }
+        ensures woken { StaysWoken self.old.opened self.new.opened }
     {
         'waits: for _ in 0..=self.opened.count() / REPORTS {
             self.wait_once(Duration::from_millis(0))?;
@@ -202,11 +211,13 @@ impl<S: System + Drop, C: LoopCore, T: Time + Drop> Rounds<S, C, T> {
 
     // Waits for what is ready, so long at most, and notes it.
     fn wait_once(&mut self, most: Duration) -> Result<(), LoopFault>
-        ensures { Stays (lanes_of S.Stream.told self.old.opened) (lanes_of S.Stream.told self.new.opened) }
+        ensures lanes { Stays (lanes_of S.Stream.told self.old.opened) (lanes_of S.Stream.told self.new.opened) }
+        ensures woken { StaysWoken self.old.opened self.new.opened }
     {
         let woken = self.system.wait(most)?;
         self.heed(woken);
-        self.note()
+        self.note();
+        Ok(())
     }
 
     // How long a wait may last: not at all where a connection can go on or may be taken in, a little where that failed, a second else.
@@ -227,7 +238,8 @@ impl<S: System + Drop, C: LoopCore, T: Time + Drop> Rounds<S, C, T> {
 
     // Notes what came of a wait beside the reports.
     fn heed(&mut self, woken: Woken)
-        ensures { Stays (lanes_of S.Stream.told self.old.opened) (lanes_of S.Stream.told self.new.opened) }
+        ensures lanes { Stays (lanes_of S.Stream.told self.old.opened) (lanes_of S.Stream.told self.new.opened) }
+        ensures woken { StaysWoken self.old.opened self.new.opened }
     {
         self.acceptor.is_asked = self.acceptor.is_asked || woken.is_asked;
         if woken.is_closed {
@@ -237,47 +249,48 @@ impl<S: System + Drop, C: LoopCore, T: Time + Drop> Rounds<S, C, T> {
     }
 
     // Notes what was reported.
-    fn note(&mut self) -> Result<(), LoopFault>
-        ensures { Stays (lanes_of S.Stream.told self.old.opened) (lanes_of S.Stream.told self.new.opened) }
+    fn note(&mut self)
+        ensures lanes { Stays (lanes_of S.Stream.told self.old.opened) (lanes_of S.Stream.told self.new.opened) }
+        ensures woken { StaysWoken self.old.opened self.new.opened }
     {
         'reports: for number in 0..usize::MAX {
             let Some(report) = self.system.report(number) else {
-                return Ok(());
+                return;
             };
             if !self.desk.note(report) {
-                self.opened.note(report)?;
+                self.opened.note(report);
             }
         }
-        Ok(())
     }
 
     // Takes in connections that wait, as long as the limits allow. A server that does not listen closes them.
-    fn accept<J: Journal>(&mut self, journal: &mut J) -> Result<(), LoopFault>
+    fn accept<J: Journal>(&mut self, journal: &mut J)
         ensures lanes { DoesSome C.steps (lanes_of S.Stream.told self.old.opened) (lanes_of S.Stream.told self.new.opened) }
         ensures deaf { IsFalse self.old.acceptor.listens → Stays (lanes_of S.Stream.told self.old.opened) (lanes_of S.Stream.told self.new.opened) }
+        ensures woken { StaysWoken self.old.opened self.new.opened }
     {
         self.acceptor.is_refused = false;
         if !self.acceptor.listens {
             self.turn_away();
-            return Ok(());
+            return;
         }
-        self.accept_some(journal)
+        self.accept_some(journal);
     }
 
-    fn accept_some<J: Journal>(&mut self, journal: &mut J) -> Result<(), LoopFault>
-        ensures { DoesSome C.steps (lanes_of S.Stream.told self.old.opened) (lanes_of S.Stream.told self.new.opened) }
+    fn accept_some<J: Journal>(&mut self, journal: &mut J)
+        ensures lanes { DoesSome C.steps (lanes_of S.Stream.told self.old.opened) (lanes_of S.Stream.told self.new.opened) }
+        ensures woken { StaysWoken self.old.opened self.new.opened }
     {
         'accepts: for _ in 0..ACCEPTS {
             if !self.may_accept() {
-                return Ok(());
+                return;
             }
             let place = self.place();
             if matches!(place, Place::Full) {
-                return Ok(());
+                return;
             }
-            self.accept_one(place, journal)?;
+            self.accept_one(place, journal);
         }
-        Ok(())
     }
 
     pub(crate) fn may_accept(&self) -> bool {
@@ -286,7 +299,8 @@ impl<S: System + Drop, C: LoopCore, T: Time + Drop> Rounds<S, C, T> {
 
     // Where there is room for one more.
     fn place(&mut self) -> Place
-        ensures { Stays (lanes_of S.Stream.told self.old.opened) (lanes_of S.Stream.told self.new.opened) }
+        ensures lanes { Stays (lanes_of S.Stream.told self.old.opened) (lanes_of S.Stream.told self.new.opened) }
+        ensures woken { StaysWoken self.old.opened self.new.opened }
     {
         if self.is_full() {
             self.spare()
@@ -297,7 +311,8 @@ impl<S: System + Drop, C: LoopCore, T: Time + Drop> Rounds<S, C, T> {
 
     // That of the one that has been idle longest.
     fn spare(&mut self) -> Place
-        ensures { Stays (lanes_of S.Stream.told self.old.opened) (lanes_of S.Stream.told self.new.opened) }
+        ensures lanes { Stays (lanes_of S.Stream.told self.old.opened) (lanes_of S.Stream.told self.new.opened) }
+        ensures woken { StaysWoken self.old.opened self.new.opened }
     {
         match self.opened.spare(self.seconds.last(), &self.limits) {
             Some(key) => Place::Idle(key),
@@ -306,32 +321,32 @@ impl<S: System + Drop, C: LoopCore, T: Time + Drop> Rounds<S, C, T> {
     }
 
     // Accepts one, in this place.
-    fn accept_one<J: Journal>(&mut self, place: Place, journal: &mut J) -> Result<(), LoopFault>
-        ensures { DoesSome C.steps (lanes_of S.Stream.told self.old.opened) (lanes_of S.Stream.told self.new.opened) }
+    fn accept_one<J: Journal>(&mut self, place: Place, journal: &mut J)
+        ensures lanes { DoesSome C.steps (lanes_of S.Stream.told self.old.opened) (lanes_of S.Stream.told self.new.opened) }
+        ensures woken { StaysWoken self.old.opened self.new.opened }
     {
         match self.system.accept() {
             Accepted::Stream(stream, peer) => self.admit(place, stream, peer, journal),
-            Accepted::Blocked => {
-                self.acceptor.is_asked = false;
-                Ok(())
-            }
-            Accepted::Aborted => Ok(()),
+            Accepted::Blocked => self.acceptor.is_asked = false,
+            Accepted::Aborted => {}
             Accepted::Refused => self.make_room(place, journal),
         }
     }
 
     // No descriptor or no memory is left: one that is idle makes room, and where none is, it is tried again after a wait.
-    fn make_room<J: Journal>(&mut self, place: Place, journal: &mut J) -> Result<(), LoopFault>
-        ensures { DoesSome C.steps (lanes_of S.Stream.told self.old.opened) (lanes_of S.Stream.told self.new.opened) }
+    fn make_room<J: Journal>(&mut self, place: Place, journal: &mut J)
+        ensures lanes { DoesSome C.steps (lanes_of S.Stream.told self.old.opened) (lanes_of S.Stream.told self.new.opened) }
+        ensures woken { StaysWoken self.old.opened self.new.opened }
     {
         let place = self.instead_of(place);
         self.acceptor.is_refused = !matches!(place, Place::Idle(_));
-        self.displace(place, journal)
+        self.displace(place, journal);
     }
 
     // A place that is not beside those that are open.
     fn instead_of(&mut self, place: Place) -> Place
-        ensures { Stays (lanes_of S.Stream.told self.old.opened) (lanes_of S.Stream.told self.new.opened) }
+        ensures lanes { Stays (lanes_of S.Stream.told self.old.opened) (lanes_of S.Stream.told self.new.opened) }
+        ensures woken { StaysWoken self.old.opened self.new.opened }
     {
         match place {
             Place::Free => self.spare(),
@@ -346,29 +361,31 @@ impl<S: System + Drop, C: LoopCore, T: Time + Drop> Rounds<S, C, T> {
         stream: S::Stream,
         peer: SocketAddr,
         journal: &mut J,
-    ) -> Result<(), LoopFault>
+    )
         requires { IsUnused (S.Stream.told stream) }
-        ensures { DoesSome C.steps (lanes_of S.Stream.told self.old.opened) (lanes_of S.Stream.told self.new.opened) }
+        ensures lanes { DoesSome C.steps (lanes_of S.Stream.told self.old.opened) (lanes_of S.Stream.told self.new.opened) }
+        ensures woken { StaysWoken self.old.opened self.new.opened }
     {
-        self.displace(place, journal)?;
+        self.displace(place, journal);
         self.take_in(stream, peer);
-        Ok(())
     }
 
     // Closes one that makes room.
-    fn displace<J: Journal>(&mut self, place: Place, journal: &mut J) -> Result<(), LoopFault>
-        ensures { DoesSome C.steps (lanes_of S.Stream.told self.old.opened) (lanes_of S.Stream.told self.new.opened) }
+    fn displace<J: Journal>(&mut self, place: Place, journal: &mut J)
+        ensures lanes { DoesSome C.steps (lanes_of S.Stream.told self.old.opened) (lanes_of S.Stream.told self.new.opened) }
+        ensures woken { StaysWoken self.old.opened self.new.opened }
     {
         match place {
             Place::Idle(key) => self.finish(key, End::Displaced, journal),
-            Place::Free | Place::Full => Ok(()),
+            Place::Free | Place::Full => {}
         }
     }
 
     // Takes a connection in. Where memory is refused, or it can't be waited for, it is closed.
     fn take_in(&mut self, mut stream: S::Stream, peer: SocketAddr)
         requires { IsUnused (S.Stream.told stream) }
-        ensures { DoesSome C.steps (lanes_of S.Stream.told self.old.opened) (lanes_of S.Stream.told self.new.opened) }
+        ensures lanes { DoesSome C.steps (lanes_of S.Stream.told self.old.opened) (lanes_of S.Stream.told self.new.opened) }
+        ensures woken { StaysWoken self.old.opened self.new.opened }
     {
         let Some(key) = self.opened.vacant() else {
             return;
@@ -382,7 +399,8 @@ impl<S: System + Drop, C: LoopCore, T: Time + Drop> Rounds<S, C, T> {
     // Opens a connection under a key, and counts it.
     fn open(&mut self, key: usize, stream: S::Stream, peer: SocketAddr)
         requires { IsUnused (S.Stream.told stream) }
-        ensures { DoesSome C.steps (lanes_of S.Stream.told self.old.opened) (lanes_of S.Stream.told self.new.opened) }
+        ensures lanes { DoesSome C.steps (lanes_of S.Stream.told self.old.opened) (lanes_of S.Stream.told self.new.opened) }
+        ensures woken { StaysWoken self.old.opened self.new.opened }
     {
         let number = self.acceptor.taken;
         let is_taken = self
@@ -395,6 +413,7 @@ impl<S: System + Drop, C: LoopCore, T: Time + Drop> Rounds<S, C, T> {
     fn take_turns<J: Journal>(&mut self, journal: &mut J) -> Result<(), LoopFault>
         ensures lanes { DoesOn C.steps (lanes_of S.Stream.told self.old.opened) (lanes_of S.Stream.told self.new.opened) }
         ensures each { OnOk result (TakesTurns C.steps S.Stream.told C.may_wait self.old.opened self.new.opened) }
+        ensures woken { IsWoken [] self.old.opened → OnOk result (IsWoken [] self.new.opened) }
     {
         let list = self.opened.take_due()?;
         'turns: for due in &list {
@@ -410,6 +429,7 @@ impl<S: System + Drop, C: LoopCore, T: Time + Drop> Rounds<S, C, T> {
         ensures kept { IsFalse (has_time due self.old.opened) → OnOk result (IsPutOff due self.old.opened self.new.opened) }
         ensures gone { IsFalse (is_there due self.old.opened) → Stays (lanes_of S.Stream.told self.old.opened) (lanes_of S.Stream.told self.new.opened) }
         ensures serves { OnOk result (ServesOne C.steps S.Stream.told C.may_wait due self.old.opened self.new.opened) }
+        ensures woken { OnOk result (Passes due self.old.opened self.new.opened) }
     {
         if !self.opened.has_time(due) {
             return self.put_off(due);
@@ -417,24 +437,27 @@ impl<S: System + Drop, C: LoopCore, T: Time + Drop> Rounds<S, C, T> {
         if !self.opened.is_there(due) {
             return Ok(());
         }
-        self.take_turn(due.key, journal)
+        self.take_turn(due.key, journal);
+        Ok(())
     }
 
     // Its turn comes in the next round.
     fn put_off(&mut self, due: Due) -> Result<(), LoopFault>
         ensures lanes { Stays (lanes_of S.Stream.told self.old.opened) (lanes_of S.Stream.told self.new.opened) }
         ensures kept { OnOk result (IsPutOff due self.old.opened self.new.opened) }
+        ensures woken { OnOk result (Passes due self.old.opened self.new.opened) }
     {
         Ok(self.opened.put_off(due)?)
     }
 
     // One turn for a connection, and what follows from it.
-    fn take_turn<J: Journal>(&mut self, key: usize, journal: &mut J) -> Result<(), LoopFault>
+    fn take_turn<J: Journal>(&mut self, key: usize, journal: &mut J)
         ensures lanes { DoesOn C.steps (lanes_of S.Stream.told self.old.opened) (lanes_of S.Stream.told self.new.opened) }
         ensures takes { IsTrue (is_open_at key self.old.opened) → key < 2 ^ 32 → TakesTurnAt C.steps S.Stream.told C.may_wait key self.old.opened self.new.opened }
+        ensures woken { Serves key self.old.opened self.new.opened }
     {
         let outcome = self.turn(key);
-        self.follow(key, outcome, journal)
+        self.follow(key, outcome, journal);
     }
 
     // One turn for a connection. If bytes moved, the second that the clock tells behind it is noted.
@@ -443,6 +466,7 @@ impl<S: System + Drop, C: LoopCore, T: Time + Drop> Rounds<S, C, T> {
         ensures clock { NotesMoved key self.old.opened self.new.opened self.new.seconds.counted self.new.seconds.last }
         ensures gets { key < 2 ^ 32 → (turned : Open S.Stream C T) × GetsTurnAt C.steps S.Stream.told C.may_wait key result self.old.opened turned × Stays (lanes_of S.Stream.told turned) (lanes_of S.Stream.told self.new.opened) }
         ensures there { is_open_at key self.new.opened ≡ is_open_at key self.old.opened }
+        ensures woken { TakesOff key self.old.opened self.new.opened }
     {
         let (outcome, has_moved) = self.opened.turn(key, self.seconds.last());
         self.mark(key, has_moved);
@@ -454,6 +478,7 @@ impl<S: System + Drop, C: LoopCore, T: Time + Drop> Rounds<S, C, T> {
         ensures lanes { Stays (lanes_of S.Stream.told self.old.opened) (lanes_of S.Stream.told self.new.opened) }
         ensures clock { IsTrue has_moved → IsNoted key self.new.opened self.new.seconds.counted self.new.seconds.last }
         ensures there { is_open_at key self.new.opened ≡ is_open_at key self.old.opened }
+        ensures woken { StaysWoken self.old.opened self.new.opened }
     {
         if !has_moved {
             return;
@@ -463,14 +488,10 @@ impl<S: System + Drop, C: LoopCore, T: Time + Drop> Rounds<S, C, T> {
     }
 
     // What follows from a turn.
-    fn follow<J: Journal>(
-        &mut self,
-        key: usize,
-        outcome: Outcome,
-        journal: &mut J,
-    ) -> Result<(), LoopFault>
+    fn follow<J: Journal>(&mut self, key: usize, outcome: Outcome, journal: &mut J)
         ensures lanes { DoesAtMost C.steps (LetGo key) (lanes_of S.Stream.told self.old.opened) (lanes_of S.Stream.told self.new.opened) }
         ensures follows { IsTrue (is_open_at key self.old.opened) → key < 2 ^ 32 → Follows C.steps key outcome (lanes_of S.Stream.told self.old.opened) (lanes_of S.Stream.told self.new.opened) }
+        ensures woken { Wakes key self.old.opened self.new.opened }
     {
         match outcome {
             Outcome::Over(how) => self.finish(key, how, journal),
@@ -480,19 +501,21 @@ impl<S: System + Drop, C: LoopCore, T: Time + Drop> Rounds<S, C, T> {
     }
 
     // After a turn at a connection that is open.
-    fn go_on<J: Journal>(&mut self, key: usize, journal: &mut J) -> Result<(), LoopFault>
-        ensures { DoesAtMost C.steps (LetGo key) (lanes_of S.Stream.told self.old.opened) (lanes_of S.Stream.told self.new.opened) }
+    fn go_on<J: Journal>(&mut self, key: usize, journal: &mut J)
+        ensures lanes { DoesAtMost C.steps (LetGo key) (lanes_of S.Stream.told self.old.opened) (lanes_of S.Stream.told self.new.opened) }
+        ensures woken { Wakes key self.old.opened self.new.opened }
     {
         self.tell_slow(journal);
         match self.opened.settle(key, self.seconds.last()) {
-            Ok(()) => Ok(()),
+            Ok(()) => {}
             Err(_) => self.finish(key, End::Memory, journal),
         }
     }
 
     // Tells the journal of a slow query.
     fn tell_slow<J: Journal>(&mut self, journal: &mut J)
-        ensures { Stays (lanes_of S.Stream.told self.old.opened) (lanes_of S.Stream.told self.new.opened) }
+        ensures lanes { Stays (lanes_of S.Stream.told self.old.opened) (lanes_of S.Stream.told self.new.opened) }
+        ensures woken { StaysWoken self.old.opened self.new.opened }
     {
         if let Some(slow) = self.opened.take_slow() {
             journal.slow(&slow);
@@ -501,14 +524,10 @@ impl<S: System + Drop, C: LoopCore, T: Time + Drop> Rounds<S, C, T> {
 
     // A connection that is over is closed. Where bytes may be unread, what still comes is read for a little while before, since a close
     // with bytes unread can take the last replies with it.
-    pub fn finish<J: Journal>(
-        &mut self,
-        key: usize,
-        how: End,
-        journal: &mut J,
-    ) -> Result<(), LoopFault>
+    pub fn finish<J: Journal>(&mut self, key: usize, how: End, journal: &mut J)
         ensures lanes { DoesAtMost C.steps (LetGo key) (lanes_of S.Stream.told self.old.opened) (lanes_of S.Stream.told self.new.opened) }
         ensures closes { IsTrue (is_open_at key self.old.opened) → key < 2 ^ 32 → Does C.steps (LetGo key) (lanes_of S.Stream.told self.old.opened) (lanes_of S.Stream.told self.new.opened) }
+        ensures woken { Wakes key self.old.opened self.new.opened }
     {
         self.tell_end(key, how, journal);
         match how {
@@ -524,45 +543,48 @@ impl<S: System + Drop, C: LoopCore, T: Time + Drop> Rounds<S, C, T> {
         }
     }
 
-    fn linger(&mut self, key: usize) -> Result<(), LoopFault>
+    fn linger(&mut self, key: usize)
         ensures lanes { DoesAtMost C.steps (LetGo key) (lanes_of S.Stream.told self.old.opened) (lanes_of S.Stream.told self.new.opened) }
         ensures closes { IsTrue (is_open_at key self.old.opened) → key < 2 ^ 32 → Does C.steps (LetGo key) (lanes_of S.Stream.told self.old.opened) (lanes_of S.Stream.told self.new.opened) }
+        ensures woken { Wakes key self.old.opened self.new.opened }
     {
-        Ok(self.opened.linger(key, self.seconds.last())?)
+        self.opened.linger(key, self.seconds.last());
     }
 
-    pub(crate) fn close(&mut self, key: usize) -> Result<(), LoopFault>
+    pub(crate) fn close(&mut self, key: usize)
         ensures lanes { DoesAtMost C.steps (LetGo key) (lanes_of S.Stream.told self.old.opened) (lanes_of S.Stream.told self.new.opened) }
         ensures closes { IsTrue (is_open_at key self.old.opened) → key < 2 ^ 32 → Does C.steps (LetGo key) (lanes_of S.Stream.told self.old.opened) (lanes_of S.Stream.told self.new.opened) }
+        ensures woken { Wakes key self.old.opened self.new.opened }
     {
-        Ok(self.opened.close(key, self.seconds.last())?)
+        self.opened.close(key, self.seconds.last());
     }
 
     // Where a second passed, connections whose time is up are closed, and the journal is told what there is to tell.
-    fn look<J: Journal>(&mut self, is_later: bool, journal: &mut J) -> Result<(), LoopFault>
-        ensures { DoesOn C.steps (lanes_of S.Stream.told self.old.opened) (lanes_of S.Stream.told self.new.opened) }
+    fn look<J: Journal>(&mut self, is_later: bool, journal: &mut J)
+        ensures lanes { DoesOn C.steps (lanes_of S.Stream.told self.old.opened) (lanes_of S.Stream.told self.new.opened) }
+        ensures woken { StaysWoken self.old.opened self.new.opened }
     {
         if !is_later {
-            return Ok(());
+            return;
         }
-        self.tick(journal)?;
+        self.tick(journal);
         self.tell(journal);
-        Ok(())
     }
 
     // Closes the connections whose time is up.
-    fn tick<J: Journal>(&mut self, journal: &mut J) -> Result<(), LoopFault>
-        ensures { DoesOn C.steps (lanes_of S.Stream.told self.old.opened) (lanes_of S.Stream.told self.new.opened) }
+    fn tick<J: Journal>(&mut self, journal: &mut J)
+        ensures lanes { DoesOn C.steps (lanes_of S.Stream.told self.old.opened) (lanes_of S.Stream.told self.new.opened) }
+        ensures woken { StaysWoken self.old.opened self.new.opened }
     {
         'keys: for key in 0..self.opened.bound() {
-            self.expire(key, journal)?;
+            self.expire(key, journal);
         }
-        Ok(())
     }
 
     // Closes a connection whose time is up.
-    fn expire<J: Journal>(&mut self, key: usize, journal: &mut J) -> Result<(), LoopFault>
-        ensures { DoesAtMost C.steps (LetGo key) (lanes_of S.Stream.told self.old.opened) (lanes_of S.Stream.told self.new.opened) }
+    fn expire<J: Journal>(&mut self, key: usize, journal: &mut J)
+        ensures lanes { DoesAtMost C.steps (LetGo key) (lanes_of S.Stream.told self.old.opened) (lanes_of S.Stream.told self.new.opened) }
+        ensures woken { StaysWoken self.old.opened self.new.opened }
     {
         match self.opened.expiry(key, self.seconds.last(), &self.limits) {
             Outcome::Over(how) => self.finish(key, how, journal),
@@ -573,18 +595,20 @@ impl<S: System + Drop, C: LoopCore, T: Time + Drop> Rounds<S, C, T> {
 
     // Has a connection that is owed bytes try to write, and does what a drain does to it. The system reports room only once a third of its buffer
     // is free: a slow peer takes a minute and more for that.
-    fn tend<J: Journal>(&mut self, key: usize, journal: &mut J) -> Result<(), LoopFault>
-        ensures { DoesAtMost C.steps (LetGo key) (lanes_of S.Stream.told self.old.opened) (lanes_of S.Stream.told self.new.opened) }
+    fn tend<J: Journal>(&mut self, key: usize, journal: &mut J)
+        ensures lanes { DoesAtMost C.steps (LetGo key) (lanes_of S.Stream.told self.old.opened) (lanes_of S.Stream.told self.new.opened) }
+        ensures woken { StaysWoken self.old.opened self.new.opened }
     {
         if !self.opened.rests(key) {
-            self.opened.note(room_at(key))?;
+            self.opened.note(room_at(key));
         }
-        self.drain(key, journal)
+        self.drain(key, journal);
     }
 
     // Tells the journal what there is to tell.
     fn tell<J: Journal>(&mut self, journal: &mut J)
-        ensures { Stays (lanes_of S.Stream.told self.old.opened) (lanes_of S.Stream.told self.new.opened) }
+        ensures lanes { Stays (lanes_of S.Stream.told self.old.opened) (lanes_of S.Stream.told self.new.opened) }
+        ensures woken { StaysWoken self.old.opened self.new.opened }
     {
         let holding = Holding {
             connections: self.acceptor.listens && self.acceptor.is_asked && self.is_full(),

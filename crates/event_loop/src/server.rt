@@ -1,6 +1,6 @@
 //! A server of many connections.
 ghost use Rattle.std.specs.Prelude.{◌≡◌, ℕ, None, is_some, OnOk, IfOk, IsTrue, IsFalse};
-ghost use Rattle.event_loop.specs.Servers.{IsOver, StaysDeaf, lanes_in};
+ghost use Rattle.event_loop.specs.Servers.{IsOver, NobodyIsForgotten, StaysDeaf, lanes_in};
 ghost use Rattle.open_connections.specs.Looping.{DoesSome};
 ghost use Rattle.open_connections.specs.Shares.{fresh_budgets, limits_in, IsWithin};
 
@@ -27,10 +27,11 @@ pub struct Server<S: System + Drop, C: LoopCore, T: Time + Drop> {
 impl<S: System + Drop, C: LoopCore, T: Time + Drop> Model for Server<S, C, T> {
     ghost use Rattle.event_loop.specs.Servers.{Serving};
     ghost use Rattle.open_connections.specs.Opened.{listed, shown, connected_in};
+    ghost use Rattle.event_loop.specs.Seats.{seats_of, turns_of};
 
     ghost Value = { Serving C };
 
-    ghost view = { λ s. record { listens = s.rounds.acceptor.listens; grace = s.rounds.desk.standing.grace; connected = connected_in s.rounds.opened; taken = s.rounds.acceptor.taken; read = s.rounds.opened.read; written = s.rounds.opened.written; limits = s.rounds.limits; budgets = s.rounds.opened.budgets; core = s.rounds.opened.core; lines = listed s.rounds.opened.connections; wires = shown S.Stream.told s.rounds.opened.connections } };
+    ghost view = { λ s. record { listens = s.rounds.acceptor.listens; grace = s.rounds.desk.standing.grace; connected = connected_in s.rounds.opened; taken = s.rounds.acceptor.taken; read = s.rounds.opened.read; written = s.rounds.opened.written; limits = s.rounds.limits; budgets = s.rounds.opened.budgets; core = s.rounds.opened.core; lines = listed s.rounds.opened.connections; wires = shown S.Stream.told s.rounds.opened.connections; seats = seats_of s.rounds.opened.connections; turns = turns_of s.rounds.opened; bound = s.rounds.opened.bound; has_missed = s.rounds.opened.has_missed } };
 }
 
 impl<'r, R: Net + Clock + AllocGlobal, C: LoopCore> Server<Sockets, C, Since<'r, R>> {
@@ -52,6 +53,7 @@ impl<'r, R: Net + Clock + AllocGlobal, C: LoopCore> Server<Sockets, C, Since<'r,
         ensures core { IfOk result (λ server. server.core ≡ core) }
         ensures none { IfOk result (λ server. (q : ℕ) → (lanes_in server).lines q ≡ None) }
         ensures budgets { IfOk result (λ server. server.budgets ≡ fresh_budgets limits.memory) }
+        ensures woken { IfOk result (λ server. NobodyIsForgotten server) }
     {
         let time = Since::new(rt)?;
         let system = Sockets::bind(rt, rt.alloc(), addr)?;
@@ -99,6 +101,7 @@ impl<S: System + Drop, C: LoopCore, T: Time + Drop> Server<S, C, T> {
         ensures core { IfOk result (λ server. server.core ≡ core) }
         ensures none { IfOk result (λ server. (q : ℕ) → (lanes_in server).lines q ≡ None) }
         ensures budgets { IfOk result (λ server. server.budgets ≡ fresh_budgets limits.memory) }
+        ensures woken { IfOk result (λ server. NobodyIsForgotten server) }
     {
         let rounds = Rounds::new(alloc, system, seconds, turns, core, limits)?;
         Ok(Server { rounds })
@@ -192,6 +195,7 @@ impl<S: System + Drop, C: LoopCore, T: Time + Drop> Server<S, C, T> {
         ensures steps { DoesSome C.steps (lanes_in self.old) (lanes_in self.new) }
         ensures deaf { IsFalse self.old.listens → StaysDeaf self.old self.new }
         ensures drains { OnOk result (IsTrue (is_some self.new.grace) → IsFalse self.new.listens) }
+        ensures woken { NobodyIsForgotten self.old → OnOk result (NobodyIsForgotten self.new) }
         ensures limits { limits_in self.new.budgets ≡ limits_in self.old.budgets }
         ensures within { IsWithin self.new.budgets }
     {
@@ -204,6 +208,7 @@ impl<S: System + Drop, C: LoopCore, T: Time + Drop> Server<S, C, T> {
         ensures steps { DoesSome C.steps (lanes_in self.old) (lanes_in self.new) }
         ensures deaf { IsFalse self.old.listens → StaysDeaf self.old self.new }
         ensures drains { OnOk result (IsTrue (is_some self.new.grace) → IsFalse self.new.listens) }
+        ensures woken { NobodyIsForgotten self.old → OnOk result (NobodyIsForgotten self.new) }
     {
         self.rounds.step(journal)
     }

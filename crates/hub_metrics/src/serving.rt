@@ -1,6 +1,6 @@
 //! A server of many connections over a hub.
 ghost use Rattle.std.specs.Prelude.{◌≡◌, is_some, OnOk, IsTrue, IsFalse};
-ghost use Rattle.event_loop.specs.Servers.{IsOver, StaysDeaf, lanes_in};
+ghost use Rattle.event_loop.specs.Servers.{IsOver, NobodyIsForgotten, StaysDeaf, lanes_in};
 ghost use Rattle.hub_metrics.specs.Looping.{AreServed};
 ghost use Rattle.open_connections.specs.Shares.{limits_in, IsWithin};
 
@@ -41,6 +41,7 @@ pub fn step<S: System + Drop, T: Time + Drop, J: Journal>(
     ensures served { AreServed (lanes_in server.old) (lanes_in server.new) }
     ensures deaf { IsFalse server.old.listens → StaysDeaf server.old server.new }
     ensures drains { OnOk result (IsTrue (is_some server.new.grace) → IsFalse server.new.listens) }
+    ensures woken { NobodyIsForgotten server.old → OnOk result (NobodyIsForgotten server.new) }
     ensures limits { limits_in server.new.budgets ≡ limits_in server.old.budgets }
     ensures within { IsWithin server.new.budgets }
 {

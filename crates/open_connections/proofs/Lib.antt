@@ -4,3 +4,4 @@ pub mod Shares
 pub mod Turns
 pub mod Keeping
 pub mod Waking
+pub mod Woken

@@ -55,19 +55,16 @@ goes_in_plan h w None ready line = goes_with h w (owes_little line) ready line
 goes_alike : {S : Type 0} (has_room : Bool) (c : Connection S) → can_go_on has_room c ≡ can_go_on false (record c { is_working = false })
 goes_alike h c = ap (λ (x : Bool). is_lost c || goes_in c.phase c.ready.readable x) (goes_in_plan h c.is_working c.claim c.ready c.outbox)
 
--- one whose query is given up is not forgotten by that
-pub forgotten_alike : {S : Type 0} (slab : Slab (Connection S)) (key : ℕ) (c : Connection S) → get slab key ≡ Some c
-    → option_map_or (λ c. not c.is_due && can_go_on false c) (get (with_value slab key (record c { is_working = false })) key) false ≡ option_map_or (λ c. not c.is_due && can_go_on false c) (get slab key) false
-forgotten_alike {S} slab key c h =
-    let look : Option (Connection S) → Bool = λ slot. option_map_or (λ c. not c.is_due && can_go_on false c) slot false in
+-- one whose query is given up is awake just if it was
+pub awake_alike : {S : Type 0} (missed : Bool) (slab : Slab (Connection S)) (key : ℕ) (c : Connection S) → get slab key ≡ Some c
+    → (missed || option_map_or (λ c. c.is_due || not (can_go_on false c)) (get (with_value slab key (record c { is_working = false })) key) true) ≡ (missed || option_map_or (λ c. c.is_due || not (can_go_on false c)) (get slab key) true)
+awake_alike {S} missed slab key c h =
+    let look : Option (Connection S) → Bool = λ slot. missed || option_map_or (λ c. c.is_due || not (can_go_on false c)) slot true in
     let u : Updates slab (with_value slab key (record c { is_working = false })) key (Some (record c { is_working = false })) = written slab key c (record c { is_working = false }) h in
-    ap look u.changed ∙ ap (λ (x : Bool). not c.is_due && x) (sym (goes_alike false c)) ∙ sym (ap look h)
+    ap look u.changed ∙ ap (λ (x : Bool). missed || (c.is_due || not x)) (sym (goes_alike false c)) ∙ sym (ap look h)
 
-and_false : (x y : Bool) → y ≡ false → (x && y) ≡ false
-and_false true y e = e
-and_false false y e = refl
-
--- one that cannot go on is not forgotten
-pub not_forgotten : {S : Type 0} (has_room : Bool) (slot : Option (Connection S)) (c : Connection S) → slot ≡ Some c → can_go_on has_room c ≡ false → option_map_or (λ c. not c.is_due && can_go_on false c) slot false ≡ false
-not_forgotten {S} h slot c e f =
-    ap (λ (x : Option (Connection S)). option_map_or (λ c. not c.is_due && can_go_on false c) x false) e ∙ and_false (not c.is_due) (can_go_on false c) (goes_alike false c ∙ sym (goes_alike h c) ∙ f)
+-- one that cannot go on is
+pub rests_awake : {S : Type 0} (missed has_room : Bool) (slot : Option (Connection S)) (c : Connection S) → slot ≡ Some c → can_go_on has_room c ≡ false → (missed || option_map_or (λ c. c.is_due || not (can_go_on false c)) slot true) ≡ true
+rests_awake {S} missed h slot c e f =
+    ap (λ (x : Option (Connection S)). missed || option_map_or (λ c. c.is_due || not (can_go_on false c)) x true) e
+    ∙ ap (λ (x : Bool). missed || (c.is_due || not x)) (goes_alike false c ∙ sym (goes_alike h c) ∙ f) ∙ ap (λ (x : Bool). missed || x) (or_true c.is_due) ∙ or_true missed

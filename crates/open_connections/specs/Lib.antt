@@ -2,3 +2,4 @@ pub mod Looping
 pub mod Opened
 pub mod Shares
 pub mod Turns
+pub mod Woken

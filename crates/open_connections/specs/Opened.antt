@@ -1,5 +1,5 @@
 -- The connections that a loop has open, as its steps see them: this project's own.
-use Rattle.std.specs.Prelude.{◌≡◌, ℕ, List, [], ◌∷◌, ◌++◌, map, Option, IfSome, IsTrue, IsFalse, Bool, false, not, is_some, nat_lt, ◌==◌, ◌&&◌, ◌^◌, slice_index}
+use Rattle.std.specs.Prelude.{◌≡◌, ℕ, List, [], ◌∷◌, ◌++◌, map, Option, IfSome, IsTrue, IsFalse, Bool, false, is_some, nat_lt, ◌==◌, ◌&&◌, ◌^◌, slice_index}
 use Rattle.std.specs.Option.{option_and_then, option_map_or}
 use Rattle.slab.specs.Slab.{Slab, get, slab_len}
 use Rattle.outbox.specs.Lines.{Line}
@@ -8,7 +8,6 @@ use Rattle.connection_turns.specs.declared.connection.Connection.{Connection}
 use Rattle.open_connections.specs.declared.open.Open.{Open}
 use Rattle.due_list.specs.declared.due.Due.{Due}
 use Rattle.connection_turns.specs.Owed.{line_of, wire_of, is_lost, has_left, rests}
-use Rattle.connection_turns.specs.Planning.{can_go_on}
 use Rattle.open_connections.specs.Looping.{Lanes}
 use Rattle.due_list.specs.Rounds.{IsLast, due_at}
 use Rattle.open_connections.specs.Shares.{limits_in}
@@ -68,10 +67,6 @@ shown told slab = map (λ slot. option_and_then (λ c. wire_of told c) slot) sla
 -- the second by which the connection with this key is idle is this one, if it is there
 abbrev pub IsMarked : {S C T : Type 0} → Open S C T → (key second : ℕ) → Type 0
 IsMarked o key second = IfSome (get o.connections key) (λ c. c.moved ≡ second)
-
--- The one with this key has no turn to come, and could go on. Whether there is room for any reply changes what it does, and not whether it does anything.
-abbrev pub is_forgotten : {S C T : Type 0} → (key : ℕ) → Open S C T → Bool
-is_forgotten key o = option_map_or (λ c. not c.is_due && can_go_on false c) (get o.connections key) false
 
 -- a query of the connection with this key is under way only if it gets a further turn
 abbrev pub IsStanding : {S C T : Type 0} → (key : ℕ) → Open S C T → Type 0

@@ -1,8 +1,9 @@
 -- What a connection has of the budgets of memory, and that it is given back: this project's own.
-use Rattle.std.specs.Prelude.{◌≡◌, ◌≤◌, ◌-◌, ◌/◌, ℕ, max, min, [], ◌++◌, Option, Some, None}
+use Rattle.std.specs.Prelude.{◌≡◌, ◌≤◌, ◌+◌, ◌-◌, ◌/◌, ◌^◌, ℕ, max, min, [], ◌++◌, Option, Some, None}
 use Rattle.std.specs.Option.{option_and_then}
 use Rattle.slab.specs.Slab.{Slab, get}
-use Rattle.memory_budget.specs.States.{State, fresh, own, party_at, all_held}
+use Rattle.memory_budget.specs.States.{State, fresh, own, party_at, all_held, left}
+use Rattle.due_list.specs.Rounds.{party_of}
 use Rattle.wire_frames.specs.declared.parts.TheConstants.{LONGEST_FRAME, MOST_REPLY}
 use Rattle.connection_turns.specs.declared.claim.Claim.{Claim}
 use Rattle.connection_turns.specs.declared.claim.Pool.{Pool}
@@ -28,6 +29,18 @@ fresh_budgets memory = record { tenants = tenants_of (max (memory - LONGEST_FRAM
 -- the limits of both
 abbrev pub limits_in : Budgets → ℕ × ℕ
 limits_in budgets = (budgets.tenants.limit, budgets.strangers.limit)
+
+-- the bytes that may be held of both, and those that nobody holds
+abbrev pub limit_of : Budgets → ℕ
+limit_of budgets = min (budgets.tenants.limit + budgets.strangers.limit) (2 ^ 64 - 1)
+
+abbrev pub left_of : Budgets → ℕ
+left_of budgets = min (left budgets.tenants + left budgets.strangers) (2 ^ 64 - 1)
+
+-- the bytes of a frame are those of the tenant in front, and a stranger's where there is none
+abbrev pub IsOfFront : Option ℕ → Pool → (party : ℕ) → Type 0
+IsOfFront None pool party = (pool ≡ Strangers) × (party ≡ 0)
+IsOfFront (Some place) pool party = (pool ≡ Tenants) × (party ≡ party_of (Some place))
 
 -- what is held of each is together at most its limit
 pub record IsWithin (budgets : Budgets) : Type 0 where

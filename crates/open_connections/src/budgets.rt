@@ -1,7 +1,7 @@
 //! The budgets of memory that connections share.
 ghost use Rattle.std.specs.Prelude.{◌≡◌, ◌-◌, IfOk, OnOk, min};
 ghost use Rattle.memory_budget.specs.States.{Asks, after, may_grow};
-ghost use Rattle.open_connections.specs.Shares.{fresh_budgets, in_pool, limits_in, spare_of, IsFree, IsWithin, StayFree};
+ghost use Rattle.open_connections.specs.Shares.{fresh_budgets, in_pool, left_of, limit_of, limits_in, spare_of, IsFree, IsWithin, StayFree};
 
 use connection_turns::{Claim, Pool};
 use due_list::PARTIES;
@@ -40,7 +40,9 @@ impl Budgets {
     }
 
     /// The bytes that are held, and those that there are.
-    pub fn held(&self) -> (usize, usize) {
+    pub fn held(&self) -> (usize, usize)
+        ensures { result ≡ (limit_of self.now - left_of self.now, limit_of self.now) }
+    {
         let limit = self.tenants.limit().saturating_add(self.strangers.limit());
         let left = self.tenants.left().saturating_add(self.strangers.left());
         (limit.saturating_sub(left), limit)

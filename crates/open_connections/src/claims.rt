@@ -1,10 +1,11 @@
 //! What connections hold of the memory that all share: what is asked for, granted and given back.
-ghost use Rattle.std.specs.Prelude.{◌<◌, ◌≡◌, ◌^◌, IfOk, IfSome, IsFalse, OnOk};
+ghost use Rattle.std.specs.Prelude.{◌<◌, ◌≡◌, ◌^◌, IfOk, IfSome, IsFalse, IsTrue, OnOk};
 ghost use Rattle.slab.specs.Slab.{get};
 ghost use Rattle.open_connections.specs.Looping.{Stays};
-ghost use Rattle.open_connections.specs.Opened.{is_forgotten, lanes_of};
+ghost use Rattle.open_connections.specs.Opened.{lanes_of};
 ghost use Rattle.open_connections.specs.Shares.{StayFree, IsGivenBack, claim_at};
 ghost use Rattle.open_connections.specs.Turns.{ClaimsStay, HasClaim, IsQueued, StatesStay};
+ghost use Rattle.open_connections.specs.Woken.{StaysWoken, WakesOthers, is_awake};
 
 use crate::loop_core::LoopCore;
 use crate::needs::{After, covers, is_for_reply, is_held, left_of, need, need_of_reply};
@@ -22,6 +23,7 @@ impl<S: Peer, C: LoopCore, T: Time + Drop> Open<S, C, T> {
         ensures lanes { Stays (lanes_of S.told self.old) (lanes_of S.told self.new) }
         ensures ready { StatesStay self.old self.new }
         ensures queued { IfOk result (λ may. IsFalse may → key < 2 ^ 32 → IfSome (get self.old.connections key) (λ _. IsQueued key self.new)) }
+        ensures woken { WakesOthers key self.old self.new }
     {
         let Some(conn) = conn_of(key) else {
             return Ok(false);
@@ -34,32 +36,37 @@ impl<S: Peer, C: LoopCore, T: Time + Drop> Open<S, C, T> {
             return Ok(true);
         }
         let reply = need_of_reply(self.core.inner(), conn, most);
-        self.yield_share(key, now)?;
+        self.yield_share(key, now);
         self.claim(key, &reply, now)
     }
 
-    // Gives up a share for a reply: a connection that waits for a query holds none.
-    pub(crate) fn yield_reply(&mut self, key: usize, now: u64) -> Result<(), AllocError>
+    // Gives up a share for a reply: a connection that waits for a query holds none. One for a frame is held as from now on.
+    pub(crate) fn yield_reply(&mut self, key: usize, now: u64)
         ensures lanes { Stays (lanes_of S.told self.old) (lanes_of S.told self.new) }
         ensures ready { StatesStay self.old self.new }
+        ensures woken { WakesOthers key self.old self.new }
     {
-        if !is_for_reply(self.claim_of(key)) {
-            return Ok(());
+        if is_for_reply(self.claim_of(key)) {
+            self.yield_share(key, now);
+            return;
         }
-        self.yield_share(key, now)
+        if let Some(connection) = self.connections.get_mut(key) {
+            connection.renew(now);
+        }
     }
 
     // Gives up the share that a connection has, if any.
-    fn yield_share(&mut self, key: usize, now: u64) -> Result<(), AllocError>
+    fn yield_share(&mut self, key: usize, now: u64)
         ensures lanes { Stays (lanes_of S.told self.old) (lanes_of S.told self.new) }
         ensures ready { StatesStay self.old self.new }
+        ensures woken { WakesOthers key self.old self.new }
     {
         let Some(connection) = self.connections.get_mut(key) else {
-            return Ok(());
+            return;
         };
         let claim = connection.claim;
         connection.claim = None;
-        self.give_up(claim, now)
+        self.give_up(claim, now);
     }
 
     pub(crate) fn claim_of(&self, key: usize) -> Option<Claim>
@@ -69,40 +76,37 @@ impl<S: Peer, C: LoopCore, T: Time + Drop> Open<S, C, T> {
     }
 
     // Gives back what is done with of a share.
-    pub(crate) fn settle_claim(
-        &mut self,
-        key: usize,
-        claim: &Claim,
-        now: u64,
-    ) -> Result<(), AllocError>
-        ensures { Stays (lanes_of S.told self.old) (lanes_of S.told self.new) }
+    pub(crate) fn settle_claim(&mut self, key: usize, claim: &Claim, now: u64)
+        ensures lanes { Stays (lanes_of S.told self.old) (lanes_of S.told self.new) }
+        ensures woken { WakesOthers key self.old self.new }
     {
         let Some(connection) = self.connections.get_mut(key) else {
-            return Ok(());
+            return;
         };
         let owed = connection.outbox.owed().len();
         let has_answered = self.core.answered() > 0;
         match left_of(claim, owed, has_answered) {
-            After::Kept => Ok(()),
+            After::Kept => {}
             After::Written => {
                 connection.claim = Some(Claim {
                     purpose: Purpose::Written,
                     ..*claim
                 });
                 self.budgets.shrink(claim, owed);
-                self.grant(now)
+                self.grant(now);
             }
             After::Released => {
                 connection.claim = None;
                 self.budgets.release(claim);
-                self.grant(now)
+                self.grant(now);
             }
         }
     }
 
     // Asks for what the next step needs, where that is above what each may have.
     pub(crate) fn ask(&mut self, key: usize, conn: u32, now: u64) -> Result<(), AllocError>
-        ensures { Stays (lanes_of S.told self.old) (lanes_of S.told self.new) }
+        ensures lanes { Stays (lanes_of S.told self.old) (lanes_of S.told self.new) }
+        ensures woken { WakesOthers key self.old self.new }
     {
         let Some(connection) = self.connections.get(key) else {
             return Ok(());
@@ -118,9 +122,10 @@ impl<S: Peer, C: LoopCore, T: Time + Drop> Open<S, C, T> {
         ensures lanes { Stays (lanes_of S.told self.old) (lanes_of S.told self.new) }
         ensures ready { StatesStay self.old self.new }
         ensures queued { IfOk result (λ held. IsFalse held → IfSome (get self.old.connections key) (λ _. IsQueued key self.new)) }
+        ensures woken { WakesOthers key self.old self.new }
     {
         self.ask_for(key, need, now)?;
-        self.grant(now)?;
+        self.grant(now);
         Ok(is_held(self.claim_of(key)))
     }
 
@@ -129,6 +134,7 @@ impl<S: Peer, C: LoopCore, T: Time + Drop> Open<S, C, T> {
         ensures lanes { Stays (lanes_of S.told self.old) (lanes_of S.told self.new) }
         ensures ready { StatesStay self.old self.new }
         ensures claims { OnOk result (IfSome (get self.old.connections key) (λ _. HasClaim key self.new)) }
+        ensures woken { WakesOthers key self.old self.new }
     {
         let (ticket, is_granted) = match self.budgets.ask(need.pool, need.party, key, need.bytes)? {
             Answer::Granted(ticket) => (ticket, true),
@@ -141,31 +147,32 @@ impl<S: Peer, C: LoopCore, T: Time + Drop> Open<S, C, T> {
     }
 
     // Grants what there is room for, in order.
-    fn grant(&mut self, now: u64) -> Result<(), AllocError>
+    fn grant(&mut self, now: u64)
         ensures lanes { Stays (lanes_of S.told self.old) (lanes_of S.told self.new) }
         ensures free { StayFree self.old.budgets self.new.budgets }
         ensures ready { StatesStay self.old self.new }
         ensures claims { ClaimsStay self.old self.new }
+        ensures woken { StaysWoken self.old self.new }
     {
         'shares: for _ in 0..u64::MAX {
             let Some(share) = self.budgets.next() else {
-                return Ok(());
+                return;
             };
-            self.wake(share.owner, share.ticket, now)?;
+            self.wake(share.owner, share.ticket, now);
         }
-        Ok(())
     }
 
     // A connection holds its share now.
-    fn wake(&mut self, key: usize, ticket: u64, now: u64) -> Result<(), AllocError>
+    fn wake(&mut self, key: usize, ticket: u64, now: u64)
         ensures lanes { Stays (lanes_of S.told self.old) (lanes_of S.told self.new) }
         ensures budgets { self.new.budgets ≡ self.old.budgets }
         ensures ready { StatesStay self.old self.new }
         ensures claims { ClaimsStay self.old self.new }
-        ensures awake { OnOk result (IsFalse (is_forgotten key self.new)) }
+        ensures awake { IsTrue (is_awake key self.new) }
+        ensures woken { StaysWoken self.old self.new }
     {
         self.hold(key, ticket, now);
-        self.schedule(key)
+        self.schedule(key);
     }
 
     // Notes that a connection holds its share.
@@ -174,6 +181,7 @@ impl<S: Peer, C: LoopCore, T: Time + Drop> Open<S, C, T> {
         ensures budgets { self.new.budgets ≡ self.old.budgets }
         ensures ready { StatesStay self.old self.new }
         ensures claims { ClaimsStay self.old self.new }
+        ensures woken { WakesOthers key self.old self.new }
     {
         if let Some(connection) = self.connections.get_mut(key) {
             connection.hold(ticket, now);
@@ -181,17 +189,15 @@ impl<S: Peer, C: LoopCore, T: Time + Drop> Open<S, C, T> {
     }
 
     // Gives a share back that a connection had.
-    pub(crate) fn give_up(&mut self, claim: Option<Claim>, now: u64) -> Result<(), AllocError>
+    pub(crate) fn give_up(&mut self, claim: Option<Claim>, now: u64)
         ensures lanes { Stays (lanes_of S.told self.old) (lanes_of S.told self.new) }
         ensures given { IsGivenBack claim self.new.budgets }
         ensures ready { StatesStay self.old self.new }
+        ensures woken { StaysWoken self.old self.new }
     {
-        match claim {
-            Some(claim) => {
-                self.budgets.release(&claim);
-                self.grant(now)
-            }
-            None => Ok(()),
+        if let Some(claim) = claim {
+            self.budgets.release(&claim);
+            self.grant(now);
         }
     }
 }

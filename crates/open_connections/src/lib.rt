@@ -10,11 +10,9 @@ mod loop_core;
 mod needs;
 mod numbers;
 mod open;
-mod waiting;
 
 pub use budgets::LEAST_MEMORY;
-pub use connection_turns::{Held, Journal, Slow, Totals};
+pub use connection_turns::{Held, Journal, Slow, Totals, Waiting};
 pub use due_list::Due;
 pub use loop_core::LoopCore;
 pub use open::Open;
-pub use waiting::Waiting;

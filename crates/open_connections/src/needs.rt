@@ -1,5 +1,7 @@
 //! What a connection needs of the budgets before its next step, and what it gives back behind a turn.
-ghost use Rattle.std.specs.Prelude.{◌<◌, ◌≤◌, IsFalse, IsTrue, is_some};
+ghost use Rattle.std.specs.Prelude.{◌≡◌, ◌<◌, ◌≤◌, IfSome, IsFalse, IsTrue, is_some};
+ghost use Rattle.due_list.specs.Rounds.{party_of};
+ghost use Rattle.open_connections.specs.Shares.{IsOfFront};
 ghost use Rattle.open_connections.specs.Turns.{is_queued_in};
 
 use crate::loop_core::LoopCore;
@@ -100,7 +102,9 @@ pub(crate) fn left_of(claim: &Claim, owed: usize, has_answered: bool) -> After {
 }
 
 /// The need of a reply to what is in front on a connection.
-pub(crate) fn need_of_reply<C: LoopCore>(core: &C, conn: u32, most: usize) -> Need {
+pub(crate) fn need_of_reply<C: LoopCore>(core: &C, conn: u32, most: usize) -> Need
+    ensures { result ≡ record { pool = Pool.Tenants; party = party_of (C.fronts conn core.now); purpose = Purpose.Reply; bytes = most } }
+{
     Need {
         pool: Pool::Tenants,
         party: party_of(core.front(conn)),
@@ -114,7 +118,9 @@ pub(crate) fn need<S: Peer, C: LoopCore>(
     connection: &Connection<S>,
     core: &C,
     conn: u32,
-) -> Option<Need> {
+) -> Option<Need>
+    ensures { IfSome result (λ need. need.purpose ≡ Purpose.Frame → IsOfFront (C.fronts conn core.now) need.pool need.party) }
+{
     let owed = connection.outbox.owed().len();
     if owed > OWED {
         Some(Need {
@@ -131,7 +137,9 @@ pub(crate) fn need<S: Peer, C: LoopCore>(
 }
 
 // The share of a frame that came in part.
-fn need_of_frame<C: LoopCore>(core: &C, conn: u32) -> Option<Need> {
+fn need_of_frame<C: LoopCore>(core: &C, conn: u32) -> Option<Need>
+    ensures { IfSome result (λ need. IsOfFront (C.fronts conn core.now) need.pool need.party × (need.purpose ≡ Purpose.Frame)) }
+{
     let part = core.part(conn)?;
     if part.length <= ALLOWANCE {
         return None;

@@ -1,9 +1,10 @@
 //! Numbers of connections and of bytes.
-ghost use Rattle.std.specs.Prelude.{◌≡◌, ◌≤◌, ◌^◌, IsFalse, MatchOption};
+ghost use Rattle.std.specs.Prelude.{◌≡◌, ◌<◌, ◌≤◌, ◌^◌, IfSome, IsFalse, MatchOption};
 
 /// The number that the core knows a connection by.
 pub(crate) fn conn_of(key: usize) -> Option<u32>
-    ensures { MatchOption result (2 ^ 32 ≤ key) (λ conn. conn ≡ key) }
+    ensures same { MatchOption result (2 ^ 32 ≤ key) (λ conn. conn ≡ key) }
+    ensures small { IfSome result (λ _. key < 2 ^ 32) }
 {
     u32::try_from(key).ok()
 }

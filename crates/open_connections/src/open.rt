@@ -1,5 +1,5 @@
 //! The connections that are open, the core that answers them, and the memory that they share.
-ghost use Rattle.std.specs.Prelude.{◌≡◌, ◌<◌, ◌^◌, ◌++◌, ◌&&◌, ℕ, None, IfOk, OnErr, OnOk, IfSome, IsTrue, IsFalse};
+ghost use Rattle.std.specs.Prelude.{◌≡◌, ◌<◌, ◌-◌, ◌^◌, ◌++◌, ◌&&◌, [], ℕ, None, IfOk, OnOk, IfSome, IsTrue, IsFalse};
 ghost use Rattle.std.specs.Option.{option_map};
 ghost use Rattle.slab.specs.Slab.{get, slab_len};
 ghost use Rattle.open_connections.specs.Looping.{Stays, Does, DoesAtMost, TurnsAtMost, TakenIn, LetGo};
@@ -7,19 +7,20 @@ ghost use Rattle.std.specs.Bool.{MatchBool};
 ghost use Rattle.outbox.specs.Told.{IsUnused};
 ghost use Rattle.connection_turns.specs.Owed.{is_lost};
 ghost use Rattle.due_list.specs.Rounds.{IsFresh};
-ghost use Rattle.open_connections.specs.Opened.{lanes_of, bytes_of, has_time, is_there, is_open_at, IsMarked, IsPutOff, IsStanding, IsListed, IsAsDue, HasLeft, is_forgotten, lost_at, rests_at};
-ghost use Rattle.open_connections.specs.Shares.{fresh_budgets, IsWithin, IsGivenBack, claim_at};
+ghost use Rattle.open_connections.specs.Opened.{lanes_of, bytes_of, has_time, is_there, is_open_at, IsMarked, IsPutOff, IsStanding, IsListed, IsAsDue, HasLeft, lost_at, rests_at};
+ghost use Rattle.open_connections.specs.Shares.{fresh_budgets, left_of, limit_of, IsWithin, IsGivenBack, claim_at};
 ghost use Rattle.open_connections.specs.Turns.{ClaimsStay, GetsTurn, HasTurnBy, Prepares, StatesStay, is_answering, plan_at};
+ghost use Rattle.open_connections.specs.Woken.{Hands, IsWoken, Passes, Recalls, StaysWoken, TakesOff, Wakes, WakesOthers, is_awake};
 
 use crate::budgets::Budgets;
 use crate::core_calls::{begin, connect, disconnect, give_up_query, share, take_micros, take_slow};
 use crate::loop_core::LoopCore;
 use crate::needs::piece_of;
 use crate::numbers::{added, conn_of, has_moved};
-use crate::waiting::{Waiting, waiting_among};
 use admin_pages::Metrics;
 use connection_turns::{
     Claim, Connection, Counted, Counts, End, Ending, Limits, Outcome, Phase, Plan, Pool, Slow,
+    Waiting, waiting_among,
 };
 use due_list::{Due, DueList};
 use outbox::CAP;
@@ -51,6 +52,8 @@ pub struct Open<S: Peer, C: LoopCore, T: Time + Drop> {
     bound: usize,
     // Those that get a turn.
     due: DueList,
+    // Memory for that list was refused: all connections are looked at before the next round.
+    has_missed: bool,
     // Those that make room for others, the longest idle last, each with the second since which it is, and when they were looked for.
     idle: Vec<(u64, usize)>,
     looked: Option<u64>,
@@ -68,6 +71,7 @@ impl<S: Peer, C: LoopCore, T: Time + Drop> Open<S, C, T> {
         ensures core { IfOk result (λ opened. (lanes_of S.told opened).core ≡ core) }
         ensures none { IfOk result (λ opened. (q : ℕ) → (lanes_of S.told opened).lines q ≡ None) }
         ensures budgets { IfOk result (λ opened. opened.budgets ≡ fresh_budgets memory) }
+        ensures woken { IfOk result (λ opened. IsWoken [] opened) }
     {
         let buffer = match Box::new(alloc, [0; PIECE]) {
             Ok(buffer) => buffer,
@@ -82,6 +86,7 @@ impl<S: Peer, C: LoopCore, T: Time + Drop> Open<S, C, T> {
             buffer,
             bound: 0,
             due: DueList::new(alloc),
+            has_missed: false,
             idle: Vec::new(alloc),
             looked: None,
             read: 0,
@@ -115,7 +120,8 @@ impl<S: Peer, C: LoopCore, T: Time + Drop> Open<S, C, T> {
 
     /// The last slow query, which is told once.
     pub fn take_slow(&mut self) -> Option<Slow>
-        ensures { Stays (lanes_of S.told self.old) (lanes_of S.told self.new) }
+        ensures lanes { Stays (lanes_of S.told self.old) (lanes_of S.told self.new) }
+        ensures woken { StaysWoken self.old self.new }
     {
         take_slow(&mut self.core)
     }
@@ -140,7 +146,9 @@ impl<S: Peer, C: LoopCore, T: Time + Drop> Open<S, C, T> {
     }
 
     /// The bytes that connections hold of the budgets, and those that there are.
-    pub fn memory(&self) -> (usize, usize) {
+    pub fn memory(&self) -> (usize, usize)
+        ensures { result ≡ (limit_of self.now.budgets - left_of self.now.budgets, limit_of self.now.budgets) }
+    {
         self.budgets.held()
     }
 
@@ -159,7 +167,7 @@ impl<S: Peer, C: LoopCore, T: Time + Drop> Open<S, C, T> {
 
     /// Whether a connection can go on.
     pub fn has_due(&self) -> bool {
-        !self.due.is_empty()
+        self.has_missed || !self.due.is_empty()
     }
 
     /// Whether connections wait for memory.
@@ -169,7 +177,8 @@ impl<S: Peer, C: LoopCore, T: Time + Drop> Open<S, C, T> {
 
     /// The key that the next connection gets, and whether there is room for it.
     pub fn vacant(&mut self) -> Option<usize>
-        ensures { Stays (lanes_of S.told self.old) (lanes_of S.told self.new) }
+        ensures lanes { Stays (lanes_of S.told self.old) (lanes_of S.told self.new) }
+        ensures woken { StaysWoken self.old self.new }
     {
         let room = self.count().saturating_add(1);
         let has_room = self.due.reserve(room) && self.connections.reserve(1).is_ok();
@@ -192,6 +201,7 @@ impl<S: Peer, C: LoopCore, T: Time + Drop> Open<S, C, T> {
         requires { IsUnused (S.told stream) }
         ensures lanes { MatchBool result (Does C.steps (TakenIn key) (lanes_of S.told self.old) (lanes_of S.told self.new)) (Stays (lanes_of S.told self.old) (lanes_of S.told self.new)) }
         ensures budgets { self.new.budgets ≡ self.old.budgets }
+        ensures woken { StaysWoken self.old self.new }
     {
         let Some(conn) = conn_of(key) else {
             return false;
@@ -209,17 +219,19 @@ impl<S: Peer, C: LoopCore, T: Time + Drop> Open<S, C, T> {
     }
 
     /// Notes a report, and that the connection gets a turn.
-    pub fn note(&mut self, report: Report) -> Result<(), AllocError>
+    pub fn note(&mut self, report: Report)
         ensures lanes { Stays (lanes_of S.told self.old) (lanes_of S.told self.new) }
-        ensures awake { OnOk result (IsFalse (is_forgotten report.key self.new)) }
+        ensures awake { IsTrue (is_awake report.key self.new) }
+        ensures woken { Wakes report.key self.old self.new }
     {
         self.hear(report);
-        self.schedule(report.key)
+        self.schedule(report.key);
     }
 
     // Notes a report.
     fn hear(&mut self, report: Report)
-        ensures { Stays (lanes_of S.told self.old) (lanes_of S.told self.new) }
+        ensures lanes { Stays (lanes_of S.told self.old) (lanes_of S.told self.new) }
+        ensures woken { WakesOthers report.key self.old self.new }
     {
         if let Some(connection) = self.connections.get_mut(report.key) {
             connection.note(report);
@@ -231,8 +243,23 @@ impl<S: Peer, C: LoopCore, T: Time + Drop> Open<S, C, T> {
         ensures lanes { Stays (lanes_of S.told self.old) (lanes_of S.told self.new) }
         ensures all { IfOk result (λ list. list.items ≡ self.old.due.first.items ++ self.old.due.rest.items) }
         ensures fresh { OnOk result (IsFresh self.new.due) }
+        ensures woken { IfOk result (λ list. Hands list.items self.old self.new) }
     {
         self.due.take()
+    }
+
+    /// Where memory for the list of turns was refused, looks at each connection: one that can go on gets a turn.
+    pub fn recall(&mut self)
+        ensures lanes { Stays (lanes_of S.told self.old) (lanes_of S.told self.new) }
+        ensures woken { Recalls self.old self.new }
+    {
+        if !self.has_missed {
+            return;
+        }
+        self.has_missed = false;
+        'keys: for key in 0..self.bound {
+            self.schedule(key);
+        }
     }
 
     /// Whether a connection gets its turn in this round. Where the turns of its tenant took long in it, it is put off.
@@ -256,6 +283,7 @@ impl<S: Peer, C: LoopCore, T: Time + Drop> Open<S, C, T> {
     pub fn put_off(&mut self, due: Due) -> Result<(), AllocError>
         ensures lanes { Stays (lanes_of S.told self.old) (lanes_of S.told self.new) }
         ensures kept { OnOk result (IsPutOff due self.old self.new) }
+        ensures woken { OnOk result (Passes due self.old self.new) }
     {
         self.due.put_off(due)
     }
@@ -264,6 +292,7 @@ impl<S: Peer, C: LoopCore, T: Time + Drop> Open<S, C, T> {
     pub fn give_back(&mut self, list: Vec<Due>)
         ensures lanes { Stays (lanes_of S.told self.old) (lanes_of S.told self.new) }
         ensures first { self.new.due.first.items ≡ self.old.due.first.items }
+        ensures woken { StaysWoken self.old self.new }
     {
         self.due.give_back(list);
     }
@@ -286,8 +315,10 @@ impl<S: Peer, C: LoopCore, T: Time + Drop> Open<S, C, T> {
         ensures idle { IsTrue (lost_at key self.old) → Stays (lanes_of S.told self.old) (lanes_of S.told self.new) }
         ensures given { IfSome (get self.old.connections key) (λ c. key < 2 ^ 32 → IsFalse (is_lost c) → GetsTurn C.steps S.told C.may_wait key c result.0 self.old self.new) }
         ensures there { is_open_at key self.new ≡ is_open_at key self.old }
+        ensures woken { TakesOff key self.old self.new }
     {
         if self.is_lost(key) {
+            self.take_off(key);
             return (Outcome::Over(End::ReadFault), false);
         }
         match self.prepare(key, now) {
@@ -296,20 +327,30 @@ impl<S: Peer, C: LoopCore, T: Time + Drop> Open<S, C, T> {
         }
     }
 
+    // A connection is due no more.
+    fn take_off(&mut self, key: usize)
+        ensures lanes { Stays (lanes_of S.told self.old) (lanes_of S.told self.new) }
+        ensures there { is_open_at key self.new ≡ is_open_at key self.old }
+        ensures woken { TakesOff key self.old self.new }
+    {
+        if let Some(connection) = self.connections.get_mut(key) {
+            connection.is_due = false;
+        }
+    }
+
     // What the turn of a connection does, which is due no more; an error is what comes of one that does nothing.
     fn prepare(&mut self, key: usize, now: u64) -> Result<Plan, Outcome>
         ensures lanes { Stays (lanes_of S.told self.old) (lanes_of S.told self.new) }
         ensures ready { StatesStay self.old self.new }
         ensures plan { IfSome (get self.old.connections key) (λ c. key < 2 ^ 32 → Prepares C.may_wait key (plan_at c self.old) result self.old self.new) }
+        ensures woken { TakesOff key self.old self.new }
     {
         let Some(plan) = self.plan(key) else {
             return Err(Outcome::Closed);
         };
         if self.stands_by(key, plan) {
-            return match self.yield_reply(key, now) {
-                Ok(()) => Ok(Plan::Write),
-                Err(_) => Err(Outcome::Over(End::Memory)),
-            };
+            self.yield_reply(key, now);
+            return Ok(Plan::Write);
         }
         match plan {
             Plan::Answer => self.prepare_answer(key, now),
@@ -322,6 +363,7 @@ impl<S: Peer, C: LoopCore, T: Time + Drop> Open<S, C, T> {
         ensures lanes { Stays (lanes_of S.told self.old) (lanes_of S.told self.new) }
         ensures ready { StatesStay self.old self.new }
         ensures plan { IfSome (get self.old.connections key) (λ _. key < 2 ^ 32 → Prepares C.may_wait key Plan.Answer result self.old self.new) }
+        ensures woken { WakesOthers key self.old self.new }
     {
         match self.may_answer(key, now) {
             Ok(true) => Ok(Plan::Answer),
@@ -335,6 +377,7 @@ impl<S: Peer, C: LoopCore, T: Time + Drop> Open<S, C, T> {
         ensures lanes { Stays (lanes_of S.told self.old) (lanes_of S.told self.new) }
         ensures ready { StatesStay self.old self.new }
         ensures plan { result ≡ option_map (λ c. plan_at c self.old) (get self.old.connections key) }
+        ensures woken { TakesOff key self.old self.new }
     {
         let has_room = self.budgets.has_room(ROOM);
         let connection = self.connections.get_mut(key)?;
@@ -365,6 +408,7 @@ impl<S: Peer, C: LoopCore, T: Time + Drop> Open<S, C, T> {
         ensures bytes { IsFalse result.1 → bytes_of self.new ≡ bytes_of self.old }
         ensures given { IfSome (get self.old.connections key) (λ c. key < 2 ^ 32 → HasTurnBy C.steps S.told plan key c result.0 self.old self.new) }
         ensures there { is_open_at key self.new ≡ is_open_at key self.old }
+        ensures woken { WakesOthers key self.old self.new }
     {
         let Some(conn) = conn_of(key) else {
             return (Outcome::Closed, false);
@@ -395,6 +439,7 @@ impl<S: Peer, C: LoopCore, T: Time + Drop> Open<S, C, T> {
         ensures lanes { Stays (lanes_of S.told self.old) (lanes_of S.told self.new) }
         ensures marked { IsMarked self.new key now }
         ensures there { is_open_at key self.new ≡ is_open_at key self.old }
+        ensures woken { StaysWoken self.old self.new }
     {
         let Some(connection) = self.connections.get_mut(key) else {
             return;
@@ -407,15 +452,19 @@ impl<S: Peer, C: LoopCore, T: Time + Drop> Open<S, C, T> {
     pub fn settle(&mut self, key: usize, now: u64) -> Result<(), AllocError>
         ensures lanes { Stays (lanes_of S.told self.old) (lanes_of S.told self.new) }
         ensures standing { OnOk result (IsStanding key self.new) }
-        ensures awake { OnOk result (IsFalse (is_forgotten key self.new)) }
+        ensures awake { OnOk result (IsTrue (is_awake key self.new)) }
+        ensures woken { OnOk result (Wakes key self.old self.new) }
+        ensures others { WakesOthers key self.old self.new }
     {
         self.settle_memory(key, now)?;
-        self.give_turn(key)
+        self.give_turn(key);
+        Ok(())
     }
 
     // What is done with is given back, and what the next step needs is asked for.
     fn settle_memory(&mut self, key: usize, now: u64) -> Result<(), AllocError>
-        ensures { Stays (lanes_of S.told self.old) (lanes_of S.told self.new) }
+        ensures lanes { Stays (lanes_of S.told self.old) (lanes_of S.told self.new) }
+        ensures woken { WakesOthers key self.old self.new }
     {
         let Some(conn) = conn_of(key) else {
             return Ok(());
@@ -423,14 +472,18 @@ impl<S: Peer, C: LoopCore, T: Time + Drop> Open<S, C, T> {
         self.count_turn(key, now);
         self.note_part(key, conn);
         match self.claim_of(key) {
-            Some(claim) => self.settle_claim(key, &claim, now),
+            Some(claim) => {
+                self.settle_claim(key, &claim, now);
+                Ok(())
+            }
             None => self.ask(key, conn, now),
         }
     }
 
     // Notes whether a frame came in part, or is not answered.
     fn note_part(&mut self, key: usize, conn: u32)
-        ensures { Stays (lanes_of S.told self.old) (lanes_of S.told self.new) }
+        ensures lanes { Stays (lanes_of S.told self.old) (lanes_of S.told self.new) }
+        ensures woken { WakesOthers key self.old self.new }
     {
         let waiting = self.core.inner().waiting(conn);
         if let Some(connection) = self.connections.get_mut(key) {
@@ -440,7 +493,8 @@ impl<S: Peer, C: LoopCore, T: Time + Drop> Open<S, C, T> {
 
     // Counts the time that a turn took.
     fn count_turn(&mut self, key: usize, now: u64)
-        ensures { Stays (lanes_of S.told self.old) (lanes_of S.told self.new) }
+        ensures lanes { Stays (lanes_of S.told self.old) (lanes_of S.told self.new) }
+        ensures woken { WakesOthers key self.old self.new }
     {
         let micros = take_micros(&mut self.core);
         let stood = self.tenant_of(key);
@@ -459,7 +513,8 @@ impl<S: Peer, C: LoopCore, T: Time + Drop> Open<S, C, T> {
 
     // Notes what the core tells of a turn.
     fn note_turn(&mut self, key: usize)
-        ensures { Stays (lanes_of S.told self.old) (lanes_of S.told self.new) }
+        ensures lanes { Stays (lanes_of S.told self.old) (lanes_of S.told self.new) }
+        ensures woken { WakesOthers key self.old self.new }
     {
         let core = self.core.inner();
         let Some(connection) = self.connections.get_mut(key) else {
@@ -472,7 +527,8 @@ impl<S: Peer, C: LoopCore, T: Time + Drop> Open<S, C, T> {
 
     // While a query goes on, the time for which its connection may hold a share begins anew.
     fn renew(&mut self, key: usize, now: u64)
-        ensures { Stays (lanes_of S.told self.old) (lanes_of S.told self.new) }
+        ensures lanes { Stays (lanes_of S.told self.old) (lanes_of S.told self.new) }
+        ensures woken { WakesOthers key self.old self.new }
     {
         let has_worked = self.core.has_worked();
         if let Some(connection) = self.connections.get_mut(key) {
@@ -483,42 +539,63 @@ impl<S: Peer, C: LoopCore, T: Time + Drop> Open<S, C, T> {
     }
 
     // What [`Open::give_turn`] does, of which no more is said here than that nothing else changes.
-    pub(crate) fn schedule(&mut self, key: usize) -> Result<(), AllocError>
+    pub(crate) fn schedule(&mut self, key: usize)
         ensures lanes { Stays (lanes_of S.told self.old) (lanes_of S.told self.new) }
         ensures budgets { self.new.budgets ≡ self.old.budgets }
         ensures ready { StatesStay self.old self.new }
         ensures claims { ClaimsStay self.old self.new }
-        ensures awake { OnOk result (IsFalse (is_forgotten key self.new)) }
+        ensures awake { IsTrue (is_awake key self.new) }
+        ensures bound { self.new.bound ≡ self.old.bound }
+        ensures woken { Wakes key self.old self.new }
     {
-        self.give_turn(key)
+        self.give_turn(key);
     }
 
     // A connection that can go on gets a further turn. One that can't has no query under way: so nobody waits for one that waits.
-    fn give_turn(&mut self, key: usize) -> Result<(), AllocError>
+    fn give_turn(&mut self, key: usize)
         ensures lanes { Stays (lanes_of S.told self.old) (lanes_of S.told self.new) }
         ensures budgets { self.new.budgets ≡ self.old.budgets }
-        ensures standing { OnOk result (IsStanding key self.new) }
-        ensures listed { OnOk result (IsListed key self.old self.new) }
-        ensures unlisted { OnErr result (IsAsDue key self.old self.new) }
+        ensures standing { IsStanding key self.new }
+        ensures listed { IsListed key self.old self.new }
+        ensures once { IfSome (get self.old.connections key) (λ c. IsTrue c.is_due → self.new.due ≡ self.old.due) }
         ensures ready { StatesStay self.old self.new }
         ensures claims { ClaimsStay self.old self.new }
-        ensures awake { OnOk result (IsFalse (is_forgotten key self.new)) }
+        ensures awake { IsTrue (is_awake key self.new) }
+        ensures bound { self.new.bound ≡ self.old.bound }
+        ensures woken { Wakes key self.old self.new }
     {
         let has_room = self.budgets.has_room(ROOM);
         let Some(connection) = self.connections.get_mut(key) else {
-            return Ok(());
+            return;
         };
         if connection.is_due {
-            return Ok(());
+            return;
         }
         if !connection.can_go_on(has_room) {
             self.give_up_query(key);
-            return Ok(());
+            return;
         }
         let (tenant, is_working) = (connection.tenant, connection.is_working);
-        self.due.add(key, connection.number, tenant, is_working)?;
-        connection.is_due = true;
-        Ok(())
+        match self.due.add(key, connection.number, tenant, is_working) {
+            Ok(()) => connection.is_due = true,
+            Err(_) => self.miss(key),
+        }
+    }
+
+    // There is no memory for a connection's turn. It is looked at again before the next round.
+    fn miss(&mut self, key: usize)
+        ensures lanes { Stays (lanes_of S.told self.old) (lanes_of S.told self.new) }
+        ensures budgets { self.new.budgets ≡ self.old.budgets }
+        ensures due { IsAsDue key self.old self.new }
+        ensures given_up { IfSome (get self.new.connections key) (λ c. IsFalse c.is_working) }
+        ensures ready { StatesStay self.old self.new }
+        ensures claims { ClaimsStay self.old self.new }
+        ensures missed { IsTrue self.new.has_missed }
+        ensures bound { self.new.bound ≡ self.old.bound }
+        ensures woken { WakesOthers key self.old self.new }
+    {
+        self.has_missed = true;
+        self.give_up_query(key);
     }
 
     // A connection that gets no turn has no query under way.
@@ -529,7 +606,10 @@ impl<S: Peer, C: LoopCore, T: Time + Drop> Open<S, C, T> {
         ensures given_up { IfSome (get self.new.connections key) (λ c. IsFalse c.is_working) }
         ensures ready { StatesStay self.old self.new }
         ensures claims { ClaimsStay self.old self.new }
-        ensures forgotten { is_forgotten key self.new ≡ is_forgotten key self.old }
+        ensures awake { is_awake key self.new ≡ is_awake key self.old }
+        ensures missed { self.new.has_missed ≡ self.old.has_missed }
+        ensures bound { self.new.bound ≡ self.old.bound }
+        ensures woken { WakesOthers key self.old self.new }
     {
         let Some(connection) = self.connections.get_mut(key) else {
             return;
@@ -556,27 +636,28 @@ impl<S: Peer, C: LoopCore, T: Time + Drop> Open<S, C, T> {
     }
 
     /// A connection is read no more, as if its peer had ended its side: what was read whole is answered, and what is owed is written.
-    pub fn leave(&mut self, key: usize) -> Result<(), AllocError>
+    pub fn leave(&mut self, key: usize)
         ensures lanes { Stays (lanes_of S.told self.old) (lanes_of S.told self.new) }
-        ensures left { OnOk result (HasLeft key self.new) }
+        ensures left { HasLeft key self.new }
+        ensures woken { Wakes key self.old self.new }
     {
-        self.note(Report::ended(key))?;
+        self.note(Report::ended(key));
         if let Some(connection) = self.connections.get_mut(key) {
             connection.leave();
         }
-        Ok(())
     }
 
     /// Ends a connection's session, and reads what still comes for a little while.
-    pub fn linger(&mut self, key: usize, now: u64) -> Result<(), AllocError>
+    pub fn linger(&mut self, key: usize, now: u64)
         ensures lanes { DoesAtMost C.steps (LetGo key) (lanes_of S.told self.old) (lanes_of S.told self.new) }
         ensures share { key < 2 ^ 32 → IsGivenBack (claim_at self.old.connections key) self.new.budgets }
         ensures closes { IsTrue (is_open_at key self.old) → key < 2 ^ 32 → Does C.steps (LetGo key) (lanes_of S.told self.old) (lanes_of S.told self.new) }
-        ensures awake { OnOk result (IsFalse (is_forgotten key self.new)) }
+        ensures awake { IsTrue (is_awake key self.new) }
+        ensures woken { Wakes key self.old self.new }
     {
         let claim = self.end(key, now);
-        self.give_up(claim, now)?;
-        self.schedule(key)
+        self.give_up(claim, now);
+        self.schedule(key);
     }
 
     // Ends a connection's session, and hands out its share.
@@ -584,6 +665,7 @@ impl<S: Peer, C: LoopCore, T: Time + Drop> Open<S, C, T> {
         ensures lanes { DoesAtMost C.steps (LetGo key) (lanes_of S.told self.old) (lanes_of S.told self.new) }
         ensures claim { key < 2 ^ 32 → result ≡ claim_at self.old.connections key }
         ensures closes { IsTrue (is_open_at key self.old) → key < 2 ^ 32 → Does C.steps (LetGo key) (lanes_of S.told self.old) (lanes_of S.told self.new) }
+        ensures woken { WakesOthers key self.old self.new }
     {
         let conn = conn_of(key)?;
         let connection = self.connections.get_mut(key)?;
@@ -594,13 +676,14 @@ impl<S: Peer, C: LoopCore, T: Time + Drop> Open<S, C, T> {
     }
 
     /// Closes a connection.
-    pub fn close(&mut self, key: usize, now: u64) -> Result<(), AllocError>
+    pub fn close(&mut self, key: usize, now: u64)
         ensures lanes { DoesAtMost C.steps (LetGo key) (lanes_of S.told self.old) (lanes_of S.told self.new) }
         ensures share { key < 2 ^ 32 → IsGivenBack (claim_at self.old.connections key) self.new.budgets }
         ensures closes { IsTrue (is_open_at key self.old) → key < 2 ^ 32 → Does C.steps (LetGo key) (lanes_of S.told self.old) (lanes_of S.told self.new) }
+        ensures woken { Wakes key self.old self.new }
     {
         let claim = self.let_go(key);
-        self.give_up(claim, now)
+        self.give_up(claim, now);
     }
 
     // Takes a connection off, and hands out its share.
@@ -608,6 +691,7 @@ impl<S: Peer, C: LoopCore, T: Time + Drop> Open<S, C, T> {
         ensures lanes { DoesAtMost C.steps (LetGo key) (lanes_of S.told self.old) (lanes_of S.told self.new) }
         ensures claim { key < 2 ^ 32 → result ≡ claim_at self.old.connections key }
         ensures closes { IsTrue (is_open_at key self.old) → key < 2 ^ 32 → Does C.steps (LetGo key) (lanes_of S.told self.old) (lanes_of S.told self.new) }
+        ensures woken { Wakes key self.old self.new }
     {
         let conn = conn_of(key)?;
         let connection = self.connections.try_remove(key)?;
@@ -651,7 +735,8 @@ impl<S: Peer, C: LoopCore, T: Time + Drop> Open<S, C, T> {
 
     /// The connection that has been idle longest, for so many seconds at least. They are looked for once a second.
     pub fn spare(&mut self, now: u64, limits: &Limits) -> Option<usize>
-        ensures { Stays (lanes_of S.told self.old) (lanes_of S.told self.new) }
+        ensures lanes { Stays (lanes_of S.told self.old) (lanes_of S.told self.new) }
+        ensures woken { StaysWoken self.old self.new }
     {
         match self.next_spare(now, limits) {
             Some(key) => Some(key),
@@ -668,7 +753,8 @@ impl<S: Peer, C: LoopCore, T: Time + Drop> Open<S, C, T> {
 
     // The next of those that were found and are still idle.
     fn next_spare(&mut self, now: u64, limits: &Limits) -> Option<usize>
-        ensures { Stays (lanes_of S.told self.old) (lanes_of S.told self.new) }
+        ensures lanes { Stays (lanes_of S.told self.old) (lanes_of S.told self.new) }
+        ensures woken { StaysWoken self.old self.new }
     {
         'found: for _ in 0..self.idle.len() {
             let (since, key) = self.idle.pop()?;
@@ -683,7 +769,8 @@ impl<S: Peer, C: LoopCore, T: Time + Drop> Open<S, C, T> {
 
     // Finds those that are idle. Where there is no memory for the list, there is none.
     fn look_for_spare(&mut self, now: u64, limits: &Limits)
-        ensures { Stays (lanes_of S.told self.old) (lanes_of S.told self.new) }
+        ensures lanes { Stays (lanes_of S.told self.old) (lanes_of S.told self.new) }
+        ensures woken { StaysWoken self.old self.new }
     {
         self.idle.clear();
         let count = self.count();

@@ -1,7 +1,4 @@
 use Rattle.event_loop.proofs.rounds.Rounds.close.Goals as goal
 
 pub returns : goal.returns
-returns g c = record { lanes = c.close.ensures.lanes; closes = c.close.ensures.closes }
-
-pub returns-in_err-close : goal.returns-in_err-close
-returns-in_err-close g c = record { lanes = c.close.ensures.lanes; closes = c.close.ensures.closes }
+returns g c = record { lanes = c.close.ensures.lanes; closes = c.close.ensures.closes; woken = c.close.ensures.woken }

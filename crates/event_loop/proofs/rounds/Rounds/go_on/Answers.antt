@@ -1,10 +1,17 @@
 use Rattle.std.proofs.Common.{inr}
 use Rattle.open_connections.specs.Looping.{LetGo}
 use Rattle.open_connections.proofs.Looping.{stays_then, then_at_most}
+use Rattle.open_connections.specs.Woken.{sparing}
 use Rattle.event_loop.proofs.rounds.Rounds.go_on.Goals as goal
 
-pub returns-in-Ok : goal.returns-in-Ok
-returns-in-Ok g c = inr (stays_then _ _ _ c.tell_slow.ensures c.settle.ensures.lanes)
+pub returns-in-Ok-clause-lanes : goal.returns-in-Ok-clause-lanes
+returns-in-Ok-clause-lanes g c = inr (stays_then _ _ _ c.tell_slow.ensures.lanes c.settle.ensures.lanes)
 
-pub returns-in-Err : goal.returns-in-Err
-returns-in-Err g c = then_at_most g.C.LoopCore.steps (LetGo c.args.key) _ _ _ (stays_then _ _ _ c.tell_slow.ensures c.settle.ensures.lanes) c.finish.ensures.lanes
+pub returns-in-Err-clause-lanes : goal.returns-in-Err-clause-lanes
+returns-in-Err-clause-lanes g c = then_at_most g.C.LoopCore.steps (LetGo c.args.key) _ _ _ (stays_then _ _ _ c.tell_slow.ensures.lanes c.settle.ensures.lanes) c.finish.ensures.lanes
+
+pub returns-in-Ok-clause-woken : goal.returns-in-Ok-clause-woken
+returns-in-Ok-clause-woken g c = λ fact h. c.in-Ok.ensures.woken fact (c.tell_slow.ensures.woken (sparing c.args.key fact) h)
+
+pub returns-in-Err-clause-woken : goal.returns-in-Err-clause-woken
+returns-in-Err-clause-woken g c = λ fact h. c.finish.ensures.woken fact (c.settle.ensures.others fact (c.tell_slow.ensures.woken (sparing c.args.key fact) h))

@@ -1,7 +1,8 @@
 use Rattle.open_connections.specs.Looping.{Stays}
 use Rattle.open_connections.specs.Opened.{lanes_of}
+use Rattle.open_connections.specs.Woken.{StaysWoken}
 use Rattle.event_loop.proofs.rounds.Rounds.receive.Given as goal
 
--- nothing that is served has changed so far
+-- nothing that is served has changed so far, and nobody is forgotten
 abbrev pub invariant-callers : goal.invariant-callers
-invariant-callers g l = Stays (lanes_of g.S.Stream.Wire.told l.initial.self.opened) (lanes_of g.S.Stream.Wire.told l.self.opened)
+invariant-callers g l = record { lanes : Stays (lanes_of g.S.Stream.Wire.told l.initial.self.opened) (lanes_of g.S.Stream.Wire.told l.self.opened); woken : StaysWoken l.initial.self.opened l.self.opened }

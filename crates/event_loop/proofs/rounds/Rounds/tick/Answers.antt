@@ -2,10 +2,10 @@ use Rattle.open_connections.proofs.Looping.{gone_on, no_step_on, on_then, stays}
 use Rattle.event_loop.proofs.rounds.Rounds.tick.Goals as goal
 
 pub keys-init : goal.keys-init
-keys-init g c = no_step_on g.C.LoopCore.steps _ _ (stays _)
+keys-init g c = record { lanes = no_step_on g.C.LoopCore.steps _ _ (stays _); woken = λ fact h. h }
 
 pub keys-preserved : goal.keys-preserved
-keys-preserved g c = on_then g.C.LoopCore.steps _ _ _ c.keys.invariant (gone_on g.C.LoopCore.steps c.keys.key _ _ c.expire.ensures)
-
-pub returns-in_err-expire : goal.returns-in_err-expire
-returns-in_err-expire g c = on_then g.C.LoopCore.steps _ _ _ c.keys.invariant (gone_on g.C.LoopCore.steps c.keys.key _ _ c.expire.ensures)
+keys-preserved g c = record {
+  lanes = on_then g.C.LoopCore.steps _ _ _ c.keys.invariant.lanes (gone_on g.C.LoopCore.steps c.keys.key _ _ c.expire.ensures.lanes);
+  woken = λ fact h. c.expire.ensures.woken fact (c.keys.invariant.woken fact h);
+}

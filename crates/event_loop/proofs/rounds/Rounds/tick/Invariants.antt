@@ -1,7 +1,8 @@
 use Rattle.open_connections.specs.Looping.{DoesOn}
 use Rattle.open_connections.specs.Opened.{lanes_of}
+use Rattle.open_connections.specs.Woken.{StaysWoken}
 use Rattle.event_loop.proofs.rounds.Rounds.tick.Given as goal
 
--- what was done so far
+-- what was done so far, and that nobody is forgotten
 abbrev pub invariant-keys : goal.invariant-keys
-invariant-keys g l = DoesOn g.C.LoopCore.steps (lanes_of g.S.Stream.Wire.told l.initial.self.opened) (lanes_of g.S.Stream.Wire.told l.self.opened)
+invariant-keys g l = record { lanes : DoesOn g.C.LoopCore.steps (lanes_of g.S.Stream.Wire.told l.initial.self.opened) (lanes_of g.S.Stream.Wire.told l.self.opened); woken : StaysWoken l.initial.self.opened l.self.opened }

@@ -1,6 +1,10 @@
 use Rattle.std.proofs.Common.{◌∙◌}
 use Rattle.open_connections.proofs.Steps.{listed_at}
+use Rattle.event_loop.proofs.Seats.{shown}
 use Rattle.event_loop.proofs.server.Server.over.Goals as goal
 
 pub returns-clause-none : goal.returns-clause-none
 returns-clause-none g c = λ q. listed_at c.in_ok-rounds.rounds.opened.connections q ∙ c.in_ok-rounds.ensures.none q
+
+pub returns-clause-woken : goal.returns-clause-woken
+returns-clause-woken g c = shown c.in_ok-rounds.rounds.opened c.in_ok-rounds.ensures.woken

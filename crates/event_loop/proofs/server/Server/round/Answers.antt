@@ -3,6 +3,7 @@ use Rattle.open_connections.specs.Opened.{bytes_of}
 use Rattle.open_connections.specs.Shares.{limits_in}
 use Rattle.open_connections.proofs.Looping.{no_step, serves_no_new, some_then}
 use Rattle.open_connections.proofs.Steps.{from_lists, listed_at, to_lists}
+use Rattle.event_loop.proofs.Seats.{known, ok_still, shown}
 use Rattle.event_loop.proofs.server.Server.round.Goals as goal
 
 pub returns-clause-steps : goal.returns-clause-steps
@@ -20,3 +21,9 @@ returns-clause-deaf g c =
       deaf = c.step.ensures.deaf h;
       none_new = λ q e. listed_at is.connections q ∙ serves_no_new g.C.LoopCore.steps _ _ (c.step.ensures.on h) q (sym (listed_at was.connections q) ∙ e);
     })
+
+pub returns-clause-woken : goal.returns-clause-woken
+returns-clause-woken g c =
+    let was = c.self.inside.rounds.opened in
+    let is = c.step.new.self.opened in
+    rw (← c.self.view_is) (λ h. ok_still _ _ c.step.result (λ k. shown is k) (c.step.ensures.woken (known was h)))

@@ -7,5 +7,6 @@ pub returns : goal.returns
 returns g c = record {
   lanes = at_most_then g.C.LoopCore.steps (LetGo c.args.key) _ _ _ c.let_go-claim.ensures.lanes c.give_up.ensures.lanes;
   closes = λ o k. step_then g.C.LoopCore.steps (LetGo c.args.key) _ _ _ (c.let_go-claim.ensures.closes o k) c.give_up.ensures.lanes;
+  woken = λ fact h. c.give_up.ensures.woken fact (c.let_go-claim.ensures.woken fact h);
   share = λ h. given_alike _ _ _ c.give_up.ensures.given (c.let_go-claim.ensures.claim h);
 }

@@ -6,12 +6,12 @@ use Rattle.open_connections.proofs.open.Open.end.Goals as goal
 
 pub returns-clause-lanes : goal.returns-clause-lanes
 returns-clause-lanes g c =
-    inl (gone_steps g.C.LoopCore.steps g.S.Wire.told (limits_in c.args.self.now.budgets) (bytes_of c.args.self.now) _ _ c.args.self.now.connections _ c.args.key c.in_ok-conn.conn _ c.in_ok-conn.ensures
+    inl (gone_steps g.C.LoopCore.steps g.S.Wire.told (limits_in c.args.self.now.budgets) (bytes_of c.args.self.now) _ _ c.args.self.now.connections _ c.args.key c.in_ok-conn.conn _ c.in_ok-conn.ensures.same
     (written c.args.self.now.connections c.args.key c.in_ok-connection.connection.now c.linger.new.self (sym c.in_ok-connection.ensures.value)) c.linger.ensures.line
     (inr (c.linger.ensures.wire ∙ sym (wire_at g.S.Wire.told _ _ (sym c.in_ok-connection.ensures.value)))) c.disconnect.ensures)
 
 pub returns-clause-closes : goal.returns-clause-closes
 returns-clause-closes g c = λ o k.
-    gone_steps g.C.LoopCore.steps g.S.Wire.told (limits_in c.args.self.now.budgets) (bytes_of c.args.self.now) _ _ c.args.self.now.connections _ c.args.key c.in_ok-conn.conn _ c.in_ok-conn.ensures
+    gone_steps g.C.LoopCore.steps g.S.Wire.told (limits_in c.args.self.now.budgets) (bytes_of c.args.self.now) _ _ c.args.self.now.connections _ c.args.key c.in_ok-conn.conn _ c.in_ok-conn.ensures.same
     (written c.args.self.now.connections c.args.key c.in_ok-connection.connection.now c.linger.new.self (sym c.in_ok-connection.ensures.value)) c.linger.ensures.line
     (inr (c.linger.ensures.wire ∙ sym (wire_at g.S.Wire.told _ _ (sym c.in_ok-connection.ensures.value)))) c.disconnect.ensures

@@ -1,13 +1,13 @@
 use Rattle.std.proofs.Common.{refl, sym}
 use Rattle.open_connections.proofs.Keeping.{keep_at}
-use Rattle.open_connections.proofs.Waking.{forgotten_alike}
+use Rattle.open_connections.proofs.Waking.{awake_alike}
 use Rattle.open_connections.proofs.open.Open.give_up_query.Goals as goal
 
-pub returns-in-Some-conn_of-clause-forgotten : goal.returns-in-Some-conn_of-clause-forgotten
-returns-in-Some-conn_of-clause-forgotten g c = forgotten_alike c.args.self.now.connections c.args.key c.in-Some.connection.now (sym c.in-Some.ensures.value)
+pub returns-in-Some-conn_of-clause-awake : goal.returns-in-Some-conn_of-clause-awake
+returns-in-Some-conn_of-clause-awake g c = awake_alike c.args.self.now.has_missed c.args.self.now.connections c.args.key c.in-Some.connection.now (sym c.in-Some.ensures.value)
 
 pub returns-in_default-conn_of-clause-ready : goal.returns-in_default-conn_of-clause-ready
 returns-in_default-conn_of-clause-ready g c = keep_at _ c.args.self.now.connections c.args.key c.in-Some.connection.now _ (sym c.in-Some.ensures.value) refl
 
-pub returns-in_default-conn_of-clause-forgotten : goal.returns-in_default-conn_of-clause-forgotten
-returns-in_default-conn_of-clause-forgotten g c = forgotten_alike c.args.self.now.connections c.args.key c.in-Some.connection.now (sym c.in-Some.ensures.value)
+pub returns-in_default-conn_of-clause-awake : goal.returns-in_default-conn_of-clause-awake
+returns-in_default-conn_of-clause-awake g c = awake_alike c.args.self.now.has_missed c.args.self.now.connections c.args.key c.in-Some.connection.now (sym c.in-Some.ensures.value)

@@ -4,7 +4,7 @@ use Rattle.open_connections.proofs.Shares.{free_then}
 use Rattle.open_connections.proofs.open.Open.grant.Goals as goal
 
 pub shares-init : goal.shares-init
-shares-init g c = record { lanes = stays _; free = λ pool q t h. h; ready = keep_same _ _; claims = keep_same _ _ }
+shares-init g c = record { lanes = stays _; free = λ pool q t h. h; ready = keep_same _ _; claims = keep_same _ _; woken = λ fact h. h }
 
 pub shares-preserved : goal.shares-preserved
 shares-preserved g c = record {
@@ -12,4 +12,5 @@ shares-preserved g c = record {
   free = free_then _ _ _ _ c.shares.invariant.free c.next.ensures.free c.wake.ensures.budgets;
   ready = keep_then _ _ _ _ c.shares.invariant.ready c.wake.ensures.ready;
   claims = keep_then _ _ _ _ c.shares.invariant.claims c.wake.ensures.claims;
+  woken = λ fact h. c.wake.ensures.woken fact (c.shares.invariant.woken fact h);
 }

@@ -1,6 +1,7 @@
 //! Who waits for memory.
 
-use connection_turns::{Connection, Pool};
+use crate::claim::Pool;
+use crate::connection::Connection;
 use slab::Slab;
 use socket_poll::Peer;
 use tenant_map::TENANT_LIMIT;
@@ -12,8 +13,8 @@ pub struct Waiting {
     pub by_tenant: [u64; TENANT_LIMIT],
 }
 
-/// Counts those that wait, among the connections with the first so many keys.
-pub(crate) fn waiting_among<S: Peer>(connections: &Slab<Connection<S>>, bound: usize) -> Waiting {
+/// Counts those that wait for memory, among the connections with the first so many keys.
+pub fn waiting_among<S: Peer>(connections: &Slab<Connection<S>>, bound: usize) -> Waiting {
     let mut all = 0u64;
     let mut by_tenant = [0u64; TENANT_LIMIT];
     'keys: for key in 0..bound {
