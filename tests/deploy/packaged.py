@@ -19,7 +19,7 @@ from pathlib import Path
 
 from deployment import CLIENT, TOP, children, wait_until
 from visits import Held, Visits
-from lib.running_server import PATIENCE, PROGRAM, Report, has, is_turned_away, not_run, want
+from lib.running_server import PATIENCE, PROGRAM, Report, has, is_turned_away, not_run, open_connection, want
 import pages
 from pages import ADDRESS, Shell, fits, free_port, sessions
 
@@ -239,10 +239,21 @@ def drained(root, room, table, plain):
     restarted(root, room, table, plain, "drained")
 
 
+def listens(address):
+    """Whether a connection to this address is made."""
+    try:
+        open_connection(address).close()
+    except OSError:
+        return False
+    return True
+
+
 def restarted(root, room, table, plain, why):
     """Shard 4 is started, gives no answer while it is empty, and is loaded and marked ready as the page says."""
     root.run("systemctl", "enable", "--now", "path_server@4")
     report.case(f"{why}: an empty shard gives no answer", "", True, wait_until(lambda: asked(root, room, plain, "list", "shop") == 4))
+    shard = next(line.split()[2] for line in Path(table).read_text().splitlines() if line.startswith("shard 4 "))
+    report.case(f"{why}: it listens", shard, True, wait_until(lambda: listens(shard)))
     ran = root.run("path_shards", table, "load", room / "dumps", "--shard", "4")
     report.case(f"{why}: loaded", ran.stdout, 0, ran.returncode)
     root.run("path_shards", table, "ready", "4")

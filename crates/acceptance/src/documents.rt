@@ -1,13 +1,13 @@
 //! Documents seen through every reader.
 
 use crate::trial::Trial;
-use json_tape::{Document, Kind, Lead, NodeId, Scalars, TextFault};
+use json_tape::{Document, Kind, Lead, NodeId, Progress, ReadTask, Scalars, TextFault};
 use std::alloc::Global;
 
 const SAMPLE: &[u8] = b"{\"a\":[1,{\"b\":\"\\u00e9\\ud83d\\ude00\"}],\"c\":-1.5e+3}";
 
 /// The trials.
-pub fn trials(alloc: Global) -> [(&'static str, Trial); 9] {
+pub fn trials(alloc: Global) -> [(&'static str, Trial); 11] {
     [
         ("shows_values", shows_values(alloc)),
         ("keeps_a_text_of_its_own", keeps_a_text_of_its_own(alloc)),
@@ -23,6 +23,11 @@ pub fn trials(alloc: Global) -> [(&'static str, Trial); 9] {
         (
             "finds_members_near_in_wide_objects",
             finds_members_near_in_wide_objects(alloc),
+        ),
+        ("reads_in_shares", reads_in_shares(alloc)),
+        (
+            "takes_verdicts_on_its_text",
+            takes_verdicts_on_its_text(alloc),
         ),
     ]
 }
@@ -316,4 +321,96 @@ fn finds_members_near_in_wide_objects(alloc: Global) -> Trial {
         trial.case(found_near(&document, 0, &['s'], distance).is_none());
     }
     trial
+}
+
+/// A text that was read in shares.
+#[derive(Drop)]
+struct Shared {
+    shares: u32,
+    // The number of values.
+    read: Result<u32, TextFault>,
+}
+
+/// Reads a text in shares of so many places of its index.
+fn read_in_shares(alloc: Global, text: &[u8], places: usize) -> Shared {
+    let mut task = match ReadTask::begin(alloc, text) {
+        Ok(task) => task,
+        Err(fault) => {
+            return Shared {
+                shares: 0,
+                read: Err(fault),
+            };
+        }
+    };
+    for shares in 1..1_000u32 {
+        match task.step(alloc, places) {
+            Progress::Paused(next) => task = next,
+            Progress::Complete(verdict) => {
+                let read = match verdict.on(text) {
+                    Some(Ok(document)) => Ok(document.node_count()),
+                    Some(Err(fault)) => Err(fault),
+                    None => Err(TextFault::Memory),
+                };
+                return Shared { shares, read };
+            }
+        }
+    }
+    Shared {
+        shares: 0,
+        read: Err(TextFault::Memory),
+    }
+}
+
+// The sizes of shares that are tried.
+const PLACES: [usize; 4] = [1, 2, 7, 400];
+
+fn reads_in_shares(alloc: Global) -> Trial {
+    let mut trial = Trial::new();
+    let text = b"[1,[2,[]],{\"a\":{},\"b\":3},4]";
+    for places in PLACES {
+        let shared = read_in_shares(alloc, text, places);
+        // 23 tokens, of which a share passes a child and its comma at least
+        trial.case((places == 400) == (shared.shares == 1));
+        trial.case(shared.shares <= 23);
+        trial.case(matches!(shared.read, Ok(9)));
+        let broken = read_in_shares(alloc, b"[1,[2,[]],3", places);
+        trial.case(matches!(broken.read, Err(TextFault::NotJson)));
+        let more = read_in_shares(alloc, b"[1,[2,[]]],3", places);
+        trial.case(matches!(more.read, Err(TextFault::NotJson)));
+        let large = read_in_shares(alloc, b"[1,2,1e1000000000]", places);
+        trial.case(matches!(large.read, Err(TextFault::NumberLimit)));
+        let lone = read_in_shares(alloc, b"[1,2,\"\\ud800\"]", places);
+        trial.case(matches!(lone.read, Err(TextFault::LoneSurrogate)));
+        let twice = read_in_shares(alloc, b"[{\"a\":1,\"b\":2,\"\\u0061\":3}]", places);
+        trial.case(matches!(twice.read, Err(TextFault::DuplicateName)));
+    }
+    trial
+}
+
+fn takes_verdicts_on_its_text(alloc: Global) -> Trial {
+    let mut trial = Trial::new();
+    let own = known(alloc, b"[1,2]", b"[1,2]");
+    trial.case(matches!(own, Ok(3)));
+    let of_another = known(alloc, b"[1,2]", b"[1,2,3]");
+    trial.case(matches!(of_another, Ok(4)));
+    let refused = known(alloc, b"[1,2", b"[1,2");
+    trial.case(matches!(refused, Err(TextFault::NotJson)));
+    let fault_of_another = known(alloc, b"[1,2", b"[1,2]");
+    trial.case(matches!(fault_of_another, Ok(3)));
+    trial
+}
+
+/// Reads a text where the verdict on the first one is known: the number of its values.
+fn known(alloc: Global, read: &[u8], text: &[u8]) -> Result<u32, TextFault> {
+    let verdict = match ReadTask::begin(alloc, read) {
+        Ok(task) => match task.step(alloc, 400) {
+            Progress::Complete(verdict) => Some(verdict),
+            Progress::Paused(_) => None,
+        },
+        Err(_) => None,
+    };
+    match Document::read_known(alloc, text, verdict) {
+        Ok(document) => Ok(document.node_count()),
+        Err(fault) => Err(fault),
+    }
 }

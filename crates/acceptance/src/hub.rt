@@ -171,7 +171,7 @@ fn finds_tenants_by_their_keys(alloc: Global) -> bool {
     let Ok(mut tenants) = Tenants::new(alloc, &[KEY, OTHER_KEY]) else {
         return false;
     };
-    let is_put = tenants.tenant_mut(1).put(alloc, c, d, b"1").is_ok();
+    let is_put = tenants.tenant_mut(1).put(alloc, c, d, b"1", None).is_ok();
     let documents = [
         tenants.tenant(0).usage().documents,
         tenants.tenant(1).usage().documents,
