@@ -1,8 +1,9 @@
 #!/usr/bin/env python3
 """Compares the verdicts of `path_server query` on random texts with those of Python's json: tests/against_python.py [ROUNDS [SEED]].
 
-First come texts with one escape, or one byte that is no UTF-8, at each place of the first two blocks of 64 bytes. Then a text is written from a
-random value, with blanks and escapes of its own, and a few of its bytes are changed (json_verdict.py has the verdict). It runs the program that bin/build makes, or the one that the environment's PATH_SERVER names.
+First come texts with one escape, or a character or bytes that are no UTF-8, at each place of the first two blocks of 64 bytes. Then a text is written
+from a random value, with blanks and escapes of its own, and a few of its bytes are changed (json_verdict.py has the verdict). It runs the program that
+bin/build makes, or the one that the environment's PATH_SERVER names.
 """
 import itertools
 import os
@@ -24,6 +25,10 @@ PLACED = [b"\\n", b'\\"', b"\\\\", b"\\/", b"\\u00e9", b"\\ud83d\\ude00", b"\\uD
           b"\\ug234", b"\\u123", b"\\u", b"\\", b"\\ud83d", b"\\uDE00", b"\\ud83d\\n\\ude00", b"\\ud83da\\ude00", b"\\ud83d\\ud83d\\ude00",
           b"\\ud83d\\ude00\\ude00", b"\\\\ud83d\\ude00", b"\\ud83d\\\\ude00", b"\xc3\xa9", b"\xff", b"\xc3", b"\xed\xa0\x80", b"\x1f"]
 
+# The bytes of characters, and others, behind characters of two bytes.
+ENCODED = [b"a", b"\xc3\xa9", b"\xe6\x97\xa5", b"\xf0\x9f\x98\x80", b"\x80", b"\xc0\x80", b"\xe6\x97", b"\xe0\x80\x80", b"\xed\xa0\x80", b"\xf0\x9f\x98",
+           b"\xf4\x90\x80\x80"]
+
 
 def placed():
     """Texts with each of those behind 0 to 130 bytes, in a string, and in a name and before the text's end around the end of a block."""
@@ -34,6 +39,8 @@ def placed():
             if before % 64 > 54 or before % 64 < 2:
                 yield b'{' + front + b'":1,"a":2}'
                 yield front
+        for piece in ENCODED:
+            yield b'"' + b"a" * (before % 2) + b"\xc3\xa9" * (before // 2) + piece + b'"'
     yield b'{"' + b"\\n" * 10000 + b'":1,"' + b"\\u000a" * 10000 + b'":2}'
     yield b'{"' + b"\\n" * 10000 + b'":1,"' + b"\\u000a" * 9999 + b'":2}'
 

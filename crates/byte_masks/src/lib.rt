@@ -3,7 +3,7 @@
 
 ghost use Rattle.std.specs.Prelude.{◌≡◌, ℕ, ◌^◌, ◌<◌, ◌-◌, ◌≤◌, min, ◌++◌, ◌==◌, length, replicate, slice_index, IsFalse};
 ghost use Rattle.bit_words.specs.Words.{is_set, HasBits};
-ghost use Rattle.byte_masks.specs.Classes.{op_byte, blank_byte, control_byte, found, near_op};
+ghost use Rattle.byte_masks.specs.Classes.{op_byte, blank_byte, control_byte, high_byte, found, near_op};
 
 use std::simd::prelude::*;
 
@@ -149,6 +149,14 @@ pub fn classify(lanes: Simd<u8, 64>) -> Block
         blank: equal_to(lanes, b' '),
         control: 0,
     }
+}
+
+/// The bytes that are not ASCII: those of 80 (hexadecimal) and more.
+#[inline(always)]
+pub fn high_bytes(lanes: Simd<u8, 64>) -> u64
+    ensures { HasBits result (λ i. high_byte (slice_index lanes i)) }
+{
+    lanes.simd_ge(u8x64::splat(0x80)).to_bitmask()
 }
 
 /// The bytes, of which there are at most 64, and spaces after them.

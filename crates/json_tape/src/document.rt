@@ -73,6 +73,23 @@ pub(crate) fn characters(text: &[u8]) -> Result<&str, TextFault>
     }
 }
 
+// The index of a text and a copy of it. A text without is looked at once more, since it is not want of memory where the text is too long or not UTF-8.
+pub(crate) fn indexed(alloc: Global, text: &[u8]) -> Result<(Index, String), TextFault>
+    ensures { MatchResult result (λ r. (string_bytes r.1 ≡ text.now) × (length text.now ≤ text_limit) × IsUtf8 text.now × IsIndexOf r.0 text.now) (λ f. Explains text.now f) }
+{
+    if text.len() <= TEXT_LIMIT {
+        if let Ok((index, copy)) = index_and_copy(alloc, text) {
+            if index.utf8 {
+                return Ok((index, unsafe { String::from_utf8_unchecked(copy) }));
+            }
+        }
+    }
+    match characters(text) {
+        Ok(_) => Err(TextFault::Memory),
+        Err(fault) => Err(fault),
+    }
+}
+
 // What a text that has no fault is kept with.
 #[derive(Drop)]
 pub(crate) struct Parts {
@@ -141,18 +158,12 @@ impl Document {
     pub fn read(alloc: Global, text: &[u8]) -> Result<Document, TextFault>
         ensures { MatchResult result (λ d. (d.text ≡ text.now) × IsAccepted text.now (tree_of d)) (λ f. Explains text.now f) }
     {
-        let checked = match characters(text) {
-            Ok(checked) => checked,
+        let (index, copy) = match indexed(alloc, text) {
+            Ok(both) => both,
             Err(fault) => return Err(fault),
         };
-        let Ok((index, copy)) = index_and_copy(alloc, text) else {
-            return Err(TextFault::Memory);
-        };
-        match read_indexed(alloc, checked, &index) {
-            Ok(parts) => Ok(Document::of_parts(
-                unsafe { String::from_utf8_unchecked(copy) },
-                parts,
-            )),
+        match read_indexed(alloc, copy.as_str(), &index) {
+            Ok(parts) => Ok(Document::of_parts(copy, parts)),
             Err(fault) => Err(fault),
         }
     }

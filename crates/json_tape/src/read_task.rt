@@ -3,13 +3,13 @@
 ghost use Rattle.std.specs.Prelude.{◌≡◌, MatchResult};
 ghost use Rattle.json_text.specs.Answer.{Explains};
 
-use crate::document::{characters, fault_of};
+use crate::document::{fault_of, indexed};
 use json_text::TextFault;
 use json_walk::{Way, begin};
 use name_stamps::SeenNames;
 use std::alloc::Global;
 use std::marker::Model;
-use structural_index::{Index, Looks, index_and_copy};
+use structural_index::{Index, Looks};
 
 /// A text that is being read: its index is made, and the walk over the places of the index goes on.
 #[derive(Drop)]
@@ -41,15 +41,13 @@ impl ReadTask {
     pub fn begin(alloc: Global, text: &[u8]) -> Result<ReadTask, TextFault>
         ensures { MatchResult result (λ task. task.text ≡ text.now) (λ f. Explains text.now f) }
     {
-        if let Err(fault) = characters(text) {
-            return Err(fault);
-        }
-        let Ok((index, copy)) = index_and_copy(alloc, text) else {
-            return Err(TextFault::Memory);
+        let (index, copy) = match indexed(alloc, text) {
+            Ok(both) => both,
+            Err(fault) => return Err(fault),
         };
         match begin(alloc, &index, &mut Looks::new(text)) {
             Ok(way) => Ok(ReadTask {
-                text: unsafe { String::from_utf8_unchecked(copy) },
+                text: copy,
                 index,
                 way,
                 seen: SeenNames::new(alloc),

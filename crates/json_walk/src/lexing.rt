@@ -60,7 +60,8 @@ pub enum WordKind {
     Nothing,
 }
 
-// What the bytes are. It stands out of line, since few words and numbers take it.
+// What the bytes are. It stands out of line, and is marked as rare, so that the loop over places keeps its registers: few words and numbers take it.
+#[cold]
 #[inline(never)]
 fn word_kind_slowly(bytes: &[u8]) -> WordKind
     ensures { IsWordKind bytes.now result }

@@ -1,5 +1,5 @@
 // The index of a text and a copy of the text, made in one pass.
-ghost use Rattle.std.specs.Prelude.{◌≡◌, ◌+◌, ◌≤◌, ◌^◌, ◌++◌, length, vec_len, vec_capacity, IfOk};
+ghost use Rattle.std.specs.Prelude.{◌≡◌, ◌+◌, ◌≤◌, ◌^◌, ◌++◌, length, vec_len, vec_capacity, ◌↔◌, IfOk, IsTrue, IsUtf8};
 ghost use Rattle.structural_index.specs.Answer.{IsIndexOf};
 
 use crate::answer::Index;
@@ -26,11 +26,12 @@ pub fn append_block(copy: &mut Vec<u8>, lanes: u8x64)
 pub fn index_and_copy(alloc: Global, text: &[u8]) -> Result<(Index, Vec<u8>), AllocError>
     requires { length text.now + 64 ≤ 2 ^ 32 }
     ensures index { IfOk result (λ r. IsIndexOf r.0 text.now) }
+    ensures utf8 { IfOk result (λ r. IsTrue r.0.utf8 ↔ IsUtf8 text.now) }
     ensures copy { IfOk result (λ r. r.1.items ≡ text.now) }
 {
     let room = Vec::with_capacity(alloc, text.len())?;
-    let (found, escapes, carry, front) = whole_blocks::<true>(alloc, text, room)?;
-    let index = whole_index(found, escapes, text, carry)?;
+    let (found, escapes, characters, carry, front) = whole_blocks::<true>(alloc, text, room)?;
+    let index = whole_index(found, escapes, characters, text, carry)?;
     let mut copy = front;
     copy.extend_from_slice(&text[text.len() / 64 * 64..])?;
     Ok((index, copy))

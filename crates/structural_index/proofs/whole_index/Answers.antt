@@ -2,8 +2,8 @@ use Rattle.std.proofs.Common.{rules}
 use Rattle.structural_index.proofs.Below.{control_whole}
 use Rattle.structural_index.proofs.whole_index.Goals as goal
 
-pub returns : goal.returns
-returns c =
+pub returns-clause-index : goal.returns-clause-index
+returns-clause-index c =
     let whole = c.in_ok-places.ensures in
     record {
       places_are = whole.all_places;
