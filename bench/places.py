@@ -16,6 +16,9 @@ from pathlib import Path
 
 from running import TOP
 
+sys.path.append(str(TOP / "tests"))
+from meeting_names import text_of
+
 PROGRAM = os.environ.get("REFUSAL_PLACES") or str(TOP / "crates/refusal_places/out/refusal_places")
 ROOM, COUNTED, RUNS, AIM = 1 << 22, 1 << 18, 5, 40
 USUAL = '{"id":12,"name":"abc","tags":["x","y"],"price":1.5}'
@@ -53,6 +56,8 @@ def texts(room):
     yield "an object of many names", "DuplicateName", "{" + names + '"k000000":0}'
     yield "many objects of a name", "DuplicateName", filled('{"a":1},', "[", '{"a":1,"a":1}]')
     yield "usual objects, then a name again", "DuplicateName", filled(USUAL + ",", "[", '{"a":1,"a":1}]')
+    yield "names of one hash", "DuplicateName", text_of("", room, True, True).decode()
+    yield "escaped names of one hash", "DuplicateName", text_of("\n", room, True, True).decode()
 
 
 def run(words, file):

@@ -302,7 +302,7 @@ digit_back digits.Sign b q = λ h. exp_digit_back b q h
 digit_back digits.Exp b q = λ h. exp_digit_back b q h
 
 -- where a number may end, nothing is left of it
-number_nil : (d : Digits) → ends d ≡ true → InNumber d []
+pub number_nil : (d : Digits) → ends d ≡ true → InNumber d []
 number_nil digits.Zero h = ([], [], inl refl, inl refl, refl)
 number_nil digits.Int h = ([], [], tt, ([], [], inl refl, inl refl, refl), refl)
 number_nil digits.Frac h = ([], [], tt, inl refl, refl)

@@ -4,3 +4,4 @@ pub mod Backwards
 mod Known
 pub mod Longest
 pub mod Next
+mod Wholes

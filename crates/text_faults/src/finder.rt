@@ -1,10 +1,12 @@
 //! The place at which a text is not JSON.
 
-ghost use Rattle.std.specs.Prelude.{◌≡◌, ◌<◌, ℕ, ◌∷◌, ◌++◌, [], IfOk, Some, None, reverse, take, true, false, cond, List, length, get_or};
+ghost use Rattle.std.specs.Prelude.{◌≡◌, ◌<◌, ◌↔◌, ℕ, ◌∷◌, ◌++◌, [], IfOk, Some, None, reverse, take, true, false, cond, List, length, get_or};
+ghost use Rattle.json_text.specs.Answer.{IsJson};
 ghost use Rattle.text_faults.specs.Expectations.{names};
 ghost use Rattle.text_faults.specs.Moves.{state, top, moved, expected_of, behind_value as expected_behind};
 ghost use Rattle.text_faults.specs.Prefixes.{Begins, IsLongest};
 ghost use Rattle.text_faults.specs.Steps.{row_of, move_of, IsInside};
+ghost use Rattle.text_faults.specs.declared.marks.Expected.TheVariants.{End};
 ghost use Rattle.text_faults.specs.declared.marks.Now.{Now};
 ghost use Rattle.text_faults.specs.declared.marks.Now.TheVariants.{Value};
 
@@ -45,11 +47,12 @@ fn go(
 }
 
 /// The place at which a text stops to be JSON (RFC 8259): some JSON text begins with the bytes before it, and none with one byte more. Of a text
-/// that only ends too soon it is the end. Each byte that is expected there may stand there. It keeps a byte for each open container, and what each byte
+/// that only ends too soon it is the end. Each byte that is expected there may stand there. Where the text is JSON, nothing is expected at its end. It keeps a byte for each open container, and what each byte
 /// did in each state that was met.
 pub fn not_json(alloc: Global, text: &str) -> Result<Place, AllocError>
     ensures place { IfOk result (λ place. IsLongest text.now place.at) }
     ensures expected { IfOk result (λ place. (c : ℕ) → names place.expected c ≡ true → Begins (take place.at text.now ++ c ∷ [])) }
+    ensures whole { IfOk result (λ place. (place.at ≡ length text.now) × (place.expected ≡ End) ↔ IsJson text.now) }
 {
     let mut nows = Vec::new(alloc);
     let mut steps = Vec::new(alloc);

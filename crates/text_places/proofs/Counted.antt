@@ -1,9 +1,13 @@
--- How many of the marks so far each group has, and that marks that come again stay.
-use Rattle.json_text.proofs.Names.{◌≡◌, ℕ, ◌+◌, ◌<◌, ◌≤◌, inl, inr, List, length, get_or, get_or_past, refl, sym, ap, ◌∙◌, subst, arith, nat_tests, cases_lt}
+-- The number of a name, how many of the marks so far each group has, and that marks that come again stay.
+use Rattle.json_text.proofs.Names.{◌≡◌, ℕ, ◌+◌, ◌<◌, ◌≤◌, inl, inr, List, [], ◌∷◌, ◌++◌, length, get_or, get_or_past, refl, sym, ap, ◌∙◌, subst, arith, nat_tests, cases_lt}
 use Rattle.std.proofs.Common.{set}
 use Rattle.std.proofs.lemmas.List.{get_or-set_same, get_or-set_other}
 use Rattle.std.proofs.lemmas.Bool.{cases_eq}
-use Rattle.text_places.specs.Marks.{group_of, one_more, AreCounted, KeepsShared}
+use Rattle.text_places.specs.Marks.{group_of, number_from, with_byte, one_more, AreCounted, KeepsShared}
+
+pub number_over : (n : ℕ) (a b : List ℕ) → number_from n (a ++ b) ≡ number_from (number_from n a) b
+number_over n [] b = refl
+number_over n (x ∷ a) b = number_over (with_byte n x) a b
 
 pub one_more_some : (n : ℕ) → 0 < one_more n
 one_more_some n = grind (arith, nat_tests)

@@ -43,7 +43,7 @@ mutual
 -- ---- a number is that of one value
 
 mutual
-  below : {t s : Tree} {up k n up' : ℕ} {label label' : Label} → IsAt t up label k n up' label' s → n < k + size t
+  pub below : {t s : Tree} {up k n up' : ℕ} {label label' : Label} → IsAt t up label k n up' label' s → n < k + size t
   below (itself {t = t}) = let p = size_positive t in omega arith
   below (in_array h) = let p = below_elements h in omega arith
   below (in_object h) = let p = below_members h in omega arith

@@ -1,10 +1,9 @@
-mod Beyond
 mod Counted
-mod Depths
 mod Escaped
-mod Found
 mod Inside
 mod Levels
 mod Members
 mod Repeated
+mod Rests
+mod Seeking
 mod Suspected

@@ -8,7 +8,7 @@ use Rattle.std.specs.declared.cmp.Ordering.TheVariants.{Less, Equal, Greater}
 use Rattle.std.specs.Cmp.{nat_cmp_total, tied_itself}
 use Rattle.std.proofs.lemmas.List.{get_or_append_left, get_or_default, get_or_push}
 use Rattle.std.proofs.lemmas.Map.Lookups.{exact_unsigned}
-use Rattle.json_strings.specs.Keys.{Keyed, key_name, name_cmp, name_hash}
+use Rattle.json_strings.specs.Keys.{Keyed, key_name, name_cmp}
 use Rattle.json_strings.specs.KeyOrder.{names_total, names_tie}
 use Rattle.json_strings.proofs.Spelled.{scalars_at}
 use Rattle.json_text.specs.Meaning.{meaning}
@@ -24,7 +24,7 @@ use Rattle.json_text.proofs.Judging.{number_below}
 use Rattle.json_text.proofs.Meanings.{meaning_is}
 use Rattle.json_text.proofs.Numbers.{entry_at, at_trans}
 use Rattle.json_tape.proofs.Holders.{name_fits}
-use Rattle.text_places.specs.Marks.{spelled, mark_from, mark_of, mark_for, AreFlagged, AreMarked, KeepsShared, AreLeft, IsLeft}
+use Rattle.text_places.specs.Marks.{spelled, number_of, mark_from, mark_of, AreChosen, AreFlagged, AreMarked, KeepsShared, AreLeft, IsLeft}
 use Rattle.text_places.specs.Twins.{IsNamed, AreTwins, AreFirstTwins}
 use Rattle.json_text.specs.Suspects.{AreSuspects}
 use Rattle.text_places.proofs.Levels.{up_below}
@@ -77,9 +77,9 @@ module _ (text : List ℕ) (tape : List Entry) (t : Tree) (stands : Stands tape 
 
 -- ---- the marks of names
 
-mark_some : (up hash : ℕ) → 0 < mark_from up hash
+mark_some : (factor up number : ℕ) → 0 < mark_from factor up number
 unfolding mark_from
-mark_some up hash = one_more _ where
+mark_some factor up number = one_more _ where
   one_more : (n : ℕ) → 0 < n + 1
   one_more n = omega arith
 
@@ -90,19 +90,27 @@ module _ (text : List ℕ) (tape : List Entry) (t : Tree) (stands : Stands tape 
   member_there : (d : Entry) → (get_or tape n d).role ≡ roles.Member
   member_there d = named_role text tape t stands n (get_or tape n d) (same_there d) up at means h
 
-  named_marked : (flags marks : List ℕ) → AreMarked text tape flags marks (length tape) → 0 < get_or flags up 0 → get_or marks n 0 ≡ mark_of up means
-  named_marked flags marks marked flag = let e = get_or tape n nothing_there in
-      marked n nothing_there (number_below tape t h.value n up (Named (extent h.name)) stands h.is_at) (member_there nothing_there) (subst (λ u. 0 < get_or flags u 0) (sym (named_up text tape t stands n e (same_there nothing_there) up at means h)) flag)
-      ∙ ap (λ u. mark_of u (spelled text e)) (named_up text tape t stands n e (same_there nothing_there) up at means h)
-      ∙ ap (mark_of up) (sym (named_means text tape t stands n e (same_there nothing_there) up at means h))
+  named_chosen : (flags marks : List ℕ) → AreChosen tape flags marks (length tape) → get_or marks n 0 ≡ get_or flags up 0
+  named_chosen flags marks chosen = chosen n nothing_there (number_below tape t h.value n up (Named (extent h.name)) stands h.is_at) (member_there nothing_there)
+      ∙ ap (λ u. get_or flags u 0) (named_up text tape t stands n (get_or tape n nothing_there) (same_there nothing_there) up at means h)
 
-pub marked_more : (text : List ℕ) (tape : List Entry) (flags marks : List ℕ) (v n : ℕ) (e : Entry) → n < length tape → e ≡ get_or tape n e → length marks ≡ n → (e.role ≡ roles.Member → 0 < get_or flags e.up 0 → v ≡ mark_for text e)
-    → AreMarked text tape flags marks n → AreMarked text tape flags (marks ++ v ∷ []) (n + 1)
-marked_more text tape flags marks v n e l q c is marked i d li role flag = elim (cases_lt i n) [
-  | inl p ↦ get_or_append_left marks (v ∷ []) 0 i (omega arith) ∙ marked i d p role flag
+  named_marked : (factor : ℕ) (old new : List ℕ) → AreMarked factor text tape old new (length tape) → 0 < get_or old n 0 → get_or new n 0 ≡ mark_of factor up means
+  named_marked factor old new marked some = let e = get_or tape n nothing_there in
+      marked n nothing_there (number_below tape t h.value n up (Named (extent h.name)) stands h.is_at) (member_there nothing_there) some
+      ∙ ap (λ u. mark_of factor u (spelled text e)) (named_up text tape t stands n e (same_there nothing_there) up at means h)
+      ∙ ap (mark_of factor up) (sym (named_means text tape t stands n e (same_there nothing_there) up at means h))
+
+-- the entry with a number, whatever it is without one
+entry_here : (tape : List Entry) (n i : ℕ) (d e : Entry) → i ≡ n → n < length tape → e ≡ get_or tape n e → get_or tape i d ≡ e
+entry_here tape n i d e z l q = ap (λ k. get_or tape k d) z ∙ get_or_default tape n d e l ∙ sym q
+
+pub chosen_more : (tape : List Entry) (flags marks : List ℕ) (v n : ℕ) (e : Entry) → n < length tape → e ≡ get_or tape n e → length marks ≡ n → (e.role ≡ roles.Member → v ≡ get_or flags e.up 0)
+    → AreChosen tape flags marks n → AreChosen tape flags (marks ++ v ∷ []) (n + 1)
+chosen_more tape flags marks v n e l q c is chosen i d li role = elim (cases_lt i n) [
+  | inl p ↦ get_or_append_left marks (v ∷ []) 0 i (omega arith) ∙ chosen i d p role
   | inr p ↦
-      let z : i ≡ n = omega arith in let same : get_or tape i d ≡ e = ap (λ k. get_or tape k d) z ∙ get_or_default tape n d e l ∙ sym q in
-      ap (λ k. get_or (marks ++ v ∷ []) k 0) z ∙ get_or_push marks v 0 n c ∙ is (ap (λ (x : Entry). x.role) (sym same) ∙ role) (subst (λ (x : Entry). 0 < get_or flags x.up 0) same flag) ∙ ap (mark_for text) (sym same)
+      let z : i ≡ n = omega arith in let same = entry_here tape n i d e z l q in
+      ap (λ k. get_or (marks ++ v ∷ []) k 0) z ∙ get_or_push marks v 0 n c ∙ is (ap (λ (x : Entry). x.role) (sym same) ∙ role) ∙ ap (λ (x : Entry). get_or flags x.up 0) (sym same)
 ]
 
 -- the object of two names that mean the same has a flag
@@ -115,13 +123,18 @@ is_flagged text tape suspects flags are flagged t h stands m n a b w = elim (cas
       let f = subst (λ u. 0 < get_or flags u 0) z (flagged k l (omega arith)) in omega arith)) o))
 ]
 
-pub still_left : (text : List ℕ) (tape : List Entry) (suspects flags a b : List ℕ) → AreSuspects text tape suspects → AreFlagged (length tape) suspects flags (length suspects) → AreMarked text tape flags a (length tape) → KeepsShared a b → AreLeft text tape b
-still_left text tape suspects flags a b are flagged marked k t h stands m n x y w =
+pub chosen_left : (text : List ℕ) (tape : List Entry) (suspects flags marks : List ℕ) → AreSuspects text tape suspects → AreFlagged (length tape) suspects flags (length suspects) → AreChosen tape flags marks (length tape) → AreLeft text tape marks
+chosen_left text tape suspects flags marks are flagged chosen t h stands m n x y w =
     let flag = is_flagged text tape suspects flags are flagged t h stands m n x y w in
-    let p = named_marked text tape t stands m w.up x w.means w.one flags a marked flag in
-    let q = named_marked text tape t stands n w.up y w.means w.other flags a marked flag in
-    let some : 0 < get_or a m 0 = subst (λ i. 0 < i) (sym p) (mark_some w.up (name_hash w.means)) in
-    let same : get_or a m 0 ≡ get_or a n 0 = p ∙ sym q in
+    (subst (λ i. 0 < i) (sym (named_chosen text tape t stands m w.up x w.means w.one flags marks chosen)) flag, subst (λ i. 0 < i) (sym (named_chosen text tape t stands n w.up y w.means w.other flags marks chosen)) flag)
+
+pub still_left : (factor : ℕ) (text : List ℕ) (tape : List Entry) (a b c : List ℕ) → AreMarked factor text tape a b (length tape) → KeepsShared b c → AreLeft text tape a → AreLeft text tape c
+still_left factor text tape a b c marked k left t h stands m n x y w =
+    let two = left t h stands m n x y w in
+    let p = named_marked text tape t stands m w.up x w.means w.one factor a b marked two.0 in
+    let q = named_marked text tape t stands n w.up y w.means w.other factor a b marked two.1 in
+    let some : 0 < get_or b m 0 = subst (λ i. 0 < i) (sym p) (mark_some factor w.up (number_of w.means)) in
+    let same : get_or b m 0 ≡ get_or b n 0 = p ∙ sym q in
     let apart : m ≡ n → ⊥ = (λ e. let less = w.behind in omega arith) in
     let other = subst (λ i. 0 < i) same some in
     (subst (λ i. 0 < i) (sym (k m n apart some same)) some, subst (λ i. 0 < i) (sym (k n m (λ e. apart (sym e)) other (sym same))) other)

@@ -3,9 +3,8 @@
 ghost use Rattle.std.specs.Prelude.{◌≤◌, length};
 ghost use Rattle.json_text.specs.Verdict.{text_limit};
 
-use crate::depth::too_deep;
+use crate::firsts::{number_limit, too_deep};
 use crate::names::duplicate_name;
-use crate::numbers::number_limit;
 use crate::surrogates::lone_surrogate;
 use json_tape::TEXT_LIMIT;
 use json_text::TextFault;

@@ -1,27 +1,16 @@
-// The tape of a refused text, and a name on it.
+// The tape of a refused text.
 
 ghost use Rattle.std.specs.Prelude.{◌≤◌, length, IfOk, MatchOption};
 ghost use Rattle.json_text.specs.Answer.{IsJson, IsNoJson, StandsForAll};
 ghost use Rattle.json_text.specs.Suspects.{AreSuspects};
 ghost use Rattle.json_text.specs.Verdict.{text_limit};
 
-use json_tape::{BuildFault, Tape};
+use json_tape::BuildFault;
 use json_walk::{Reading, walk};
 use std::alloc::{AllocError, Global};
 use structural_index::{Looks, index};
 
-/// The tape of a text, if it is JSON.
-pub fn tape_of(alloc: Global, text: &str) -> Result<Option<Tape>, AllocError>
-    requires { length text.now ≤ text_limit }
-    ensures { IfOk result (λ made. MatchOption made (IsNoJson text.now) (λ tape. IsJson text.now × StandsForAll text.now tape)) }
-{
-    match reading_of(alloc, text)? {
-        Some(reading) => Ok(Some(reading.tape)),
-        None => Ok(None),
-    }
-}
-
-/// The same with the objects that may have a repeated name.
+/// The tape of a text with the objects that may have a repeated name, if it is JSON.
 pub fn reading_of(alloc: Global, text: &str) -> Result<Option<Reading>, AllocError>
     requires { length text.now ≤ text_limit }
     ensures { IfOk result (λ made. MatchOption made (IsNoJson text.now) (λ reading. IsJson text.now × StandsForAll text.now reading.tape × AreSuspects text.now reading.tape reading.suspects.items)) }

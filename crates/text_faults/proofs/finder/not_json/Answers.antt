@@ -3,6 +3,7 @@ use Rattle.text_faults.specs.Moves.{state, step, top, moved, expected_of}
 use Rattle.text_faults.specs.declared.marks.Now.TheVariants.{Value}
 use Rattle.text_faults.proofs.Longest.{longest_before, longest_whole, run_more}
 use Rattle.text_faults.proofs.Next.{expected_before, expected_whole}
+use Rattle.text_faults.proofs.Wholes.{whole_before, whole_at_end}
 use Rattle.text_faults.proofs.finder.not_json.Goals as goal
 
 pub loop-at-preserved-in-Some : goal.loop-at-preserved-in-Some
@@ -29,6 +30,7 @@ returns-then-not-branch c =
       place = longest_before c.args.text.now c.loop-at.at (state now os) c.utf8.text l i.0 stop;
       expected = expected_before c.args.text.now c.loop-at.at (state now os) c.expected.result c.utf8.text l i.0 stop
           (c.expected.ensures ∙ ap (λ n. expected_of n c.innermost.result) same ∙ ap (λ o. expected_of now o) inner);
+      whole = whole_before c.args.text.now c.loop-at.at c.expected.result l (longest_before c.args.text.now c.loop-at.at (state now os) c.utf8.text l i.0 stop);
     }
 
 pub loop-at-preserved : goal.loop-at-preserved
@@ -51,5 +53,7 @@ returns c =
     record {
       place = longest_whole c.args.text.now (length c.args.text.now) (state now os) c.utf8.text refl (rw (← e) w);
       expected = expected_whole c.args.text.now (length c.args.text.now) (state now os) c.expected-2.result c.utf8.text refl (rw (← e) w)
+          (c.expected-2.ensures ∙ ap (λ n. expected_of n c.innermost-2.result) c.now_at-2.ensures ∙ ap (λ o. expected_of now o) c.innermost-2.ensures);
+      whole = whole_at_end c.args.text.now (length c.args.text.now) (state now os) c.expected-2.result c.utf8.text refl (rw (← e) w)
           (c.expected-2.ensures ∙ ap (λ n. expected_of n c.innermost-2.result) c.now_at-2.ensures ∙ ap (λ o. expected_of now o) c.innermost-2.ensures);
     }
