@@ -197,6 +197,8 @@ def check_keys(report, room):
 def check_what_is_invalid(room):
     room.refused(["usage"], 3, "NoAddress: give the server's address by --at ADDR or PATH_SERVER_AT", PATH_SERVER_AT="")
     room.refused(["usage", "--at", "127.0.0.1"], 3, "NoAddress: an address is a host, a colon and a port, not 127.0.0.1")
+    for words, second, more in ((["get", "c", "\udcff"], "word 3 is not UTF-8", {}), (["usage"], "PATH_SERVER_AT is not UTF-8", {"PATH_SERVER_AT": "\udcff"})):
+        room.refused(words, 3, "BadCommandLine: an argument or an environment variable is not UTF-8", second=second, **more)
     room.refused(["usage", "--at", "127.0.0.1:1"], 4, "NetFault: no server answers at 127.0.0.1:1", second="127.0.0.1:1: connection refused")
     room.refused(["usage", "--at", "no-host.invalid:1"], 4, "NetFault: no address of the host is known: no-host.invalid:1")
     for seconds in ("0", "1.", ".5", "1.2345", "1e3", "-1", "86400.001", "86401", "", "1,5"):

@@ -56,7 +56,8 @@ expect 3 '' any ''
 expect 3 '' any '' query '$' '$'
 expect 3 '' any '' query
 expect 3 '' any '' question '$'
-expect 3 '' 'path_server: BadCommandLine' '' query "$(printf '\377')"
+expect 3 '' "path_server: BadCommandLine${newline}word 2 is not UTF-8" '' query "$(printf '\377')"
+expect 3 '' "path_server: BadCommandLine${newline}word 3 is not UTF-8" '' query "$(printf 'é%.0s' {1..300})" "$(printf '\303')" "$(printf '\377')"
 
 key=00112233445566778899aAbBccDdEeFf
 other=ffeeddccbbaa99887766554433221100

@@ -7,7 +7,7 @@ use Rattle.client_frames.specs.declared.requests.SendFault.TheVariants as send
 use Rattle.path_types.specs.declared.query_text.QueryFault.{QueryFault}
 use Rattle.path_types.specs.declared.query_text.QueryFault.TheVariants as query
 use Rattle.client_commands.specs.declared.failure.Failure.{Failure}
-use Rattle.client_commands.specs.declared.failure.Failure.TheVariants.{Words, AddressMissing, NoAddress, Timeout, NoKeyFile, KeyFileUnread, KeyFile, CollectionName, DocumentName, NameQuery, Send, Refused, SomeRefused, Closed}
+use Rattle.client_commands.specs.declared.failure.Failure.TheVariants.{Word, Variable, Words, AddressMissing, NoAddress, Timeout, NoKeyFile, KeyFileUnread, KeyFile, CollectionName, DocumentName, NameQuery, Send, Refused, SomeRefused, Closed}
 use Rattle.client_commands.specs.declared.options.CommandLineFault.{CommandLineFault}
 use Rattle.client_commands.specs.declared.options.CommandLineFault.TheVariants.{Printed, Failed}
 
@@ -23,6 +23,8 @@ status_of_query query.NotValid = 18
 status_of_query query.Memory = 21
 
 abbrev pub status_of : Failure → ℕ
+status_of (Word _) = 3
+status_of (Variable _) = 3
 status_of Words = 3
 status_of AddressMissing = 3
 status_of NoAddress = 3

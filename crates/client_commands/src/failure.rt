@@ -1,6 +1,6 @@
 //! Why a command fails, and its exit status.
 
-ghost use Rattle.std.specs.Prelude.{◌≡◌, ◌≢◌, ◌⊎◌, ◌↔◌};
+ghost use Rattle.std.specs.Prelude.{ℕ, ◌≡◌, ◌≢◌, ◌⊎◌, ◌↔◌};
 ghost use Rattle.std.specs.IoError.{error_kind};
 ghost use Rattle.client_commands.specs.Statuses.{status_of, status_of_query, status_of_refusal};
 
@@ -8,13 +8,18 @@ use crate::messages::{Context, tell};
 use crate::notes::Note;
 use client_frames::{AnswerFault, PayloadFault, SendFault};
 use client_lines::{KeyFault, LineFault};
+use command_words::WordFault;
 use path_types::QueryFault;
 use std::io::{self, ErrorKind};
 
 /// Why a command fails.
 #[derive(Clone, Copy)]
 pub enum Failure {
-    /// A word of the command line, or a variable of the environment, is not UTF-8.
+    /// The word of the command line with this number is not UTF-8. The program's name has 0.
+    Word(usize),
+    /// The variable of the environment with this name is not UTF-8.
+    Variable(&'static str),
+    /// The command line lacks a word.
     Words,
     /// No address is given.
     AddressMissing,
@@ -120,13 +125,13 @@ impl Failure {
     }
 
     /// The failure of a command line whose words could not be read.
-    pub fn of_words(error: &io::Error) -> Failure
-        ensures memory { (result ≡ Failure.Memory) ↔ (error_kind error.now ≡ ErrorKind.OutOfMemory) }
-        ensures other { (result ≡ Failure.Words) ↔ (error_kind error.now ≢ ErrorKind.OutOfMemory) }
+    pub fn of_words(fault: WordFault) -> Failure
+        ensures memory { (result ≡ Failure.Memory) ↔ (fault ≡ WordFault.Memory) }
+        ensures word { (number : ℕ) → (result ≡ Failure.Word number) ↔ (fault ≡ WordFault.NotUtf8 number) }
     {
-        match error.kind() {
-            ErrorKind::OutOfMemory => Failure::Memory,
-            _ => Failure::Words,
+        match fault {
+            WordFault::NotUtf8(number) => Failure::Word(number),
+            WordFault::Memory => Failure::Memory,
         }
     }
 
@@ -159,7 +164,8 @@ impl Failure {
         ensures { result ≡ status_of self }
     {
         match self {
-            Failure::Words | Failure::AddressMissing | Failure::NoAddress | Failure::NoKeyFile => 3,
+            Failure::Word(_) | Failure::Variable(_) | Failure::Words => 3,
+            Failure::AddressMissing | Failure::NoAddress | Failure::NoKeyFile => 3,
             Failure::KeyFileUnread(_) | Failure::KeyFile(_) | Failure::Timeout => 3,
             Failure::CollectionName | Failure::DocumentName | Failure::NameQuery => 3,
             Failure::Send(SendFault::TextTooLong) => 1,

@@ -79,16 +79,24 @@ impl<'a> fmt::Display for Told<'a> {
     }
 }
 
-/// What the system refused, and why.
+/// What failed, and why.
 #[derive(Clone, Copy)]
-pub struct Cause<'a> {
-    pub of: &'a str,
-    pub reason: ErrorKind,
+pub enum Cause<'a> {
+    /// The file or the address that the system refused, and its reason.
+    System { of: &'a str, reason: ErrorKind },
+    /// The word of the command line that is not UTF-8, by its number.
+    Word(usize),
+    /// The variable of the environment that is not UTF-8, by its name.
+    Variable(&'a str),
 }
 
 impl<'a> fmt::Display for Cause<'a> {
     fn fmt<W: fmt::Write>(&self, f: &mut fmt::Formatter<W>) -> fmt::Result {
-        write!(f, "{}: {}", self.of, self.reason)
+        match self {
+            Cause::System { of, reason } => write!(f, "{of}: {reason}"),
+            Cause::Word(number) => write!(f, "word {number} is not UTF-8"),
+            Cause::Variable(name) => write!(f, "{name} is not UTF-8"),
+        }
     }
 }
 
@@ -105,9 +113,11 @@ impl<'a> fmt::Display for Behind<'a> {
     }
 }
 
-// The file or the address that the system refused, and why.
+// What failed, and why, where that is known.
 fn cause_of<'a>(failure: Failure, context: &Context<'a>) -> Option<Cause<'a>> {
     let (of, reason) = match failure {
+        Failure::Word(number) => return Some(Cause::Word(number)),
+        Failure::Variable(name) => return Some(Cause::Variable(name)),
         Failure::KeyFileUnread(reason) => (context.key_file, reason),
         Failure::Read(reason) => (context.file.unwrap_or("standard input"), reason),
         Failure::Write(reason) => ("standard output", reason),
@@ -116,7 +126,7 @@ fn cause_of<'a>(failure: Failure, context: &Context<'a>) -> Option<Cause<'a>> {
         Failure::Unsent(reason) | Failure::Broken(reason) => (context.address, reason),
         _ => return None,
     };
-    Some(Cause { of, reason })
+    Some(Cause::System { of, reason })
 }
 
 // The failure's name, and what is to be done.
@@ -155,7 +165,7 @@ fn of_key(fault: KeyFault) -> (&'static str, &'static str) {
 // Of the words of the command line and of the environment.
 fn of_words(failure: Failure) -> (&'static str, &'static str) {
     match failure {
-        Failure::Words => (
+        Failure::Word(_) | Failure::Variable(_) | Failure::Words => (
             "BadCommandLine",
             "an argument or an environment variable is not UTF-8",
         ),

@@ -1,6 +1,6 @@
 //! What is noted of the place at which a text or a query is refused.
 
-use crate::messages::Told;
+use crate::messages::{Cause, Told};
 use std::alloc::{AllocError, Global};
 use std::fmt;
 use text_faults::{Finding, Spot};
@@ -46,13 +46,13 @@ impl<'a> fmt::Display for JsonFault<'a> {
         let told = &self.told;
         write!(f, "{{\"error\":{},\"message\":", Quoted(told.name))?;
         write!(f, "\"{}{}\"", Inside(told.what), Inside(told.about))?;
-        if let Some(cause) = told.cause {
-            write!(
-                f,
-                ",\"of\":{},\"reason\":\"{}\"",
-                Quoted(cause.of),
-                cause.reason
-            )?;
+        match told.cause {
+            Some(Cause::System { of, reason }) => {
+                write!(f, ",\"of\":{},\"reason\":\"{reason}\"", Quoted(of))?;
+            }
+            Some(Cause::Word(number)) => write!(f, ",\"word\":{number}")?,
+            Some(Cause::Variable(name)) => write!(f, ",\"variable\":{}", Quoted(name))?,
+            None => {}
         }
         if let Some(note) = self.note {
             write!(f, "{}", Members(note))?;

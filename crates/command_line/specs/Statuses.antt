@@ -20,7 +20,7 @@ use Rattle.path_server.specs.declared.keys.KeysFault.TheVariants as keys
 use Rattle.tenant_map.specs.declared.tenants.TenantsFault.{TenantsFault}
 use Rattle.tenant_map.specs.declared.tenants.TenantsFault.TheVariants as tenants
 use Rattle.command_line.specs.declared.failure.Failure.{Failure}
-use Rattle.command_line.specs.declared.failure.Failure.TheVariants.{CommandLine, Words, Value, Query, Refused, Keys, Replay, Tenants, RepeatedKey, Net, Address, Key, KeyLine, File, RepeatedName, Write, Read, Call, Broken, Memory}
+use Rattle.command_line.specs.declared.failure.Failure.TheVariants.{CommandLine, Word, Words, Value, Query, Refused, Keys, Replay, Tenants, RepeatedKey, Net, Address, Key, KeyLine, File, RepeatedName, Write, Read, Call, Broken, Memory}
 
 abbrev pub status_of_kind : ErrorKind → ℕ
 status_of_kind DisplayHelp = 0
@@ -82,6 +82,7 @@ status_of_call_stream (calling.Write _) = 4
 
 abbrev pub status_of : Failure → ℕ
 status_of (CommandLine error) = status_of_kind (kind_of error)
+status_of (Word _) = 3
 status_of Words = 3
 status_of (Value _) = 3
 status_of (Query fault) = status_of_query fault

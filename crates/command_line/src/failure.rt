@@ -1,12 +1,13 @@
 //! Why the program fails, and its exit status.
 
-ghost use Rattle.std.specs.Prelude.{◌≡◌, ◌≢◌, ◌+◌, ◌≤◌, ◌⊎◌, ◌↔◌, IsTrue, length, IfSome};
+ghost use Rattle.std.specs.Prelude.{ℕ, ◌≡◌, ◌≢◌, ◌+◌, ◌≤◌, ◌⊎◌, ◌↔◌, IsTrue, length, IfSome};
 ghost use Rattle.std.specs.IoError.{error_kind};
 ghost use Rattle.clap.specs.Values.{kind_of};
 ghost use Rattle.command_line.specs.Causes.{AreDigits, IsBrokenOff, IsFirstBad, IsKeyAt, IsOfAddress, IsOfCall, IsOfFile, IsOfKeys, IsOfQuery, IsOfTenants, AreEqual};
 ghost use Rattle.command_line.specs.Statuses.{status_of, status_of_refusal, status_of_query, status_of_keys, status_of_tenants, status_of_script, status_of_replay, status_of_call, status_of_call_stream, status_of_kind};
 
 use clap::error::ErrorKind as ParseKind;
+use command_words::WordFault;
 use json_text::TextFault;
 use path_server::{
     CallFault, CallStreamFault, KeysFault, QueryStreamFault, QueryTextFault, ReplayStreamFault,
@@ -24,7 +25,9 @@ use tenant_map::TenantsFault;
 pub enum Failure {
     /// The command line is invalid, or asks for help or the version.
     CommandLine(clap::Error),
-    /// A word of the command line is not UTF-8.
+    /// The word of the command line with this number is not UTF-8. The program's name has 0.
+    Word(usize),
+    /// The command line lacks a word.
     Words,
     /// The value of an option is not what this says.
     Value(&'static str),
@@ -148,13 +151,13 @@ impl Failure {
     }
 
     /// The failure of a command line whose words could not be read.
-    pub fn of_words(error: &io::Error) -> Failure
-        ensures memory { (result ≡ Failure.Memory) ↔ (error_kind error.now ≡ ErrorKind.OutOfMemory) }
-        ensures other { (result ≡ Failure.Words) ↔ (error_kind error.now ≢ ErrorKind.OutOfMemory) }
+    pub fn of_words(fault: WordFault) -> Failure
+        ensures memory { (result ≡ Failure.Memory) ↔ (fault ≡ WordFault.Memory) }
+        ensures word { (number : ℕ) → (result ≡ Failure.Word number) ↔ (fault ≡ WordFault.NotUtf8 number) }
     {
-        match error.kind() {
-            ErrorKind::OutOfMemory => Failure::Memory,
-            _ => Failure::Words,
+        match fault {
+            WordFault::NotUtf8(number) => Failure::Word(number),
+            WordFault::Memory => Failure::Memory,
         }
     }
 
@@ -264,6 +267,7 @@ impl Failure {
     {
         match self {
             Failure::CommandLine(error) => status_at(error.kind()),
+            Failure::Word(_) => 3,
             Failure::Words => 3,
             Failure::Value(_) => 3,
             Failure::Query(fault) => query_status(*fault),
@@ -310,6 +314,10 @@ impl fmt::Display for Failure {
     fn fmt<W: fmt::Write>(&self, f: &mut fmt::Formatter<W>) -> fmt::Result {
         match self {
             Failure::CommandLine(error) => write!(f, "{error}"),
+            Failure::Word(number) => writeln!(
+                f,
+                "path_server: BadCommandLine\nword {number} is not UTF-8"
+            ),
             Failure::Words => writeln!(f, "path_server: BadCommandLine"),
             Failure::Value(what) => writeln!(f, "path_server: BadCommandLine\n{what}"),
             Failure::Query(fault) => writeln!(f, "path_server: {fault}"),

@@ -9,6 +9,7 @@ mod loading;
 mod notes;
 
 use client_commands::{Asked, Context, Failure, Note, Options, Verb, read_options};
+use command_words::read_words;
 use std::env::{self, VarError};
 use std::io::IsTerminal;
 use std::net::Net;
@@ -21,18 +22,11 @@ const ADDRESS_VARIABLE: &str = "PATH_SERVER_AT";
 /// The environment variable with the name of the key file.
 const KEY_FILE_VARIABLE: &str = "PATH_SERVER_KEY_FILE";
 
-fn words_of<R: Env + AllocGlobal>(rt: &R) -> Result<Vec<String>, Failure> {
-    match env::args(rt) {
-        Ok(words) => words.collect(rt.alloc()).map_err(|_| Failure::Memory),
-        Err(error) => Err(Failure::of_words(&error)),
-    }
-}
-
-fn variable_of<R: Env + AllocGlobal>(rt: &R, variable: &str) -> Result<String, Failure> {
+fn variable_of<R: Env + AllocGlobal>(rt: &R, variable: &'static str) -> Result<String, Failure> {
     match env::var(rt, variable) {
         Ok(text) => Ok(text),
         Err(VarError::NotPresent) => Ok(String::new(rt.alloc())),
-        Err(VarError::NotUnicode) => Err(Failure::Words),
+        Err(VarError::NotUnicode) => Err(Failure::Variable(variable)),
         Err(VarError::OutOfMemory) => Err(Failure::Memory),
     }
 }
@@ -41,7 +35,7 @@ fn variable_of<R: Env + AllocGlobal>(rt: &R, variable: &str) -> Result<String, F
 fn given<R: Env + AllocGlobal>(
     rt: &R,
     option: Option<&str>,
-    variable: &str,
+    variable: &'static str,
 ) -> Result<String, Failure> {
     match option {
         Some(text) => String::from_str(rt.alloc(), text).map_err(|_| Failure::Memory),
@@ -87,7 +81,7 @@ fn run<R: Input + Print + Eprint + Env + Net + Files + Clock + AllocGlobal>(
     rt: &R,
     is_terminal: bool,
 ) -> Result<u8, Failure> {
-    let words = words_of(rt)?;
+    let words = read_words(rt).map_err(Failure::of_words)?;
     match read_options(rt.alloc(), words.as_slice()) {
         Ok(options) => carry_out(rt, &options, is_terminal),
         Err(fault) => Ok(fault.report(rt)),

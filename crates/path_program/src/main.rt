@@ -7,6 +7,7 @@ mod many;
 mod named_keys;
 
 use command_line::{Failure, Request, read_request};
+use command_words::read_words;
 use connection_lines::EndLines;
 use path_hub::Hub;
 use path_server::{
@@ -14,11 +15,11 @@ use path_server::{
 };
 use socket_wire::{StreamListener, StreamWire, serve_streams};
 use standard_streams::{WriteFault, read_past};
+use std::io;
 use std::io::IsTerminal;
 use std::net::{Net, OpenListener, OpenStream, TcpListener, TcpStream};
 use std::process::ExitCode;
 use std::rt::{Clock, Env, Files};
-use std::{env, io};
 
 // Answers `path_server query QUERY`. Where standard error is a terminal, the line of a place is shown.
 fn query<R: Input + Print + AllocGlobal>(
@@ -121,12 +122,7 @@ fn run<R: Input + Print + Eprint + Env + Net + Files + Clock + AllocGlobal, P: P
     errors: P,
     is_terminal: bool,
 ) -> Result<(), Failure> {
-    let mut words = Vec::new(rt.alloc());
-    for word in env::args(rt).map_err(|error| Failure::of_words(&error))? {
-        if words.push(word).is_err() {
-            return Err(Failure::Memory);
-        }
-    }
+    let words = read_words(rt).map_err(Failure::of_words)?;
     match read_request(rt.alloc(), words.as_slice())? {
         Request::Query(text) => query(rt, text, is_terminal),
         Request::Replay(keys) => replay(rt, keys),
