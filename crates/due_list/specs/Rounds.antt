@@ -1,8 +1,9 @@
 -- The connections that get a turn in a round, and the time of each tenant in it: this project's own.
-use Rattle.std.specs.Prelude.{◌≡◌, ℕ, ◌+◌, ◌-◌, ◌^◌, ◌==◌, List, [], ◌∷◌, ◌++◌, min, replicate, slice_index, slice_set, Option, Bool, true, false, if◌then◌else◌}
+use Rattle.std.specs.Prelude.{◌≡◌, ℕ, ◌==◌, List, [], ◌∷◌, ◌++◌, min, nat_lt, not, ◌&&◌, ◌||◌, replicate, slice_index, slice_set, Option, Bool, true, false, if◌then◌else◌}
 use Rattle.std.specs.Option.{option_map_or}
 use Rattle.due_list.specs.declared.due.Due.{Due}
 use Rattle.due_list.specs.declared.due.DueList.{DueList}
+use Rattle.due_list.specs.Long.{added, may_begin}
 
 -- whose time the turns of a connection take: the place of the tenant that asked on it last, and 256 where none did
 abbrev pub party_of : Option ℕ → ℕ
@@ -21,10 +22,12 @@ pub record IsFresh (due : DueList) : Type 0 where
   pub first : due.first.items ≡ []
   pub rest : due.rest.items ≡ []
   pub times : due.micros ≡ replicate 257 0
+  pub unspent : due.longs.micros ≡ 0
+  pub none_begun : due.longs.has_begun ≡ false
 
--- a sum, up to the greatest number of 64 bits
-abbrev pub added : ℕ → ℕ → ℕ
-added n more = min (n + more) (2 ^ 64 - 1)
+-- the turns of the party took less than a span in this round, and it may have one that answers a request which may take long, if this is one
+abbrev pub has_time : Due → (is_long : Bool) → DueList → Bool
+has_time due is_long list = nat_lt (slice_index list.micros due.party) 1000 && (not is_long || may_begin list.longs due.party)
 
 -- so many microseconds of a party's time are taken; that of others stays
 abbrev pub charged : List ℕ → (party micros : ℕ) → List ℕ

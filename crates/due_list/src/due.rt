@@ -1,13 +1,15 @@
 //! The connections that get a turn, and the time that each tenant's turns took in a round.
-ghost use Rattle.std.specs.Prelude.{◌≡◌, ◌<◌, ◌++◌, ◌∷◌, [], IfOk, OnErr, OnOk, nat_lt, replicate, slice_index};
-ghost use Rattle.due_list.specs.Rounds.{IsLast, after_turn, charged, due_at, party_of};
+ghost use Rattle.std.specs.Prelude.{◌≡◌, ◌<◌, ◌&&◌, ◌++◌, ◌∷◌, [], IfOk, OnErr, OnOk, false, if◌then◌else◌, nat_lt, not, replicate, slice_index};
+ghost use Rattle.due_list.specs.Long.{after_round, begun, counted, is_crowded, put_off};
+ghost use Rattle.due_list.specs.Rounds.{IsLast, after_turn, charged, due_at, has_time, party_of};
 
+use crate::long_turns::LongTurns;
 use std::alloc::{AllocError, Global};
 use std::mem;
 use tenant_map::TENANT_LIMIT;
 
 /// The microseconds of turns behind which a tenant's further connections wait for the next round.
-const SPAN: u64 = 1_000;
+pub(crate) const SPAN: u64 = 1_000;
 
 /// The rounds with connections of one party alone after which nobody else is expected.
 const LONE_ROUNDS: u32 = 16;
@@ -37,6 +39,8 @@ pub struct DueList {
     spare: Vec<Due>,
     // The microseconds that the turns of each party took in this round.
     micros: [u64; PARTIES],
+    // Those that answer requests which may take long.
+    longs: LongTurns,
     // The rounds since one in which connections of several parties had a turn.
     since_shared: u32,
 }
@@ -52,6 +56,7 @@ impl DueList {
             rest: Vec::new(alloc),
             spare: Vec::new(alloc),
             micros: [0; PARTIES],
+            longs: LongTurns::new(),
             since_shared: LONE_ROUNDS,
         }
     }
@@ -98,7 +103,11 @@ impl DueList {
     pub fn put_off(&mut self, due: Due) -> Result<(), AllocError>
         ensures first { OnOk result (self.new.first.items ≡ self.old.first.items ++ (due ∷ [])) }
         ensures rest { self.new.rest.items ≡ self.old.rest.items }
+        ensures longs { self.new.longs ≡ (if nat_lt (slice_index self.old.micros due.party) 1000 then put_off due.party self.old.longs else self.old.longs) }
     {
+        if self.has_span(due) {
+            self.longs.put_off(due.party);
+        }
         self.first.extend_from_slice(&[due])
     }
 
@@ -107,10 +116,12 @@ impl DueList {
         ensures all { IfOk result (λ list. list.items ≡ self.old.first.items ++ self.old.rest.items) }
         ensures none_left { OnOk result ((self.new.first.items ≡ []) × (self.new.rest.items ≡ [])) }
         ensures times { OnOk result (self.new.micros ≡ replicate 257 0) }
+        ensures longs { OnOk result (self.new.longs ≡ after_round self.old.longs) }
     {
         self.first.extend_from_slice(self.rest.as_slice())?;
         self.rest.clear();
         self.micros = [0; PARTIES];
+        self.longs.begin_round();
         self.since_shared = if are_apart(self.first.as_slice()) {
             0
         } else {
@@ -134,11 +145,43 @@ impl DueList {
         self.spare = list;
     }
 
-    /// Whether there is time for a turn in this round: the turns of its tenant took less than a span.
-    pub fn has_time(&self, due: Due) -> bool
+    /// Whether a turn took more than a span lately: then those that answer requests which may take long are told from others.
+    pub fn is_crowded(&self) -> bool
+        ensures { result ≡ is_crowded self.now.longs }
+    {
+        self.longs.is_crowded()
+    }
+
+    /// Whether there is time for a turn in this round: the turns of its party took less than a span. One that answers a request which may take long has
+    /// to be one that may begin ([`LongTurns::may_begin`]).
+    pub fn has_time(&self, due: Due, is_long: bool) -> bool
+        ensures { result ≡ has_time due is_long self.now }
+    {
+        self.has_span(due) && (!is_long || self.longs.may_begin(due.party))
+    }
+
+    // Whether the turns of a party took less than a span.
+    fn has_span(&self, due: Due) -> bool
         ensures { result ≡ nat_lt (slice_index self.now.micros due.party) 1000 }
     {
         self.micros.get(due.party).copied().unwrap_or(0) < SPAN
+    }
+
+    /// A turn begins, of a connection on which this tenant asked last. It answers a request that may take long, or not.
+    pub fn begin(&mut self, tenant: Option<usize>, is_long: bool)
+        ensures first { self.new.first.items ≡ self.old.first.items }
+        ensures rest { self.new.rest.items ≡ self.old.rest.items }
+        ensures times { self.new.micros ≡ self.old.micros }
+        ensures longs { self.new.longs ≡ begun (party_of tenant) is_long self.old.longs }
+    {
+        self.longs.begin(party_of(tenant), is_long);
+    }
+
+    /// Whether the turn that began may answer no request that may take long.
+    pub fn is_brief(&self) -> bool
+        ensures { result ≡ (is_crowded self.now.longs && not self.now.longs.is_under_way) }
+    {
+        self.longs.is_brief()
     }
 
     /// Counts a turn that took so long. The tenant that was heard in it pays for it. If the connection stood under another party, that one pays too.
@@ -150,10 +193,12 @@ impl DueList {
         micros: u64,
         is_under_way: bool,
     )
+        ensures longs { self.new.longs ≡ counted micros self.old.longs }
         ensures times { self.new.micros ≡ after_turn self.old.micros (party_of stood) (party_of heard) micros is_under_way }
         ensures first { self.new.first.items ≡ self.old.first.items }
         ensures rest { self.new.rest.items ≡ self.old.rest.items }
     {
+        self.longs.count(micros);
         let (stood, heard) = (party_of(stood), party_of(heard));
         if stood != heard {
             charge(&mut self.micros, stood, micros);

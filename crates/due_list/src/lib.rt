@@ -2,5 +2,7 @@
 #![tactic(auto)]
 
 mod due;
+mod long_turns;
 
 pub use due::{Due, DueList, PARTIES, party_of};
+pub use long_turns::LongTurns;

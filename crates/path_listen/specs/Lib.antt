@@ -5,3 +5,4 @@ pub mod Served
 pub mod Needs
 pub mod Replies
 pub mod Asking
+pub mod Long

@@ -6,11 +6,13 @@ ghost use Rattle.path_listen.specs.Answering.{Opens, Closes};
 ghost use Rattle.path_listen.specs.Needs.{IsPart, IsNoPart, front_at};
 ghost use Rattle.path_listen.specs.Replies.{body_at, IsMostReply};
 ghost use Rattle.path_listen.specs.Asking.{asks, is_first_tenants};
+ghost use Rattle.path_listen.specs.Long.{is_first_long};
 ghost use Rattle.request_replies.specs.Tenants.{map_of};
 ghost use Rattle.tenant_map.specs.Quotas.{usage_of};
 ghost use Rattle.wire_frames.specs.Frames.{front};
 
 use crate::asked::{Asked, asked_of};
+use crate::long::is_long;
 use crate::needs::{front_of, most_of, part_of};
 use outbox::{Core, Step};
 use path_hub::{ConnectFault, Hub, Share, Tasks};
@@ -30,6 +32,8 @@ pub struct HubCore {
     tasks: Tasks,
     // The units for which a query or a reading goes on before others are served.
     share: u64,
+    // No request that may take long is answered.
+    is_brief: bool,
     // The last step went on with a query or a reading.
     has_gone_on: bool,
     // The units of the request that was answered last, where hits are its reply.
@@ -57,6 +61,7 @@ impl HubCore {
             alloc,
             tasks: Tasks::new(alloc),
             share: SHARE,
+            is_brief: false,
             has_gone_on: false,
             charge: None,
         }
@@ -92,11 +97,20 @@ impl HubCore {
         self.hub.waits(conn, &self.tasks)
     }
 
-    /// Has a query go on for so many units from now on before others are served, and a text be read for five places a unit.
-    pub fn share(&mut self, units: u64)
+    /// Has a query go on for so many units from now on before others are served, and a text be read for five places a unit. While it is brief, a step
+    /// answers no request that may take long.
+    pub fn share(&mut self, units: u64, is_brief: bool)
         ensures { self.new ≡ self.old }
     {
         self.share = units;
+        self.is_brief = is_brief;
+    }
+
+    /// Whether the request that is answered next on a connection may take long.
+    pub fn is_long(&self, conn: u32) -> bool
+        ensures { result ≡ is_first_long conn self.now }
+    {
+        is_long(self.hub.tenants(), self.hub.waiting_bytes(conn))
     }
 
     /// Whether the step that was done last went on with a query or a text, which is under way.
@@ -196,7 +210,7 @@ impl Core for HubCore {
     // The reply to a framing fault is the last. Nothing goes on for a connection of which no further request is answered.
     fn answer_next(&mut self, conn: u32, out: &mut Vec<u8>) -> Step {
         self.has_gone_on = false;
-        if self.hub.waits(conn, &self.tasks) {
+        if self.hub.waits(conn, &self.tasks) || (self.is_brief && self.is_long(conn)) {
             return Step::Working;
         }
         match self

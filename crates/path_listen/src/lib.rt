@@ -7,6 +7,7 @@
 mod asked;
 mod hub_core;
 mod laws;
+mod long;
 mod needs;
 
 pub use asked::Asked;
