@@ -2,10 +2,13 @@
 use Rattle.std.specs.Prelude.{◌≡◌, ◌⊎◌, ℕ, ◌+◌, ◌-◌, ◌^◌, ◌<◌, ◌&&◌, List, ◌++◌, take, drop, Bool, true, false, nat_le, nat_lt, Option, Some, None}
 use Rattle.slab.specs.Slab.{Slab, get}
 use Rattle.outbox.specs.Told.{Told, with_read, with_written}
+use Rattle.admin_pages.specs.declared.about.About.{About}
+use Rattle.admin_pages.specs.declared.counted.Metrics.{Metrics}
+use Rattle.admin_pages.specs.declared.page.Gauges.{Gauges}
 use Rattle.admin_pages.specs.declared.standing.Standing.{Standing}
 use Rattle.admin_desk.specs.declared.desk.Caller.{Caller}
 use Rattle.admin_desk.specs.declared.visit.Stage.TheVariants as stage
-use Rattle.admin_desk.specs.Visits.{AtMostSays, is_head, owed_of}
+use Rattle.admin_desk.specs.Visits.{AtMostSays, Begins, is_head, owed_of}
 
 -- nothing is said, or what is asked by the bytes that came on a connection before, and a piece that was read of its stream now
 abbrev pub SaysBy : (own : List (List ℕ)) → (wire wire' : Option Told) → (came : List ℕ) → Standing → Standing → Type 0
@@ -26,6 +29,12 @@ abbrev pub SendsAt : {S : Type 0} → (S → Option Told) → Option (Caller S) 
 SendsAt told None caller' = Unit {0}
 SendsAt told (Some caller) None = Unit {0}
 SendsAt told (Some caller) (Some caller') = caller.visit.stage ≡ stage.Reply → Sends (told caller.stream) (told caller'.stream) (owed_of caller.visit) (owed_of caller'.visit)
+
+-- the page of these counts and figures is begun at a place, whatever the server is, unless its connection is closed
+abbrev pub BeginsAt : {S : Type 0} → Metrics → Gauges → Option (Caller S) → Option (Caller S) → Type 0
+BeginsAt metrics gauges None caller' = Unit {0}
+BeginsAt metrics gauges (Some caller) None = Unit {0}
+BeginsAt metrics gauges (Some caller) (Some caller') = (about : About) → Begins about metrics gauges caller.visit caller'.visit
 
 -- the keys of these connections: eight below the greatest ones, which the system's own have
 abbrev pub is_own : ℕ → Bool

@@ -3,7 +3,7 @@ ghost use Rattle.std.specs.Prelude.{◌≡◌, ◌≤◌, None, IfSome, true, fa
 ghost use Rattle.slab.specs.Slab.{get, slab_len, Updates};
 ghost use Rattle.admin_pages.specs.Standings.{at_start};
 ghost use Rattle.admin_desk.specs.Visits.{hosts_of, owed_of};
-ghost use Rattle.admin_desk.specs.Desks.{IsLate, IsSilent, KeepsAnswered, SaysAt, SaysBy, Sends, SendsAt, is_own};
+ghost use Rattle.admin_desk.specs.Desks.{BeginsAt, IsLate, IsSilent, KeepsAnswered, SaysAt, SaysBy, Sends, SendsAt, is_own};
 
 use crate::visit::{PIECE, Stage, Visit, is_head};
 use admin_pages::{About, Gauges, Metrics, Standing};
@@ -196,6 +196,7 @@ impl<S: Peer> Desk<S> {
 
     /// Begins the page of one.
     pub fn begin_page(&mut self, place: usize, metrics: &Metrics, gauges: &Gauges)
+        ensures begins { BeginsAt metrics.now gauges.now (get self.old.callers place) (get self.new.callers place) }
         ensures standing { self.new.standing ≡ self.old.standing }
         ensures about { self.new.about ≡ self.old.about }
     {

@@ -1,5 +1,5 @@
 -- When the time of a connection is up, by the second: this project's own.
-use Rattle.std.specs.Prelude.{ℕ, ◌-◌, max, nat_lt, Option, Some, None, Bool, not, ◌&&◌, if◌then◌else◌}
+use Rattle.std.specs.Prelude.{ℕ, ◌-◌, max, nat_le, nat_lt, Option, Some, None, Bool, not, ◌&&◌, if◌then◌else◌}
 use Rattle.outbox.specs.Lines.{owes}
 use Rattle.connection_turns.specs.declared.claim.Claim.{Claim}
 use Rattle.connection_turns.specs.declared.connection.Connection.{Connection}
@@ -30,3 +30,7 @@ end_in now limits is_waited_for (Some claim) c =
 
 abbrev pub expiry_of : {S : Type 0} → (now : ℕ) → Limits → (is_waited_for : Bool) → Connection S → Option End
 expiry_of now limits is_waited_for c = end_in now limits is_waited_for c.claim c
+
+-- one that lingers does so for 2 seconds
+abbrev pub has_lingered : {S : Type 0} → (now : ℕ) → Connection S → Bool
+has_lingered now c = nat_le 2 (now - c.moved)

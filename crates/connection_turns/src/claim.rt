@@ -1,6 +1,11 @@
 //! What a connection holds of the budgets of memory, or waits for.
 ghost use Rattle.std.specs.Prelude.{◌≡◌};
-ghost use Rattle.connection_turns.specs.Held.{claimed};
+ghost use Rattle.connection_turns.specs.Held.{claimed, share_after};
+
+use crate::connection::ALLOWANCE;
+
+/// The bytes owed up to which a connection wants no share.
+pub const OWED: usize = 2 * ALLOWANCE;
 
 /// Whose bytes a share is for.
 #[derive(Clone, Copy, Debug, PartialEq, Eq)]
@@ -71,7 +76,34 @@ pub struct Claim {
     pub is_granted: bool,
 }
 
+/// What becomes of a share behind a turn.
+#[derive(Clone, Copy, Debug, PartialEq, Eq)]
+pub enum After {
+    /// It is kept whole.
+    Kept,
+    /// What is owed of it is kept until it is written.
+    Written,
+    /// All of it is given back.
+    Released,
+}
+
 impl Claim {
+    /// What becomes of it behind a turn, with so many bytes owed. A request was answered in the turn, or none was.
+    pub fn left(&self, owed: usize, has_answered: bool) -> After
+        ensures { result ≡ share_after self.now owed has_answered }
+    {
+        if !self.is_granted {
+            return After::Kept;
+        }
+        match self.purpose {
+            Purpose::Frame if has_answered => After::Released,
+            Purpose::Reply if has_answered && owed <= OWED => After::Released,
+            Purpose::Reply if has_answered => After::Written,
+            Purpose::Written if owed == 0 => After::Released,
+            Purpose::Frame | Purpose::Reply | Purpose::Written => After::Kept,
+        }
+    }
+
     /// Whether a reply of so many bytes may be given with it. That to a long frame is short.
     pub fn covers(&self, reply: usize) -> bool {
         match self.purpose {

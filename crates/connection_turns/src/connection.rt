@@ -4,7 +4,7 @@ ghost use Rattle.outbox.specs.Lines.{fresh, is_over};
 ghost use Rattle.outbox.specs.Told.{IsReadOn};
 ghost use Rattle.outbox.specs.Turns as turns;
 ghost use Rattle.outbox.specs.Turns.{Flushes};
-ghost use Rattle.connection_turns.specs.Expiring.{expiry_of, end_in, idle_end, is_quiet};
+ghost use Rattle.connection_turns.specs.Expiring.{expiry_of, end_in, has_lingered, idle_end, is_quiet};
 ghost use Rattle.connection_turns.specs.Held.{renewed};
 ghost use Rattle.connection_turns.specs.Owed.{line_of, wire_of, is_lost, has_left, rests};
 ghost use Rattle.connection_turns.specs.Planning as planning;
@@ -430,7 +430,9 @@ impl<S: Peer> Connection<S> {
     }
 
     /// Whether it lingers no longer in this second.
-    pub fn has_lingered(&self, now: u64) -> bool {
+    pub fn has_lingered(&self, now: u64) -> bool
+        ensures { result ≡ has_lingered now self.now }
+    {
         now.saturating_sub(self.moved) >= LINGER
     }
 

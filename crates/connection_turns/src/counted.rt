@@ -70,11 +70,12 @@ impl<C: Core, T: Time + Drop> Counted<C, T> {
         &self.counts
     }
 
-    /// From now on a turn ends behind a share of work on a query where others wait for one, and else behind its time.
+    /// A turn is prepared, in which no share of work was done yet. It ends behind one where others wait for a turn, and else behind its time.
     pub fn share(&mut self, is_shared: bool)
         ensures { self.new ≡ self.old }
     {
         self.is_shared = is_shared;
+        self.has_worked = false;
     }
 
     /// A turn begins, which answers one request or as many as there is time for.

@@ -14,7 +14,7 @@ mod limits;
 mod socket;
 mod waiting;
 
-pub use claim::{Claim, Need, Pool, Purpose};
+pub use claim::{After, Claim, Need, OWED, Pool, Purpose};
 pub use connection::{ALLOWANCE, Connection, Outcome, Phase, Plan};
 pub use counted::Counted;
 pub use counts::Counts;

@@ -2,3 +2,4 @@ pub mod Deaf
 pub mod Serving
 pub mod Waking
 pub mod Seats
+pub mod Gauging

@@ -10,6 +10,9 @@ use Rattle.event_loop.proofs.Serving.{none_dropped}
 pub woken_still : {S C T : Type 0} (more : List Due) (a b : Open S C T) → IsWoken more a → StaysWoken a b → IsWoken more b
 woken_still more a b h k = λ key. (k (Within key) (h key).0, k (Listed false key more) (h key).1, k (Awake false key) (h key).2)
 
+pub same_woken : {S C T : Type 0} (a b : Open S C T) → b ≡ a → StaysWoken a b
+same_woken {S} {C} {T} a b e = λ fact h. subst (λ (x : Open S C T). IsTrue (is_so fact x)) (sym e) h
+
 pub woken_again : {S C T : Type 0} (more : List Due) (a b : Open S C T) → IsWoken more a → Recalls a b → IsWoken more b
 woken_again more a b h k = woken_still more a b h (k (λ key. (h key).0))
 

@@ -3,3 +3,4 @@ pub mod Servers
 pub mod Clocked
 pub mod Drains
 pub mod Turns
+pub mod Gauging

@@ -2,20 +2,22 @@
 use Rattle.std.specs.Prelude.{ℕ, ◌&&◌, ◌++◌, ◌^◌, List, map, nat_lt, Option, None, IfSome, Bool, false, IsTrue, IsFalse, slice_index_or}
 use Rattle.std.specs.Option.{option_map}
 use Rattle.slab.specs.Slab.{Slab}
+use Rattle.outbox.specs.declared.readiness.Readiness.{Readiness}
 use Rattle.connection_turns.specs.declared.connection.Connection.{Connection}
 use Rattle.connection_turns.specs.Planning.{can_go_on}
 use Rattle.due_list.specs.declared.due.Due.{Due}
 use Rattle.open_connections.specs.declared.open.Open.{Open}
 use Rattle.open_connections.specs.Woken.{stands_in}
 
--- of a connection that is open: its number, whether it is due, and whether a turn of it would do something
+-- of a connection that is open: its number, whether it is due, whether a turn of it would do something, and what may be done at it without a wait
 pub record Seat : Type 0 where
   pub number : ℕ
   pub is_due : Bool
   pub goes_on : Bool
+  pub ready : Readiness
 
 abbrev pub seat_of : {S : Type 0} → Connection S → Seat
-seat_of c = record { number = c.number; is_due = c.is_due; goes_on = can_go_on false c }
+seat_of c = record { number = c.number; is_due = c.is_due; goes_on = can_go_on false c; ready = c.ready }
 
 -- those of all, in a list by key
 abbrev pub seats_of : {S : Type 0} → Slab (Connection S) → List (Option Seat)

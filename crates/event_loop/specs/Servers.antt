@@ -4,12 +4,15 @@ use Rattle.outbox.specs.Lines.{Line}
 use Rattle.outbox.specs.Told.{Told}
 use Rattle.connection_turns.specs.declared.limits.Limits.{Limits}
 use Rattle.open_connections.specs.declared.budgets.Budgets.{Budgets}
-use Rattle.open_connections.specs.Looping.{Lanes, ServesNoNew}
+use Rattle.open_connections.specs.declared.open.Open.{Open}
+use Rattle.open_connections.specs.Looping.{CoreSteps, Lanes, ServesNoNew}
+use Rattle.open_connections.specs.Opened.{connected_in, listed, shown}
 use Rattle.open_connections.specs.Shares.{limits_in}
 use Rattle.due_list.specs.declared.due.Due.{Due}
-use Rattle.event_loop.specs.Seats.{AreSeated, Seat}
+use Rattle.event_loop.specs.Seats.{AreSeated, Seat, seats_of, turns_of}
+use Rattle.event_loop.specs.Turns.{GoesRound}
 
--- whether it takes in connections, the seconds of grace once a drain was asked for, how many are open and were taken in, the bytes read and written, its limits, the budgets of memory, the core that answers, and by key what each connection that is served is owed, and what the stream of each that is open shows; of those that are open who is due, the turns of the next round, below which bound
+-- whether it takes in connections, the seconds of grace once a drain was asked for, how many are open and were taken in, the bytes read and written, its limits, the budgets of memory, the core that answers, and by key what each connection that is served is owed, and what the stream of each that is open shows; of those that are open who is due and what may be done without a wait, the turns of the next round, below which bound
 -- all keys are, and whether memory was refused for that list
 pub record Serving (C : Type 0) : Type 0 where
   pub listens : Bool
@@ -40,6 +43,14 @@ pub record StaysDeaf {C : Type 0} (old new : Serving C) : Type 0 where
 -- no connection is forgotten: each that can go on has its turn in the next round
 abbrev pub NobodyIsForgotten : {C : Type 0} → Serving C → Type 0
 NobodyIsForgotten server = AreSeated server.bound server.has_missed server.turns server.seats
+
+-- these are the connections of a server: it shows them
+abbrev pub Shows : {S C T : Type 0} → (S → Option Told) → Open S C T → Serving C → Type 0
+Shows told o server = server ≡ record server { connected = connected_in o; read = o.read; written = o.written; budgets = o.budgets; core = o.core; lines = listed o.connections; wires = shown told o.connections; seats = seats_of o.connections; turns = turns_of o; bound = o.bound; has_missed = o.has_missed }
+
+-- Each connection that was to have a turn has it in this round if it is open still, or is put off: from what a server shows before the round to what it shows behind it.
+abbrev pub GivesTurns : (S T : Type 0) {C : Type 0} → CoreSteps C → (S → Option Told) → (may_wait longs : ℕ → C → Bool) → (old new : Serving C) → Type 0
+GivesTurns S T {C} s told may_wait longs old new = (was : Open S C T) × (is : Open S C T) × Shows told was old × Shows told is new × GoesRound s told may_wait longs was is
 
 -- it takes in no connection any more, and none is open
 pub record IsOver {C : Type 0} (server : Serving C) : Type 0 where

@@ -1,17 +1,18 @@
 //! What a round does for the administration address.
 ghost use Rattle.std.specs.Prelude.{◌≡◌, ◌-◌, is_some, IsTrue, IsFalse};
+ghost use Rattle.slab.specs.Slab.{get};
+ghost use Rattle.admin_desk.specs.Desks.{BeginsAt};
 ghost use Rattle.admin_pages.specs.Standings.{takes_in};
-ghost use Rattle.open_connections.specs.Looping.{Stays};
-ghost use Rattle.open_connections.specs.Opened.{lanes_of, connected_in};
+ghost use Rattle.event_loop.specs.Gauging.{TellsOf, figure_of, usage_in};
+ghost use Rattle.open_connections.specs.Opened.{connected_in};
 ghost use Rattle.open_connections.specs.Shares.{left_of, limit_of};
-ghost use Rattle.open_connections.specs.Woken.{StaysWoken};
 
 use crate::rounds::Rounds;
 use admin_desk::PLACES;
 use admin_pages::Gauges;
 use open_connections::{Journal, LoopCore};
 use socket_poll::{Accepted, System, Time};
-use tenant_map::TENANT_LIMIT;
+use tenant_map::{TENANT_LIMIT, Usage};
 
 /// What the tenants hold, in the order of their keys.
 #[derive(Clone, Copy)]
@@ -25,9 +26,8 @@ struct Held {
 impl<S: System + Drop, C: LoopCore, T: Time + Drop> Rounds<S, C, T> {
     /// Does a step of each connection of the address, accepts new ones, and begins a drain that was asked for.
     pub fn administer<J: Journal>(&mut self, journal: &J)
-        ensures lanes { Stays (lanes_of S.Stream.told self.old.opened) (lanes_of S.Stream.told self.new.opened) }
+        ensures opened { self.new.opened ≡ self.old.opened }
         ensures drains { IsTrue (is_some self.new.desk.standing.grace) → IsFalse self.new.acceptor.listens }
-        ensures woken { StaysWoken self.old.opened self.new.opened }
     {
         'places: for place in 0..PLACES {
             self.serve_caller(place, journal);
@@ -38,8 +38,7 @@ impl<S: System + Drop, C: LoopCore, T: Time + Drop> Rounds<S, C, T> {
 
     // One step of a connection. A page tells what is so as it begins.
     fn serve_caller<J: Journal>(&mut self, place: usize, journal: &J)
-        ensures lanes { Stays (lanes_of S.Stream.told self.old.opened) (lanes_of S.Stream.told self.new.opened) }
-        ensures woken { StaysWoken self.old.opened self.new.opened }
+        ensures { self.new.opened ≡ self.old.opened }
     {
         if self.desk.wants_page(place) {
             self.begin_page(place, journal.dropped(), journal.lost());
@@ -48,8 +47,8 @@ impl<S: System + Drop, C: LoopCore, T: Time + Drop> Rounds<S, C, T> {
     }
 
     fn begin_page(&mut self, place: usize, dropped: u64, lost: u64)
-        ensures lanes { Stays (lanes_of S.Stream.told self.old.opened) (lanes_of S.Stream.told self.new.opened) }
-        ensures woken { StaysWoken self.old.opened self.new.opened }
+        ensures opened { self.new.opened ≡ self.old.opened }
+        ensures page { (gauges : Gauges) × BeginsAt (C.counted self.old.opened.core) gauges (get self.old.desk.callers place) (get self.new.desk.callers place) }
     {
         let gauges = self.gauges(dropped, lost);
         self.desk.begin_page(place, self.opened.metrics(), &gauges);
@@ -57,8 +56,7 @@ impl<S: System + Drop, C: LoopCore, T: Time + Drop> Rounds<S, C, T> {
 
     // Accepts connections of the address, as long as there is room.
     fn receive(&mut self)
-        ensures lanes { Stays (lanes_of S.Stream.told self.old.opened) (lanes_of S.Stream.told self.new.opened) }
-        ensures woken { StaysWoken self.old.opened self.new.opened }
+        ensures { self.new.opened ≡ self.old.opened }
     {
         'callers: for _ in 0..PLACES {
             if !self.receive_one() {
@@ -69,8 +67,7 @@ impl<S: System + Drop, C: LoopCore, T: Time + Drop> Rounds<S, C, T> {
 
     // Accepts one, and tells whether another one may wait. Once the server has nothing more to do, it accepts none.
     fn receive_one(&mut self) -> bool
-        ensures lanes { Stays (lanes_of S.Stream.told self.old.opened) (lanes_of S.Stream.told self.new.opened) }
-        ensures woken { StaysWoken self.old.opened self.new.opened }
+        ensures { self.new.opened ≡ self.old.opened }
     {
         if !self.acceptor.listens && self.opened.count() == 0 {
             return false;
@@ -89,8 +86,7 @@ impl<S: System + Drop, C: LoopCore, T: Time + Drop> Rounds<S, C, T> {
     }
 
     fn take_caller(&mut self, key: usize, mut stream: S::Stream)
-        ensures lanes { Stays (lanes_of S.Stream.told self.old.opened) (lanes_of S.Stream.told self.new.opened) }
-        ensures woken { StaysWoken self.old.opened self.new.opened }
+        ensures { self.new.opened ≡ self.old.opened }
     {
         if self.system.watch(&mut stream, key) {
             self.desk.take_in(stream, self.seconds.last());
@@ -106,6 +102,9 @@ impl<S: System + Drop, C: LoopCore, T: Time + Drop> Rounds<S, C, T> {
         ensures most { result.limit ≡ limit_of self.now.opened.budgets }
         ensures bytes_read { result.read ≡ self.now.opened.read }
         ensures bytes_written { result.written ≡ self.now.opened.written }
+        ensures collections { TellsOf (λ usage. usage.collections) (usage_in C.held self.now.keys.items self.now.opened.core) 256 result.collections }
+        ensures documents { TellsOf (λ usage. usage.documents) (usage_in C.held self.now.keys.items self.now.opened.core) 256 result.documents }
+        ensures texts { TellsOf (λ usage. usage.bytes) (usage_in C.held self.now.keys.items self.now.opened.core) 256 result.texts }
     {
         let (buffered, limit) = self.opened.memory();
         let waiting = self.opened.waiting();
@@ -139,23 +138,59 @@ impl<S: System + Drop, C: LoopCore, T: Time + Drop> Rounds<S, C, T> {
         }
     }
 
-    fn held(&self) -> Held {
-        let mut held = Held {
-            collections: [0; TENANT_LIMIT],
-            documents: [0; TENANT_LIMIT],
-            texts: [0; TENANT_LIMIT],
-            memory: [0; TENANT_LIMIT],
-        };
-        for (place, key) in self.keys.iter().enumerate() {
-            if let Some(usage) = self.opened.usage(key) {
-                if place < TENANT_LIMIT {
-                    held.collections[place] = u64::from(usage.collections);
-                    held.documents[place] = u64::from(usage.documents);
-                    held.texts[place] = u64::from(usage.bytes);
-                    held.memory[place] = self.opened.memory_of(key);
-                }
-            }
+    // What each tenant holds, in the order of their keys.
+    fn held(&self) -> Held
+        ensures collections { TellsOf (λ usage. usage.collections) (usage_in C.held self.now.keys.items self.now.opened.core) 256 result.collections }
+        ensures documents { TellsOf (λ usage. usage.documents) (usage_in C.held self.now.keys.items self.now.opened.core) 256 result.documents }
+        ensures texts { TellsOf (λ usage. usage.bytes) (usage_in C.held self.now.keys.items self.now.opened.core) 256 result.texts }
+    {
+        let mut collections = [0u64; TENANT_LIMIT];
+        let mut documents = [0u64; TENANT_LIMIT];
+        let mut texts = [0u64; TENANT_LIMIT];
+        let mut memory = [0u64; TENANT_LIMIT];
+        'places: for place in 0..TENANT_LIMIT {
+            let (in_collections, in_documents, in_texts) = figures(self.usage_at(place));
+            collections[place] = in_collections;
+            documents[place] = in_documents;
+            texts[place] = in_texts;
+            memory[place] = self.memory_at(place);
         }
-        held
+        Held {
+            collections,
+            documents,
+            texts,
+            memory,
+        }
+    }
+
+    // What the tenant holds whose key is at a place.
+    fn usage_at(&self, place: usize) -> Option<Usage>
+        ensures { result ≡ usage_in C.held self.now.keys.items self.now.opened.core place }
+    {
+        self.opened.usage(self.keys.get(place)?)
+    }
+
+    // The bytes of memory that its documents take.
+    fn memory_at(&self, place: usize) -> u64 {
+        match self.keys.get(place) {
+            Some(key) => self.opened.memory_of(key),
+            None => 0,
+        }
+    }
+}
+
+// The collections, the documents and the bytes of texts of a tenant, and 0 where there is none.
+fn figures(usage: Option<Usage>) -> (u64, u64, u64)
+    ensures collections { result.0 ≡ figure_of (λ usage. usage.collections) usage }
+    ensures documents { result.1 ≡ figure_of (λ usage. usage.documents) usage }
+    ensures texts { result.2 ≡ figure_of (λ usage. usage.bytes) usage }
+{
+    match usage {
+        Some(usage) => (
+            u64::from(usage.collections),
+            u64::from(usage.documents),
+            u64::from(usage.bytes),
+        ),
+        None => (0, 0, 0),
     }
 }

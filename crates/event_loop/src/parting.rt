@@ -28,11 +28,10 @@ pub(crate) enum Parting {
 impl<S: System + Drop, C: LoopCore, T: Time + Drop> Rounds<S, C, T> {
     /// If a drain was asked for, the server serves no new connection from now on.
     pub fn heed_drain(&mut self)
-        ensures lanes { Stays (lanes_of S.Stream.told self.old.opened) (lanes_of S.Stream.told self.new.opened) }
+        ensures opened { self.new.opened ≡ self.old.opened }
         ensures asked { self.new.desk.standing ≡ self.old.desk.standing }
         ensures deaf { IsTrue (is_some self.old.desk.standing.grace) → IsFalse self.new.acceptor.listens }
         ensures begun { IsTrue (is_some self.old.desk.standing.grace) → IsTrue (is_some self.new.drained) }
-        ensures woken { StaysWoken self.old.opened self.new.opened }
     {
         if self.desk.standing().grace.is_none() {
             return;

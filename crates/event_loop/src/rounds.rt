@@ -2,13 +2,16 @@
 ghost use Rattle.std.specs.Prelude.{◌≡◌, ◌<◌, ◌^◌, [], ℕ, None, is_some, IfOk, OnOk, IsFalse, IsTrue};
 ghost use Rattle.outbox.specs.Told.{IsUnused};
 ghost use Rattle.open_connections.specs.Looping.{Stays, Does, DoesSome, DoesOn, DoesAtMost, TurnsAtMost, LetGo};
-ghost use Rattle.open_connections.specs.Opened.{lanes_of, connected_in, has_time, is_open_at, is_there, IsPutOff};
+ghost use Rattle.open_connections.specs.Opened.{lanes_of, connected_in, expiry_at, has_time, is_open_at, is_there, IsPutOff};
 ghost use Rattle.open_connections.specs.Shares.{fresh_budgets};
-ghost use Rattle.event_loop.specs.Turns.{Follows, GetsTurnAt, ServesOne, TakesTurnAt, TakesTurns};
+ghost use Rattle.event_loop.specs.Drains.{parting_of};
+ghost use Rattle.event_loop.specs.Turns.{Follows, GetsTurnAt, GoesRound, ServesOne, TakesTurnAt, TakesTurns};
+ghost use Rattle.open_connections.specs.Turns.{OthersStand, StatesStay};
 ghost use Rattle.open_connections.specs.Woken.{IsWoken, Passes, Serves, StaysWoken, TakesOff, Wakes};
-ghost use Rattle.event_loop.specs.Clocked.{IsNoted, NotesMoved};
+ghost use Rattle.event_loop.specs.Clocked.{IsNoted, IsRead, NotesMoved};
 
 use crate::fault::LoopFault;
+use crate::parting::Parting;
 use crate::seconds::Seconds;
 use crate::told::{Holding, Told};
 use admin_desk::Desk;
@@ -141,6 +144,7 @@ impl<S: System + Drop, C: LoopCore, T: Time + Drop> Rounds<S, C, T> {
         ensures deaf { IsFalse self.old.acceptor.listens → IsFalse self.new.acceptor.listens }
         ensures on { IsFalse self.old.acceptor.listens → DoesOn C.steps (lanes_of S.Stream.told self.old.opened) (lanes_of S.Stream.told self.new.opened) }
         ensures drains { OnOk result (IsTrue (is_some self.new.desk.standing.grace) → IsFalse self.new.acceptor.listens) }
+        ensures turns { OnOk result (GoesRound C.steps S.Stream.told C.may_wait C.longs self.old.opened self.new.opened) }
         ensures woken { IsWoken [] self.old.opened → OnOk result (IsWoken [] self.new.opened) }
     {
         let listens = self.acceptor.listens;
@@ -151,11 +155,10 @@ impl<S: System + Drop, C: LoopCore, T: Time + Drop> Rounds<S, C, T> {
 
     // A server that did not listen listens no more.
     fn stay_deaf(&mut self, listens: bool)
-        ensures lanes { Stays (lanes_of S.Stream.told self.old.opened) (lanes_of S.Stream.told self.new.opened) }
+        ensures opened { self.new.opened ≡ self.old.opened }
         ensures deaf { IsFalse listens → IsFalse self.new.acceptor.listens }
         ensures fewer { IsFalse self.old.acceptor.listens → IsFalse self.new.acceptor.listens }
         ensures asked { self.new.desk.standing ≡ self.old.desk.standing }
-        ensures woken { StaysWoken self.old.opened self.new.opened }
     {
         self.acceptor.listens = self.acceptor.listens && listens;
     }
@@ -165,6 +168,7 @@ impl<S: System + Drop, C: LoopCore, T: Time + Drop> Rounds<S, C, T> {
         ensures lanes { DoesSome C.steps (lanes_of S.Stream.told self.old.opened) (lanes_of S.Stream.told self.new.opened) }
         ensures on { IsFalse listens → DoesOn C.steps (lanes_of S.Stream.told self.old.opened) (lanes_of S.Stream.told self.new.opened) }
         ensures drains { OnOk result (IsTrue (is_some self.new.desk.standing.grace) → IsFalse self.new.acceptor.listens) }
+        ensures turns { OnOk result (GoesRound C.steps S.Stream.told C.may_wait C.longs self.old.opened self.new.opened) }
         ensures woken { IsWoken [] self.old.opened → OnOk result (IsWoken [] self.new.opened) }
     {
         // the clock is read before the wait: what it says of idle connections is so only if nothing was reported since
@@ -412,7 +416,7 @@ impl<S: System + Drop, C: LoopCore, T: Time + Drop> Rounds<S, C, T> {
     // One turn for each connection that is due.
     fn take_turns<J: Journal>(&mut self, journal: &mut J) -> Result<(), LoopFault>
         ensures lanes { DoesOn C.steps (lanes_of S.Stream.told self.old.opened) (lanes_of S.Stream.told self.new.opened) }
-        ensures each { OnOk result (TakesTurns C.steps S.Stream.told C.may_wait self.old.opened self.new.opened) }
+        ensures each { OnOk result (TakesTurns C.steps S.Stream.told C.may_wait C.longs self.old.opened self.new.opened) }
         ensures woken { IsWoken [] self.old.opened → OnOk result (IsWoken [] self.new.opened) }
     {
         let list = self.opened.take_due()?;
@@ -426,9 +430,9 @@ impl<S: System + Drop, C: LoopCore, T: Time + Drop> Rounds<S, C, T> {
     // One turn for a connection that is due, where there is time for it in this round, and it was not closed since.
     fn serve<J: Journal>(&mut self, due: Due, journal: &mut J) -> Result<(), LoopFault>
         ensures lanes { DoesOn C.steps (lanes_of S.Stream.told self.old.opened) (lanes_of S.Stream.told self.new.opened) }
-        ensures kept { IsFalse (has_time due self.old.opened) → OnOk result (IsPutOff due self.old.opened self.new.opened) }
+        ensures kept { IsFalse (has_time C.longs due self.old.opened) → OnOk result (IsPutOff due self.old.opened self.new.opened) }
         ensures gone { IsFalse (is_there due self.old.opened) → Stays (lanes_of S.Stream.told self.old.opened) (lanes_of S.Stream.told self.new.opened) }
-        ensures serves { OnOk result (ServesOne C.steps S.Stream.told C.may_wait due self.old.opened self.new.opened) }
+        ensures serves { OnOk result (ServesOne C.steps S.Stream.told C.may_wait C.longs due self.old.opened self.new.opened) }
         ensures woken { OnOk result (Passes due self.old.opened self.new.opened) }
     {
         if !self.opened.has_time(due) {
@@ -444,6 +448,7 @@ impl<S: System + Drop, C: LoopCore, T: Time + Drop> Rounds<S, C, T> {
     // Its turn comes in the next round.
     fn put_off(&mut self, due: Due) -> Result<(), LoopFault>
         ensures lanes { Stays (lanes_of S.Stream.told self.old.opened) (lanes_of S.Stream.told self.new.opened) }
+        ensures ready { StatesStay self.old.opened self.new.opened }
         ensures kept { OnOk result (IsPutOff due self.old.opened self.new.opened) }
         ensures woken { OnOk result (Passes due self.old.opened self.new.opened) }
     {
@@ -463,8 +468,9 @@ impl<S: System + Drop, C: LoopCore, T: Time + Drop> Rounds<S, C, T> {
     // One turn for a connection. If bytes moved, the second that the clock tells behind it is noted.
     fn turn(&mut self, key: usize) -> Outcome
         ensures lanes { TurnsAtMost C.steps key (lanes_of S.Stream.told self.old.opened) (lanes_of S.Stream.told self.new.opened) }
+        ensures others { OthersStand key self.old.opened self.new.opened }
         ensures clock { NotesMoved key self.old.opened self.new.opened self.new.seconds.counted self.new.seconds.last }
-        ensures gets { key < 2 ^ 32 → (turned : Open S.Stream C T) × GetsTurnAt C.steps S.Stream.told C.may_wait key result self.old.opened turned × Stays (lanes_of S.Stream.told turned) (lanes_of S.Stream.told self.new.opened) }
+        ensures gets { key < 2 ^ 32 → (turned : Open S.Stream C T) × GetsTurnAt C.steps S.Stream.told C.may_wait key result self.old.opened turned × Stays (lanes_of S.Stream.told turned) (lanes_of S.Stream.told self.new.opened) × StatesStay turned self.new.opened }
         ensures there { is_open_at key self.new.opened ≡ is_open_at key self.old.opened }
         ensures woken { TakesOff key self.old.opened self.new.opened }
     {
@@ -476,7 +482,9 @@ impl<S: System + Drop, C: LoopCore, T: Time + Drop> Rounds<S, C, T> {
     // If bytes moved on a connection, notes when.
     fn mark(&mut self, key: usize, has_moved: bool)
         ensures lanes { Stays (lanes_of S.Stream.told self.old.opened) (lanes_of S.Stream.told self.new.opened) }
+        ensures ready { StatesStay self.old.opened self.new.opened }
         ensures clock { IsTrue has_moved → IsNoted key self.new.opened self.new.seconds.counted self.new.seconds.last }
+        ensures read { IsTrue has_moved → IsRead T.tells self.old.seconds.time self.old.seconds.last self.new.seconds.last }
         ensures there { is_open_at key self.new.opened ≡ is_open_at key self.old.opened }
         ensures woken { StaysWoken self.old.opened self.new.opened }
     {
@@ -490,7 +498,8 @@ impl<S: System + Drop, C: LoopCore, T: Time + Drop> Rounds<S, C, T> {
     // What follows from a turn.
     fn follow<J: Journal>(&mut self, key: usize, outcome: Outcome, journal: &mut J)
         ensures lanes { DoesAtMost C.steps (LetGo key) (lanes_of S.Stream.told self.old.opened) (lanes_of S.Stream.told self.new.opened) }
-        ensures follows { IsTrue (is_open_at key self.old.opened) → key < 2 ^ 32 → Follows C.steps key outcome (lanes_of S.Stream.told self.old.opened) (lanes_of S.Stream.told self.new.opened) }
+        ensures others { OthersStand key self.old.opened self.new.opened }
+        ensures follows { IsTrue (is_open_at key self.old.opened) → key < 2 ^ 32 → Follows C.steps S.Stream.told key outcome self.old.opened self.new.opened }
         ensures woken { Wakes key self.old.opened self.new.opened }
     {
         match outcome {
@@ -503,6 +512,8 @@ impl<S: System + Drop, C: LoopCore, T: Time + Drop> Rounds<S, C, T> {
     // After a turn at a connection that is open.
     fn go_on<J: Journal>(&mut self, key: usize, journal: &mut J)
         ensures lanes { DoesAtMost C.steps (LetGo key) (lanes_of S.Stream.told self.old.opened) (lanes_of S.Stream.told self.new.opened) }
+        ensures others { OthersStand key self.old.opened self.new.opened }
+        ensures follows { IsTrue (is_open_at key self.old.opened) → key < 2 ^ 32 → Follows C.steps S.Stream.told key Outcome.Open self.old.opened self.new.opened }
         ensures woken { Wakes key self.old.opened self.new.opened }
     {
         self.tell_slow(journal);
@@ -515,6 +526,7 @@ impl<S: System + Drop, C: LoopCore, T: Time + Drop> Rounds<S, C, T> {
     // Tells the journal of a slow query.
     fn tell_slow<J: Journal>(&mut self, journal: &mut J)
         ensures lanes { Stays (lanes_of S.Stream.told self.old.opened) (lanes_of S.Stream.told self.new.opened) }
+        ensures ready { StatesStay self.old.opened self.new.opened }
         ensures woken { StaysWoken self.old.opened self.new.opened }
     {
         if let Some(slow) = self.opened.take_slow() {
@@ -526,6 +538,7 @@ impl<S: System + Drop, C: LoopCore, T: Time + Drop> Rounds<S, C, T> {
     // with bytes unread can take the last replies with it.
     pub fn finish<J: Journal>(&mut self, key: usize, how: End, journal: &mut J)
         ensures lanes { DoesAtMost C.steps (LetGo key) (lanes_of S.Stream.told self.old.opened) (lanes_of S.Stream.told self.new.opened) }
+        ensures others { OthersStand key self.old.opened self.new.opened }
         ensures closes { IsTrue (is_open_at key self.old.opened) → key < 2 ^ 32 → Does C.steps (LetGo key) (lanes_of S.Stream.told self.old.opened) (lanes_of S.Stream.told self.new.opened) }
         ensures woken { Wakes key self.old.opened self.new.opened }
     {
@@ -545,6 +558,7 @@ impl<S: System + Drop, C: LoopCore, T: Time + Drop> Rounds<S, C, T> {
 
     fn linger(&mut self, key: usize)
         ensures lanes { DoesAtMost C.steps (LetGo key) (lanes_of S.Stream.told self.old.opened) (lanes_of S.Stream.told self.new.opened) }
+        ensures others { OthersStand key self.old.opened self.new.opened }
         ensures closes { IsTrue (is_open_at key self.old.opened) → key < 2 ^ 32 → Does C.steps (LetGo key) (lanes_of S.Stream.told self.old.opened) (lanes_of S.Stream.told self.new.opened) }
         ensures woken { Wakes key self.old.opened self.new.opened }
     {
@@ -553,6 +567,7 @@ impl<S: System + Drop, C: LoopCore, T: Time + Drop> Rounds<S, C, T> {
 
     pub(crate) fn close(&mut self, key: usize)
         ensures lanes { DoesAtMost C.steps (LetGo key) (lanes_of S.Stream.told self.old.opened) (lanes_of S.Stream.told self.new.opened) }
+        ensures others { OthersStand key self.old.opened self.new.opened }
         ensures closes { IsTrue (is_open_at key self.old.opened) → key < 2 ^ 32 → Does C.steps (LetGo key) (lanes_of S.Stream.told self.old.opened) (lanes_of S.Stream.told self.new.opened) }
         ensures woken { Wakes key self.old.opened self.new.opened }
     {
@@ -584,6 +599,7 @@ impl<S: System + Drop, C: LoopCore, T: Time + Drop> Rounds<S, C, T> {
     // Closes a connection whose time is up.
     fn expire<J: Journal>(&mut self, key: usize, journal: &mut J)
         ensures lanes { DoesAtMost C.steps (LetGo key) (lanes_of S.Stream.told self.old.opened) (lanes_of S.Stream.told self.new.opened) }
+        ensures spares { expiry_at key self.old.seconds.last self.old.limits self.old.opened ≡ Outcome.Open → parting_of self.old.drained self.old.desk.standing.grace self.old.seconds.last ≡ Parting.Served → Stays (lanes_of S.Stream.told self.old.opened) (lanes_of S.Stream.told self.new.opened) }
         ensures woken { StaysWoken self.old.opened self.new.opened }
     {
         match self.opened.expiry(key, self.seconds.last(), &self.limits) {
@@ -597,6 +613,7 @@ impl<S: System + Drop, C: LoopCore, T: Time + Drop> Rounds<S, C, T> {
     // is free: a slow peer takes a minute and more for that.
     fn tend<J: Journal>(&mut self, key: usize, journal: &mut J)
         ensures lanes { DoesAtMost C.steps (LetGo key) (lanes_of S.Stream.told self.old.opened) (lanes_of S.Stream.told self.new.opened) }
+        ensures served { parting_of self.old.drained self.old.desk.standing.grace self.old.seconds.last ≡ Parting.Served → Stays (lanes_of S.Stream.told self.old.opened) (lanes_of S.Stream.told self.new.opened) }
         ensures woken { StaysWoken self.old.opened self.new.opened }
     {
         if !self.opened.rests(key) {

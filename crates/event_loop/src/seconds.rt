@@ -1,5 +1,6 @@
 //! The time since a server began, in seconds.
-ghost use Rattle.std.specs.Prelude.{◌≡◌};
+ghost use Rattle.std.specs.Prelude.{◌≡◌, nat_lt};
+ghost use Rattle.event_loop.specs.Clocked.{IsRead};
 
 use socket_poll::Time;
 
@@ -34,7 +35,9 @@ impl<T: Time + Drop> Seconds<T> {
 
     /// Reads it.
     pub fn read(&mut self) -> u64
-        ensures { result ≡ self.new.last }
+        ensures second { result ≡ self.new.last }
+        ensures told { self.new.told ≡ self.old.told }
+        ensures clock { IsRead T.tells self.old.time self.old.last self.new.last }
     {
         if let Some(elapsed) = self.time.now() {
             self.last = elapsed.as_secs();
@@ -46,6 +49,7 @@ impl<T: Time + Drop> Seconds<T> {
     pub fn read_behind(&mut self, counted: (u64, u64)) -> u64
         ensures second { result ≡ self.new.last }
         ensures bytes { self.new.counted ≡ counted }
+        ensures clock { IsRead T.tells self.old.time self.old.last self.new.last }
     {
         let now = self.read();
         self.counted = counted;
@@ -53,7 +57,10 @@ impl<T: Time + Drop> Seconds<T> {
     }
 
     /// Reads it, and tells whether a second passed since that was last told.
-    pub fn is_later(&mut self) -> bool {
+    pub fn is_later(&mut self) -> bool
+        ensures later { result ≡ nat_lt self.old.told self.new.last }
+        ensures clock { IsRead T.tells self.old.time self.old.last self.new.last }
+    {
         let now = self.read();
         let is_later = now > self.told;
         self.told = now;

@@ -1,6 +1,6 @@
 //! A server of many connections.
 ghost use Rattle.std.specs.Prelude.{◌≡◌, ℕ, None, is_some, OnOk, IfOk, IsTrue, IsFalse};
-ghost use Rattle.event_loop.specs.Servers.{IsOver, NobodyIsForgotten, StaysDeaf, lanes_in};
+ghost use Rattle.event_loop.specs.Servers.{GivesTurns, IsOver, NobodyIsForgotten, StaysDeaf, lanes_in};
 ghost use Rattle.open_connections.specs.Looping.{DoesSome};
 ghost use Rattle.open_connections.specs.Shares.{fresh_budgets, limits_in, IsWithin};
 
@@ -195,6 +195,7 @@ impl<S: System + Drop, C: LoopCore, T: Time + Drop> Server<S, C, T> {
         ensures steps { DoesSome C.steps (lanes_in self.old) (lanes_in self.new) }
         ensures deaf { IsFalse self.old.listens → StaysDeaf self.old self.new }
         ensures drains { OnOk result (IsTrue (is_some self.new.grace) → IsFalse self.new.listens) }
+        ensures turns { OnOk result (GivesTurns S.Stream T C.steps S.Stream.told C.may_wait C.longs self.old self.new) }
         ensures woken { NobodyIsForgotten self.old → OnOk result (NobodyIsForgotten self.new) }
         ensures limits { limits_in self.new.budgets ≡ limits_in self.old.budgets }
         ensures within { IsWithin self.new.budgets }
@@ -208,6 +209,7 @@ impl<S: System + Drop, C: LoopCore, T: Time + Drop> Server<S, C, T> {
         ensures steps { DoesSome C.steps (lanes_in self.old) (lanes_in self.new) }
         ensures deaf { IsFalse self.old.listens → StaysDeaf self.old self.new }
         ensures drains { OnOk result (IsTrue (is_some self.new.grace) → IsFalse self.new.listens) }
+        ensures turns { OnOk result (GivesTurns S.Stream T C.steps S.Stream.told C.may_wait C.longs self.old self.new) }
         ensures woken { NobodyIsForgotten self.old → OnOk result (NobodyIsForgotten self.new) }
     {
         self.rounds.step(journal)

@@ -2,7 +2,8 @@
 use Rattle.std.specs.Prelude.{◌≡◌, ◌==◌, ◌&&◌, ◌||◌, ℕ, List, slice_index, nat_le, nat_lt, Bool, false, if◌then◌else◌, Option, Some, None}
 use Rattle.path_hub.specs.HubState.{HubState}
 use Rattle.path_listen.specs.declared.asked.Asked.{Asked}
-use Rattle.path_listen.specs.Asking.{asks}
+use Rattle.path_listen.specs.Asking.{asks, is_first_tenants}
+use Rattle.path_listen.specs.Long.{is_first_long}
 use Rattle.path_listen.specs.Answering as listen
 use Rattle.admin_pages.specs.declared.counted.Metrics.{Metrics}
 use Rattle.admin_pages.specs.declared.counted.Served.{Served}
@@ -80,3 +81,11 @@ is_over conn now = listen.is_over conn now.hub
 -- what it does at a connection, as a loop over it has it
 abbrev pub hub_steps : CoreSteps Measured
 hub_steps = record { opens = Opens; closes = Closes; takes = takes; answers = Answers }
+
+-- whether the request in front is one that may wait for a query of its tenant
+abbrev pub hub_waits : ℕ → Measured → Bool
+hub_waits conn m = is_first_tenants conn m.hub
+
+-- whether it may take long
+abbrev pub hub_longs : ℕ → Measured → Bool
+hub_longs conn m = is_first_long conn m.hub

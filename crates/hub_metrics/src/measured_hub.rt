@@ -137,9 +137,8 @@ impl<T: Time + Drop> LoopCore for MeasuredHub<T> {
     ghost use Rattle.std.specs.Option.{option_map};
     ghost use Rattle.request_replies.specs.Tenants.{map_of};
     ghost use Rattle.tenant_map.specs.Quotas.{usage_of};
-    ghost use Rattle.path_listen.specs.Asking.{is_first_tenants};
     ghost use Rattle.path_listen.specs.Needs.{front_at};
-    ghost use Rattle.hub_metrics.specs.Measuring.{hub_steps};
+    ghost use Rattle.hub_metrics.specs.Measuring.{hub_longs, hub_steps, hub_waits};
 
     ghost steps = { hub_steps };
 
@@ -147,7 +146,9 @@ impl<T: Time + Drop> LoopCore for MeasuredHub<T> {
 
     ghost fronts = { λ conn m. front_at conn m.hub };
 
-    ghost may_wait = { λ conn m. is_first_tenants conn m.hub };
+    ghost may_wait = { hub_waits };
+
+    ghost longs = { hub_longs };
 
     ghost held = { λ key m. option_map usage_of (map_of key m.hub.tenants) };
 
@@ -159,15 +160,12 @@ impl<T: Time + Drop> LoopCore for MeasuredHub<T> {
         self.core.disconnect(conn);
     }
 
-    fn begin(&mut self, worked: u64, is_working: bool) {
+    fn begin(&mut self, worked: u64, is_working: bool, units: u64, is_brief: bool) {
         self.latest = self.now();
         self.heard = None;
         self.worked = worked;
         self.is_working = is_working;
-    }
-
-    fn share(&mut self, units: u64) {
-        self.core.share(units);
+        self.core.share(units, is_brief);
     }
 
     fn give_up(&mut self, conn: u32) {
@@ -191,6 +189,10 @@ impl<T: Time + Drop> LoopCore for MeasuredHub<T> {
 
     fn waits(&self, conn: u32) -> bool {
         self.core.waits(conn)
+    }
+
+    fn is_long(&self, conn: u32) -> bool {
+        self.core.is_long(conn)
     }
 
     fn waiting(&self, conn: u32) -> usize {

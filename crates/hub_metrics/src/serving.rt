@@ -1,7 +1,8 @@
 //! A server of many connections over a hub.
 ghost use Rattle.std.specs.Prelude.{◌≡◌, is_some, OnOk, IsTrue, IsFalse};
-ghost use Rattle.event_loop.specs.Servers.{IsOver, NobodyIsForgotten, StaysDeaf, lanes_in};
+ghost use Rattle.event_loop.specs.Servers.{GivesTurns, IsOver, NobodyIsForgotten, StaysDeaf, lanes_in};
 ghost use Rattle.hub_metrics.specs.Looping.{AreServed};
+ghost use Rattle.hub_metrics.specs.Measuring.{hub_longs, hub_steps, hub_waits};
 ghost use Rattle.open_connections.specs.Shares.{limits_in, IsWithin};
 
 use crate::laws::loop_is_served;
@@ -41,6 +42,7 @@ pub fn step<S: System + Drop, T: Time + Drop, J: Journal>(
     ensures served { AreServed (lanes_in server.old) (lanes_in server.new) }
     ensures deaf { IsFalse server.old.listens → StaysDeaf server.old server.new }
     ensures drains { OnOk result (IsTrue (is_some server.new.grace) → IsFalse server.new.listens) }
+    ensures turns { OnOk result (GivesTurns S.Stream T hub_steps S.Stream.told hub_waits hub_longs server.old server.new) }
     ensures woken { NobodyIsForgotten server.old → OnOk result (NobodyIsForgotten server.new) }
     ensures limits { limits_in server.new.budgets ≡ limits_in server.old.budgets }
     ensures within { IsWithin server.new.budgets }

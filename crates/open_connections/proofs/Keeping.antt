@@ -1,12 +1,15 @@
 -- What stays so of each connection.
-use Rattle.std.proofs.Common.{◌≡◌, ℕ, Bool, true, false, Option, Some, None, Result, Ok, Err, sym, ap, ◌∙◌, refl}
+use Rattle.std.proofs.Common.{◌≡◌, ℕ, Bool, true, false, Option, Some, None, Result, Ok, Err, sym, ap, ◌∙◌, refl, subst}
 use Rattle.std.specs.Prelude.{◌==◌, IfOk, IfSome, IsTrue, is_some, if◌then◌else◌}
 use Rattle.std.specs.Option.{option_and_then, option_map}
 use Rattle.slab.specs.Slab.{Slab, get, with_value, Updates}
 use Rattle.connection_turns.specs.Planning.{granted}
 use Rattle.connection_turns.specs.declared.claim.Claim.{Claim}
 use Rattle.connection_turns.specs.declared.connection.Connection.{Connection}
-use Rattle.open_connections.specs.Turns.{Keep, is_queued_in}
+use Rattle.outbox.specs.declared.readiness.Readiness.{Readiness}
+use Rattle.connection_turns.specs.declared.connection.Phase.{Phase}
+use Rattle.open_connections.specs.declared.open.Open.{Open}
+use Rattle.open_connections.specs.Turns.{Keep, OthersStand, StatesStay, is_queued_in, number_at, standing_of}
 use Rattle.open_connections.proofs.Steps.{everywhere, written}
 
 pub keep_same : {S A : Type 0} (of : Connection S → A) (slab : Slab (Connection S)) → Keep of slab slab
@@ -24,8 +27,8 @@ keep_at {S} {A} of slab key c c' h e =
       at = everywhere key (λ q. look (get slab' q)) (λ q. look (get slab q)) (ap look u.changed ∙ ap (λ (x : A). Some x) e ∙ sym (ap look h)) (λ q n. ap look (u.others q n));
     }
 
-pub alike : {A B : Type 0} {a a' : A} {b b' : B} → a' ≡ a → b' ≡ b → ◌≡◌ {A = A × B} (a', b') (a, b)
-alike {A} {B} {a} {a'} {b} {b'} e f = ap {B = A × B} (λ (x : A). (x, b')) e ∙ ap {B = A × B} (λ (x : B). (a, x)) f
+pub alike : {A B C : Type 0} {a a' : A} {b b' : B} {c c' : C} → a' ≡ a → b' ≡ b → c' ≡ c → ◌≡◌ {A = A × B × C} (a', b', c') (a, b, c)
+alike e f g = cc
 
 -- a grant leaves what is asked for
 picked_some : (b : Bool) (x y : Claim) → is_some (if b then Some x else Some y) ≡ true
@@ -56,3 +59,29 @@ some_map P Q (Some x) f h = f h
 pub ok_map : {A E : Type 0} (P Q : A → Type 0) (r : Result A E) → ((x : A) → P x → Q x) → IfOk r P → IfOk r Q
 ok_map P Q (Ok x) f h = f x h
 ok_map P Q (Err e) f h = tt
+
+-- ---- What becomes of the others
+
+pub others_stand : {S C T : Type 0} (key : ℕ) (a b : Open S C T) → StatesStay a b → OthersStand key a b
+others_stand {S} key a b h = record { stand = λ q n. h.at q; none_comes = same_number (get a.connections key) (get b.connections key) (h.at key) }
+  where
+    same_number : (slot slot' : Option (Connection S)) → option_map standing_of slot' ≡ option_map standing_of slot → IfSome slot' (λ c. option_map (λ c. c.number) slot ≡ Some c.number)
+    same_number None None e = tt
+    same_number None (Some d) e = absurd cc
+    same_number (Some c) None e = tt
+    same_number (Some c) (Some d) e = let same : standing_of d ≡ standing_of c = cc in ap (λ (x : ℕ × Phase × Readiness). Some x.0) (sym same)
+
+pub others_then : {S C T : Type 0} (key : ℕ) (a b c : Open S C T) → OthersStand key a b → OthersStand key b c → OthersStand key a c
+others_then {S} key a b c h k = record { stand = λ q n. k.stand q n ∙ h.stand q n; none_comes = same_still (get b.connections key) (get c.connections key) h.none_comes k.none_comes }
+  where
+    same_still : (slot slot' : Option (Connection S)) → IfSome slot (λ x. number_at a.connections key ≡ Some x.number) → IfSome slot' (λ x. option_map (λ c. c.number) slot ≡ Some x.number) → IfSome slot' (λ x. number_at a.connections key ≡ Some x.number)
+    same_still slot None f g = tt
+    same_still None (Some y) f g = absurd cc
+    same_still (Some x) (Some y) f g = f ∙ g
+
+-- one is changed, or gone
+pub one_changes : {S C T : Type 0} (key : ℕ) (a b : Open S C T) (slot : Option (Connection S)) → Updates a.connections b.connections key slot → IfSome slot (λ c. number_at a.connections key ≡ Some c.number) → OthersStand key a b
+one_changes {S} key a b slot u h = record {
+  stand = λ q n. ap (λ (x : Option (Connection S)). option_map standing_of x) (u.others q n);
+  none_comes = subst (λ (x : Option (Connection S)). IfSome x (λ c. number_at a.connections key ≡ Some c.number)) (sym u.changed) h;
+}

@@ -15,12 +15,11 @@ use Rattle.connection_turns.specs.declared.connection.Outcome.{Outcome}
 use Rattle.connection_turns.specs.declared.connection.Phase.{Phase}
 use Rattle.connection_turns.specs.declared.connection.Phase.TheVariants.{Served, Lingering}
 use Rattle.connection_turns.specs.declared.connection.Plan.{Plan}
-use Rattle.connection_turns.specs.declared.connection.Plan.TheVariants.{Write}
 use Rattle.open_connections.specs.declared.open.Open.{Open}
 use Rattle.open_connections.specs.Looping.{CoreSteps, Does, Drained, HasTurn, Stays}
 use Rattle.open_connections.specs.Opened.{bytes_of, lanes_of, wires_in}
 use Rattle.open_connections.specs.Shares.{limits_in}
-use Rattle.open_connections.specs.Turns.{DrainsAt, GetsTurn, GetsTurnIn, HasTurnBy, HasTurnIn, Prepares, TurnsBy, has_room, is_answering, plan_at, plan_in}
+use Rattle.open_connections.specs.Turns.{DrainsAt, GetsTurn, GetsTurnIn, HasTurnBy, HasTurnIn, Prepares, StatesStay, TurnsBy, has_room, is_answering, plan_at, plan_in, standing_of}
 use Rattle.open_connections.proofs.Looping.{before_others}
 use Rattle.open_connections.proofs.Steps.{does_all, lanes, line_at, others_stay, wire_at}
 
@@ -60,6 +59,7 @@ turned_by {S} s told plan key conn result o o' c c' takes answers t a n h u l p 
       ready' = c'.ready;
       is_ready = ap (λ (x : Option (Connection S)). option_map {U = Phase × Readiness} (λ c. (c.phase, c.ready)) x) u.changed ∙ ap (λ (x : Phase). Some (x, c'.ready)) (k ∙ p);
       goes_on = d.goes_on;
+      rises = d.rises;
       over = e;
     }
 
@@ -115,6 +115,7 @@ then_turned {S} {C} s told plan key ready result a b c h d =
       ready' = d.ready';
       is_ready = d.is_ready;
       goes_on = d.goes_on;
+      rises = d.rises;
       over = d.over;
     }
 
@@ -146,24 +147,24 @@ done_in {S} {C} {T} Served s told may_wait plan next key ready result a b c h p 
 done_in Lingering s told may_wait plan next key ready result a b c h p d = then_drained s told key result a b c h d
 
 left_in : {S C T : Type 0} (phase : Phase) (s : CoreSteps C) (told : S → Option Told) (may_wait : ℕ → C → Bool) (plan : Plan) (key : ℕ) (ready : Readiness) (result : Outcome) (a c : Open S C T)
-    → Stays (lanes_of told a) (lanes_of told c) → Prepares may_wait key (plan_in phase plan) (Err result) a c → GetsTurnIn phase s told may_wait (plan_in phase plan) key ready result a c
-left_in Served s told may_wait plan key ready result a c h p = inr (inr (h, p))
-left_in Lingering s told may_wait plan key ready result a c h p = elim p [ inl e ↦ let f : false ≡ true = e.1 in absurd cc | inr e ↦ let f : false ≡ true = ap is_answering e.1 in absurd cc ]
+    → Stays (lanes_of told a) (lanes_of told c) → StatesStay a c → Prepares may_wait key (plan_in phase plan) (Err result) a c → GetsTurnIn phase s told may_wait (plan_in phase plan) key ready result a c
+left_in Served s told may_wait plan key ready result a c h k p = inr (inr (h, k, p))
+left_in Lingering s told may_wait plan key ready result a c h k p = elim p [ inl e ↦ let f : false ≡ true = e.1 in absurd cc | inr e ↦ let f : false ≡ true = ap is_answering e.1 in absurd cc ]
 
 pub done_at : {S C T : Type 0} (s : CoreSteps C) (told : S → Option Told) (may_wait : ℕ → C → Bool) (next : Plan) (key : ℕ) (result : Outcome) (a b c : Open S C T) (slot slot' : Option (Connection S))
-    → Stays (lanes_of told a) (lanes_of told b) → option_map {U = Phase × Readiness} (λ x. (x.phase, x.ready)) slot' ≡ option_map {U = Phase × Readiness} (λ x. (x.phase, x.ready)) slot
+    → Stays (lanes_of told a) (lanes_of told b) → option_map standing_of slot' ≡ option_map standing_of slot
     → IfSome slot (λ x. key < 2 ^ 32 → Prepares may_wait key (plan_at x a) (Ok next) a b) → IfSome slot' (λ x. key < 2 ^ 32 → HasTurnBy s told next key x result b c)
     → IfSome slot (λ x. key < 2 ^ 32 → IsFalse (is_lost x) → GetsTurn s told may_wait key x result a c)
 done_at s told may_wait next key result a b c None slot' h e p d = tt
 done_at s told may_wait next key result a b c (Some x) None h e p d = absurd cc
 done_at {S} {C} {T} s told may_wait next key result a b c (Some x) (Some y) h e p d = λ k l.
-    let same : (y.phase, y.ready) ≡ (x.phase, x.ready) = cc in
-    done_in x.phase s told may_wait (plan_of (has_room a.budgets) x) next key x.ready result a b c h (p k) (subst (λ (z : Phase × Readiness). HasTurnIn z.0 s told next key z.1 result b c) same (d k))
+    let same : standing_of y ≡ standing_of x = cc in
+    done_in x.phase s told may_wait (plan_of (has_room a.budgets) x) next key x.ready result a b c h (p k) (subst (λ (z : ℕ × Phase × Readiness). HasTurnIn z.1 s told next key z.2 result b c) same (d k))
 
-pub left_at : {S C T : Type 0} (s : CoreSteps C) (told : S → Option Told) (may_wait : ℕ → C → Bool) (key : ℕ) (result : Outcome) (a c : Open S C T) (slot : Option (Connection S)) → Stays (lanes_of told a) (lanes_of told c)
+pub left_at : {S C T : Type 0} (s : CoreSteps C) (told : S → Option Told) (may_wait : ℕ → C → Bool) (key : ℕ) (result : Outcome) (a c : Open S C T) (slot : Option (Connection S)) → Stays (lanes_of told a) (lanes_of told c) → StatesStay a c
     → IfSome slot (λ x. key < 2 ^ 32 → Prepares may_wait key (plan_at x a) (Err result) a c) → IfSome slot (λ x. key < 2 ^ 32 → IsFalse (is_lost x) → GetsTurn s told may_wait key x result a c)
-left_at s told may_wait key result a c None h p = tt
-left_at s told may_wait key result a c (Some x) h p = λ k l. left_in x.phase s told may_wait (plan_of (has_room a.budgets) x) key x.ready result a c h (p k)
+left_at s told may_wait key result a c None h t p = tt
+left_at s told may_wait key result a c (Some x) h t p = λ k l. left_in x.phase s told may_wait (plan_of (has_room a.budgets) x) key x.ready result a c h t (p k)
 
 -- one that is lost has none
 pub lost_in : {S C T : Type 0} (s : CoreSteps C) (told : S → Option Told) (may_wait : ℕ → C → Bool) (key : ℕ) (result : Outcome) (a c : Open S C T) (slot : Option (Connection S)) → option_map_or (λ x. is_lost x) slot false ≡ true

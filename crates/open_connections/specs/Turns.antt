@@ -1,12 +1,12 @@
 -- What becomes of a connection in its turn: this project's own.
-use Rattle.std.specs.Prelude.{◌≡◌, ◌⊎◌, ℕ, ◌+◌, Option, Some, None, is_some, Result, Ok, Err, Bool, true, false, not, ◌&&◌, IsTrue}
+use Rattle.std.specs.Prelude.{◌≡◌, ◌≢◌, ◌⊎◌, ℕ, ◌+◌, Option, Some, None, IfSome, is_some, Result, Ok, Err, Bool, true, false, not, ◌&&◌, IsTrue}
 use Rattle.std.specs.Option.{option_map}
 use Rattle.slab.specs.Slab.{Slab, get}
 use Rattle.memory_budget.specs.States.{may_grow}
 use Rattle.wire_frames.specs.declared.parts.TheConstants.{MOST_REPLY}
 use Rattle.outbox.specs.Lines.{cap, is_over}
 use Rattle.outbox.specs.Told.{Told}
-use Rattle.outbox.specs.Turns.{HasFallen, moves}
+use Rattle.outbox.specs.Turns.{HasFallen, HasNotRisen, moves}
 use Rattle.outbox.specs.declared.readiness.Readiness.{Readiness}
 use Rattle.connection_turns.specs.declared.claim.Claim.{Claim}
 use Rattle.connection_turns.specs.declared.connection.Connection.{Connection}
@@ -36,9 +36,21 @@ state_at key o = option_map {U = Phase × Readiness} (λ c. (c.phase, c.ready)) 
 pub record Keep {S A : Type 0} (of : Connection S → A) (old new : Slab (Connection S)) : Type 0 where
   pub at : (q : ℕ) → option_map of (get new q) ≡ option_map of (get old q)
 
--- what is done with each, and what may be done at it without a wait
+-- its number, what is done with it, and what may be done at it without a wait
+abbrev pub standing_of : {S : Type 0} → Connection S → ℕ × Phase × Readiness
+standing_of c = (c.number, c.phase, c.ready)
+
 abbrev pub StatesStay : {S C T : Type 0} → Open S C T → Open S C T → Type 0
-StatesStay old new = Keep {A = Phase × Readiness} (λ c. (c.phase, c.ready)) old.connections new.connections
+StatesStay old new = Keep standing_of old.connections new.connections
+
+-- the number of the one under this key
+abbrev pub number_at : {S : Type 0} → Slab (Connection S) → (key : ℕ) → Option ℕ
+number_at slab key = option_map (λ c. c.number) (get slab key)
+
+-- That of all but the connection under one key stays so. Under that key the same one is open, or none.
+pub record OthersStand {S C T : Type 0} (key : ℕ) (old new : Open S C T) : Type 0 where
+  pub stand : (q : ℕ) → q ≢ key → option_map standing_of (get new.connections q) ≡ option_map standing_of (get old.connections q)
+  pub none_comes : IfSome (get new.connections key) (λ c. number_at old.connections key ≡ Some c.number)
 
 -- whether each has a share of memory, or waits for one
 abbrev pub ClaimsStay : {S C T : Type 0} → Open S C T → Open S C T → Type 0
@@ -64,12 +76,13 @@ is_answering Answer = true
 is_answering All = true
 
 -- One that is served has its turn by this plan. If that can do something, bytes or requests of this turn move, or what might have been done wants a wait. It is over if nothing is
--- read or written any more.
+-- read or written any more. If they move nothing, nothing may be done now that might not be before.
 pub record TurnsBy {S C T : Type 0} (s : CoreSteps C) (told : S → Option Told) (plan : Plan) (key : ℕ) (ready : Readiness) (result : Outcome) (old new : Open S C T) : Type 0 where
   pub turn : Does s (HasTurn key) (lanes_of told old) (lanes_of told new)
   pub ready' : Readiness
   pub is_ready : state_at key new ≡ Some (Served, ready')
   pub goes_on : can_go_by plan ready turn.line ≡ true → (moves turn.line turn.takes_turn.events ≡ true) ⊎ HasFallen ready ready'
+  pub rises : moves turn.line turn.takes_turn.events ≡ false → HasNotRisen ready ready'
   pub over : ends result ≡ is_over turn.line'
 
 -- What still comes on one that is served no further is thrown away: bytes came, or a read would wait, or the connection is to be closed.
@@ -112,7 +125,7 @@ abbrev pub GetsTurnIn : {S C T : Type 0} → Phase → CoreSteps C → (S → Op
 GetsTurnIn Served s told may_wait plan key ready result old new =
     TurnsBy s told plan key ready result old new
     ⊎ ((StandsBy may_wait key plan old × TurnsBy s told Write key ready result old new)
-    ⊎ (Stays (lanes_of told old) (lanes_of told new) × Prepares may_wait key plan (Err result) old new))
+    ⊎ (Stays (lanes_of told old) (lanes_of told new) × StatesStay old new × Prepares may_wait key plan (Err result) old new))
 GetsTurnIn Lingering s told may_wait plan key ready result old new = DrainsAt s told key result old new
 
 abbrev pub GetsTurn : {S C T : Type 0} → CoreSteps C → (S → Option Told) → (ℕ → C → Bool) → (key : ℕ) → Connection S → Outcome → Open S C T → Open S C T → Type 0

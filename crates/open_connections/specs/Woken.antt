@@ -1,5 +1,5 @@
 -- Who gets a turn: each connection that can go on stands in the list of those that do. This project's own.
-use Rattle.std.specs.Prelude.{◌==◌, ◌&&◌, ◌||◌, ◌^◌, ◌++◌, ◌∷◌, ℕ, List, Option, Bool, true, false, not, nat_le, nat_lt, IsTrue}
+use Rattle.std.specs.Prelude.{◌==◌, ◌&&◌, ◌||◌, ◌^◌, ◌++◌, ◌∷◌, [], ℕ, List, Option, Bool, true, false, not, nat_le, nat_lt, IsTrue}
 use Rattle.std.specs.List.{list_any}
 use Rattle.std.specs.Option.{option_map_or}
 use Rattle.slab.specs.Slab.{Slab, get}
@@ -68,6 +68,10 @@ within list (Awake is_spared q) = Awake is_spared q
 -- nobody is forgotten, and each turn that was to come is to come still
 abbrev pub StaysWoken : {S C T : Type 0} → Open S C T → Open S C T → Type 0
 StaysWoken old new = (fact : Fact) → IsTrue (is_so fact old) → IsTrue (is_so fact new)
+
+-- each turn that was to come is to come still
+abbrev pub TurnsStay : {S C T : Type 0} → Open S C T → Open S C T → Type 0
+TurnsStay old new = (key number : ℕ) → IsTrue (is_so (Stands key number []) old) → IsTrue (is_so (Stands key number []) new)
 
 -- the same of all but one connection, which may be forgotten
 abbrev pub WakesOthers : {S C T : Type 0} → (key : ℕ) → Open S C T → Open S C T → Type 0

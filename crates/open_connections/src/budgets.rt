@@ -1,6 +1,6 @@
 //! The budgets of memory that connections share.
 ghost use Rattle.std.specs.Prelude.{◌≡◌, ◌-◌, IfOk, OnOk, min};
-ghost use Rattle.memory_budget.specs.States.{Asks, after, may_grow};
+ghost use Rattle.memory_budget.specs.States.{Asks, after, is_waited_for, may_grow};
 ghost use Rattle.open_connections.specs.Shares.{fresh_budgets, in_pool, left_of, limit_of, limits_in, spare_of, IsFree, IsWithin, StayFree};
 
 use connection_turns::{Claim, Pool};
@@ -49,7 +49,9 @@ impl Budgets {
     }
 
     /// Whether somebody waits.
-    pub fn is_waited_for(&self, pool: Pool) -> bool {
+    pub fn is_waited_for(&self, pool: Pool) -> bool
+        ensures { result ≡ is_waited_for (in_pool pool self.now) }
+    {
         match pool {
             Pool::Tenants => self.tenants.is_waited_for(),
             Pool::Strangers => self.strangers.is_waited_for(),

@@ -1,6 +1,7 @@
 //! What connections hold of the memory that all share: what is asked for, granted and given back.
-ghost use Rattle.std.specs.Prelude.{◌<◌, ◌≡◌, ◌^◌, IfOk, IfSome, IsFalse, IsTrue, OnOk};
+ghost use Rattle.std.specs.Prelude.{◌<◌, ◌≡◌, ◌^◌, length, Some, IfOk, IfSome, IsFalse, IsTrue, OnOk};
 ghost use Rattle.slab.specs.Slab.{get};
+ghost use Rattle.connection_turns.specs.Held.{share_after};
 ghost use Rattle.open_connections.specs.Looping.{Stays};
 ghost use Rattle.open_connections.specs.Opened.{lanes_of};
 ghost use Rattle.open_connections.specs.Shares.{StayFree, IsGivenBack, claim_at};
@@ -8,10 +9,10 @@ ghost use Rattle.open_connections.specs.Turns.{ClaimsStay, HasClaim, IsQueued, S
 ghost use Rattle.open_connections.specs.Woken.{StaysWoken, WakesOthers, is_awake};
 
 use crate::loop_core::LoopCore;
-use crate::needs::{After, covers, is_for_reply, is_held, left_of, need, need_of_reply};
+use crate::needs::{covers, is_for_reply, is_held, need, need_of_reply};
 use crate::numbers::conn_of;
 use crate::open::Open;
-use connection_turns::{Claim, Need, Purpose};
+use connection_turns::{After, Claim, Need, Purpose};
 use memory_budget::Answer;
 use socket_poll::{Peer, Time};
 use std::alloc::AllocError;
@@ -76,16 +77,17 @@ impl<S: Peer, C: LoopCore, T: Time + Drop> Open<S, C, T> {
     }
 
     // Gives back what is done with of a share.
-    pub(crate) fn settle_claim(&mut self, key: usize, claim: &Claim, now: u64)
+    pub(crate) fn settle_claim(&mut self, key: usize, claim: &Claim, has_answered: bool, now: u64)
         ensures lanes { Stays (lanes_of S.told self.old) (lanes_of S.told self.new) }
+        ensures ready { StatesStay self.old self.new }
+        ensures given { IfSome (get self.old.connections key) (λ c. share_after claim.now (length c.outbox.owed) has_answered ≡ After.Released → IsGivenBack (Some claim.now) self.new.budgets) }
         ensures woken { WakesOthers key self.old self.new }
     {
         let Some(connection) = self.connections.get_mut(key) else {
             return;
         };
         let owed = connection.outbox.owed().len();
-        let has_answered = self.core.answered() > 0;
-        match left_of(claim, owed, has_answered) {
+        match claim.left(owed, has_answered) {
             After::Kept => {}
             After::Written => {
                 connection.claim = Some(Claim {
@@ -106,6 +108,7 @@ impl<S: Peer, C: LoopCore, T: Time + Drop> Open<S, C, T> {
     // Asks for what the next step needs, where that is above what each may have.
     pub(crate) fn ask(&mut self, key: usize, conn: u32, now: u64) -> Result<(), AllocError>
         ensures lanes { Stays (lanes_of S.told self.old) (lanes_of S.told self.new) }
+        ensures ready { StatesStay self.old self.new }
         ensures woken { WakesOthers key self.old self.new }
     {
         let Some(connection) = self.connections.get(key) else {
@@ -172,7 +175,7 @@ impl<S: Peer, C: LoopCore, T: Time + Drop> Open<S, C, T> {
         ensures woken { StaysWoken self.old self.new }
     {
         self.hold(key, ticket, now);
-        self.schedule(key);
+        self.give_turn(key);
     }
 
     // Notes that a connection holds its share.

@@ -33,25 +33,20 @@ pub(crate) fn take_slow<C: LoopCore, T: Time + Drop>(counted: &mut Counted<C, T>
     counted.core.take_slow()
 }
 
-/// A turn begins, before which so many microseconds were spent on the request, of which a query may be under way.
+/// A turn begins, before which so many microseconds were spent on the request, of which a query may be under way. Where others wait for turns, a query
+/// goes on for few units at a time, and its turn ends behind them.
 pub(crate) fn begin<C: LoopCore, T: Time + Drop>(
     counted: &mut Counted<C, T>,
     worked: u64,
     is_working: bool,
+    is_shared: bool,
+    is_brief: bool,
 )
     ensures { counted.new ≡ counted.old }
 {
-    counted.core.begin(worked, is_working);
-}
-
-/// Where others wait for turns, a query goes on for few units at a time, and its turn ends behind them.
-pub(crate) fn share<C: LoopCore, T: Time + Drop>(counted: &mut Counted<C, T>, is_shared: bool)
-    ensures { counted.new ≡ counted.old }
-{
     counted.share(is_shared);
-    counted
-        .core
-        .share(if is_shared { SHARE } else { LONG_SHARE });
+    let units = if is_shared { SHARE } else { LONG_SHARE };
+    counted.core.begin(worked, is_working, units, is_brief);
 }
 
 /// The microseconds of a turn.

@@ -10,6 +10,7 @@ mod loop_core;
 mod needs;
 mod numbers;
 mod open;
+mod spares;
 
 pub use budgets::LEAST_MEMORY;
 pub use connection_turns::{Held, Journal, Slow, Totals, Waiting};

@@ -25,6 +25,9 @@ pub trait LoopCore: Core + Drop {
     /// Whether the request that is answered next on a connection is one that may wait for a query under way.
     ghost may_wait: { ℕ → Self → Bool };
 
+    /// Whether the request that is answered next on a connection may take long.
+    ghost longs: { ℕ → Self → Bool };
+
     /// How much the tenant with a key holds.
     ghost held: { List ℕ → Self → Option Usage };
 
@@ -36,12 +39,9 @@ pub trait LoopCore: Core + Drop {
     fn disconnect(&mut self, conn: u32)
         ensures { steps.closes conn self.old self.new };
 
-    /// A turn begins at a connection, for whose next request earlier ones took so many microseconds. A query of it is under way, or none is.
-    fn begin(&mut self, worked: u64, is_working: bool)
-        ensures { self.new ≡ self.old };
-
-    /// Has a query go on for so many units from now on before others are served.
-    fn share(&mut self, units: u64)
+    /// A turn begins at a connection, for whose next request earlier ones took so many microseconds. A query of it is under way, or none is. A query goes on
+    /// for so many units before others are served. A brief turn answers no request that may take long.
+    fn begin(&mut self, worked: u64, is_working: bool, units: u64, is_brief: bool)
         ensures { self.new ≡ self.old };
 
     /// Gives up the work on the query that a connection has under way.
@@ -60,6 +60,10 @@ pub trait LoopCore: Core + Drop {
     /// Whether the request that is answered next on a connection waits for a query that another connection has under way.
     fn waits(&self, conn: u32) -> bool
         ensures { IsTrue result → IsTrue (may_wait conn self.now) };
+
+    /// Whether the request that is answered next on a connection may take long.
+    fn is_long(&self, conn: u32) -> bool
+        ensures { result ≡ longs conn self.now };
 
     /// The number of bytes that came on a connection and are not answered.
     fn waiting(&self, conn: u32) -> usize;

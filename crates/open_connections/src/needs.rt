@@ -1,4 +1,4 @@
-//! What a connection needs of the budgets before its next step, and what it gives back behind a turn.
+//! What a connection needs of the budgets before its next step.
 ghost use Rattle.std.specs.Prelude.{◌≡◌, ◌<◌, ◌≤◌, IfSome, IsFalse, IsTrue, is_some};
 ghost use Rattle.due_list.specs.Rounds.{party_of};
 ghost use Rattle.open_connections.specs.Shares.{IsOfFront};
@@ -6,12 +6,9 @@ ghost use Rattle.open_connections.specs.Turns.{is_queued_in};
 
 use crate::loop_core::LoopCore;
 use crate::open::PIECE;
-use connection_turns::{ALLOWANCE, Claim, Connection, Need, Plan, Pool, Purpose};
+use connection_turns::{ALLOWANCE, Claim, Connection, Need, OWED, Plan, Pool, Purpose};
 use due_list::party_of;
 use socket_poll::Peer;
-
-/// The bytes owed up to which a connection wants no share.
-const OWED: usize = 2 * ALLOWANCE;
 
 /// Whether a reply of so many bytes may be given with this share, or with none.
 pub(crate) fn covers(claim: Option<Claim>, reply: usize) -> bool {
@@ -56,48 +53,6 @@ pub(crate) fn piece_of<S: Peer, C: LoopCore>(
         }
     } else {
         ALLOWANCE
-    }
-}
-
-/// What becomes of a share after a turn.
-pub(crate) enum After {
-    /// It is kept whole.
-    Kept,
-    /// What is owed of it is kept until it is written.
-    Written,
-    /// All of it is given back.
-    Released,
-}
-
-/// What becomes of a share, with so many bytes owed.
-pub(crate) fn left_of(claim: &Claim, owed: usize, has_answered: bool) -> After {
-    if !claim.is_granted {
-        return After::Kept;
-    }
-    match claim.purpose {
-        Purpose::Frame => {
-            if has_answered {
-                After::Released
-            } else {
-                After::Kept
-            }
-        }
-        Purpose::Reply => {
-            if !has_answered {
-                After::Kept
-            } else if owed <= OWED {
-                After::Released
-            } else {
-                After::Written
-            }
-        }
-        Purpose::Written => {
-            if owed == 0 {
-                After::Released
-            } else {
-                After::Kept
-            }
-        }
     }
 }
 

@@ -1,19 +1,19 @@
 //! The connections that are open, the core that answers them, and the memory that they share.
-ghost use Rattle.std.specs.Prelude.{◌≡◌, ◌<◌, ◌-◌, ◌^◌, ◌++◌, ◌&&◌, [], ℕ, None, IfOk, OnOk, IfSome, IsTrue, IsFalse};
+ghost use Rattle.std.specs.Prelude.{Bool, ◌≡◌, ◌<◌, ◌-◌, ◌^◌, ◌++◌, ◌&&◌, [], ℕ, None, IfOk, OnOk, IfSome, IsTrue, IsFalse};
 ghost use Rattle.std.specs.Option.{option_map};
 ghost use Rattle.slab.specs.Slab.{get, slab_len};
 ghost use Rattle.open_connections.specs.Looping.{Stays, Does, DoesAtMost, TurnsAtMost, TakenIn, LetGo};
 ghost use Rattle.std.specs.Bool.{MatchBool};
 ghost use Rattle.outbox.specs.Told.{IsUnused};
 ghost use Rattle.connection_turns.specs.Owed.{is_lost};
-ghost use Rattle.due_list.specs.Rounds.{IsFresh};
-ghost use Rattle.open_connections.specs.Opened.{lanes_of, bytes_of, has_time, is_there, is_open_at, IsMarked, IsPutOff, IsStanding, IsListed, IsAsDue, HasLeft, lost_at, rests_at};
+ghost use Rattle.due_list.specs.Rounds.{IsFresh, after_turn, party_of};
+ghost use Rattle.open_connections.specs.Opened.{lanes_of, bytes_of, expiry_at, has_time, is_long, is_there, is_open_at, owes_much, IsMarked, IsPutOff, IsStanding, IsListed, IsAsDue, HasLeft, lost_at, rests_at, tenant_at};
 ghost use Rattle.open_connections.specs.Shares.{fresh_budgets, left_of, limit_of, IsWithin, IsGivenBack, claim_at};
-ghost use Rattle.open_connections.specs.Turns.{ClaimsStay, GetsTurn, HasTurnBy, Prepares, StatesStay, is_answering, plan_at};
-ghost use Rattle.open_connections.specs.Woken.{Hands, IsWoken, Passes, Recalls, StaysWoken, TakesOff, Wakes, WakesOthers, is_awake};
+ghost use Rattle.open_connections.specs.Turns.{ClaimsStay, GetsTurn, HasTurnBy, OthersStand, Prepares, StatesStay, is_answering, plan_at};
+ghost use Rattle.open_connections.specs.Woken.{Hands, IsWoken, Passes, Recalls, StaysWoken, TakesOff, TurnsStay, Wakes, WakesOthers, is_awake};
 
 use crate::budgets::Budgets;
-use crate::core_calls::{begin, connect, disconnect, give_up_query, share, take_micros, take_slow};
+use crate::core_calls::{begin, connect, disconnect, give_up_query, take_micros, take_slow};
 use crate::loop_core::LoopCore;
 use crate::needs::piece_of;
 use crate::numbers::{added, conn_of, has_moved};
@@ -49,14 +49,14 @@ pub struct Open<S: Peer, C: LoopCore, T: Time + Drop> {
     pub(crate) budgets: Budgets,
     buffer: Box<[u8; PIECE]>,
     // No key was above it.
-    bound: usize,
+    pub(crate) bound: usize,
     // Those that get a turn.
     due: DueList,
     // Memory for that list was refused: all connections are looked at before the next round.
     has_missed: bool,
     // Those that make room for others, the longest idle last, each with the second since which it is, and when they were looked for.
-    idle: Vec<(u64, usize)>,
-    looked: Option<u64>,
+    pub(crate) idle: Vec<(u64, usize)>,
+    pub(crate) looked: Option<u64>,
     // The bytes that were read and written.
     read: u64,
     written: u64,
@@ -121,6 +121,7 @@ impl<S: Peer, C: LoopCore, T: Time + Drop> Open<S, C, T> {
     /// The last slow query, which is told once.
     pub fn take_slow(&mut self) -> Option<Slow>
         ensures lanes { Stays (lanes_of S.told self.old) (lanes_of S.told self.new) }
+        ensures ready { StatesStay self.old self.new }
         ensures woken { StaysWoken self.old self.new }
     {
         take_slow(&mut self.core)
@@ -225,7 +226,7 @@ impl<S: Peer, C: LoopCore, T: Time + Drop> Open<S, C, T> {
         ensures woken { Wakes report.key self.old self.new }
     {
         self.hear(report);
-        self.schedule(report.key);
+        self.give_turn(report.key);
     }
 
     // Notes a report.
@@ -241,6 +242,7 @@ impl<S: Peer, C: LoopCore, T: Time + Drop> Open<S, C, T> {
     /// Begins a round, and hands out those that get a turn in it, in order. The list comes back by [`Open::give_back`].
     pub fn take_due(&mut self) -> Result<Vec<Due>, AllocError>
         ensures lanes { Stays (lanes_of S.told self.old) (lanes_of S.told self.new) }
+        ensures connections { self.new.connections ≡ self.old.connections }
         ensures all { IfOk result (λ list. list.items ≡ self.old.due.first.items ++ self.old.due.rest.items) }
         ensures fresh { OnOk result (IsFresh self.new.due) }
         ensures woken { IfOk result (λ list. Hands list.items self.old self.new) }
@@ -251,6 +253,7 @@ impl<S: Peer, C: LoopCore, T: Time + Drop> Open<S, C, T> {
     /// Where memory for the list of turns was refused, looks at each connection: one that can go on gets a turn.
     pub fn recall(&mut self)
         ensures lanes { Stays (lanes_of S.told self.old) (lanes_of S.told self.new) }
+        ensures stand { TurnsStay self.old self.new }
         ensures woken { Recalls self.old self.new }
     {
         if !self.has_missed {
@@ -258,15 +261,39 @@ impl<S: Peer, C: LoopCore, T: Time + Drop> Open<S, C, T> {
         }
         self.has_missed = false;
         'keys: for key in 0..self.bound {
-            self.schedule(key);
+            self.give_turn(key);
         }
     }
 
-    /// Whether a connection gets its turn in this round. Where the turns of its tenant took long in it, it is put off.
+    /// Whether a connection gets its turn in this round. Where the turns of its tenant took long in it, it is put off. So is one that asks what may take long,
+    /// while others do.
     pub fn has_time(&self, due: Due) -> bool
-        ensures { result ≡ has_time due self.now }
+        ensures { result ≡ has_time C.longs due self.now }
     {
-        self.due.has_time(due)
+        self.due.has_time(due, self.is_long(due.key))
+    }
+
+    // Whether a turn of a connection may take long. It is looked at only where turns took long lately, or where the connection has a share of memory.
+    fn is_long(&self, key: usize) -> bool
+        ensures { result ≡ is_long C.longs key self.now }
+    {
+        match conn_of(key) {
+            Some(conn) => {
+                (self.due.is_crowded() || self.claim_of(key).is_some())
+                    && (self.owes_much(key) || self.core.inner().is_long(conn))
+            }
+            None => false,
+        }
+    }
+
+    // Whether so much is owed on a connection that it takes long to write.
+    fn owes_much(&self, key: usize) -> bool
+        ensures { result ≡ owes_much key self.now }
+    {
+        match self.connections.get(key) {
+            Some(connection) => connection.outbox.owed().len() > PIECE,
+            None => false,
+        }
     }
 
     /// Whether the connection of a turn is open still.
@@ -282,6 +309,7 @@ impl<S: Peer, C: LoopCore, T: Time + Drop> Open<S, C, T> {
     /// Has a turn come in the next round, before the turns of those that had one in this round.
     pub fn put_off(&mut self, due: Due) -> Result<(), AllocError>
         ensures lanes { Stays (lanes_of S.told self.old) (lanes_of S.told self.new) }
+        ensures ready { StatesStay self.old self.new }
         ensures kept { OnOk result (IsPutOff due self.old self.new) }
         ensures woken { OnOk result (Passes due self.old self.new) }
     {
@@ -291,6 +319,7 @@ impl<S: Peer, C: LoopCore, T: Time + Drop> Open<S, C, T> {
     /// The list of a round.
     pub fn give_back(&mut self, list: Vec<Due>)
         ensures lanes { Stays (lanes_of S.told self.old) (lanes_of S.told self.new) }
+        ensures ready { StatesStay self.old self.new }
         ensures first { self.new.due.first.items ≡ self.old.due.first.items }
         ensures woken { StaysWoken self.old self.new }
     {
@@ -310,6 +339,7 @@ impl<S: Peer, C: LoopCore, T: Time + Drop> Open<S, C, T> {
     /// One turn for a connection, and whether bytes moved. Where the peer is gone, nothing is done any more.
     pub fn turn(&mut self, key: usize, now: u64) -> (Outcome, bool)
         ensures lanes { TurnsAtMost C.steps key (lanes_of S.told self.old) (lanes_of S.told self.new) }
+        ensures others { OthersStand key self.old self.new }
         ensures bytes { IsFalse result.1 → bytes_of self.new ≡ bytes_of self.old }
         ensures lost { IsTrue (lost_at key self.old) → result.0 ≡ Outcome.Over End.ReadFault }
         ensures idle { IsTrue (lost_at key self.old) → Stays (lanes_of S.told self.old) (lanes_of S.told self.new) }
@@ -330,6 +360,7 @@ impl<S: Peer, C: LoopCore, T: Time + Drop> Open<S, C, T> {
     // A connection is due no more.
     fn take_off(&mut self, key: usize)
         ensures lanes { Stays (lanes_of S.told self.old) (lanes_of S.told self.new) }
+        ensures ready { StatesStay self.old self.new }
         ensures there { is_open_at key self.new ≡ is_open_at key self.old }
         ensures woken { TakesOff key self.old self.new }
     {
@@ -380,10 +411,17 @@ impl<S: Peer, C: LoopCore, T: Time + Drop> Open<S, C, T> {
         ensures woken { TakesOff key self.old self.new }
     {
         let has_room = self.budgets.has_room(ROOM);
+        let is_long = self.is_long(key);
         let connection = self.connections.get_mut(key)?;
         connection.is_due = false;
-        begin(&mut self.core, connection.worked, connection.is_working);
-        share(&mut self.core, self.due.is_shared());
+        self.due.begin(connection.tenant, is_long);
+        begin(
+            &mut self.core,
+            connection.worked,
+            connection.is_working,
+            self.due.is_shared(),
+            self.due.is_brief(),
+        );
         match connection.phase {
             Phase::Served => Some(connection.plan(has_room)),
             Phase::Lingering => Some(Plan::Read),
@@ -405,6 +443,7 @@ impl<S: Peer, C: LoopCore, T: Time + Drop> Open<S, C, T> {
     // One turn by a plan.
     fn work(&mut self, key: usize, plan: Plan) -> (Outcome, bool)
         ensures lanes { TurnsAtMost C.steps key (lanes_of S.told self.old) (lanes_of S.told self.new) }
+        ensures others { OthersStand key self.old self.new }
         ensures bytes { IsFalse result.1 → bytes_of self.new ≡ bytes_of self.old }
         ensures given { IfSome (get self.old.connections key) (λ c. key < 2 ^ 32 → HasTurnBy C.steps S.told plan key c result.0 self.old self.new) }
         ensures there { is_open_at key self.new ≡ is_open_at key self.old }
@@ -437,6 +476,7 @@ impl<S: Peer, C: LoopCore, T: Time + Drop> Open<S, C, T> {
     /// Notes the second in which bytes moved.
     pub fn mark(&mut self, key: usize, now: u64)
         ensures lanes { Stays (lanes_of S.told self.old) (lanes_of S.told self.new) }
+        ensures ready { StatesStay self.old self.new }
         ensures marked { IsMarked self.new key now }
         ensures there { is_open_at key self.new ≡ is_open_at key self.old }
         ensures woken { StaysWoken self.old self.new }
@@ -451,6 +491,7 @@ impl<S: Peer, C: LoopCore, T: Time + Drop> Open<S, C, T> {
     /// turn; if not, it has no query under way.
     pub fn settle(&mut self, key: usize, now: u64) -> Result<(), AllocError>
         ensures lanes { Stays (lanes_of S.told self.old) (lanes_of S.told self.new) }
+        ensures ready { StatesStay self.old self.new }
         ensures standing { OnOk result (IsStanding key self.new) }
         ensures awake { OnOk result (IsTrue (is_awake key self.new)) }
         ensures woken { OnOk result (Wakes key self.old self.new) }
@@ -464,6 +505,7 @@ impl<S: Peer, C: LoopCore, T: Time + Drop> Open<S, C, T> {
     // What is done with is given back, and what the next step needs is asked for.
     fn settle_memory(&mut self, key: usize, now: u64) -> Result<(), AllocError>
         ensures lanes { Stays (lanes_of S.told self.old) (lanes_of S.told self.new) }
+        ensures ready { StatesStay self.old self.new }
         ensures woken { WakesOthers key self.old self.new }
     {
         let Some(conn) = conn_of(key) else {
@@ -471,9 +513,10 @@ impl<S: Peer, C: LoopCore, T: Time + Drop> Open<S, C, T> {
         };
         self.count_turn(key, now);
         self.note_part(key, conn);
+        let has_answered = self.core.answered() > 0;
         match self.claim_of(key) {
             Some(claim) => {
-                self.settle_claim(key, &claim, now);
+                self.settle_claim(key, &claim, has_answered, now);
                 Ok(())
             }
             None => self.ask(key, conn, now),
@@ -483,6 +526,7 @@ impl<S: Peer, C: LoopCore, T: Time + Drop> Open<S, C, T> {
     // Notes whether a frame came in part, or is not answered.
     fn note_part(&mut self, key: usize, conn: u32)
         ensures lanes { Stays (lanes_of S.told self.old) (lanes_of S.told self.new) }
+        ensures ready { StatesStay self.old self.new }
         ensures woken { WakesOthers key self.old self.new }
     {
         let waiting = self.core.inner().waiting(conn);
@@ -491,29 +535,37 @@ impl<S: Peer, C: LoopCore, T: Time + Drop> Open<S, C, T> {
         }
     }
 
-    // Counts the time that a turn took.
+    // Counts the time that a turn took. One in which a query went on takes a span, and one that stood by does not: its tenant's query is to have its turn.
     fn count_turn(&mut self, key: usize, now: u64)
         ensures lanes { Stays (lanes_of S.told self.old) (lanes_of S.told self.new) }
+        ensures ready { StatesStay self.old self.new }
+        ensures times { IfSome (get self.new.connections key) (λ c. (micros : ℕ) × ((has_worked : Bool) × (self.new.due.micros ≡ after_turn self.old.due.micros (party_of (tenant_at key self.old)) (party_of c.tenant) micros (c.is_working && has_worked)))) }
         ensures woken { WakesOthers key self.old self.new }
     {
         let micros = take_micros(&mut self.core);
+        let has_worked = self.core.has_worked();
         let stood = self.tenant_of(key);
         self.note_turn(key);
         self.renew(key, now);
         if let Some(connection) = self.connections.get(key) {
+            let has_gone_on = connection.is_working & has_worked;
             self.due
-                .count(stood, connection.tenant, micros, connection.is_working);
+                .count(stood, connection.tenant, micros, has_gone_on);
         }
     }
 
     // The tenant that was answered last on a connection.
-    fn tenant_of(&self, key: usize) -> Option<usize> {
+    fn tenant_of(&self, key: usize) -> Option<usize>
+        ensures { result ≡ tenant_at key self.now }
+    {
         self.connections.get(key)?.tenant
     }
 
     // Notes what the core tells of a turn.
     fn note_turn(&mut self, key: usize)
         ensures lanes { Stays (lanes_of S.told self.old) (lanes_of S.told self.new) }
+        ensures ready { StatesStay self.old self.new }
+        ensures due { self.new.due ≡ self.old.due }
         ensures woken { WakesOthers key self.old self.new }
     {
         let core = self.core.inner();
@@ -528,6 +580,8 @@ impl<S: Peer, C: LoopCore, T: Time + Drop> Open<S, C, T> {
     // While a query goes on, the time for which its connection may hold a share begins anew.
     fn renew(&mut self, key: usize, now: u64)
         ensures lanes { Stays (lanes_of S.told self.old) (lanes_of S.told self.new) }
+        ensures ready { StatesStay self.old self.new }
+        ensures due { self.new.due ≡ self.old.due }
         ensures woken { WakesOthers key self.old self.new }
     {
         let has_worked = self.core.has_worked();
@@ -538,21 +592,9 @@ impl<S: Peer, C: LoopCore, T: Time + Drop> Open<S, C, T> {
         }
     }
 
-    // What [`Open::give_turn`] does, of which no more is said here than that nothing else changes.
-    pub(crate) fn schedule(&mut self, key: usize)
-        ensures lanes { Stays (lanes_of S.told self.old) (lanes_of S.told self.new) }
-        ensures budgets { self.new.budgets ≡ self.old.budgets }
-        ensures ready { StatesStay self.old self.new }
-        ensures claims { ClaimsStay self.old self.new }
-        ensures awake { IsTrue (is_awake key self.new) }
-        ensures bound { self.new.bound ≡ self.old.bound }
-        ensures woken { Wakes key self.old self.new }
-    {
-        self.give_turn(key);
-    }
-
-    // A connection that can go on gets a further turn. One that can't has no query under way: so nobody waits for one that waits.
-    fn give_turn(&mut self, key: usize)
+    // A connection that can go on gets a further turn. One that can't has no query under way: so nobody waits for one that waits. Where there is no memory
+    // for the turn, the connection is looked at again before the next round.
+    pub(crate) fn give_turn(&mut self, key: usize)
         ensures lanes { Stays (lanes_of S.told self.old) (lanes_of S.told self.new) }
         ensures budgets { self.new.budgets ≡ self.old.budgets }
         ensures standing { IsStanding key self.new }
@@ -578,24 +620,11 @@ impl<S: Peer, C: LoopCore, T: Time + Drop> Open<S, C, T> {
         let (tenant, is_working) = (connection.tenant, connection.is_working);
         match self.due.add(key, connection.number, tenant, is_working) {
             Ok(()) => connection.is_due = true,
-            Err(_) => self.miss(key),
+            Err(_) => {
+                self.has_missed = true;
+                self.give_up_query(key);
+            }
         }
-    }
-
-    // There is no memory for a connection's turn. It is looked at again before the next round.
-    fn miss(&mut self, key: usize)
-        ensures lanes { Stays (lanes_of S.told self.old) (lanes_of S.told self.new) }
-        ensures budgets { self.new.budgets ≡ self.old.budgets }
-        ensures due { IsAsDue key self.old self.new }
-        ensures given_up { IfSome (get self.new.connections key) (λ c. IsFalse c.is_working) }
-        ensures ready { StatesStay self.old self.new }
-        ensures claims { ClaimsStay self.old self.new }
-        ensures missed { IsTrue self.new.has_missed }
-        ensures bound { self.new.bound ≡ self.old.bound }
-        ensures woken { WakesOthers key self.old self.new }
-    {
-        self.has_missed = true;
-        self.give_up_query(key);
     }
 
     // A connection that gets no turn has no query under way.
@@ -650,6 +679,7 @@ impl<S: Peer, C: LoopCore, T: Time + Drop> Open<S, C, T> {
     /// Ends a connection's session, and reads what still comes for a little while.
     pub fn linger(&mut self, key: usize, now: u64)
         ensures lanes { DoesAtMost C.steps (LetGo key) (lanes_of S.told self.old) (lanes_of S.told self.new) }
+        ensures others { OthersStand key self.old self.new }
         ensures share { key < 2 ^ 32 → IsGivenBack (claim_at self.old.connections key) self.new.budgets }
         ensures closes { IsTrue (is_open_at key self.old) → key < 2 ^ 32 → Does C.steps (LetGo key) (lanes_of S.told self.old) (lanes_of S.told self.new) }
         ensures awake { IsTrue (is_awake key self.new) }
@@ -657,12 +687,13 @@ impl<S: Peer, C: LoopCore, T: Time + Drop> Open<S, C, T> {
     {
         let claim = self.end(key, now);
         self.give_up(claim, now);
-        self.schedule(key);
+        self.give_turn(key);
     }
 
     // Ends a connection's session, and hands out its share.
     fn end(&mut self, key: usize, now: u64) -> Option<Claim>
         ensures lanes { DoesAtMost C.steps (LetGo key) (lanes_of S.told self.old) (lanes_of S.told self.new) }
+        ensures others { OthersStand key self.old self.new }
         ensures claim { key < 2 ^ 32 → result ≡ claim_at self.old.connections key }
         ensures closes { IsTrue (is_open_at key self.old) → key < 2 ^ 32 → Does C.steps (LetGo key) (lanes_of S.told self.old) (lanes_of S.told self.new) }
         ensures woken { WakesOthers key self.old self.new }
@@ -678,6 +709,7 @@ impl<S: Peer, C: LoopCore, T: Time + Drop> Open<S, C, T> {
     /// Closes a connection.
     pub fn close(&mut self, key: usize, now: u64)
         ensures lanes { DoesAtMost C.steps (LetGo key) (lanes_of S.told self.old) (lanes_of S.told self.new) }
+        ensures others { OthersStand key self.old self.new }
         ensures share { key < 2 ^ 32 → IsGivenBack (claim_at self.old.connections key) self.new.budgets }
         ensures closes { IsTrue (is_open_at key self.old) → key < 2 ^ 32 → Does C.steps (LetGo key) (lanes_of S.told self.old) (lanes_of S.told self.new) }
         ensures woken { Wakes key self.old self.new }
@@ -689,6 +721,7 @@ impl<S: Peer, C: LoopCore, T: Time + Drop> Open<S, C, T> {
     // Takes a connection off, and hands out its share.
     fn let_go(&mut self, key: usize) -> Option<Claim>
         ensures lanes { DoesAtMost C.steps (LetGo key) (lanes_of S.told self.old) (lanes_of S.told self.new) }
+        ensures others { OthersStand key self.old self.new }
         ensures claim { key < 2 ^ 32 → result ≡ claim_at self.old.connections key }
         ensures closes { IsTrue (is_open_at key self.old) → key < 2 ^ 32 → Does C.steps (LetGo key) (lanes_of S.told self.old) (lanes_of S.told self.new) }
         ensures woken { Wakes key self.old self.new }
@@ -708,7 +741,9 @@ impl<S: Peer, C: LoopCore, T: Time + Drop> Open<S, C, T> {
     }
 
     /// How a connection's time is up, where it is.
-    pub fn expiry(&self, key: usize, now: u64, limits: &Limits) -> Outcome {
+    pub fn expiry(&self, key: usize, now: u64, limits: &Limits) -> Outcome
+        ensures { result ≡ expiry_at key now limits.now self.now }
+    {
         let Some(connection) = self.connections.get(key) else {
             return Outcome::Open;
         };
@@ -731,60 +766,5 @@ impl<S: Peer, C: LoopCore, T: Time + Drop> Open<S, C, T> {
                 }
             }
         }
-    }
-
-    /// The connection that has been idle longest, for so many seconds at least. They are looked for once a second.
-    pub fn spare(&mut self, now: u64, limits: &Limits) -> Option<usize>
-        ensures lanes { Stays (lanes_of S.told self.old) (lanes_of S.told self.new) }
-        ensures woken { StaysWoken self.old self.new }
-    {
-        match self.next_spare(now, limits) {
-            Some(key) => Some(key),
-            None => {
-                if self.looked == Some(now) {
-                    return None;
-                }
-                self.looked = Some(now);
-                self.look_for_spare(now, limits);
-                self.next_spare(now, limits)
-            }
-        }
-    }
-
-    // The next of those that were found and are still idle.
-    fn next_spare(&mut self, now: u64, limits: &Limits) -> Option<usize>
-        ensures lanes { Stays (lanes_of S.told self.old) (lanes_of S.told self.new) }
-        ensures woken { StaysWoken self.old self.new }
-    {
-        'found: for _ in 0..self.idle.len() {
-            let (since, key) = self.idle.pop()?;
-            if let Some(connection) = self.connections.get(key) {
-                if connection.spare_since(now, limits) == Some(since) {
-                    return Some(key);
-                }
-            }
-        }
-        None
-    }
-
-    // Finds those that are idle. Where there is no memory for the list, there is none.
-    fn look_for_spare(&mut self, now: u64, limits: &Limits)
-        ensures lanes { Stays (lanes_of S.told self.old) (lanes_of S.told self.new) }
-        ensures woken { StaysWoken self.old self.new }
-    {
-        self.idle.clear();
-        let count = self.count();
-        if self.idle.reserve(count).is_err() {
-            return;
-        }
-        'keys: for key in 0..self.bound {
-            if let Some(connection) = self.connections.get(key) {
-                if let Some(since) = connection.spare_since(now, limits) {
-                    let _ = self.idle.push((since, key));
-                }
-            }
-        }
-        self.idle.sort_unstable();
-        self.idle.reverse();
     }
 }

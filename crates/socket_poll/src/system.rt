@@ -1,5 +1,5 @@
 //! What a loop needs of the operating system: what is ready, who connects, and the time.
-ghost use Rattle.std.specs.Prelude.{◌≡◌};
+ghost use Rattle.std.specs.Prelude.{◌≡◌, ⊤, Option};
 ghost use Rattle.socket_poll.specs.Streams.{IsNew};
 ghost use Rattle.socket_poll.specs.Reports.{ended_at};
 
@@ -102,6 +102,12 @@ pub trait System {
 
 /// A clock.
 pub trait Time {
+    ghost use Rattle.std.specs.declared.time.Duration.{Duration};
+
+    /// What it may tell.
+    ghost tells: { Self → Option Duration → Type 0 } = { λ _ _. ⊤ };
+
     /// The time since some fixed moment, if the clock works.
-    fn now(&self) -> Option<Duration>;
+    fn now(&self) -> Option<Duration>
+        ensures { tells self.now result };
 }

@@ -1,8 +1,6 @@
-use Rattle.open_connections.specs.Looping.{Stays}
-use Rattle.open_connections.specs.Opened.{lanes_of}
-use Rattle.open_connections.specs.Woken.{StaysWoken}
+use Rattle.std.specs.Prelude.{◌≡◌}
 use Rattle.event_loop.proofs.rounds.Rounds.administer.Given as goal
 
--- nothing that is served has changed so far, and nobody is forgotten
+-- the connections that are served are as they were
 abbrev pub invariant-places : goal.invariant-places
-invariant-places g l = record { lanes : Stays (lanes_of g.S.Stream.Wire.told l.initial.self.opened) (lanes_of g.S.Stream.Wire.told l.self.opened); woken : StaysWoken l.initial.self.opened l.self.opened }
+invariant-places g l = l.self.opened ≡ l.initial.self.opened

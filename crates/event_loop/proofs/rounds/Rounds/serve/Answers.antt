@@ -1,7 +1,16 @@
+use Rattle.std.proofs.Common.{rules, ◌≡◌, true, sym, ◌∙◌}
 use Rattle.open_connections.proofs.Woken.{turn_comes}
+use Rattle.event_loop.proofs.Serving.{serves_one}
 use Rattle.event_loop.proofs.rounds.Rounds.serve.Goals as goal
 
 pub returns-clause-woken : goal.returns-clause-woken
 returns-clause-woken g c = λ fact h.
     let o = c.args.self.now.opened in
     c.take_turn.ensures.woken fact (turn_comes o.bound o.has_missed o.due.first.items o.due.rest.items o.connections c.args.due fact h)
+
+pub returns-clause-serves : goal.returns-clause-serves
+returns-clause-serves g c =
+    let time : c.has_time.result ≡ true = search rules in
+    let there : c.is_there.result ≡ true = search rules in
+    serves_one g.C.LoopCore.steps g.S.Stream.Wire.told g.C.LoopCore.may_wait g.C.LoopCore.longs c.args.due c.args.self.now.opened c.take_turn.new.self.opened
+    (sym c.has_time.ensures ∙ time) (sym c.is_there.ensures ∙ there) c.take_turn.ensures.takes

@@ -1,5 +1,6 @@
 use Rattle.std.proofs.Common.{◌∙◌}
 use Rattle.open_connections.proofs.Looping.{gone_on, on_then, turn_on}
+use Rattle.open_connections.proofs.Keeping.{others_then}
 use Rattle.event_loop.proofs.Serving.{follows_then}
 use Rattle.event_loop.proofs.rounds.Rounds.take_turn.Goals as goal
 
@@ -11,5 +12,6 @@ returns-clause-takes g c = λ o k. let t = c.turn-outcome.ensures.gets k in reco
   turned = t.0;
   result = c.turn-outcome.result;
   turn = t.1;
-  follows = follows_then g.C.LoopCore.steps c.args.key _ _ _ _ t.2 (c.follow.ensures.follows (c.turn-outcome.ensures.there ∙ o) k);
+  follows = follows_then g.C.LoopCore.steps g.S.Stream.Wire.told c.args.key _ _ _ _ t.2 t.3 (c.follow.ensures.follows (c.turn-outcome.ensures.there ∙ o) k);
+  others = others_then c.args.key _ _ _ c.turn-outcome.ensures.others c.follow.ensures.others;
 }

@@ -1,6 +1,6 @@
 use Rattle.std.proofs.Common.{◌∙◌, List, [], subst, sym}
 use Rattle.due_list.specs.declared.due.Due.{Due}
-use Rattle.open_connections.specs.Woken.{IsWoken}
+use Rattle.open_connections.specs.Woken.{IsWoken, Stands}
 use Rattle.open_connections.proofs.Looping.{no_step_on, on_then, stays}
 use Rattle.event_loop.proofs.Serving.{leads_on, leads_through}
 use Rattle.event_loop.proofs.Waking.{none_left, woken_on, woken_out, woken_still}
@@ -12,7 +12,7 @@ turns-init g c = record { lanes = no_step_on g.C.LoopCore.steps _ _ (stays _); l
 pub turns-preserved : goal.turns-preserved
 turns-preserved g c = record {
   lanes = on_then g.C.LoopCore.steps _ _ _ c.turns.invariant.lanes c.serve.ensures.lanes;
-  leads = leads_on g.C.LoopCore.steps g.S.Stream.Wire.told g.C.LoopCore.may_wait _ _ _ _ _ _ c.turns-test.true c.turns.invariant.leads c.in_ok-serve.ensures.serves;
+  leads = leads_on g.C.LoopCore.steps g.S.Stream.Wire.told g.C.LoopCore.may_wait g.C.LoopCore.longs _ _ _ _ _ _ c.turns-test.true c.turns.invariant.leads c.in_ok-serve.ensures.serves (λ key number h. c.in_ok-serve.ensures.woken (Stands key number []) h);
   woken = λ h. woken_on _ c.turns.due-index _ c.turns.self.opened c.serve.new.self.opened c.turns-test.true (c.turns.invariant.woken h) c.in_ok-serve.ensures.woken;
 }
 
@@ -29,8 +29,9 @@ pub returns-clause-each : goal.returns-clause-each
 returns-clause-each g c = record {
   start = c.take_due.new.self;
   begins = c.in_ok-list.ensures.lanes;
+  same = c.in_ok-list.ensures.connections;
   fresh = c.in_ok-list.ensures.fresh;
-  serves = rw (sym (c.deref-due-items.ensures.value ∙ c.in_ok-list.ensures.all)) (leads_through g.C.LoopCore.steps g.S.Stream.Wire.told g.C.LoopCore.may_wait _ c.turns.due-index _ _ _ c.turns-test.false c.turns.invariant.leads (c.give_back.ensures.lanes, c.give_back.ensures.first));
+  serves = rw (sym (c.deref-due-items.ensures.value ∙ c.in_ok-list.ensures.all)) (leads_through g.C.LoopCore.steps g.S.Stream.Wire.told g.C.LoopCore.may_wait g.C.LoopCore.longs _ c.turns.due-index _ _ _ c.turns-test.false c.turns.invariant.leads (c.give_back.ensures.lanes, c.give_back.ensures.ready, (λ key number h. c.give_back.ensures.woken (Stands key number []) h), c.give_back.ensures.first));
 }
 
 pub returns-clause-woken : goal.returns-clause-woken

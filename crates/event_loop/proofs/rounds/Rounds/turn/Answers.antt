@@ -4,6 +4,7 @@ use Rattle.outbox.specs.Told.{Told}
 use Rattle.open_connections.specs.declared.open.Open.{Open}
 use Rattle.open_connections.specs.Looping.{Stays}
 use Rattle.open_connections.specs.Opened.{bytes_of, lanes_of}
+use Rattle.open_connections.proofs.Keeping.{others_stand, others_then}
 use Rattle.open_connections.proofs.Looping.{turn_then}
 use Rattle.event_loop.proofs.Serving.{if_small}
 use Rattle.event_loop.specs.Clocked.{IsNoted, NotesMoved}
@@ -28,4 +29,8 @@ returns-clause-gets g c = λ k. (
     lost = λ h. (c.turn-outcome.ensures.lost h, c.turn-outcome.ensures.idle h);
   },
   c.mark.ensures.lanes,
+  c.mark.ensures.ready,
 )
+
+pub returns-clause-others : goal.returns-clause-others
+returns-clause-others g c = others_then c.args.key _ _ _ c.turn-outcome.ensures.others (others_stand c.args.key _ _ c.mark.ensures.ready)

@@ -1,4 +1,4 @@
-use Rattle.std.proofs.Common.{sym, ◌∙◌}
+use Rattle.std.proofs.Common.{refl, sym, ◌∙◌}
 use Rattle.open_connections.specs.Opened.{bytes_of}
 use Rattle.open_connections.specs.Shares.{limits_in}
 use Rattle.open_connections.proofs.Looping.{no_step, serves_no_new, some_then}
@@ -27,3 +27,9 @@ returns-clause-woken g c =
     let was = c.self.inside.rounds.opened in
     let is = c.step.new.self.opened in
     rw (← c.self.view_is) (λ h. ok_still _ _ c.step.result (λ k. shown is k) (c.step.ensures.woken (known was h)))
+
+pub returns-clause-turns : goal.returns-clause-turns
+returns-clause-turns g c =
+    let was = c.self.inside.rounds.opened in
+    let is = c.step.new.self.opened in
+    rw (← c.self.view_is) (ok_still _ _ c.step.result (λ k. (was, is, refl, refl, k)) c.step.ensures.turns)

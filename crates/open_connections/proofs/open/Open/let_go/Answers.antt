@@ -3,6 +3,7 @@ use Rattle.open_connections.specs.Shares.{limits_in}
 use Rattle.open_connections.specs.Opened.{bytes_of}
 use Rattle.open_connections.proofs.Steps.{gone_steps}
 use Rattle.open_connections.proofs.Woken.{large_woken}
+use Rattle.open_connections.proofs.Keeping.{one_changes}
 use Rattle.open_connections.proofs.open.Open.let_go.Goals as goal
 
 pub returns-clause-lanes : goal.returns-clause-lanes
@@ -15,3 +16,6 @@ returns-clause-closes g c = λ o k.
 
 pub returns-in_err-conn-clause-woken : goal.returns-in_err-conn-clause-woken
 returns-in_err-conn-clause-woken g c = large_woken _ _ _ _ c.args.self.now.connections c.args.key (search rules)
+
+pub returns-clause-others : goal.returns-clause-others
+returns-clause-others g c = one_changes c.args.key c.args.self.now _ _ c.in_ok-connection.ensures.updates tt

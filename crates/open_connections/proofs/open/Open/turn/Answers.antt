@@ -2,6 +2,7 @@ use Rattle.std.proofs.Common.{inr}
 use Rattle.slab.specs.Slab.{get}
 use Rattle.open_connections.proofs.Looping.{then_turn}
 use Rattle.open_connections.proofs.Turns.{done_at, left_at}
+use Rattle.open_connections.proofs.Keeping.{others_stand, others_then}
 use Rattle.open_connections.proofs.open.Open.turn.Goals as goal
 
 pub returns-in-Ok-clause-lanes : goal.returns-in-Ok-clause-lanes
@@ -15,4 +16,10 @@ pub returns-in-Err-clause-lanes : goal.returns-in-Err-clause-lanes
 returns-in-Err-clause-lanes g c = inr (inr c.prepare.ensures.lanes)
 
 pub returns-in-Err-clause-given : goal.returns-in-Err-clause-given
-returns-in-Err-clause-given g c = left_at g.C.LoopCore.steps g.S.Wire.told g.C.LoopCore.may_wait c.args.key _ c.args.self.now c.prepare.new.self (get c.args.self.now.connections c.args.key) c.prepare.ensures.lanes c.in-Err.ensures.plan
+returns-in-Err-clause-given g c = left_at g.C.LoopCore.steps g.S.Wire.told g.C.LoopCore.may_wait c.args.key _ c.args.self.now c.prepare.new.self (get c.args.self.now.connections c.args.key) c.prepare.ensures.lanes c.prepare.ensures.ready c.in-Err.ensures.plan
+
+pub returns-in-Ok-clause-others : goal.returns-in-Ok-clause-others
+returns-in-Ok-clause-others g c = others_then c.args.key _ _ _ (others_stand c.args.key _ _ c.prepare.ensures.ready) c.work.ensures.others
+
+pub returns-in-Err-clause-others : goal.returns-in-Err-clause-others
+returns-in-Err-clause-others g c = others_stand c.args.key _ _ c.prepare.ensures.ready

@@ -1,9 +1,10 @@
-use Rattle.std.proofs.Common.{arith, inl, inr, refl, sym}
+use Rattle.std.proofs.Common.{arith, inl, inr, refl, sym, rules}
 use Rattle.connection_turns.specs.Planning.{can_go_by}
 use Rattle.open_connections.specs.Opened.{bytes_of}
 use Rattle.open_connections.specs.Shares.{limits_in}
 use Rattle.open_connections.proofs.Steps.{written}
 use Rattle.open_connections.proofs.Turns.{at_slot, drain_lanes, drained_by, lingers_by, served_by, turn_lanes, turned_by}
+use Rattle.open_connections.proofs.Keeping.{one_changes}
 use Rattle.open_connections.proofs.open.Open.work.Goals as goal
 
 pub returns-in-Lingering-clause-lanes : goal.returns-in-Lingering-clause-lanes
@@ -28,3 +29,9 @@ returns-in-Served-clause-given g c =
     at_slot _ _ c.in-Some-get_mut.connection.now (sym c.in-Some-get_mut.ensures.value) (λ k. served_by g.C.LoopCore.steps g.S.Wire.told c.args.plan c.args.key c.in-Some-get_mut.connection.now _ c.args.self.now _ c.in-Served.is
     (turned_by g.C.LoopCore.steps g.S.Wire.told c.args.plan c.args.key c.in-Some.conn _ c.args.self.now _ c.in-Some-get_mut.connection.now c.turn-read.new.self _ _ (g.met.C.LoopCore.takes_so c.in-Some.conn) (g.met.C.LoopCore.answers_so c.in-Some.conn) c.in-Some.ensures.same (sym c.in-Some-get_mut.ensures.value)
     (written c.args.self.now.connections c.args.key c.in-Some-get_mut.connection.now c.turn-read.new.self (sym c.in-Some-get_mut.ensures.value)) refl c.in-Served.is c.turn-read.ensures.phase c.turn-read.ensures.turn c.outcome.ensures.over))
+
+pub returns-in-Lingering-clause-others : goal.returns-in-Lingering-clause-others
+returns-in-Lingering-clause-others g c = one_changes c.args.key c.args.self.now _ _ (written c.args.self.now.connections c.args.key c.in-Some-get_mut.connection.now c.drain.new.self (sym c.in-Some-get_mut.ensures.value)) (search rules)
+
+pub returns-in-Served-clause-others : goal.returns-in-Served-clause-others
+returns-in-Served-clause-others g c = one_changes c.args.key c.args.self.now _ _ (written c.args.self.now.connections c.args.key c.in-Some-get_mut.connection.now c.turn-read.new.self (sym c.in-Some-get_mut.ensures.value)) (search rules)

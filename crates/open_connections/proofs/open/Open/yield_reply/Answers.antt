@@ -1,6 +1,6 @@
 use Rattle.std.proofs.Common.{sym}
-use Rattle.open_connections.proofs.Keeping.{keep_at}
+use Rattle.open_connections.proofs.Keeping.{alike, keep_at}
 use Rattle.open_connections.proofs.open.Open.yield_reply.Goals as goal
 
 pub returns-in-Some-clause-ready : goal.returns-in-Some-clause-ready
-returns-in-Some-clause-ready g c = keep_at _ c.args.self.now.connections c.args.key c.in-Some.connection.now _ (sym c.in-Some.ensures.value) (let phase = c.renew.ensures.phase in let ready = c.renew.ensures.ready in cc)
+returns-in-Some-clause-ready g c = keep_at _ c.args.self.now.connections c.args.key c.in-Some.connection.now _ (sym c.in-Some.ensures.value) (alike c.renew.ensures.due.0 c.renew.ensures.phase c.renew.ensures.ready)
