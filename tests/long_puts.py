@@ -3,7 +3,7 @@
 
 Statuses are those of docs/PROTOCOL.md. Each refusal of a text, the quotas and Exists come as for a text that is read at once. Twelve tenants put 4 MiB
 each at once, which are more than are read side by side, and are served meanwhile: they get what was there, or the whole text. A peer that goes in
-the middle leaves none of its text, and no place that others wait for.
+the middle leaves none of its text, and no place that others wait for. Long texts, queries and short texts that twelve tenants ask for together all come.
 """
 import socket
 import threading
@@ -16,6 +16,7 @@ KEYS = [bytes([place]) * 16 for place in range(1, 13)]
 OK, NOT_FOUND = 0, 15
 OLD = b'"old"'
 ROUNDS = 20
+BESIDE = 12
 
 
 def many(leaf, before=b"[", behind=b"]", size=4 * MEBIBYTE):
@@ -25,6 +26,7 @@ def many(leaf, before=b"[", behind=b"]", size=4 * MEBIBYTE):
 
 
 ZEROS, ARRAYS = many(b"0"), many(b"[]")
+LONG = many(b"0", size=MEBIBYTE)
 REFUSED = {5: ZEROS + bytes(4 * MEBIBYTE + 1 - len(ZEROS)), 6: many(b"0", behind=b',"\xff"]'), 7: many(b"0", behind=b"}"), 8: many(b"0", behind=b"," + b"[" * 256 + b"]" * 257),
            9: many(b"0", behind=b",1e1000000000]"), 10: many(b"0", behind=b',"\\ud800"]'), 11: many(b"0", behind=b',{"a":1,"b":2,"\\u0061":3}]')}
 """Texts by the status with which they are refused: each has its fault at its end."""
@@ -130,6 +132,61 @@ def gone(report, server):
     report.case("documents of peers that went", "", True, seen <= {(OK, True), (NOT_FOUND, False)})
 
 
+def in_turn(report, server):
+    """Each tenant asks for a long text, a query and a short text again and again, on two connections. The first two take long, so that they are put off while
+    others have turns: each reply comes, and is right."""
+    asks = [(get(b"l", bytes(16)), (OK, LONG)), (frame(5, b"\x01n$[0]", bytes(16)), (OK, bytes(4))), (get(b"s", bytes(16)), (OK, OLD))]
+
+    def ask(key, came):
+        with open_connection(server.address) as connection:
+            for _ in range(ROUNDS):
+                came += [asked(connection, request[:9] + key + request[25:]) == wanted for request, wanted in asks]
+
+    came = {(key, place): [] for key in KEYS for place in range(2)}
+    for key in KEYS:
+        with open_connection(server.address) as connection:
+            for name, text in ((b"l", LONG), (b"s", OLD)):
+                asked(connection, put(name, text, key))
+    threads = [threading.Thread(target=ask, args=(key, came[key, place])) for key, place in came]
+    for it in threads:
+        it.start()
+    for it in threads:
+        it.join()
+    for (key, place), right in came.items():
+        report.case("long and short requests in turn", (key, place), [True] * (ROUNDS * len(asks)), right)
+
+
+def beside_a_query(report, server):
+    """A tenant's long text is read while its query comes as the first request of a new connection, or on one on which another tenant asked. Requests of others
+    make the shares short. The put waits for the query, and both are answered."""
+    done = threading.Event()
+
+    def ask_on():
+        with open_connection(server.address) as connection:
+            while not done.is_set():
+                asked(connection, get(b"s", KEYS[1]))
+
+    with open_connection(server.address) as connection:
+        asked(connection, frame(1, b"\x01z\x01z" + ZEROS, KEYS[0]))
+        asked(connection, put(b"s", OLD, KEYS[1]))
+    others = threading.Thread(target=ask_on, daemon=True)
+    others.start()
+    for place in range(BESIDE):
+        with open_connection(server.address) as putting, open_connection(server.address) as querying:
+            asked(putting, get(b"s", KEYS[0]))
+            if place % 2:
+                asked(querying, get(b"s", KEYS[1]))
+            text = put(b"d", ARRAYS, KEYS[0])
+            putting.sendall(text[:-1])
+            time.sleep(0.1)
+            putting.sendall(text[-1:])
+            time.sleep(0.005 + 0.01 * (place % 6))
+            report.case("a query beside a text that is read", place, (OK, bytes(4)), asked(querying, frame(5, b"\x01z$[?@>1]", KEYS[0])))
+            report.case("the text that was read", place, (OK, b""), asked(putting, b""))
+    done.set()
+    others.join()
+
+
 def main():
     report = Report()
     with Listening(KEYS) as server:
@@ -138,6 +195,9 @@ def main():
     with Listening(KEYS) as server:
         side_by_side(report, server)
         gone(report, server)
+        in_turn(report, server)
+    with Listening(KEYS) as server:
+        beside_a_query(report, server)
     report.close("long puts")
 
 
