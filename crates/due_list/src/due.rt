@@ -185,7 +185,7 @@ impl DueList {
     }
 
     /// Counts a turn that took so long. The tenant that was heard in it pays for it. If the connection stood under another party, that one pays too.
-    /// A turn behind which a query is under way takes a span: others of its tenant can do nothing in this round.
+    /// A turn in which a query went on takes a span: others of its tenant can do nothing in this round.
     pub fn count(
         &mut self,
         stood: Option<usize>,
