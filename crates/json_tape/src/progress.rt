@@ -48,7 +48,7 @@ impl ReadTask {
                 seen,
             });
         }
-        match end(alloc, text.as_str(), &index, way, seen) {
+        match end(alloc, text.as_str(), &index, way, Box::into_inner(seen)) {
             Ok(parts) => Progress::Complete(Verdict::Accepted(Document::of_parts(text, parts))),
             Err(fault) => Progress::Complete(Verdict::refused(text, fault)),
         }

@@ -17,7 +17,8 @@ pub struct ReadTask {
     pub(crate) text: String,
     pub(crate) index: Index,
     pub(crate) way: Way,
-    pub(crate) seen: SeenNames,
+    // on the heap, since a task is moved and this is large
+    pub(crate) seen: Box<SeenNames>,
 }
 
 impl Model for ReadTask {
@@ -29,7 +30,7 @@ impl Model for ReadTask {
 
     ghost view = { λ t. record { text = string_bytes t.text; left = left t.index t.way } };
 
-    ghost invariant = { λ t. IsRead (string_bytes t.text) t.index t.seen t.way };
+    ghost invariant = { λ t. IsRead (string_bytes t.text) t.index t.seen.value t.way };
 }
 
 impl ReadTask {
@@ -45,12 +46,17 @@ impl ReadTask {
             Ok(both) => both,
             Err(fault) => return Err(fault),
         };
-        match begin(alloc, &index, &mut Looks::new(text)) {
+        let seen = match Box::new(alloc, SeenNames::new(alloc)) {
+            Ok(seen) => seen,
+            Err(_) => return Err(TextFault::Memory),
+        };
+        let mut looks = Looks::new(text);
+        match begin(alloc, &index, &mut looks) {
             Ok(way) => Ok(ReadTask {
                 text: copy,
                 index,
                 way,
-                seen: SeenNames::new(alloc),
+                seen,
             }),
             Err(fault) => Err(fault_of(fault)),
         }
