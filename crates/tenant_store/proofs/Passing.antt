@@ -23,8 +23,8 @@ use Rattle.tenant_store.specs.Hits.{Hit, hits}
 use Rattle.tenant_store.specs.Payloads.{Text, hit_bytes, hits_bytes, found_in, found_bytes, hit_count, payload, query_fault, IsFault, AnswersQuery, RefusesQuery}
 use Rattle.tenant_store.specs.TextsRead.{text_read, texts_read}
 use Rattle.tenant_store.specs.Steps.{Adds, AreSizes, FailsAt}
-use Rattle.query_shares.specs.Evaluators.{query_in}
-use Rattle.query_shares.specs.declared.evaluator.Evaluator.{Evaluator}
+use Rattle.query_machine.specs.Evaluators.{query_in}
+use Rattle.query_machine.specs.declared.evaluator.Evaluator.{Evaluator}
 use Rattle.tenant_store.specs.declared.tasks.Progress.{Progress}
 use Rattle.tenant_store.specs.declared.tasks.Progress.TheVariants.{Complete}
 use Rattle.tenant_store.specs.Walks.{Charges, HasSpent, IsAt, IsOnWay, IsReady, IsStep, Passes, cut_in, documents_left, last_of, left_by}

@@ -6,9 +6,9 @@ use Rattle.std.specs.declared.alloc.Global.{Global}
 use Rattle.json_tape.specs.Document.{Doc, tree_of}
 use Rattle.path_grammar.specs.Tree.{Segments}
 use Rattle.tape_select.specs.Charge.{charge}
-use Rattle.query_shares.specs.Evaluators.{IsAtRest, IsEvaluating, IsWithinText, left_on}
-use Rattle.query_shares.specs.declared.evaluator.Evaluator.{Evaluator}
-use Rattle.query_shares.specs.declared.levels.Levels.{Levels}
+use Rattle.query_machine.specs.Evaluators.{IsAtRest, IsEvaluating, IsWithinText, left_on}
+use Rattle.query_machine.specs.declared.evaluator.Evaluator.{Evaluator}
+use Rattle.query_machine.specs.declared.levels.Machine.{Machine}
 use Rattle.tenant_map.specs.Kept.{texts}
 use Rattle.tenant_map.specs.Maps.{Documents}
 use Rattle.tenant_store.specs.declared.walk.Place.{Place}
@@ -24,7 +24,7 @@ use Rattle.tenant_store.proofs.Passing.{adds_next, at_last, last_texts, length-r
 pub left_within : (text : List ℕ) (units : ℕ) (e : Evaluator) → IsEvaluating text units e → left_on units e.evaluation ≤ units
 left_within text units e h = by e.evaluation h.within
   where
-    by : (o : Option Levels) → IsWithinText text e.parts units o → left_on units o ≤ units
+    by : (o : Option Machine) → IsWithinText text e.parts units o → left_on units o ≤ units
     by None w = omega arith
     by (Some v) w = w.4
 
@@ -42,7 +42,7 @@ ready_at_rest (d ∷ ds) units e h = record { numbered = h.numbered; within = rw
 
 -- ---- One document
 
-cut_is : (units share left : ℕ) (o : Option Levels) → left_on units o + share < left → left ≤ units → (w : Levels) × (o ≡ Some w)
+cut_is : (units share left : ℕ) (o : Option Machine) → left_on units o + share < left → left ≤ units → (w : Machine) × (o ≡ Some w)
 cut_is units share left None s l = absurd (omega (arith, s, l))
 cut_is units share left (Some w) s l = (w, refl)
 
@@ -81,7 +81,7 @@ goes_behind q it rest e more begun left next new all i p r l =
 
 -- ---- A step ends behind a document, or within it
 
-ended : (q : Segments) (t : Text) (place next : Place) (o : Option Levels) (before after : List ℕ) (n : ℕ) → place.documents ≡ n + 1
+ended : (q : Segments) (t : Text) (place next : Place) (o : Option Machine) (before after : List ℕ) (n : ℕ) → place.documents ≡ n + 1
     → MatchOption o (Adds q t place next before after) (λ w. (next ≡ place) × (after ≡ before)) → next.documents ≡ n + cut_of o
 ended q t place next None before after n d a = let b = a.left in omega (arith, b, d)
 ended q t place next (Some w) before after n d a = let b = ap (λ (x : Place). x.documents) a.0 in omega (arith, b, d)
@@ -95,7 +95,7 @@ ends_step q it rest e name to more place old new before after all i n l t z =
     let one = ap (λ (ds : List (Vec ℕ Global × Doc)). length ds) i in
     ended q (text_read name e.1) place to.place new.evaluation before after (length all) (omega (arith, n, one, size)) t.passed
 
-pub ends_at : (q : Segments) (es it rest : List (Vec ℕ Global × Doc)) (e : Vec ℕ Global × Doc) (name : List ℕ) (place next : Place) (o : Option Levels) (start : ℕ) (before after : List ℕ) → it ≡ e ∷ rest → name ≡ e.0.items
+pub ends_at : (q : Segments) (es it rest : List (Vec ℕ Global × Doc)) (e : Vec ℕ Global × Doc) (name : List ℕ) (place next : Place) (o : Option Machine) (start : ℕ) (before after : List ℕ) → it ≡ e ∷ rest → name ≡ e.0.items
     → place.documents ≡ length it → Passes q (texts_read es) (texts_read it) place.units place.hits (drop start before) → AreSizes place start (length before) → AreSizes next start (length after)
     → MatchOption o (Adds q (text_read name e.1) place next before after) (λ w. (next ≡ place) × (after ≡ before)) → IsAt q (texts_read es) next (drop start after)
 ends_at q es it rest e name place next None start before after i m n p s l a =
@@ -109,7 +109,7 @@ pub ends_ready : (es it rest : List (Vec ℕ Global × Doc)) (e : Vec ℕ Global
     → IsEvaluating e.1.text place.units new → MatchOption new.evaluation (Adds q t place next before after) (λ w. (next ≡ place) × (after ≡ before)) → IsReady (last_of next.documents (texts es)) next.units new
 ends_ready es it rest e q t place next new before after i l h a = by new.evaluation refl a
   where
-    by : (o : Option Levels) → new.evaluation ≡ o → MatchOption o (Adds q t place next before after) (λ w. (next ≡ place) × (after ≡ before)) → IsReady (last_of next.documents (texts es)) next.units new
+    by : (o : Option Machine) → new.evaluation ≡ o → MatchOption o (Adds q t place next before after) (λ w. (next ≡ place) × (after ≡ before)) → IsReady (last_of next.documents (texts es)) next.units new
     by None r a = ready_at_rest (last_of next.documents (texts es)) next.units new (rests e.1.text place.units new h r)
     by (Some w) r a =
         let first : texts (e ∷ rest) ≡ last_of place.documents (texts es) = ap (λ ds. texts ds) (sym i) ∙ last_texts place.documents es it l in

@@ -6,8 +6,8 @@ use Rattle.tape_select.specs.Charge.{charge}
 use Rattle.store_names.specs.Lengths.{payload_limit}
 use Rattle.tenant_map.specs.declared.faults.StoreFault.{StoreFault}
 use Rattle.tenant_map.specs.declared.faults.StoreFault.TheVariants.{ReplyTooLarge, NoMemory, Costly}
-use Rattle.query_shares.specs.Evaluators.{left_on}
-use Rattle.query_shares.specs.declared.evaluator.Evaluator.{Evaluator}
+use Rattle.query_machine.specs.Evaluators.{left_on}
+use Rattle.query_machine.specs.declared.evaluator.Evaluator.{Evaluator}
 use Rattle.tenant_store.specs.declared.walk.Place.{Place}
 use Rattle.tenant_store.specs.declared.walk.Visited.{Visited}
 use Rattle.tenant_store.specs.Hits.{hits}

@@ -4,9 +4,9 @@ use Rattle.std.specs.Prelude.{◌≡◌, ◌<◌, ◌≤◌, ◌+◌, ◌-◌, �
 use Rattle.path_grammar.specs.Tree.{Segments}
 use Rattle.tape_select.specs.Budget.{budget}
 use Rattle.tape_select.specs.Charge.{total_of, charge}
-use Rattle.query_shares.specs.Evaluators.{IsAtRest, IsEvaluating, left_on, query_in}
-use Rattle.query_shares.specs.declared.evaluator.Evaluator.{Evaluator}
-use Rattle.query_shares.specs.declared.levels.Levels.{Levels}
+use Rattle.query_machine.specs.Evaluators.{IsAtRest, IsEvaluating, left_on, query_in}
+use Rattle.query_machine.specs.declared.evaluator.Evaluator.{Evaluator}
+use Rattle.query_machine.specs.declared.levels.Machine.{Machine}
 use Rattle.tenant_map.specs.Listings.{number}
 use Rattle.tenant_map.specs.Maps.{Documents}
 use Rattle.tenant_store.specs.declared.walk.Place.{Place}
@@ -83,7 +83,7 @@ documents_left (Complete units) = 0
 documents_left (Paused task) = task.place.documents
 
 -- 1 where it paused within the first of them
-abbrev pub cut_of : Option Levels → ℕ
+abbrev pub cut_of : Option Machine → ℕ
 cut_of None = 0
 cut_of (Some e) = 1
 

@@ -15,7 +15,7 @@ use crate::walk::{Place, begin_behind, go_on};
 use json_tape::Document;
 use json_tape::laws::one_tree;
 use path_types::ValidQuery;
-use query_shares::Evaluator;
+use query_machine::Evaluator;
 use std::alloc::Global;
 use std::collections::BTreeMap;
 use store_names::CollName;

@@ -8,7 +8,7 @@ ghost use Rattle.tape_select.specs.Budget.{budget};
 ghost use Rattle.tape_select.specs.Charge.{charge};
 ghost use Rattle.tape_select.specs.Evaluation.{nodes_selected};
 ghost use Rattle.tape_select.specs.Nodelists.{nodes_of};
-ghost use Rattle.query_shares.specs.Evaluators.{IsAtRest, IsEvaluating, left_on, query_in};
+ghost use Rattle.query_machine.specs.Evaluators.{IsAtRest, IsEvaluating, left_on, query_in};
 ghost use Rattle.tenant_map.specs.Kept.{AreKept, texts};
 ghost use Rattle.tenant_store.specs.Payloads.{query_fault, IsFault, IsCostlyOrMemory};
 ghost use Rattle.tenant_store.specs.TextsRead.{text_read, texts_read};
@@ -17,7 +17,7 @@ ghost use Rattle.tenant_store.specs.Walks.{IsAt, IsReady, cut_of, last_of, left_
 
 use crate::hits::write_hits;
 use json_tape::Document;
-use query_shares::Evaluator;
+use query_machine::Evaluator;
 use std::alloc::Global;
 use std::collections::BTreeMap;
 use std::collections::btree_map::Iter;

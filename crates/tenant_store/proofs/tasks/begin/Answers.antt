@@ -1,7 +1,7 @@
 use Rattle.std.proofs.Common.{◌≡◌, ◌+◌, ◌++◌, length, take, drop, ap, ◌∙◌, arith, refl}
 use Rattle.std.proofs.lemmas.Result.{err_from_is_err_and}
 use Rattle.path_grammar.specs.View.{query_view}
-use Rattle.query_shares.specs.declared.evaluator.Evaluator.{Evaluator}
+use Rattle.query_machine.specs.declared.evaluator.Evaluator.{Evaluator}
 use Rattle.tenant_map.specs.Listings.{number}
 use Rattle.tenant_store.specs.declared.walk.Place.{Place}
 use Rattle.tenant_store.specs.TextsRead.{texts_read}

@@ -1,6 +1,6 @@
 use Rattle.std.proofs.Common.{◌≡◌, ◌+◌, ◌<◌, ◌≤◌, length, IfOk, refl, sym, ◌∙◌, subst, arith}
 use Rattle.tape_select.specs.Budget.{budget}
-use Rattle.query_shares.specs.Evaluators.{left_on, query_in}
+use Rattle.query_machine.specs.Evaluators.{left_on, query_in}
 use Rattle.tenant_map.specs.Kept.{texts}
 use Rattle.tenant_store.specs.TextsRead.{texts_read}
 use Rattle.tenant_store.specs.Walks.{cut_of, last_of, left_by, spent_on}

@@ -3,7 +3,7 @@ use Rattle.std.proofs.lemmas.Result.{err_from_is_err_and}
 use Rattle.std.specs.declared.vec.Vec.{Vec}
 use Rattle.std.specs.declared.alloc.Global.{Global}
 use Rattle.json_tape.specs.Document.{Doc}
-use Rattle.query_shares.specs.Evaluators.{query_in}
+use Rattle.query_machine.specs.Evaluators.{query_in}
 use Rattle.tenant_map.specs.Kept.{AreKept, texts}
 use Rattle.tenant_store.specs.TextsRead.{text_read, texts_read}
 use Rattle.tenant_store.specs.Steps.{Visits}

@@ -1,6 +1,6 @@
 use Rattle.std.proofs.Common.{◌≡◌, ◌≤◌, ◌+◌, length, take, drop}
 use Rattle.std.specs.Vec.{vec_capacity}
-use Rattle.query_shares.specs.Evaluators.{left_on, query_in}
+use Rattle.query_machine.specs.Evaluators.{left_on, query_in}
 use Rattle.tenant_map.specs.Kept.{AreKept, texts}
 use Rattle.tenant_store.specs.TextsRead.{texts_read}
 use Rattle.tenant_store.specs.Steps.{AreSizes}

@@ -1,0 +1,4 @@
+pub mod Cursors
+pub mod Stacks
+pub mod Levels
+pub mod Evaluators
