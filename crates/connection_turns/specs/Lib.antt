@@ -1,4 +1,4 @@
-pub mod Counting
+pub mod Cores
 pub mod Turning
 pub mod Owed
 pub mod Held

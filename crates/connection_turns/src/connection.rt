@@ -12,11 +12,12 @@ ghost use Rattle.connection_turns.specs.Planning.{raised, ends, end_of, outcome_
 ghost use Rattle.connection_turns.specs.Turning.{DrainsOn, Progresses, dried, moment_of};
 
 use crate::claim::{Claim, Pool, Purpose};
-use crate::counted::Counted;
+use crate::counted::{Counted, Share};
 use crate::ending::{End, Ending};
 use crate::limits::Limits;
+use crate::loop_core::LoopCore;
 use crate::socket::{Fate, Socket};
-use outbox::{Core, Given, Outbox, Readiness, Wire, feed, flush, turn};
+use outbox::{Given, Outbox, Readiness, Wire, feed, flush, turn};
 use socket_poll::{Peer, Report, Time};
 use std::alloc::Global;
 use std::net::SocketAddr;
@@ -225,32 +226,52 @@ impl<S: Peer> Connection<S> {
     }
 
     /// One turn by this plan, which reads so many bytes at most, and how many bytes were read and written.
-    #[tactic(auto, using(crate::proofs::Progress::only_written, crate::proofs::Progress::answered))]
-    pub fn turn<C: Core, T: Time + Drop>(
+    pub fn turn<C: LoopCore, T: Time + Drop>(
         &mut self,
         core: &mut Counted<C, T>,
         conn: u32,
         buffer: &mut [u8],
         most: usize,
         plan: Plan,
+        share: Share,
     ) -> (u64, u64)
         requires some { 0 < most }
         requires within { most ≤ length buffer.old }
-        ensures turn { Progresses (C.takes conn) (C.answers conn) (can_go_by plan self.old.ready self.old.outbox) (moment_of S.told core.old self.old) (moment_of S.told core.new self.new) }
+        ensures turn { Progresses (C.steps.takes conn) (C.steps.answers conn) (can_go_by plan self.old.ready self.old.outbox) (moment_of S.told core.old self.old) (moment_of S.told core.new self.new) }
         ensures writes { plan ≡ Plan.Write → core.new ≡ core.old }
         ensures phase { self.new.phase ≡ self.old.phase }
         ensures due { KeepsTurn self.old self.new }
     {
         self.socket.begin();
-        core.begin(plan == Plan::Answer);
-        match plan {
-            Plan::Read => self.read(core, conn, &mut buffer[..most]),
-            Plan::Write => self.write(),
-            Plan::Answer | Plan::All => self.serve(core, conn, &mut buffer[..most]),
-        }
-        self.has_faulted = self.has_faulted || core.has_faulted();
-        self.is_known = self.is_known || core.has_heard();
+        core.begin(plan == Plan::Answer, share);
+        self.go(core, conn, &mut buffer[..most], plan);
+        let done = core.done();
+        self.has_faulted = self.has_faulted || done.has_faulted();
+        self.is_known = self.is_known || done.has_heard();
         self.socket.moved()
+    }
+
+    // What a turn by this plan does.
+    #[tactic(auto, using(crate::proofs::Progress::only_written))]
+    fn go<C: LoopCore, T: Time + Drop>(
+        &mut self,
+        core: &mut Counted<C, T>,
+        conn: u32,
+        buffer: &mut [u8],
+        plan: Plan,
+    )
+        requires { 0 < length buffer.old }
+        ensures turn { Progresses (C.steps.takes conn) (C.steps.answers conn) (can_go_by plan self.old.ready self.old.outbox) (moment_of S.told core.old self.old) (moment_of S.told core.new self.new) }
+        ensures writes { plan ≡ Plan.Write → core.new ≡ core.old }
+        ensures phase { self.new.phase ≡ self.old.phase }
+        ensures due { KeepsTurn self.old self.new }
+    {
+        match plan {
+            Plan::Read => self.read(core, conn, buffer),
+            Plan::Write => self.write(),
+            Plan::Answer => self.serve(core, conn, buffer),
+            Plan::All => self.serve(core, conn, buffer),
+        }
     }
 
     // Once a read gave less than it had room for, a further one would only say that it would wait.
@@ -265,14 +286,14 @@ impl<S: Peer> Connection<S> {
     }
 
     // Reads a piece, answers and writes.
-    fn serve<C: Core, T: Time + Drop>(
+    fn serve<C: LoopCore, T: Time + Drop>(
         &mut self,
         core: &mut Counted<C, T>,
         conn: u32,
         buffer: &mut [u8],
     )
         requires { 0 < length buffer.old }
-        ensures turn { Progresses (C.takes conn) (C.answers conn) (turns.can_go_on self.old.ready self.old.outbox) (moment_of S.told core.old self.old) (moment_of S.told core.new self.new) }
+        ensures turn { Progresses (C.steps.takes conn) (C.steps.answers conn) (turns.can_go_on self.old.ready self.old.outbox) (moment_of S.told core.old self.old) (moment_of S.told core.new self.new) }
         ensures phase { self.new.phase ≡ self.old.phase }
         ensures due { KeepsTurn self.old self.new }
     {
@@ -288,14 +309,14 @@ impl<S: Peer> Connection<S> {
     }
 
     // Reads a piece.
-    fn read<C: Core, T: Time + Drop>(
+    fn read<C: LoopCore, T: Time + Drop>(
         &mut self,
         core: &mut Counted<C, T>,
         conn: u32,
         buffer: &mut [u8],
     )
         requires { 0 < length buffer.old }
-        ensures turn { Progresses (C.takes conn) (C.answers conn) (turns.can_read self.old.ready self.old.outbox) (moment_of S.told core.old self.old) (moment_of S.told core.new self.new) }
+        ensures turn { Progresses (C.steps.takes conn) (C.steps.answers conn) (turns.can_read self.old.ready self.old.outbox) (moment_of S.told core.old self.old) (moment_of S.told core.new self.new) }
         ensures phase { self.new.phase ≡ self.old.phase }
         ensures due { KeepsTurn self.old self.new }
     {

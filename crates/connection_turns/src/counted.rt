@@ -1,7 +1,10 @@
-//! A core whose answers are counted, and the time that they take.
+//! A core in a turn: what it may do, what it did, and the time that it took.
 ghost use Rattle.std.specs.Prelude.{◌≡◌};
+ghost use Rattle.std.specs.Bool.{MatchBool};
 
-use crate::counts::{Counts, is_to_tenant};
+use crate::answered::{Answered, Work};
+use crate::journal::Slow;
+use crate::loop_core::LoopCore;
 use outbox::{Core, Step};
 use socket_poll::Time;
 use std::marker::Model;
@@ -10,51 +13,72 @@ use std::time::Duration;
 /// The milliseconds after which a turn ends, with the request that it is at.
 const SPAN: u64 = 1;
 
-/// A core that counts what another one answers, and rests once a turn took long. Its value is that core's.
-#[derive(Drop)]
-pub struct Counted<C: Core, T: Time + Drop> {
-    /// That core.
-    pub core: C,
-    time: T,
-    counts: Counts,
-    // The last answer of this turn was given: a framing fault.
+/// How much a turn may do.
+#[derive(Clone, Copy, Debug, PartialEq, Eq)]
+pub struct Share {
+    /// What each of its steps may do.
+    pub work: Work,
+    /// Others wait for a turn: it ends behind a share of work on a query.
+    pub is_shared: bool,
+}
+
+/// What a turn came to so far.
+#[derive(Clone, Copy, Debug)]
+pub struct Done {
+    /// How many requests were answered.
+    pub answered: u32,
+    /// The last step in which a request was answered or worked on.
+    pub last: Option<Answered>,
+    /// A share of work was done, or a request waits for one.
+    pub has_worked: bool,
+    // The last answer was given: a framing fault.
     has_faulted: bool,
-    // This turn answered a tenant.
+    // A tenant was answered.
     has_heard: bool,
+}
+
+/// A core that answers in turns, and rests once a turn took long. Its value is the core's.
+#[derive(Drop)]
+pub struct Counted<C: LoopCore, T: Time + Drop> {
+    core: C,
+    time: T,
     // When this turn began, where the clock tells it.
     began: Option<Duration>,
     // This turn answers one request at most.
     is_single: bool,
-    // A share of work on a query was done in this turn.
-    has_worked: bool,
-    // Others wait for a turn: this one ends behind a share of work on a query.
-    is_shared: bool,
-    // How many it answered.
-    answered: u32,
+    share: Share,
+    done: Done,
+    // The slow query that was not told yet.
+    slow: Option<Slow>,
 }
 
-impl<C: Core, T: Time + Drop> Model for Counted<C, T> {
+impl<C: LoopCore, T: Time + Drop> Model for Counted<C, T> {
     ghost Value = { C };
 
     ghost view = { λ counted. counted.core };
 }
 
-impl<C: Core, T: Time + Drop> Counted<C, T> {
-    /// Over this core. Nothing is counted yet.
+impl<C: LoopCore, T: Time + Drop> Counted<C, T> {
+    /// Over this core, before its first turn.
     pub fn new(time: T, core: C) -> Counted<C, T>
         ensures { result ≡ core }
     {
         Counted {
             core,
             time,
-            counts: Counts::new(),
-            has_faulted: false,
-            has_heard: false,
             began: None,
             is_single: false,
-            has_worked: false,
-            is_shared: false,
-            answered: 0,
+            share: Share {
+                work: Work {
+                    units: 0,
+                    is_brief: false,
+                    micros: 0,
+                    since: None,
+                },
+                is_shared: false,
+            },
+            done: nothing(),
+            slow: None,
         }
     }
 
@@ -65,39 +89,57 @@ impl<C: Core, T: Time + Drop> Counted<C, T> {
         &self.core
     }
 
-    /// What was counted.
-    pub fn counts(&self) -> &Counts {
-        &self.counts
+    /// Opens a connection's session, and tells whether that was not refused.
+    pub fn connect(&mut self, conn: u32) -> bool
+        ensures { MatchBool result (C.steps.opens conn self.old self.new) (self.new ≡ self.old) }
+    {
+        self.core.connect(conn)
     }
 
-    /// A turn is prepared, in which no share of work was done yet. It ends behind one where others wait for a turn, and else behind its time.
-    pub fn share(&mut self, is_shared: bool)
+    /// Ends a connection's session.
+    pub fn disconnect(&mut self, conn: u32)
+        ensures { C.steps.closes conn self.old self.new }
+    {
+        self.core.disconnect(conn);
+    }
+
+    /// Gives up the work on the query that a connection has under way.
+    pub fn give_up(&mut self, conn: u32)
         ensures { self.new ≡ self.old }
     {
-        self.is_shared = is_shared;
-        self.has_worked = false;
+        self.core.give_up(conn);
+    }
+
+    /// A turn is prepared, which came to nothing yet.
+    pub fn prepare(&mut self)
+        ensures { self.new ≡ self.old }
+    {
+        self.done = nothing();
     }
 
     /// A turn begins, which answers one request or as many as there is time for.
-    pub(crate) fn begin(&mut self, is_single: bool)
+    pub(crate) fn begin(&mut self, is_single: bool, share: Share)
         ensures { self.new ≡ self.old }
     {
-        self.has_faulted = false;
-        self.has_heard = false;
         self.began = self.time.now();
         self.is_single = is_single;
-        self.has_worked = false;
-        self.answered = 0;
+        self.share = share;
+        self.share.work.since = self.began;
+        self.done = nothing();
     }
 
-    /// How many requests were answered in this turn.
-    pub fn answered(&self) -> u32 {
-        self.answered
+    /// What this turn came to so far.
+    pub fn done(&self) -> Done {
+        self.done
     }
 
-    /// Whether a share of work on a query was done in this turn.
-    pub fn has_worked(&self) -> bool {
-        self.has_worked
+    /// The last slow query, which is told once.
+    pub fn take_slow(&mut self) -> Option<Slow>
+        ensures { self.new ≡ self.old }
+    {
+        let slow = self.slow;
+        self.slow = None;
+        slow
     }
 
     /// The microseconds since this turn began, told once. 0 where the clock does not tell them.
@@ -114,56 +156,116 @@ impl<C: Core, T: Time + Drop> Counted<C, T> {
         }
     }
 
-    // Whether this turn did what it may do, however long it took.
-    fn is_done(&self) -> bool {
-        self.is_single && self.answered > 0 || self.is_shared && self.has_worked
+    // Whether this turn did what it may do, however long it took. Where the request in front waits, or is not answered in a brief turn, nothing is left to do.
+    fn is_over(&self) -> bool {
+        self.is_single && self.done.answered > 0
+            || self.done.has_worked && (self.share.is_shared || !self.done.has_gone_on())
     }
 
-    /// Whether a tenant was answered in this turn.
-    pub(crate) fn has_heard(&self) -> bool {
-        self.has_heard
-    }
-
-    /// Whether the last answer was given in this turn.
-    pub(crate) fn has_faulted(&self) -> bool {
-        self.has_faulted
+    // Notes a step.
+    fn note(&mut self, answered: &Answered)
+        ensures { self.new ≡ self.old }
+    {
+        self.done.note(answered);
+        self.share.work = work_behind(self.share.work, answered);
+        if answered.is_slow {
+            self.slow = Some(slow_of(answered));
+        }
     }
 }
 
-impl<C: Core, T: Time + Drop> Core for Counted<C, T> {
-    ghost takes = { C.takes };
+impl<C: LoopCore, T: Time + Drop> Core for Counted<C, T> {
+    ghost takes = { C.steps.takes };
 
-    ghost answers = { C.answers };
+    ghost answers = { C.steps.answers };
 
     ghost idle = { C.idle };
 
     ghost over = { C.over };
 
     fn take(&mut self, conn: u32, piece: &[u8]) -> bool {
+        self.share.work.since = self.time.now();
         self.core.take(conn, piece)
     }
 
     fn answer_next(&mut self, conn: u32, out: &mut Vec<u8>) -> Step {
-        let before = out.len();
-        let step = self.core.answer_next(conn, out);
-        if matches!(step, Step::Replied | Step::Last) {
-            let reply = out.get(before..).unwrap_or_default();
-            self.counts.count(reply);
-            self.has_heard = self.has_heard || is_to_tenant(reply);
-            self.answered = self.answered.saturating_add(1);
-        }
-        self.has_faulted = self.has_faulted || matches!(step, Step::Last);
-        self.has_worked = self.has_worked || matches!(step, Step::Working);
-        step
+        let answered = self.core.answer(conn, self.share.work, &self.time, out);
+        self.note(&answered);
+        answered.step
     }
 
     fn rests(&self) -> bool {
-        if self.is_done() {
+        if self.is_over() {
             return true;
         }
-        match (self.began, self.time.now()) {
-            (Some(began), Some(now)) => { now.saturating_sub(began) >= Duration::from_millis(SPAN) }
+        match (self.began, self.share.work.since) {
+            (Some(began), Some(now)) => now.saturating_sub(began) >= Duration::from_millis(SPAN),
             _ => false,
         }
+    }
+}
+
+impl Done {
+    // Notes a step.
+    fn note(&mut self, answered: &Answered) {
+        match answered.step {
+            Step::Replied | Step::Last => {
+                self.answered = self.answered.saturating_add(1);
+                self.has_heard = self.has_heard || answered.asked.tenant.is_some();
+                self.has_faulted = self.has_faulted || answered.step == Step::Last;
+                self.last = Some(*answered);
+            }
+            Step::Working => {
+                self.has_worked = true;
+                self.last = Some(*answered);
+            }
+            Step::Idle | Step::Refused => {}
+        }
+    }
+
+    /// Whether the last step went on with a query or a text, which is under way.
+    pub fn has_gone_on(&self) -> bool {
+        match &self.last {
+            Some(answered) => answered.has_gone_on,
+            None => false,
+        }
+    }
+
+    /// Whether a tenant was answered.
+    pub(crate) fn has_heard(&self) -> bool {
+        self.has_heard
+    }
+
+    /// Whether the last answer was given.
+    pub(crate) fn has_faulted(&self) -> bool {
+        self.has_faulted
+    }
+}
+
+// No step was done.
+fn nothing() -> Done {
+    Done {
+        answered: 0,
+        last: None,
+        has_worked: false,
+        has_faulted: false,
+        has_heard: false,
+    }
+}
+
+fn slow_of(answered: &Answered) -> Slow {
+    Slow {
+        tenant: answered.asked.tenant,
+        units: answered.units,
+        micros: answered.micros,
+    }
+}
+
+// What the next step may do behind one: a request that was answered takes no more time.
+fn work_behind(work: Work, answered: &Answered) -> Work {
+    Work {
+        micros: answered.worked(),
+        since: answered.ended,
+        ..work
     }
 }

@@ -4,6 +4,8 @@
 //! so that no connection keeps the others waiting for long. A report of readiness is kept until a call would wait.
 #![tactic(auto)]
 
+mod ahead;
+mod answered;
 mod claim;
 mod connection;
 mod counted;
@@ -11,14 +13,18 @@ mod counts;
 mod ending;
 mod journal;
 mod limits;
+mod loop_core;
 mod socket;
 mod waiting;
 
+pub use ahead::Ahead;
+pub use answered::{Answered, Asked, Work};
 pub use claim::{After, Claim, Need, OWED, Pool, Purpose};
 pub use connection::{ALLOWANCE, Connection, Outcome, Phase, Plan};
-pub use counted::Counted;
+pub use counted::{Counted, Done, Share};
 pub use counts::Counts;
 pub use ending::{End, Ending};
 pub use journal::{Held, Journal, Slow, Totals};
 pub use limits::Limits;
+pub use loop_core::LoopCore;
 pub use waiting::{Waiting, waiting_among};

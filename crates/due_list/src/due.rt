@@ -134,7 +134,9 @@ impl DueList {
 
     /// Whether connections of several parties have a turn in this round, or had one shortly before: who asks again has none while its next
     /// request is on its way.
-    pub fn is_shared(&self) -> bool {
+    pub fn is_shared(&self) -> bool
+        ensures { result ≡ nat_lt self.now.since_shared 16 }
+    {
         self.since_shared < LONE_ROUNDS
     }
 

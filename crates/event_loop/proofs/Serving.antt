@@ -13,7 +13,8 @@ use Rattle.due_list.specs.declared.due.Due.{Due}
 use Rattle.open_connections.specs.declared.open.Open.{Open}
 use Rattle.connection_turns.specs.declared.connection.Outcome.{Outcome}
 use Rattle.connection_turns.specs.declared.connection.Outcome.TheVariants as outcome
-use Rattle.open_connections.specs.Looping.{CoreSteps, LetGo, Stays}
+use Rattle.connection_turns.specs.Cores.{CoreSteps}
+use Rattle.open_connections.specs.Looping.{LetGo, Stays}
 use Rattle.open_connections.specs.Opened.{has_time, is_open_at, is_there, lanes_of}
 use Rattle.open_connections.specs.Turns.{StatesStay, standing_of}
 use Rattle.open_connections.specs.Woken.{TurnsStay}

@@ -5,7 +5,8 @@ use Rattle.outbox.specs.Told.{Told}
 use Rattle.connection_turns.specs.declared.limits.Limits.{Limits}
 use Rattle.open_connections.specs.declared.budgets.Budgets.{Budgets}
 use Rattle.open_connections.specs.declared.open.Open.{Open}
-use Rattle.open_connections.specs.Looping.{CoreSteps, Lanes, ServesNoNew}
+use Rattle.connection_turns.specs.Cores.{CoreSteps}
+use Rattle.open_connections.specs.Looping.{Lanes, ServesNoNew}
 use Rattle.open_connections.specs.Opened.{connected_in, listed, shown}
 use Rattle.open_connections.specs.Shares.{limits_in}
 use Rattle.due_list.specs.declared.due.Due.{Due}

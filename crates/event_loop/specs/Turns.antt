@@ -9,7 +9,8 @@ use Rattle.connection_turns.specs.declared.connection.Outcome.TheVariants as out
 use Rattle.connection_turns.specs.declared.ending.End.TheVariants as end
 use Rattle.due_list.specs.declared.due.Due.{Due}
 use Rattle.open_connections.specs.declared.open.Open.{Open}
-use Rattle.open_connections.specs.Looping.{CoreSteps, Does, DoesSome, LetGo, Stays}
+use Rattle.connection_turns.specs.Cores.{CoreSteps}
+use Rattle.open_connections.specs.Looping.{Does, DoesSome, LetGo, Stays}
 use Rattle.open_connections.specs.Opened.{IsPutOff, has_time, is_there, lanes_of, lost_at}
 use Rattle.due_list.specs.Rounds.{IsFresh}
 use Rattle.open_connections.specs.Turns.{GetsTurn, OthersStand, StatesStay}

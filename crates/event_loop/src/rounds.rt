@@ -15,7 +15,7 @@ use crate::parting::Parting;
 use crate::seconds::Seconds;
 use crate::told::{Holding, Told};
 use admin_desk::Desk;
-use connection_turns::{End, Limits, Outcome};
+use connection_turns::{Counts, End, Limits, Outcome};
 use open_connections::{Due, Journal, LoopCore, Open, Totals};
 use socket_poll::{Accepted, Report, System, Time, Woken};
 use std::alloc::Global;
@@ -128,7 +128,7 @@ impl<S: System + Drop, C: LoopCore, T: Time + Drop> Rounds<S, C, T> {
         Totals {
             connections: self.acceptor.taken,
             connected: self.opened.count(),
-            counts: *self.opened.counts(),
+            counts: Counts::of(self.opened.metrics()),
             read,
             written,
         }

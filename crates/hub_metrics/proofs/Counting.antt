@@ -4,21 +4,19 @@ use Rattle.std.proofs.Math.Seq.{drop-append_seam}
 use Rattle.std.specs.Option.{option_map_or}
 use Rattle.wire_frames.specs.Frames.{front}
 use Rattle.wire_frames.specs.Framing.{Framing}
-use Rattle.outbox.specs.Appends.{RepliesTo}
+use Rattle.outbox.specs.Appends.{Appends, RepliesTo}
+use Rattle.outbox.specs.declared.answers.Step.{Step}
 use Rattle.path_hub.specs.HubState.{HubState}
 use Rattle.path_hub.specs.Pending.{Takes}
-use Rattle.path_hub.specs.Sessions.{session}
-use Rattle.path_listen.specs.declared.asked.Asked.{Asked}
+use Rattle.connection_turns.specs.declared.answered.Asked.{Asked}
 use Rattle.path_listen.specs.Asking.{asks}
+use Rattle.path_listen.specs.InFront.{waiting_on}
 use Rattle.path_listen.specs.Replies.{body_at}
 use Rattle.path_listen.specs.Answering as listen
 use Rattle.admin_pages.specs.declared.counted.Metrics.{Metrics}
 use Rattle.admin_pages.specs.declared.counted.Served.{Served}
 use Rattle.admin_pages.specs.Counting.{after_request}
-use Rattle.hub_metrics.specs.Measuring.{Measured, Counts, Answers, served, is_over}
-
-abbrev pub waiting_on : ℕ → HubState → List ℕ
-waiting_on conn hub = option_map_or (λ f. f.waiting) (session conn hub.sessions) []
+use Rattle.hub_metrics.specs.Measuring.{Measured, Counts, Answers, IsIdle, served, is_over}
 
 next_is : (f g : Framing) (body : Option (List ℕ)) → Takes f body g → body_at (front f.waiting) ≡ body
 next_is f g (Some body) t = ap body_at t.2
@@ -62,3 +60,10 @@ counted_once old mid metrics asked reply micros units bound s same is e = record
   hub_stays = ap (λ (m : Measured). m.hub) same;
   counted = e ∙ ap (after_request mid.metrics) is ∙ ap (λ (m : Measured). after_request m.metrics (served asked reply micros units bound)) same;
 }
+
+-- a step that is told with its time, or counted too, ended as it did
+pub appended : (step step' : Step) (conn : ℕ) (old new : Measured) (before after : List ℕ) → step' ≡ step → Appends (Answers conn) (IsIdle conn) (is_over conn) step old before after new → Appends (Answers conn) (IsIdle conn) (is_over conn) step' old before after new
+appended step step' conn old new before after e h = subst (λ (s : Step). Appends (Answers conn) (IsIdle conn) (is_over conn) s old before after new) (sym e) h
+
+pub hub_appended : (step step' : Step) (conn : ℕ) (old new : HubState) (before after : List ℕ) → step ≡ step' → Appends (listen.Answers conn) (listen.IsIdle conn) (listen.is_over conn) step old before after new → Appends (listen.Answers conn) (listen.IsIdle conn) (listen.is_over conn) step' old before after new
+hub_appended step step' conn old new before after e h = subst (λ (s : Step). Appends (listen.Answers conn) (listen.IsIdle conn) (listen.is_over conn) s old before after new) e h

@@ -1,14 +1,14 @@
 -- A hub whose answers are counted: this project's own.
 use Rattle.std.specs.Prelude.{◌≡◌, ◌==◌, ◌&&◌, ◌||◌, ℕ, List, slice_index, nat_le, nat_lt, Bool, false, if◌then◌else◌, Option, Some, None}
 use Rattle.path_hub.specs.HubState.{HubState}
-use Rattle.path_listen.specs.declared.asked.Asked.{Asked}
+use Rattle.connection_turns.specs.declared.answered.Asked.{Asked}
 use Rattle.path_listen.specs.Asking.{asks, is_first_tenants}
 use Rattle.path_listen.specs.Long.{is_first_long}
 use Rattle.path_listen.specs.Answering as listen
 use Rattle.admin_pages.specs.declared.counted.Metrics.{Metrics}
 use Rattle.admin_pages.specs.declared.counted.Served.{Served}
 use Rattle.admin_pages.specs.Counting.{none, after_request}
-use Rattle.open_connections.specs.Looping.{CoreSteps}
+use Rattle.connection_turns.specs.Cores.{CoreSteps}
 
 pub record Measured : Type 0 where
   pub hub : HubState

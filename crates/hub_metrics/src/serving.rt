@@ -17,7 +17,7 @@ use event_loop::{Journal, LoopFault, Server, System, Time};
 ///
 /// Those of [`Server::serve`].
 pub fn serve<S: System + Drop, T: Time + Drop, J: Journal>(
-    server: &mut Server<S, MeasuredHub<T>, T>,
+    server: &mut Server<S, MeasuredHub, T>,
     journal: &mut J,
 ) -> Result<(), LoopFault>
     ensures over { OnOk result (IsOver server.new) }
@@ -36,7 +36,7 @@ pub fn serve<S: System + Drop, T: Time + Drop, J: Journal>(
 ///
 /// Those of [`Server::step`].
 pub fn step<S: System + Drop, T: Time + Drop, J: Journal>(
-    server: &mut Server<S, MeasuredHub<T>, T>,
+    server: &mut Server<S, MeasuredHub, T>,
     journal: &mut J,
 ) -> Result<(), LoopFault>
     ensures served { AreServed (lanes_in server.old) (lanes_in server.new) }

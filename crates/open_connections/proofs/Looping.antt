@@ -5,7 +5,8 @@ use Rattle.std.proofs.lemmas.Bool.{cases_Bool, eqb-true, eqb-false}
 use Rattle.outbox.specs.Lines.{Line}
 use Rattle.outbox.specs.Told.{Told, IsUnused, IsReadOn}
 use Rattle.connection_turns.specs.Turning.{TakesTurn}
-use Rattle.open_connections.specs.Looping.{CoreSteps, Lanes, Step, TakenIn, HasTurn, LetGo, Drained, OthersStay, Does, DoesEach, DoesSome, DoesAtMost, TurnsAtMost, Stays, TakesNone, DoesOn, ServesNoNew}
+use Rattle.connection_turns.specs.Cores.{CoreSteps}
+use Rattle.open_connections.specs.Looping.{Lanes, Step, TakenIn, HasTurn, LetGo, Drained, OthersStay, Does, DoesEach, DoesSome, DoesAtMost, TurnsAtMost, Stays, TakesNone, DoesOn, ServesNoNew}
 
 pub stays : {C : Type 0} (a : Lanes C) → Stays a a
 stays a = record { core_stays = refl; lines_stay = λ q. refl; wires_stay = λ q. refl; limits_stay = refl; bytes_stay = refl }

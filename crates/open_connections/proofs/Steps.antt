@@ -10,7 +10,8 @@ use Rattle.connection_turns.specs.declared.connection.Connection.{Connection}
 use Rattle.outbox.specs.Lines.{Line, Event, Readable, Declined, Answered, Writable, Ends, Fails, Worked, after}
 use Rattle.outbox.specs.Told.{Told}
 use Rattle.outbox.specs.Turns.{DoesAll}
-use Rattle.open_connections.specs.Looping.{CoreSteps, Lanes, LetGo, Does, OthersStay, Stays}
+use Rattle.connection_turns.specs.Cores.{CoreSteps}
+use Rattle.open_connections.specs.Looping.{Lanes, LetGo, Does, OthersStay, Stays}
 use Rattle.connection_turns.specs.Owed.{line_of, wire_of}
 use Rattle.open_connections.specs.Opened.{lines_in, wires_in, listed, shown}
 

@@ -16,7 +16,8 @@ use Rattle.connection_turns.specs.declared.connection.Phase.{Phase}
 use Rattle.connection_turns.specs.declared.connection.Phase.TheVariants.{Served, Lingering}
 use Rattle.connection_turns.specs.declared.connection.Plan.{Plan}
 use Rattle.open_connections.specs.declared.open.Open.{Open}
-use Rattle.open_connections.specs.Looping.{CoreSteps, Does, Drained, HasTurn, Stays}
+use Rattle.connection_turns.specs.Cores.{CoreSteps}
+use Rattle.open_connections.specs.Looping.{Does, Drained, HasTurn, Stays}
 use Rattle.open_connections.specs.Opened.{bytes_of, lanes_of, wires_in}
 use Rattle.open_connections.specs.Shares.{limits_in}
 use Rattle.open_connections.specs.Turns.{DrainsAt, GetsTurn, GetsTurnIn, HasTurnBy, HasTurnIn, Prepares, StatesStay, TurnsBy, has_room, is_answering, plan_at, plan_in, standing_of}

@@ -2,14 +2,8 @@
 use Rattle.std.specs.Prelude.{◌≡◌, ◌≢◌, ◌⊎◌, ℕ, List, [], ◌∷◌, Option, Some, None}
 use Rattle.outbox.specs.Lines.{Line, fresh}
 use Rattle.outbox.specs.Told.{Told, IsUnused, IsReadOn}
+use Rattle.connection_turns.specs.Cores.{CoreSteps}
 use Rattle.connection_turns.specs.Turning.{TakesTurn}
-
--- what a core does at a connection: its session is opened or ended, a piece of its stream is taken, a request of it is answered
-pub record CoreSteps (C : Type 0) : Type 1 where
-  pub opens : ℕ → C → C → Type 0
-  pub closes : ℕ → C → C → Type 0
-  pub takes : ℕ → C → List ℕ → C → Type 0
-  pub answers : ℕ → C → List ℕ → C → Type 0
 
 -- the core, what each connection that is served is owed, the bytes that moved on the streams of those that are open, as far as they are shown, the limits of the two budgets of memory, and how many bytes were read and written
 pub record Lanes (C : Type 0) : Type 0 where

@@ -21,7 +21,8 @@ use Rattle.connection_turns.specs.Planning.{can_go_by, ends, plan_of}
 use Rattle.connection_turns.specs.Turning.{DrainsOn}
 use Rattle.open_connections.specs.declared.budgets.Budgets.{Budgets}
 use Rattle.open_connections.specs.declared.open.Open.{Open}
-use Rattle.open_connections.specs.Looping.{CoreSteps, Drained, HasTurn, Does, Stays}
+use Rattle.connection_turns.specs.Cores.{CoreSteps}
+use Rattle.open_connections.specs.Looping.{Drained, HasTurn, Does, Stays}
 use Rattle.open_connections.specs.Opened.{lanes_of}
 
 -- whether there is room for any reply

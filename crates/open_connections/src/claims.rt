@@ -8,11 +8,10 @@ ghost use Rattle.open_connections.specs.Shares.{StayFree, IsGivenBack, claim_at}
 ghost use Rattle.open_connections.specs.Turns.{ClaimsStay, HasClaim, IsQueued, StatesStay};
 ghost use Rattle.open_connections.specs.Woken.{StaysWoken, WakesOthers, is_awake};
 
-use crate::loop_core::LoopCore;
 use crate::needs::{covers, is_for_reply, is_held, need, need_of_reply};
 use crate::numbers::conn_of;
 use crate::open::Open;
-use connection_turns::{After, Claim, Need, Purpose};
+use connection_turns::{After, Ahead, Claim, LoopCore, Need, Purpose};
 use memory_budget::Answer;
 use socket_poll::{Peer, Time};
 use std::alloc::AllocError;
@@ -29,14 +28,14 @@ impl<S: Peer, C: LoopCore, T: Time + Drop> Open<S, C, T> {
         let Some(conn) = conn_of(key) else {
             return Ok(false);
         };
-        let most = self.core.inner().most_reply(conn);
+        let front = self.core.inner().front(conn);
         let Some(connection) = self.connections.get(key) else {
             return Ok(false);
         };
-        if covers(connection.claim, most) {
+        if covers(connection.claim, front.most_reply) {
             return Ok(true);
         }
-        let reply = need_of_reply(self.core.inner(), conn, most);
+        let reply = need_of_reply(&front);
         self.yield_share(key, now);
         self.claim(key, &reply, now)
     }
@@ -106,7 +105,12 @@ impl<S: Peer, C: LoopCore, T: Time + Drop> Open<S, C, T> {
     }
 
     // Asks for what the next step needs, where that is above what each may have.
-    pub(crate) fn ask(&mut self, key: usize, conn: u32, now: u64) -> Result<(), AllocError>
+    pub(crate) fn ask(
+        &mut self,
+        key: usize,
+        front: Option<Ahead>,
+        now: u64,
+    ) -> Result<(), AllocError>
         ensures lanes { Stays (lanes_of S.told self.old) (lanes_of S.told self.new) }
         ensures ready { StatesStay self.old self.new }
         ensures woken { WakesOthers key self.old self.new }
@@ -114,7 +118,7 @@ impl<S: Peer, C: LoopCore, T: Time + Drop> Open<S, C, T> {
         let Some(connection) = self.connections.get(key) else {
             return Ok(());
         };
-        if let Some(need) = need(connection, self.core.inner(), conn) {
+        if let Some(need) = need(connection, front) {
             self.claim(key, &need, now)?;
         }
         Ok(())

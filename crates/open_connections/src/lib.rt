@@ -5,15 +5,12 @@
 
 mod budgets;
 mod claims;
-mod core_calls;
-mod loop_core;
 mod needs;
 mod numbers;
 mod open;
 mod spares;
 
 pub use budgets::LEAST_MEMORY;
-pub use connection_turns::{Held, Journal, Slow, Totals, Waiting};
+pub use connection_turns::{Held, Journal, LoopCore, Slow, Totals, Waiting};
 pub use due_list::Due;
-pub use loop_core::LoopCore;
 pub use open::Open;

@@ -1,12 +1,14 @@
 //! What a connection needs of the budgets before its next step.
 ghost use Rattle.std.specs.Prelude.{◌≡◌, ◌<◌, ◌≤◌, IfSome, IsFalse, IsTrue, is_some};
+ghost use Rattle.std.specs.Option.{option_and_then};
 ghost use Rattle.due_list.specs.Rounds.{party_of};
 ghost use Rattle.open_connections.specs.Shares.{IsOfFront};
 ghost use Rattle.open_connections.specs.Turns.{is_queued_in};
 
-use crate::loop_core::LoopCore;
 use crate::open::PIECE;
-use connection_turns::{ALLOWANCE, Claim, Connection, Need, OWED, Plan, Pool, Purpose};
+use connection_turns::{
+    ALLOWANCE, Ahead, Claim, Connection, LoopCore, Need, OWED, Plan, Pool, Purpose,
+};
 use due_list::party_of;
 use socket_poll::Peer;
 
@@ -47,7 +49,7 @@ pub(crate) fn piece_of<S: Peer, C: LoopCore>(
     ensures within { result ≤ 65536 }
 {
     if plan == Plan::Read && connection.claim.is_some() {
-        match core.part(conn) {
+        match core.front(conn).part {
             Some(part) => part.left.min(PIECE).max(1),
             None => ALLOWANCE,
         }
@@ -57,49 +59,45 @@ pub(crate) fn piece_of<S: Peer, C: LoopCore>(
 }
 
 /// The need of a reply to what is in front on a connection.
-pub(crate) fn need_of_reply<C: LoopCore>(core: &C, conn: u32, most: usize) -> Need
-    ensures { result ≡ record { pool = Pool.Tenants; party = party_of (C.fronts conn core.now); purpose = Purpose.Reply; bytes = most } }
+pub(crate) fn need_of_reply(front: &Ahead) -> Need
+    ensures { result ≡ record { pool = Pool.Tenants; party = party_of front.now.tenant; purpose = Purpose.Reply; bytes = front.now.most_reply } }
 {
     Need {
         pool: Pool::Tenants,
-        party: party_of(core.front(conn)),
+        party: party_of(front.tenant),
         purpose: Purpose::Reply,
-        bytes: most,
+        bytes: front.most_reply,
     }
 }
 
-/// What a connection without a share needs beside a reply.
-pub(crate) fn need<S: Peer, C: LoopCore>(
-    connection: &Connection<S>,
-    core: &C,
-    conn: u32,
-) -> Option<Need>
-    ensures { IfSome result (λ need. need.purpose ≡ Purpose.Frame → IsOfFront (C.fronts conn core.now) need.pool need.party) }
+/// What a connection without a share needs beside a reply, where this is in front and not to be answered.
+pub(crate) fn need<S: Peer>(connection: &Connection<S>, front: Option<Ahead>) -> Option<Need>
+    ensures { IfSome result (λ need. need.purpose ≡ Purpose.Frame → IsOfFront (option_and_then (λ ahead. ahead.tenant) front) need.pool need.party) }
 {
     let owed = connection.outbox.owed().len();
     if owed > OWED {
-        Some(Need {
+        return Some(Need {
             pool: Pool::Tenants,
             party: party_of(connection.tenant),
             purpose: Purpose::Written,
             bytes: owed,
-        })
-    } else if connection.has_part && !connection.ready.waiting && connection.outbox.reads() {
-        need_of_frame(core, conn)
-    } else {
-        None
+        });
+    }
+    match front {
+        Some(front) if connection.outbox.reads() => need_of_frame(&front),
+        _ => None,
     }
 }
 
 // The share of a frame that came in part.
-fn need_of_frame<C: LoopCore>(core: &C, conn: u32) -> Option<Need>
-    ensures { IfSome result (λ need. IsOfFront (C.fronts conn core.now) need.pool need.party × (need.purpose ≡ Purpose.Frame)) }
+fn need_of_frame(front: &Ahead) -> Option<Need>
+    ensures { IfSome result (λ need. IsOfFront front.now.tenant need.pool need.party × (need.purpose ≡ Purpose.Frame)) }
 {
-    let part = core.part(conn)?;
+    let part = front.part?;
     if part.length <= ALLOWANCE {
         return None;
     }
-    let (pool, party) = match core.front(conn) {
+    let (pool, party) = match front.tenant {
         Some(place) => (Pool::Tenants, party_of(Some(place))),
         None => (Pool::Strangers, 0),
     };

@@ -1,11 +1,12 @@
 //! The connections that are open, the core that answers them, and the memory that they share.
-ghost use Rattle.std.specs.Prelude.{Bool, ◌≡◌, ◌<◌, ◌-◌, ◌^◌, ◌++◌, ◌&&◌, [], ℕ, None, IfOk, OnOk, IfSome, IsTrue, IsFalse};
+ghost use Rattle.std.specs.Prelude.{Bool, ◌≡◌, ◌<◌, ◌-◌, ◌^◌, ◌++◌, ◌&&◌, [], ℕ, None, IfOk, OnOk, IfSome, IsTrue, IsFalse, if◌then◌else◌, nat_lt, not};
 ghost use Rattle.std.specs.Option.{option_map};
 ghost use Rattle.slab.specs.Slab.{get, slab_len};
 ghost use Rattle.open_connections.specs.Looping.{Stays, Does, DoesAtMost, TurnsAtMost, TakenIn, LetGo};
 ghost use Rattle.std.specs.Bool.{MatchBool};
 ghost use Rattle.outbox.specs.Told.{IsUnused};
 ghost use Rattle.connection_turns.specs.Owed.{is_lost};
+ghost use Rattle.due_list.specs.Long.{begun, is_crowded};
 ghost use Rattle.due_list.specs.Rounds.{IsFresh, after_turn, party_of};
 ghost use Rattle.open_connections.specs.Opened.{lanes_of, bytes_of, expiry_at, has_time, is_long, is_there, is_open_at, owes_much, IsMarked, IsPutOff, IsStanding, IsListed, IsAsDue, HasLeft, lost_at, rests_at, tenant_at};
 ghost use Rattle.open_connections.specs.Shares.{fresh_budgets, left_of, limit_of, IsWithin, IsGivenBack, claim_at};
@@ -13,14 +14,12 @@ ghost use Rattle.open_connections.specs.Turns.{ClaimsStay, GetsTurn, HasTurnBy, 
 ghost use Rattle.open_connections.specs.Woken.{Hands, IsWoken, Passes, Recalls, StaysWoken, TakesOff, TurnsStay, Wakes, WakesOthers, is_awake};
 
 use crate::budgets::Budgets;
-use crate::core_calls::{begin, connect, disconnect, give_up_query, take_micros, take_slow};
-use crate::loop_core::LoopCore;
 use crate::needs::piece_of;
 use crate::numbers::{added, conn_of, has_moved};
 use admin_pages::Metrics;
 use connection_turns::{
-    Claim, Connection, Counted, Counts, End, Ending, Limits, Outcome, Phase, Plan, Pool, Slow,
-    Waiting, waiting_among,
+    Ahead, Claim, Connection, Counted, End, Ending, Limits, LoopCore, Outcome, Phase, Plan, Pool,
+    Share, Slow, Waiting, Work, waiting_among,
 };
 use due_list::{Due, DueList};
 use outbox::CAP;
@@ -39,6 +38,12 @@ const KEYS: usize = 1 << 32;
 
 /// The room in which a turn may answer whatever waits: it answers while less than the cap is owed.
 const ROOM: usize = CAP + MOST_REPLY;
+
+/// The units for which a query goes on where others wait for turns.
+const SHARE: u64 = 400;
+
+/// The units for which it goes on where nobody does.
+const LONG_SHARE: u64 = 10_000;
 
 /// The connections that are open.
 #[derive(Drop)]
@@ -113,18 +118,13 @@ impl<S: Peer, C: LoopCore, T: Time + Drop> Open<S, C, T> {
         self.bound
     }
 
-    /// What was answered.
-    pub fn counts(&self) -> &Counts {
-        self.core.counts()
-    }
-
     /// The last slow query, which is told once.
     pub fn take_slow(&mut self) -> Option<Slow>
         ensures lanes { Stays (lanes_of S.told self.old) (lanes_of S.told self.new) }
         ensures ready { StatesStay self.old self.new }
         ensures woken { StaysWoken self.old self.new }
     {
-        take_slow(&mut self.core)
+        self.core.take_slow()
     }
 
     /// What was counted of requests.
@@ -210,7 +210,7 @@ impl<S: Peer, C: LoopCore, T: Time + Drop> Open<S, C, T> {
         if self.connections.vacant_key() != key || self.connections.reserve(1).is_err() {
             return false;
         }
-        if !connect(&mut self.core, conn) {
+        if !self.core.connect(conn) {
             return false;
         }
         let connection = Connection::new(self.alloc, number, peer, stream, now);
@@ -280,7 +280,7 @@ impl<S: Peer, C: LoopCore, T: Time + Drop> Open<S, C, T> {
         match conn_of(key) {
             Some(conn) => {
                 (self.due.is_crowded() || self.claim_of(key).is_some())
-                    && (self.owes_much(key) || self.core.inner().is_long(conn))
+                    && (self.owes_much(key) || self.core.inner().front(conn).is_long)
             }
             None => false,
         }
@@ -408,6 +408,7 @@ impl<S: Peer, C: LoopCore, T: Time + Drop> Open<S, C, T> {
         ensures lanes { Stays (lanes_of S.told self.old) (lanes_of S.told self.new) }
         ensures ready { StatesStay self.old self.new }
         ensures plan { result ≡ option_map (λ c. plan_at c self.old) (get self.old.connections key) }
+        ensures begun { IfSome (get self.old.connections key) (λ c. self.new.due.longs ≡ begun (party_of c.tenant) (is_long C.longs key self.old) self.old.due.longs) }
         ensures woken { TakesOff key self.old self.new }
     {
         let has_room = self.budgets.has_room(ROOM);
@@ -415,13 +416,7 @@ impl<S: Peer, C: LoopCore, T: Time + Drop> Open<S, C, T> {
         let connection = self.connections.get_mut(key)?;
         connection.is_due = false;
         self.due.begin(connection.tenant, is_long);
-        begin(
-            &mut self.core,
-            connection.worked,
-            connection.is_working,
-            self.due.is_shared(),
-            self.due.is_brief(),
-        );
+        self.core.prepare();
         match connection.phase {
             Phase::Served => Some(connection.plan(has_room)),
             Phase::Lingering => Some(Plan::Read),
@@ -434,7 +429,7 @@ impl<S: Peer, C: LoopCore, T: Time + Drop> Open<S, C, T> {
     {
         match conn_of(key) {
             Some(conn) => {
-                matches!(plan, Plan::Answer | Plan::All) && self.core.inner().waits(conn)
+                matches!(plan, Plan::Answer | Plan::All) && self.core.inner().front(conn).waits
             }
             None => false,
         }
@@ -459,12 +454,14 @@ impl<S: Peer, C: LoopCore, T: Time + Drop> Open<S, C, T> {
             Phase::Lingering => (connection.drain(&mut *self.buffer), false),
             Phase::Served => {
                 let most = piece_of(connection, plan, self.core.inner(), conn);
+                let share = share_of(&self.due, connection.worked);
                 let (read, written) = connection.turn(
                     &mut self.core,
                     conn,
                     &mut *self.buffer,
                     most,
                     plan,
+                    share,
                 );
                 self.read = added(self.read, read);
                 self.written = added(self.written, written);
@@ -512,26 +509,34 @@ impl<S: Peer, C: LoopCore, T: Time + Drop> Open<S, C, T> {
             return Ok(());
         };
         self.count_turn(key, now);
-        self.note_part(key, conn);
-        let has_answered = self.core.answered() > 0;
+        let front = self.front_of_part(key, conn);
+        self.note_part(key, front);
+        let has_answered = self.core.done().answered > 0;
         match self.claim_of(key) {
             Some(claim) => {
                 self.settle_claim(key, &claim, has_answered, now);
                 Ok(())
             }
-            None => self.ask(key, conn, now),
+            None => self.ask(key, front, now),
         }
     }
 
+    // What is in front on a connection, unless it may be answered.
+    fn front_of_part(&self, key: usize, conn: u32) -> Option<Ahead> {
+        if self.connections.get(key)?.ready.waiting {
+            return None;
+        }
+        Some(self.core.inner().front(conn))
+    }
+
     // Notes whether a frame came in part, or is not answered.
-    fn note_part(&mut self, key: usize, conn: u32)
+    fn note_part(&mut self, key: usize, front: Option<Ahead>)
         ensures lanes { Stays (lanes_of S.told self.old) (lanes_of S.told self.new) }
         ensures ready { StatesStay self.old self.new }
         ensures woken { WakesOthers key self.old self.new }
     {
-        let waiting = self.core.inner().waiting(conn);
         if let Some(connection) = self.connections.get_mut(key) {
-            connection.has_part = waiting > 0;
+            connection.has_part = has_part(front);
         }
     }
 
@@ -542,8 +547,8 @@ impl<S: Peer, C: LoopCore, T: Time + Drop> Open<S, C, T> {
         ensures times { IfSome (get self.new.connections key) (λ c. (micros : ℕ) × ((has_worked : Bool) × (self.new.due.micros ≡ after_turn self.old.due.micros (party_of (tenant_at key self.old)) (party_of c.tenant) micros (c.is_working && has_worked)))) }
         ensures woken { WakesOthers key self.old self.new }
     {
-        let micros = take_micros(&mut self.core);
-        let has_worked = self.core.has_worked();
+        let micros = self.core.take_micros();
+        let has_worked = self.core.done().has_worked;
         let stood = self.tenant_of(key);
         self.note_turn(key);
         self.renew(key, now);
@@ -568,13 +573,15 @@ impl<S: Peer, C: LoopCore, T: Time + Drop> Open<S, C, T> {
         ensures due { self.new.due ≡ self.old.due }
         ensures woken { WakesOthers key self.old self.new }
     {
-        let core = self.core.inner();
+        let Some(answered) = self.core.done().last else {
+            return;
+        };
         let Some(connection) = self.connections.get_mut(key) else {
             return;
         };
-        connection.worked = core.worked();
-        connection.tenant = core.heard(connection.tenant);
-        connection.is_working = core.is_working();
+        connection.worked = answered.worked();
+        connection.tenant = answered.heard(connection.tenant);
+        connection.is_working = answered.has_gone_on;
     }
 
     // While a query goes on, the time for which its connection may hold a share begins anew.
@@ -584,7 +591,7 @@ impl<S: Peer, C: LoopCore, T: Time + Drop> Open<S, C, T> {
         ensures due { self.new.due ≡ self.old.due }
         ensures woken { WakesOthers key self.old self.new }
     {
-        let has_worked = self.core.has_worked();
+        let has_worked = self.core.done().has_worked;
         if let Some(connection) = self.connections.get_mut(key) {
             if has_worked && connection.is_working {
                 connection.renew(now);
@@ -645,7 +652,7 @@ impl<S: Peer, C: LoopCore, T: Time + Drop> Open<S, C, T> {
         };
         connection.is_working = false;
         if let Some(conn) = conn_of(key) {
-            give_up_query(&mut self.core, conn);
+            self.core.give_up(conn);
         }
     }
 
@@ -702,7 +709,7 @@ impl<S: Peer, C: LoopCore, T: Time + Drop> Open<S, C, T> {
         let connection = self.connections.get_mut(key)?;
         let claim = connection.claim;
         connection.linger(now);
-        disconnect(&mut self.core, conn);
+        self.core.disconnect(conn);
         claim
     }
 
@@ -728,7 +735,7 @@ impl<S: Peer, C: LoopCore, T: Time + Drop> Open<S, C, T> {
     {
         let conn = conn_of(key)?;
         let connection = self.connections.try_remove(key)?;
-        disconnect(&mut self.core, conn);
+        self.core.disconnect(conn);
         connection.claim
     }
 
@@ -766,5 +773,33 @@ impl<S: Peer, C: LoopCore, T: Time + Drop> Open<S, C, T> {
                 }
             }
         }
+    }
+}
+
+// How much a turn may do, for whose next request earlier ones took so many microseconds. Where others wait for turns, a query goes on for few units at a time,
+// and the turn ends behind them.
+fn share_of(due: &DueList, micros: u64) -> Share
+    ensures shared { result.is_shared ≡ nat_lt due.now.since_shared 16 }
+    ensures units { result.work.units ≡ (if nat_lt due.now.since_shared 16 then 400 else 10000) }
+    ensures brief { result.work.is_brief ≡ (is_crowded due.now.longs && not due.now.longs.is_under_way) }
+    ensures micros { result.work.micros ≡ micros }
+{
+    let is_shared = due.is_shared();
+    Share {
+        work: Work {
+            units: if is_shared { SHARE } else { LONG_SHARE },
+            is_brief: due.is_brief(),
+            micros,
+            since: None,
+        },
+        is_shared,
+    }
+}
+
+// Whether bytes wait where this is in front, or a request that may be answered.
+fn has_part(front: Option<Ahead>) -> bool {
+    match front {
+        Some(front) => front.waiting > 0,
+        None => true,
     }
 }

@@ -3,9 +3,8 @@ ghost use Rattle.open_connections.specs.Looping.{Stays};
 ghost use Rattle.open_connections.specs.Opened.{lanes_of};
 ghost use Rattle.open_connections.specs.Woken.{StaysWoken};
 
-use crate::loop_core::LoopCore;
 use crate::open::Open;
-use connection_turns::Limits;
+use connection_turns::{Limits, LoopCore};
 use socket_poll::{Peer, Time};
 
 impl<S: Peer, C: LoopCore, T: Time + Drop> Open<S, C, T> {

@@ -11,7 +11,7 @@ use Rattle.tape_select.specs.Charge.{charge}
 use Rattle.store_names.specs.Lengths.{payload_limit}
 use Rattle.wire_frames.specs.Frames.{Front, front}
 use Rattle.wire_frames.specs.Framing.{Framing}
-use Rattle.wire_frames.specs.Requests.{Asked, Put, PutNew, Remove, ListNames, Query, DropCollection, Usage, Reading, Short, BadCommand, BadFields, Asks, reading, number_of, key_of}
+use Rattle.wire_frames.specs.Requests.{Asked, Get, Put, PutNew, Remove, ListNames, Query, DropCollection, Usage, Reading, Short, BadCommand, BadFields, Asks, reading, number_of, key_of}
 use Rattle.wire_frames.specs.Replies.{reply, head}
 use Rattle.wire_frames.specs.Readings.{refusal}
 use Rattle.wire_frames.specs.declared.requests.RequestFault.{RequestFault}
@@ -31,7 +31,7 @@ use Rattle.path_hub.specs.Runs.{StepItem}
 use Rattle.path_hub.specs.Pending.{Takes}
 use Rattle.path_hub.specs.Sessions.{session}
 use Rattle.path_hub.specs.HubState.{HubState}
-use Rattle.path_listen.specs.Replies.{body_at, IsMostFor, IsMostBy, IsMostTo, IsMostReply}
+use Rattle.path_listen.specs.Replies.{body_at, IsMostFor, IsMostBy, IsMostTo, IsMostReply, Fits}
 
 -- ---- Payloads
 
@@ -110,8 +110,19 @@ reply_length status n payload = length-append (head status n (length payload)) p
 bare : (status n most : ℕ) (frame : List ℕ) → 9 ≤ most → frame ≡ reply status n [] → length frame ≤ most
 bare status n most frame h e = omega (arith, h, ap (λ (x : List ℕ). length x) e, reply_length status n [])
 
+-- what fits exactly is no longer either
+fits_most : (asked : Asked) (bytes most : ℕ) → Fits asked bytes most → bytes ≤ most
+fits_most (Get c d) bytes most h = omega (arith, h)
+fits_most (Put c d text) bytes most h = h
+fits_most (PutNew c d text) bytes most h = h
+fits_most (Remove c d) bytes most h = h
+fits_most (ListNames c) bytes most h = h
+fits_most (Query c text) bytes most h = h
+fits_most (DropCollection c) bytes most h = h
+fits_most Usage bytes most h = h
+
 to_command : (asked : Asked) (n most : ℕ) (m m' : Map) (frame : List ℕ) → 9 ≤ most → IsMostFor asked m most → IsAnswer asked n m frame m' → length frame ≤ most
-to_command asked n most m m' frame h k (inl d) = omega (arith, k d.payload m' d.does, ap (λ (x : List ℕ). length x) d.frame_is, reply_length 0 n d.payload)
+to_command asked n most m m' frame h k (inl d) = omega (arith, fits_most asked (9 + length d.payload) most (k d.payload m' d.does), ap (λ (x : List ℕ). length x) d.frame_is, reply_length 0 n d.payload)
 to_command asked n most m m' frame h k (inr r) = bare r.status n most frame h r.frame_is
 
 to_reading : (r : Reading) (most : ℕ) (m m' : Map) (frame : List ℕ) → 9 ≤ most → ((n : ℕ) (key : List ℕ) (asked : Asked) → r ≡ Asks n key asked → IsMostFor asked m most) → AnswersReading r m frame m' → length frame ≤ most

@@ -9,7 +9,7 @@ use Rattle.wire_frames.specs.declared.framing.Next.TheVariants as next
 use Rattle.path_hub.specs.HubState.{HubState}
 use Rattle.path_hub.specs.Sessions.{session}
 use Rattle.path_hub.specs.UnderWay.{tenant_asked}
-use Rattle.path_listen.specs.declared.asked.Asked.{Asked}
+use Rattle.connection_turns.specs.declared.answered.Asked.{Asked}
 
 -- a framing fault asks nothing
 abbrev pub asks : Tenancy → Option (List ℕ) → Asked

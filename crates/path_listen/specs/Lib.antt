@@ -6,3 +6,5 @@ pub mod Needs
 pub mod Replies
 pub mod Asking
 pub mod Long
+pub mod InFront
+pub mod Steps

@@ -6,19 +6,9 @@ ghost use Rattle.path_listen.specs.Asking.{asks};
 ghost use Rattle.path_listen.specs.Replies.{body_at};
 
 use crate::needs::body_of;
+use connection_turns::Asked;
 use path_hub::place_asked;
 use tenant_map::Tenants;
-
-/// A request, as it is counted.
-#[derive(Clone, Copy, Debug, PartialEq, Eq)]
-pub struct Asked {
-    /// The byte of its command. 0 if its body is empty, or its frame too long.
-    pub command: u8,
-    /// The place of its key in the list of keys, if it is a tenant's.
-    pub tenant: Option<usize>,
-    /// How many bytes its body has. 0 if its frame is too long.
-    pub bytes: u64,
-}
 
 /// What the frame asks that these bytes begin with.
 pub(crate) fn asked_of(tenants: &Tenants, bytes: &[u8]) -> Asked

@@ -1,69 +1,63 @@
 //! The hub as the core of turns.
-ghost use Rattle.std.specs.Prelude.{◌≡◌, ◌↔◌, [], OnOk, OnErr, IsErrOf, IsSome, IsTrue, is_some, length, MatchOption};
-ghost use Rattle.std.specs.Option.{option_map, option_map_or};
+ghost use Rattle.std.specs.Prelude.{◌≡◌, ◌↔◌, ◌&&◌, ◌||◌, [], OnOk, OnErr, IsErrOf, IsFalse, IsSome, IsTrue, is_some};
+ghost use Rattle.std.specs.Bool.{MatchBool};
+ghost use Rattle.std.specs.Option.{option_map};
+ghost use Rattle.outbox.specs.Appends.{Appends};
 ghost use Rattle.path_hub.specs.Sessions.{session};
-ghost use Rattle.path_listen.specs.Answering.{Opens, Closes};
-ghost use Rattle.path_listen.specs.Needs.{IsPart, IsNoPart, front_at};
-ghost use Rattle.path_listen.specs.Replies.{body_at, IsMostReply};
+ghost use Rattle.path_hub.specs.UnderWay.{is_first_held};
+ghost use Rattle.path_listen.specs.Answering.{Opens, Closes, Answers, IsIdle, is_over, takes};
 ghost use Rattle.path_listen.specs.Asking.{asks, is_first_tenants};
+ghost use Rattle.path_listen.specs.InFront.{IsAhead, waiting_on};
 ghost use Rattle.path_listen.specs.Long.{is_first_long};
+ghost use Rattle.path_listen.specs.Replies.{body_at};
+ghost use Rattle.path_listen.specs.Steps.{GivesUp, Works, is_kept_back};
 ghost use Rattle.request_replies.specs.Tenants.{map_of};
 ghost use Rattle.tenant_map.specs.Quotas.{usage_of};
 ghost use Rattle.wire_frames.specs.Frames.{front};
 
-use crate::asked::{Asked, asked_of};
-use crate::long::is_long;
-use crate::needs::{front_of, most_of, part_of};
-use outbox::{Core, Step};
+use crate::asked::asked_of;
+use crate::needs::{front_of, part_of};
+use crate::weights::weigh;
+use connection_turns::{Ahead, Answered, Work};
+use outbox::Step;
 use path_hub::{ConnectFault, Hub, Share, Tasks};
 use std::alloc::Global;
 use std::marker::Model;
 use tenant_map::Usage;
-use wire_frames::Part;
 
-/// The units for which a query goes on, or the reading of a text, unless another number is told.
-const SHARE: u64 = 10_000;
-
-/// A hub that answers one request at a time, and a query or a long put a share at a time, as [`outbox::turn`] needs it. Its value is the hub's.
+/// A hub that answers one request at a time, and a query or a long put a share at a time, as a turn needs it. Its value is the hub's.
 #[derive(Drop)]
 pub struct HubCore {
     hub: Hub,
     alloc: Global,
     tasks: Tasks,
-    // The units for which a query or a reading goes on before others are served.
-    share: u64,
-    // No request that may take long is answered.
-    is_brief: bool,
-    // The last step went on with a query or a reading.
-    has_gone_on: bool,
-    // The units of the request that was answered last, where hits are its reply.
-    charge: Option<u64>,
 }
 
 impl Model for HubCore {
-    ghost use Rattle.path_hub.specs.HubState.{HubState};
+    ghost use Rattle.std.specs.Coded.{codes};
+    ghost use Rattle.path_hub.specs.contracts.tasks.Tasks as under_way;
     ghost use Rattle.path_hub.specs.UnderWay.{AreOnWay};
+    ghost use Rattle.path_listen.specs.Steps.{AtWork};
 
-    ghost Value = { HubState };
+    ghost Value = { AtWork };
 
-    ghost view = { λ core. core.hub };
+    ghost coded = { Prim.hlevel (codes, under_way.the_row.coded) };
+
+    ghost view = { λ core. record { hub = core.hub; tasks = core.tasks } };
 
     ghost invariant = { λ core. AreOnWay core.hub.tenants core.tasks };
 }
 
 impl HubCore {
-    /// The core of this hub.
+    /// The core of this hub, where nothing is under way.
     pub fn new(alloc: Global, hub: Hub) -> HubCore
-        ensures { result ≡ hub }
+        ensures hub { result.hub ≡ hub }
+        ensures none { result.tasks.asked.entries ≡ [] }
     {
         HubCore {
             hub,
             alloc,
             tasks: Tasks::new(alloc),
-            share: SHARE,
-            is_brief: false,
-            has_gone_on: false,
-            charge: None,
         }
     }
 
@@ -73,94 +67,121 @@ impl HubCore {
     ///
     /// `Taken` if it has one, `Memory` if an allocation failed. Both change nothing.
     pub fn connect(&mut self, conn: u32) -> Result<(), ConnectFault>
-        ensures ok { OnOk result (Opens conn self.old self.new) }
-        ensures taken { IsErrOf result ConnectFault.Taken ↔ IsSome (session conn self.old.sessions) }
+        ensures ok { OnOk result (Opens conn self.old.hub self.new.hub) }
+        ensures taken { IsErrOf result ConnectFault.Taken ↔ IsSome (session conn self.old.hub.sessions) }
         ensures err { OnErr result (self.new ≡ self.old) }
+        ensures stays { self.new.tasks ≡ self.old.tasks }
     {
         self.hub.connect(self.alloc, conn)
     }
 
-    /// Ends a connection's session with all that waits on it, and returns whether there was one.
+    /// Ends a connection's session with all that waits on it and is under way, and returns whether there was one.
     pub fn disconnect(&mut self, conn: u32) -> bool
-        ensures was { result ≡ is_some (session conn self.old.sessions) }
-        ensures closes { Closes conn self.old self.new }
+        ensures was { result ≡ is_some (session conn self.old.hub.sessions) }
+        ensures closes { Closes conn self.old.hub self.new.hub }
+        ensures gives_up { GivesUp conn self.old.tasks self.new.tasks }
     {
         self.give_up(conn);
         self.hub.disconnect(conn)
     }
 
-    /// Whether the request that is answered next on a connection waits for a query of its tenant that another connection has under way, or for texts
-    /// that are read.
-    pub fn waits(&self, conn: u32) -> bool
-        ensures { IsTrue result → IsTrue (is_first_tenants conn self.now) }
+    /// Takes a piece, which is not empty. It is declined where the connection has no session, where a framing fault closed it, and where a growth was refused.
+    pub fn take(&mut self, conn: u32, piece: &[u8]) -> bool
+        ensures taken { MatchBool result (takes conn self.old.hub piece.now self.new.hub × (is_over conn self.new.hub ≡ is_over conn self.old.hub)) (self.new ≡ self.old) }
+        ensures stays { self.new.tasks ≡ self.old.tasks }
+    {
+        self.hub.take(conn, piece).is_ok()
+    }
+
+    /// Appends the reply to the connection's next request, or does a share of the work on it. A query goes on for so many units before others are served, and a
+    /// text is read for five places a unit.
+    #[tactic(auto, using(crate::proofs::Waiting::works_so))]
+    pub fn answer(&mut self, conn: u32, work: Work, out: &mut Vec<u8>) -> Answered
+        ensures appends { Appends (Answers conn) (IsIdle conn) (is_over conn) result.step self.old.hub out.old.items out.new.items self.new.hub }
+        ensures asked { result.asked ≡ asks self.old.hub.tenants (body_at (front (waiting_on conn self.old.hub))) }
+        ensures works { Works result.step result.units result.has_gone_on work.is_brief conn self.old self.new }
+        ensures working { result.step ≡ Step.Working → IsTrue (result.has_gone_on || (is_first_tenants conn self.old.hub || (work.is_brief && is_first_long conn self.old.hub))) }
+    {
+        let asked = asked_of(self.hub.tenants(), self.hub.waiting_bytes(conn));
+        let (step, units, has_gone_on) = self.step(conn, work, out);
+        Answered {
+            step,
+            asked,
+            units,
+            micros: work.micros,
+            ended: work.since,
+            has_gone_on,
+            is_slow: false,
+        }
+    }
+
+    // One step: how it ended, what was charged, and whether work went on. The reply to a framing fault is the last. Nothing goes on for a connection of which no
+    // further request is answered.
+    fn step(&mut self, conn: u32, work: Work, out: &mut Vec<u8>) -> (Step, Option<u64>, bool)
+        ensures appends { Appends (Answers conn) (IsIdle conn) (is_over conn) result.0 self.old.hub out.old.items out.new.items self.new.hub }
+        ensures works { Works result.0 result.1 result.2 work.is_brief conn self.old self.new }
+    {
+        if self.is_kept_back(conn, work.is_brief) {
+            return (Step::Working, None, false);
+        }
+        match self
+            .hub
+            .answer_some(self.alloc, conn, work.units, &mut self.tasks, out)
+        {
+            Ok(Share::Replied { charge }) => {
+                if self.hub.is_closed(conn) {
+                    (Step::Last, charge, false)
+                } else {
+                    (Step::Replied, charge, false)
+                }
+            }
+            Ok(Share::Idle) => (Step::Idle, None, false),
+            Ok(Share::Working) => (Step::Working, None, true),
+            Err(_) => {
+                self.tasks.abandon(conn);
+                (Step::Refused, None, false)
+            }
+        }
+    }
+
+    // Whether the request that is answered next waits for what other connections have under way, or may take long in a brief turn.
+    fn is_kept_back(&self, conn: u32, is_brief: bool) -> bool
+        ensures kept { result ≡ is_kept_back is_brief conn self.now }
+        ensures free { IsFalse result → IsFalse (is_first_held conn self.now.hub self.now.tasks) }
     {
         self.hub.waits(conn, &self.tasks)
+            || (is_brief && weigh(self.hub.tenants(), self.hub.waiting_bytes(conn)).1)
     }
 
-    /// Has a query go on for so many units from now on before others are served, and a text be read for five places a unit. While it is brief, a step
-    /// answers no request that may take long.
-    pub fn share(&mut self, units: u64, is_brief: bool)
-        ensures { self.new ≡ self.old }
+    /// What is in front on a connection, and whether it waits for what other connections have under way. One with a list has at most the length of as many longest
+    /// names, and one with hits the greatest length.
+    pub fn front(&self, conn: u32) -> Ahead
+        ensures ahead { IsAhead conn self.now.hub result }
+        ensures waits { result.waits ≡ is_first_held conn self.now.hub self.now.tasks }
     {
-        self.share = units;
-        self.is_brief = is_brief;
-    }
-
-    /// Whether the request that is answered next on a connection may take long.
-    pub fn is_long(&self, conn: u32) -> bool
-        ensures { result ≡ is_first_long conn self.now }
-    {
-        is_long(self.hub.tenants(), self.hub.waiting_bytes(conn))
-    }
-
-    /// Whether the step that was done last went on with a query or a text, which is under way.
-    pub fn has_gone_on(&self) -> bool {
-        self.has_gone_on
+        let (tenants, bytes) = (self.hub.tenants(), self.hub.waiting_bytes(conn));
+        let (most_reply, is_long) = weigh(tenants, bytes);
+        Ahead {
+            waiting: bytes.len(),
+            part: part_of(tenants, bytes),
+            tenant: front_of(tenants, bytes),
+            most_reply,
+            waits: self.hub.waits(conn, &self.tasks),
+            is_long,
+        }
     }
 
     /// Gives up the work that a connection has under way, so that no request waits for it. It begins anew where the request is answered next.
     pub fn give_up(&mut self, conn: u32)
-        ensures { self.new ≡ self.old }
+        ensures hub { self.new.hub ≡ self.old.hub }
+        ensures gives_up { GivesUp conn self.old.tasks self.new.tasks }
     {
         self.tasks.abandon(conn);
     }
 
-    /// The units that the request was charged which was answered last, where hits are its reply.
-    pub fn charge(&self) -> Option<u64> {
-        self.charge
-    }
-
-    /// The number of bytes that came on a connection and are not answered.
-    pub fn waiting(&self, conn: u32) -> usize
-        ensures { result ≡ option_map_or (λ f. length f.waiting) (session conn self.now.sessions) 0 }
-    {
-        self.hub.waiting(conn)
-    }
-
-    /// The part of a frame that waits on a connection, if its key is there: what is still to come, and whether a tenant has the key.
-    pub fn part(&self, conn: u32) -> Option<Part>
-        ensures { let waiting = option_map_or (λ f. f.waiting) (session conn self.now.sessions) [] in MatchOption result (IsNoPart waiting) (IsPart self.now.tenants waiting) }
-    {
-        part_of(self.hub.tenants(), self.hub.waiting_bytes(conn))
-    }
-
-    /// The place of the tenant whose key is in the frame that waits first on a connection, whole or in part.
-    pub fn front(&self, conn: u32) -> Option<usize>
-        ensures { result ≡ front_at conn self.now }
-    {
-        front_of(self.hub.tenants(), self.hub.waiting_bytes(conn))
-    }
-
-    /// What the request asks that is answered next on a connection.
-    pub fn asked(&self, conn: u32) -> Asked
-        ensures { let waiting = option_map_or (λ f. f.waiting) (session conn self.now.sessions) [] in result ≡ asks self.now.tenants (body_at (front waiting)) }
-    {
-        asked_of(self.hub.tenants(), self.hub.waiting_bytes(conn))
-    }
-
     /// How much the tenant with this key holds.
     pub fn usage(&self, key: &[u8; 16]) -> Option<Usage>
-        ensures { result ≡ option_map usage_of (map_of key.now self.now.tenants) }
+        ensures { result ≡ option_map usage_of (map_of key.now self.now.hub.tenants) }
     {
         let tenants = self.hub.tenants();
         match tenants.place_of(key) {
@@ -175,65 +196,6 @@ impl HubCore {
         match tenants.place_of(key) {
             Some(place) => tenants.tenant(place).memory(),
             None => 0,
-        }
-    }
-
-    /// The most bytes of the reply to the first request, or to the fault, that waits on a connection. For a text it is the exact length, for
-    /// a list that of as many longest names, and for hits the greatest length.
-    pub fn most_reply(&self, conn: u32) -> usize
-        ensures { IsMostReply conn self.now result }
-    {
-        most_of(self.hub.tenants(), self.hub.waiting_bytes(conn))
-    }
-}
-
-impl Core for HubCore {
-    ghost use Rattle.path_hub.specs.Into.{IsTaken};
-    ghost use Rattle.path_listen.specs.Answering.{takes, Answers, IsIdle, is_over};
-
-    ghost takes = { takes };
-
-    ghost answers = { Answers };
-
-    ghost idle = { IsIdle };
-
-    ghost over = { is_over };
-
-    // A piece is declined where the connection has no session, where a framing fault closed it, and where a growth was refused.
-    fn take(&mut self, conn: u32, piece: &[u8]) -> bool {
-        match self.hub.take(conn, piece) {
-            Ok(()) => true,
-            Err(_) => false,
-        }
-    }
-
-    // The reply to a framing fault is the last. Nothing goes on for a connection of which no further request is answered.
-    fn answer_next(&mut self, conn: u32, out: &mut Vec<u8>) -> Step {
-        self.has_gone_on = false;
-        if self.hub.waits(conn, &self.tasks) || (self.is_brief && self.is_long(conn)) {
-            return Step::Working;
-        }
-        match self
-            .hub
-            .answer_some(self.alloc, conn, self.share, &mut self.tasks, out)
-        {
-            Ok(Share::Replied { charge }) => {
-                self.charge = charge;
-                if self.hub.is_closed(conn) {
-                    Step::Last
-                } else {
-                    Step::Replied
-                }
-            }
-            Ok(Share::Idle) => Step::Idle,
-            Ok(Share::Working) => {
-                self.has_gone_on = true;
-                Step::Working
-            }
-            Err(_) => {
-                self.give_up(conn);
-                Step::Refused
-            }
         }
     }
 }

@@ -3,15 +3,12 @@ ghost use Rattle.std.specs.Prelude.{◌≡◌, false, length, nat_lt};
 ghost use Rattle.std.specs.Option.{option_map_or};
 ghost use Rattle.request_replies.specs.Tenants.{map_of};
 ghost use Rattle.tenant_map.specs.Maps.{documents_of};
-ghost use Rattle.wire_frames.specs.Frames.{front};
 ghost use Rattle.wire_frames.specs.Readings.{asked_of};
-ghost use Rattle.path_listen.specs.Long.{holds_long, is_long_for, is_long_to};
-ghost use Rattle.path_listen.specs.Replies.{body_at};
+ghost use Rattle.path_listen.specs.Long.{holds_long, is_long_for};
 
-use crate::needs::body_of;
 use store_names::{CollName, DocName};
 use tenant_map::{Tenant, Tenants};
-use wire_frames::{Command, Request, read_request};
+use wire_frames::{Command, Request};
 
 /// The bytes of a text above which it takes long to give or to free.
 const LONG_TEXT: usize = 65_536;
@@ -19,32 +16,8 @@ const LONG_TEXT: usize = 65_536;
 /// The names of a list above which it takes long to give.
 const LONG_LIST: usize = 500;
 
-/// The bytes of a body above which it takes long to read.
-const LONG_BODY: usize = 4_096;
-
-/// Whether the frame that these bytes begin with may take long, where it is whole.
-pub(crate) fn is_long(tenants: &Tenants, bytes: &[u8]) -> bool
-    ensures { result ≡ option_map_or (is_long_to tenants.now) (body_at (front bytes.now)) false }
-{
-    match body_of(bytes) {
-        Some(body) => is_long_to(tenants, body),
-        None => false,
-    }
-}
-
-fn is_long_to(tenants: &Tenants, body: &[u8]) -> bool
-    ensures { result ≡ is_long_to tenants.now body.now }
-{
-    if body.len() > LONG_BODY {
-        return true;
-    }
-    match read_request(body) {
-        Ok(request) => is_long_for(tenants, &request),
-        Err(_) => false,
-    }
-}
-
-fn is_long_for(tenants: &Tenants, request: &Request<'_>) -> bool
+/// Whether a request may take long, but for the length of its body.
+pub(crate) fn is_long_for(tenants: &Tenants, request: &Request<'_>) -> bool
     ensures { result ≡ option_map_or (is_long_for (asked_of request.now.command)) (map_of request.now.key tenants.now) false }
 {
     match tenants.place_of(&request.key) {

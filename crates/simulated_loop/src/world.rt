@@ -349,7 +349,7 @@ fn go_on<R: Print + AllocGlobal>(
 /// A server, its pipes and its clock.
 #[derive(Drop)]
 struct Stage<'w> {
-    server: Box<Server<Pipes<'w>, MeasuredHub<Watch<'w>>, Watch<'w>>>,
+    server: Box<Server<Pipes<'w>, MeasuredHub, Watch<'w>>>,
     ends: Ends<'w>,
     room: Room<'w>,
 }
@@ -535,7 +535,7 @@ fn server<'w>(
     seed: u64,
     limits: &Limits,
     hub: Hub,
-) -> Option<Server<Pipes<'w>, MeasuredHub<Watch<'w>>, Watch<'w>>> {
+) -> Option<Server<Pipes<'w>, MeasuredHub, Watch<'w>>> {
     let mut reports = Vec::new(alloc);
     reports.reserve(REPORTS).ok()?;
     let system = Pipes {

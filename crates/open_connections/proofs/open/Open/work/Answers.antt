@@ -21,13 +21,13 @@ returns-in-Lingering-clause-given g c =
 pub returns-in-Served-clause-lanes : goal.returns-in-Served-clause-lanes
 returns-in-Served-clause-lanes g c =
     inl (turn_lanes g.C.LoopCore.steps g.S.Wire.told (can_go_by c.args.plan c.in-Some-get_mut.connection.now.ready c.in-Some-get_mut.connection.now.outbox) (limits_in c.args.self.now.budgets) _ (bytes_of c.args.self.now) _ c.args.self.now.core c.turn-read.new.core c.args.self.now.connections _ c.args.key c.in-Some.conn c.in-Some-get_mut.connection.now c.turn-read.new.self _ _
-    (g.met.C.LoopCore.takes_so c.in-Some.conn) (g.met.C.LoopCore.answers_so c.in-Some.conn) c.in-Some.ensures.same (sym c.in-Some-get_mut.ensures.value)
+    (λ old piece new t. t) (λ old reply new a. a) c.in-Some.ensures.same (sym c.in-Some-get_mut.ensures.value)
     (written c.args.self.now.connections c.args.key c.in-Some-get_mut.connection.now c.turn-read.new.self (sym c.in-Some-get_mut.ensures.value)) refl c.in-Served.is c.turn-read.ensures.phase c.turn-read.ensures.turn)
 
 pub returns-in-Served-clause-given : goal.returns-in-Served-clause-given
 returns-in-Served-clause-given g c =
     at_slot _ _ c.in-Some-get_mut.connection.now (sym c.in-Some-get_mut.ensures.value) (λ k. served_by g.C.LoopCore.steps g.S.Wire.told c.args.plan c.args.key c.in-Some-get_mut.connection.now _ c.args.self.now _ c.in-Served.is
-    (turned_by g.C.LoopCore.steps g.S.Wire.told c.args.plan c.args.key c.in-Some.conn _ c.args.self.now _ c.in-Some-get_mut.connection.now c.turn-read.new.self _ _ (g.met.C.LoopCore.takes_so c.in-Some.conn) (g.met.C.LoopCore.answers_so c.in-Some.conn) c.in-Some.ensures.same (sym c.in-Some-get_mut.ensures.value)
+    (turned_by g.C.LoopCore.steps g.S.Wire.told c.args.plan c.args.key c.in-Some.conn _ c.args.self.now _ c.in-Some-get_mut.connection.now c.turn-read.new.self _ _ (λ old piece new t. t) (λ old reply new a. a) c.in-Some.ensures.same (sym c.in-Some-get_mut.ensures.value)
     (written c.args.self.now.connections c.args.key c.in-Some-get_mut.connection.now c.turn-read.new.self (sym c.in-Some-get_mut.ensures.value)) refl c.in-Served.is c.turn-read.ensures.phase c.turn-read.ensures.turn c.outcome.ensures.over))
 
 pub returns-in-Lingering-clause-others : goal.returns-in-Lingering-clause-others
