@@ -1,9 +1,9 @@
 #!/usr/bin/env python3
 """Counts the places of a change: tests/walks.py compares the lines of crates/*/src and crates/*/specs that name a neighbour of the thing that is added
 (WALKS) with the table "Places" of CONTRIBUTING.md. So a file or a line that a further status, metric, command, operator or option wants is seen.
-`tests/walks.py --write` writes the table anew, and its difference is what a review reads.
+`tests/walks.py --write` writes the table anew, and its difference is what a review reads. A walk with an aim (AIMS) fails above it.
 
-A place is a line that names the neighbour and is no comment. The lengths of tables with an entry for each status or command are places too.
+A place is a line that names the neighbour and is no comment. The lengths of tables with an entry for each status, command or metric are places too.
 """
 import re
 import sys
@@ -14,16 +14,19 @@ PAGE = TOP / "CONTRIBUTING.md"
 BEGINS, ENDS = "<!-- The lines up to the next mark are written by tests/walks.py. -->", "<!-- The end of what tests/walks.py writes. -->"
 CELL = 190
 COMMENT = re.compile(r"\s*(?://|--)")
-# what is added, the neighbour that it stands beside, and the lines that name that one: everywhere, or in some crates
+# what is added, the neighbour that it stands beside, and the lines that name that one: everywhere, or in some crates. The first kind has to be there;
+# the others are numbers that a table's length would do instead of
+TABLES = ("admin_pages", "client_commands", "connection_lines", "protocol")
 WALKS = {
-    "a status": ("Exists", [(r"(?<!Condition::)(?<!Condition-F\.)\bExists\b(?!\()", None),
-                            (r"(?<![.\d])(?:24|25|225)\b", ("admin_pages", "client_commands", "connection_lines"))]),
-    "a metric": ("path_server_tenant_refused_bytes_total", [(r"\b(?:TenantRefused|tenant_refused)\b", None)]),
-    "a command": ("PUT_NEW", [(r"PutNew|PUT_NEW|put_new", None), (r"\bcommand'? < 9\b|nat_lt command 9\b|COMMANDS: usize = 9\b|\b225\b", ("admin_pages",)),
+    "a status": ("Exists", [(r"(?<!Condition::)(?<!Condition-F\.)\bExists\b(?!\()", None), (r"(?<![.\d])(?:24|25|225)\b", TABLES)]),
+    "a metric": ("path_server_tenant_refused_bytes_total", [(r"TenantRefused|tenant_refused|\bserved\.refused\b", None), (r"\bTENANT_TOTALS: usize = \d|(?<![.\d])26\b", TABLES)]),
+    "a command": ("PUT_NEW", [(r"PutNew|PUT_NEW|put_new", None), (r"\bcommand'? < 9\b|nat_lt command 9\b|COMMANDS: usize = 9\b|\b225\b", TABLES),
                               (r"nat_le command 8\b", ("wire_frames",))]),
     "an operator": ("<=", [(r"\b(?:Le|ops\.Le)\b", None)]),
     "an option": ("--stall", [(r"\bstall\b", None)]),
 }
+# the most lines of a walk, and the most files
+AIMS = {"a status": (12, 6), "a metric": (5, 3), "a command": (63, 25)}
 
 
 def sources():
@@ -74,6 +77,20 @@ def finds_new_places(report, files):
         report.case("a file more is seen", line, is_seen, table({**files, "crates/made/src/lib.rt": line}) != now)
 
 
+def above(found, aim):
+    """Whether places are more lines or more files than an aim."""
+    return sum(found.values()) > aim[0] or len(found) > aim[1]
+
+
+def keeps_aims(report, files):
+    """Each walk is within its aim, and one that gains lines or files above it is not."""
+    for what, aim in AIMS.items():
+        found = places(files, WALKS[what][1])
+        report.case(f"{what}, at most {aim[0]} lines in {aim[1]} files", found, False, above(found, aim))
+        report.case("lines above an aim are seen", what, True, above({**found, ("made", "src/lib.rt"): aim[0]}, aim))
+        report.case("files above an aim are seen", what, True, above({("made", str(number)): 1 for number in range(aim[1] + 1)}, aim))
+
+
 def main():
     report, files, page = Report(), sources(), PAGE.read_text(encoding="utf-8")
     if sys.argv[1:] == ["--write"]:
@@ -83,8 +100,8 @@ def main():
     report.case("CONTRIBUTING.md, places (tests/walks.py --write writes them)", "", [], [f"+ {it}" for it in here if it not in there] + [f"- {it}" for it in there if it not in here])
     report.case("CONTRIBUTING.md, the order of places", "", here, there)
     for what, (neighbour, patterns) in WALKS.items():
-        for pattern, crates in patterns:
-            report.case("a neighbour that is named", (what, pattern), True, bool(places(files, [(pattern, crates)])))
+        report.case("a neighbour that is named", (what, patterns[0]), True, bool(places(files, patterns[:1])))
+    keeps_aims(report, files)
     finds_new_places(report, files)
     report.close("walks")
 

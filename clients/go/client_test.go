@@ -181,12 +181,11 @@ func TestRefusals(t *testing.T) {
 }
 
 func TestSentences(t *testing.T) {
-	rows, err := os.ReadFile("../../crates/client_commands/src/statuses.rt")
+	rows, err := os.ReadFile("../../crates/protocol/src/statuses.rt")
 	if err != nil {
 		t.Fatal(err)
 	}
-	table := strings.Split(strings.Split(string(rows), "= [")[1], "];")[0]
-	found := regexp.MustCompile(`\(\s*"(\w+)",\s*"([^"]*)",?\s*\)`).FindAllStringSubmatch(table, -1)
+	found := regexp.MustCompile(`(?m)^    \d+ "(\w+)" "([^"]*)";`).FindAllStringSubmatch(string(rows), -1)
 	want(t, "rows", 24, len(found))
 	for number, row := range found {
 		if row[1] != "Ok" && row[1] != "Retired" {

@@ -367,8 +367,8 @@ test('keys and the environment', async (t) => {
 });
 
 test('the sentences are those of the shell', () => {
-  const rows = readFileSync(new URL('../../../crates/client_commands/src/statuses.rt', import.meta.url), 'utf8');
-  const found = [...rows.split('= [')[1].split('];')[0].matchAll(/\(\s*"(\w+)",\s*"([^"]*)",?\s*\)/g)].map(([, name, sentence]) => [name, sentence]);
+  const rows = readFileSync(new URL('../../../crates/protocol/src/statuses.rt', import.meta.url), 'utf8');
+  const found = [...rows.matchAll(/^ {4}\d+ "(\w+)" "([^"]*)";/gm)].map(([, name, sentence]) => [name, sentence]);
   assert.equal(found.length, 24);
   for (const [status, [name, sentence]] of found.entries()) {
     if (['Ok', 'Retired'].includes(name)) continue;

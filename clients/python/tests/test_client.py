@@ -385,8 +385,8 @@ async def opened(opening):
 class Sentences(unittest.TestCase):
     def test_statuses(self):
         """Each refusal says what the shell's does."""
-        rows = (TOP / "crates/client_commands/src/statuses.rt").read_text().partition("= [")[2].partition("];")[0]
-        found = re.findall(r'\(\s*"(\w+)",\s*"([^"]*)",?\s*\)', rows)
+        rows = (TOP / "crates/protocol/src/statuses.rt").read_text()
+        found = re.findall(r'^    \d+ "(\w+)" "([^"]*)";', rows, re.M)
         self.assertEqual(len(found), 24)
         for status, (name, sentence) in enumerate(found):
             if name not in ("Ok", "Retired"):

@@ -1,137 +1,86 @@
 -- The metrics that are told: this project's own names, in the text format of Prometheus.
-use Rattle.std.specs.Prelude.{ℕ, ◌&&◌, not, Bool, true, List, [], ◌∷◌, codes}
+use Rattle.std.specs.Prelude.{ℕ, ◌+◌, ◌-◌, ◌==◌, ◌&&◌, ◌||◌, not, Bool, true, List, [], ◌∷◌, ◌++◌, map, length, drop, codes, if◌then◌else◌, slice_index}
 use Rattle.std.specs.List.{list_any}
 use Rattle.std.specs.Str.{bytes_eq}
+use Rattle.admin_pages.specs.declared.counted.Served.{Served}
 use Rattle.admin_pages.specs.declared.families.Family.{Family}
-use Rattle.admin_pages.specs.declared.families.Family.TheVariants.{Build, Uptime, Ready, Open, OpenLimit, Refused, Waiting, Buffered, Limit, Connections, Read, Written, Dropped, Lost, Requests, Times, Units, Slow, TenantRequests, TenantUnits, TenantRefused, TenantCollections, TenantDocuments, TenantTexts, TenantMemory, TenantWaiting}
-use Rattle.admin_pages.specs.declared.families.Shape.{Shape}
-use Rattle.admin_pages.specs.declared.families.Shape.TheVariants as shape
+use Rattle.admin_pages.specs.declared.families.Samples.{Samples}
+use Rattle.admin_pages.specs.declared.families.Samples.TheVariants.{Build, Gauge, Cells, Times, Total, TenantTotal, TenantGauge}
+use Rattle.admin_pages.specs.declared.families.TheConstants.{FAMILIES}
+use Rattle.admin_pages.specs.declared.page.Gauges.{Gauges}
+use Rattle.admin_pages.specs.Labels.{cells, time_places}
 
-abbrev pub name_of : Family → List ℕ
-name_of Build = codes "path_server_build_info"
-name_of Uptime = codes "path_server_uptime_seconds"
-name_of Ready = codes "path_server_ready"
-name_of Open = codes "path_server_connections_open"
-name_of OpenLimit = codes "path_server_connections_limit"
-name_of Refused = codes "path_server_accept_refused"
-name_of Waiting = codes "path_server_connections_waiting"
-name_of Buffered = codes "path_server_buffered_bytes"
-name_of Limit = codes "path_server_buffered_limit_bytes"
-name_of Connections = codes "path_server_connections_total"
-name_of Read = codes "path_server_read_bytes_total"
-name_of Written = codes "path_server_written_bytes_total"
-name_of Dropped = codes "path_server_dropped_lines_total"
-name_of Lost = codes "path_server_lost_lines_total"
-name_of Requests = codes "path_server_requests_total"
-name_of Times = codes "path_server_request_seconds"
-name_of Units = codes "path_server_charged_units_total"
-name_of Slow = codes "path_server_slow_queries_total"
-name_of TenantRequests = codes "path_server_tenant_requests_total"
-name_of TenantUnits = codes "path_server_tenant_charged_units_total"
-name_of TenantRefused = codes "path_server_tenant_refused_bytes_total"
-name_of TenantCollections = codes "path_server_tenant_collections"
-name_of TenantDocuments = codes "path_server_tenant_documents"
-name_of TenantTexts = codes "path_server_tenant_text_bytes"
-name_of TenantMemory = codes "path_server_tenant_memory_bytes"
-name_of TenantWaiting = codes "path_server_tenant_connections_waiting"
+abbrev pub bit : Bool → ℕ
+bit b = if b then 1 else 0
 
-abbrev pub help_of : Family → List ℕ
-help_of Build = codes "The program: its version, its commit, whether it was proved, and its kit."
-help_of Uptime = codes "Seconds since the start."
-help_of Ready = codes "Whether it was said that the server is ready."
-help_of Open = codes "Connections that are open."
-help_of OpenLimit = codes "The most connections that may be open."
-help_of Refused = codes "Whether the system had no descriptor or no memory for the last connection."
-help_of Waiting = codes "Connections that wait for memory."
-help_of Buffered = codes "Bytes buffered for all connections."
-help_of Limit = codes "The most bytes that are buffered."
-help_of Connections = codes "Connections that were accepted."
-help_of Read = codes "Bytes read."
-help_of Written = codes "Bytes written."
-help_of Dropped = codes "Lines of the log that were dropped."
-help_of Lost = codes "Lines of the log that could not be written."
-help_of Requests = codes "Requests by command and status."
-help_of Times = codes "How long requests took."
-help_of Units = codes "Units that queries were charged."
-help_of Slow = codes "Queries that took longer than --slow."
-help_of TenantRequests = codes "Requests of a tenant."
-help_of TenantUnits = codes "Units that a tenant's queries were charged."
-help_of TenantRefused = codes "Bytes of a tenant's requests that a limit refused."
-help_of TenantCollections = codes "Collections of a tenant."
-help_of TenantDocuments = codes "Documents of a tenant."
-help_of TenantTexts = codes "Bytes of texts of a tenant."
-help_of TenantMemory = codes "Bytes of memory that the documents of a tenant take."
-help_of TenantWaiting = codes "Connections that wait for memory, of the tenant that was answered on each last."
+-- the gauges, each with its number
+abbrev pub gauges_of : Gauges → List (List ℕ × ℕ)
+gauges_of g = (codes "path_server_uptime_seconds", g.uptime) ∷ (codes "path_server_ready", bit g.is_ready) ∷ (codes "path_server_connections_open", g.open) ∷ (codes "path_server_connections_limit", g.open_limit) ∷ (codes "path_server_accept_refused", bit g.is_refused) ∷ (codes "path_server_connections_waiting", g.waiting) ∷ (codes "path_server_buffered_bytes", g.buffered) ∷ (codes "path_server_buffered_limit_bytes", g.limit) ∷ (codes "path_server_connections_total", g.connections) ∷ (codes "path_server_read_bytes_total", g.read) ∷ (codes "path_server_written_bytes_total", g.written) ∷ (codes "path_server_dropped_lines_total", g.dropped) ∷ (codes "path_server_lost_lines_total", g.lost) ∷ []
 
-abbrev pub kind_of : Family → List ℕ
-kind_of Build = codes "gauge"
-kind_of Uptime = codes "gauge"
-kind_of Ready = codes "gauge"
-kind_of Open = codes "gauge"
-kind_of OpenLimit = codes "gauge"
-kind_of Refused = codes "gauge"
-kind_of Waiting = codes "gauge"
-kind_of Buffered = codes "gauge"
-kind_of Limit = codes "gauge"
-kind_of Connections = codes "counter"
-kind_of Read = codes "counter"
-kind_of Written = codes "counter"
-kind_of Dropped = codes "counter"
-kind_of Lost = codes "counter"
-kind_of Requests = codes "counter"
-kind_of Times = codes "histogram"
-kind_of Units = codes "counter"
-kind_of Slow = codes "counter"
-kind_of TenantRequests = codes "counter"
-kind_of TenantUnits = codes "counter"
-kind_of TenantRefused = codes "counter"
-kind_of TenantCollections = codes "gauge"
-kind_of TenantDocuments = codes "gauge"
-kind_of TenantTexts = codes "gauge"
-kind_of TenantMemory = codes "gauge"
-kind_of TenantWaiting = codes "gauge"
+-- the sums over all requests, each with what a request adds to it
+abbrev pub totals_of : Served → List (List ℕ × ℕ)
+totals_of s = (codes "path_server_charged_units_total", s.units) ∷ (codes "path_server_slow_queries_total", bit s.is_slow) ∷ []
 
-abbrev pub shape_of : Family → Shape
-shape_of Build = shape.Build
-shape_of Uptime = shape.One
-shape_of Ready = shape.One
-shape_of Open = shape.One
-shape_of OpenLimit = shape.One
-shape_of Refused = shape.One
-shape_of Waiting = shape.One
-shape_of Buffered = shape.One
-shape_of Limit = shape.One
-shape_of Connections = shape.One
-shape_of Read = shape.One
-shape_of Written = shape.One
-shape_of Dropped = shape.One
-shape_of Lost = shape.One
-shape_of Requests = shape.Cells
-shape_of Times = shape.Times
-shape_of Units = shape.One
-shape_of Slow = shape.One
-shape_of TenantRequests = shape.Tenants
-shape_of TenantUnits = shape.Tenants
-shape_of TenantRefused = shape.Tenants
-shape_of TenantCollections = shape.Tenants
-shape_of TenantDocuments = shape.Tenants
-shape_of TenantTexts = shape.Tenants
-shape_of TenantMemory = shape.Tenants
-shape_of TenantWaiting = shape.Tenants
+-- the sums over the requests of a tenant
+abbrev pub tenant_totals_of : Served → List (List ℕ × ℕ)
+tenant_totals_of s = (codes "path_server_tenant_requests_total", 1) ∷ (codes "path_server_tenant_charged_units_total", s.units) ∷ (codes "path_server_tenant_refused_bytes_total", s.refused) ∷ []
 
--- in the order in which they are told
-unfoldable pub families : List Family
-families = Build ∷ Uptime ∷ Ready ∷ Open ∷ OpenLimit ∷ Refused ∷ Waiting ∷ Buffered ∷ Limit ∷ Connections ∷ Read ∷ Written ∷ Dropped ∷ Lost ∷ Requests ∷ Times ∷ Units ∷ Slow ∷ TenantRequests ∷ TenantUnits ∷ TenantRefused ∷ TenantCollections ∷ TenantDocuments ∷ TenantTexts ∷ TenantMemory ∷ TenantWaiting ∷ []
+-- the gauges of a tenant, by its place
+abbrev pub tenant_gauges_of : Gauges → ℕ → List (List ℕ × ℕ)
+tenant_gauges_of g place = (codes "path_server_tenant_collections", slice_index g.collections place) ∷ (codes "path_server_tenant_documents", slice_index g.documents place) ∷ (codes "path_server_tenant_text_bytes", slice_index g.texts place) ∷ (codes "path_server_tenant_memory_bytes", slice_index g.memory place) ∷ (codes "path_server_tenant_connections_waiting", slice_index g.waiting_of place) ∷ []
+
+abbrev pub numbers : List (List ℕ × ℕ) → List ℕ
+numbers list = map (λ it. it.1) list
+
+-- a metric: its name, its type, whose numbers its samples are, and what it is
+pub record Metric : Type 0 where
+  pub name : List ℕ
+  pub kind : List ℕ
+  pub samples : Samples
+  pub help : List ℕ
+
+abbrev pub shown : Family → Metric
+shown f = record { name = f.name.now; kind = f.kind.now; samples = f.samples; help = f.help.now }
+
+-- the program's table, in the order in which they are told
+unfoldable pub families : List Metric
+families = map (λ row. record { name = row.0.now; kind = row.1.now; samples = row.2; help = row.3.now }) FAMILIES.now
 
 -- one sample, one for each command and status, one for each bound of the times and three more, one for each tenant
-abbrev pub rows_of : Shape → (tenants : ℕ) → ℕ
-rows_of shape.One tenants = 1
-rows_of shape.Build tenants = 1
-rows_of shape.Cells tenants = 225
-rows_of shape.Times tenants = 19
-rows_of shape.Tenants tenants = tenants
+abbrev pub rows_of : Samples → (tenants : ℕ) → ℕ
+rows_of Build tenants = 1
+rows_of (Gauge place) tenants = 1
+rows_of Cells tenants = cells
+rows_of Times tenants = time_places + 2
+rows_of (Total place) tenants = 1
+rows_of (TenantTotal place) tenants = tenants
+rows_of (TenantGauge place) tenants = tenants
 
 -- no text stands twice
 abbrev pub all_differ : List (List ℕ) → Bool
 all_differ [] = true
 all_differ (name ∷ names) = not (list_any (bytes_eq name) names) && all_differ names
+
+-- a counter's name ends in `_total`
+abbrev pub kind_by : Samples → (name : List ℕ) → List ℕ
+kind_by Times name = codes "histogram"
+kind_by _ name = if bytes_eq (drop (length name - 6) name) (codes "_total") then codes "counter" else codes "gauge"
+
+-- a help is one line, and has nothing that is escaped
+abbrev pub fits : Metric → Bool
+fits m = bytes_eq m.kind (kind_by m.samples m.name) && not (list_any (λ byte. byte == 10 || byte == 92) m.help)
+
+-- the numbers of a list, each told under its name by its place
+abbrev pub each_of : (ℕ → Samples) → (place : ℕ) → List (List ℕ × ℕ) → List (List ℕ × Samples)
+each_of samples place [] = []
+each_of samples place (it ∷ rest) = (it.0, samples place) ∷ each_of samples (place + 1) rest
+
+-- the names in the order in which they are told, each with whose numbers its samples are
+abbrev pub listed : Gauges → Served → (tenant : ℕ) → List (List ℕ × Samples)
+listed g s tenant =
+    (codes "path_server_build_info", Build) ∷ (each_of Gauge 0 (gauges_of g)
+    ++ (codes "path_server_requests_total", Cells) ∷ (codes "path_server_request_seconds", Times) ∷ (each_of Total 0 (totals_of s)
+    ++ (each_of TenantTotal 0 (tenant_totals_of s) ++ each_of TenantGauge 0 (tenant_gauges_of g tenant))))
+
+abbrev pub named : Metric → List ℕ × Samples
+named m = (m.name, m.samples)

@@ -1,261 +1,82 @@
-//! The metrics' names, kinds and texts.
-ghost use Rattle.std.specs.Prelude.{◌≡◌, ◌<◌, length, slice_get, IsSome};
-ghost use Rattle.admin_pages.specs.Families.{families, help_of, kind_of, name_of, rows_of, shape_of};
+//! The metrics: their names, types and texts, and whose numbers their samples are.
+ghost use Rattle.std.specs.Prelude.{◌≡◌, ◌<◌, length, map, option_map, slice_get, IsSome};
+ghost use Rattle.admin_pages.specs.Families.{families, rows_of, shown};
 
-/// A metric with all its samples.
-#[derive(Clone, Copy, Debug, PartialEq, Eq)]
-pub enum Family {
-    /// What the program is.
-    Build,
-    /// Seconds since the start.
-    Uptime,
-    /// Whether it was said that the server is ready.
-    Ready,
-    /// Connections that are open.
-    Open,
-    /// The most connections that may be open.
-    OpenLimit,
-    /// Whether the system had no descriptor or no memory for the last connection.
-    Refused,
-    /// Connections that wait for memory.
-    Waiting,
-    /// Bytes buffered for all connections.
-    Buffered,
-    /// The most bytes that are buffered.
-    Limit,
-    /// Connections that were accepted.
-    Connections,
-    /// Bytes read.
-    Read,
-    /// Bytes written.
-    Written,
-    /// Lines of the log that were dropped.
-    Dropped,
-    /// Lines of the log that could not be written.
-    Lost,
-    /// Requests by command and status.
-    Requests,
-    /// How long requests took.
-    Times,
-    /// Units that requests were charged.
-    Units,
-    /// Queries that took longer than was told.
-    Slow,
-    /// Requests of a tenant.
-    TenantRequests,
-    /// Units that a tenant's requests were charged.
-    TenantUnits,
-    /// Bytes of a tenant's requests that a limit refused.
-    TenantRefused,
-    /// Collections of a tenant.
-    TenantCollections,
-    /// Documents of a tenant.
-    TenantDocuments,
-    /// Bytes of texts of a tenant.
-    TenantTexts,
-    /// Bytes of memory that the documents of a tenant take.
-    TenantMemory,
-    /// Connections that wait for memory, by the last tenant that was answered on each.
-    TenantWaiting,
-}
+use crate::labels::{CELLS, TIMES};
 
-/// What the samples of a metric are for.
+/// Whose numbers the samples of a metric are. Those of a list have their place in it.
 #[derive(Clone, Copy)]
-pub(crate) enum Shape {
-    /// There is one.
-    One,
-    /// There is one, and its labels tell what the program is.
+pub(crate) enum Samples {
+    /// The number 1, with labels that tell what the program is.
     Build,
-    /// Each command and status.
+    /// One of the server's gauges.
+    Gauge(usize),
+    /// Requests by command and status.
     Cells,
-    /// Each bound of the times, all times, the sum of them, and how many there are.
+    /// Requests by how long they took, the sum of these times, and how many there are.
     Times,
-    /// Each tenant.
-    Tenants,
+    /// A sum over all requests.
+    Total(usize),
+    /// A sum over the requests of each tenant.
+    TenantTotal(usize),
+    /// One of the gauges of each tenant.
+    TenantGauge(usize),
 }
 
-impl Family {
-    /// The metric's name.
-    pub fn name(self) -> &'static str
-        ensures { result.now ≡ name_of self }
-    {
-        match self {
-            Family::Build => "path_server_build_info",
-            Family::Uptime => "path_server_uptime_seconds",
-            Family::Ready => "path_server_ready",
-            Family::Open => "path_server_connections_open",
-            Family::OpenLimit => "path_server_connections_limit",
-            Family::Refused => "path_server_accept_refused",
-            Family::Waiting => "path_server_connections_waiting",
-            Family::Buffered => "path_server_buffered_bytes",
-            Family::Limit => "path_server_buffered_limit_bytes",
-            Family::Connections => "path_server_connections_total",
-            Family::Read => "path_server_read_bytes_total",
-            Family::Written => "path_server_written_bytes_total",
-            Family::Dropped => "path_server_dropped_lines_total",
-            Family::Lost => "path_server_lost_lines_total",
-            Family::Requests => "path_server_requests_total",
-            Family::Times => "path_server_request_seconds",
-            Family::Units => "path_server_charged_units_total",
-            Family::Slow => "path_server_slow_queries_total",
-            Family::TenantRequests => "path_server_tenant_requests_total",
-            Family::TenantUnits => "path_server_tenant_charged_units_total",
-            Family::TenantRefused => "path_server_tenant_refused_bytes_total",
-            Family::TenantCollections => "path_server_tenant_collections",
-            Family::TenantDocuments => "path_server_tenant_documents",
-            Family::TenantTexts => "path_server_tenant_text_bytes",
-            Family::TenantMemory => "path_server_tenant_memory_bytes",
-            Family::TenantWaiting => "path_server_tenant_connections_waiting",
-        }
-    }
-
-    /// What it tells, in a sentence.
-    pub fn help(self) -> &'static str
-        ensures { result.now ≡ help_of self }
-    {
-        match self {
-            Family::Build =>
-                "The program: its version, its commit, whether it was proved, and its kit.",
-            Family::Uptime => "Seconds since the start.",
-            Family::Ready => "Whether it was said that the server is ready.",
-            Family::Open => "Connections that are open.",
-            Family::OpenLimit => "The most connections that may be open.",
-            Family::Refused => {
-                "Whether the system had no descriptor or no memory for the last connection."
-            }
-            Family::Waiting => "Connections that wait for memory.",
-            Family::Buffered => "Bytes buffered for all connections.",
-            Family::Limit => "The most bytes that are buffered.",
-            Family::Connections => "Connections that were accepted.",
-            Family::Read => "Bytes read.",
-            Family::Written => "Bytes written.",
-            Family::Dropped => "Lines of the log that were dropped.",
-            Family::Lost => "Lines of the log that could not be written.",
-            Family::Requests => "Requests by command and status.",
-            Family::Times => "How long requests took.",
-            Family::Units => "Units that queries were charged.",
-            Family::Slow => "Queries that took longer than --slow.",
-            Family::TenantRequests => "Requests of a tenant.",
-            Family::TenantUnits => "Units that a tenant's queries were charged.",
-            Family::TenantRefused => "Bytes of a tenant's requests that a limit refused.",
-            Family::TenantCollections => "Collections of a tenant.",
-            Family::TenantDocuments => "Documents of a tenant.",
-            Family::TenantTexts => "Bytes of texts of a tenant.",
-            Family::TenantMemory => "Bytes of memory that the documents of a tenant take.",
-            Family::TenantWaiting => {
-                "Connections that wait for memory, of the tenant that was answered on each last."
-            }
-        }
-    }
-
-    /// The name of its type.
-    pub fn kind(self) -> &'static str
-        ensures { result.now ≡ kind_of self }
-    {
-        match self {
-            Family::Connections
-            | Family::Read
-            | Family::Written
-            | Family::Dropped
-            | Family::Lost
-            | Family::Requests
-            | Family::Units
-            | Family::Slow
-            | Family::TenantRequests
-            | Family::TenantUnits
-            | Family::TenantRefused => "counter",
-            Family::Times => "histogram",
-            Family::Build
-            | Family::Uptime
-            | Family::Ready
-            | Family::Open
-            | Family::OpenLimit
-            | Family::Refused
-            | Family::Waiting
-            | Family::Buffered
-            | Family::Limit
-            | Family::TenantCollections
-            | Family::TenantDocuments
-            | Family::TenantTexts
-            | Family::TenantMemory
-            | Family::TenantWaiting => "gauge",
-        }
-    }
-
-    /// What its samples are for.
-    pub(crate) fn shape(self) -> Shape
-        ensures { result ≡ shape_of self }
-    {
-        match self {
-            Family::Uptime
-            | Family::Ready
-            | Family::Open
-            | Family::OpenLimit
-            | Family::Refused
-            | Family::Waiting
-            | Family::Buffered
-            | Family::Limit
-            | Family::Connections
-            | Family::Read
-            | Family::Written
-            | Family::Dropped
-            | Family::Lost
-            | Family::Units
-            | Family::Slow => Shape::One,
-            Family::Build => Shape::Build,
-            Family::Requests => Shape::Cells,
-            Family::Times => Shape::Times,
-            Family::TenantRequests
-            | Family::TenantUnits
-            | Family::TenantRefused
-            | Family::TenantCollections
-            | Family::TenantDocuments
-            | Family::TenantTexts
-            | Family::TenantMemory
-            | Family::TenantWaiting => Shape::Tenants,
-        }
-    }
+/// A metric: its name, its type, whose numbers it tells, and what it is in a sentence.
+#[derive(Clone, Copy)]
+pub(crate) struct Family {
+    pub(crate) name: &'static str,
+    pub(crate) kind: &'static str,
+    pub(crate) samples: Samples,
+    pub(crate) help: &'static str,
 }
 
-/// All metrics, in the order in which they are told.
-const FAMILIES: [Family; 26] = [
-    Family::Build,
-    Family::Uptime,
-    Family::Ready,
-    Family::Open,
-    Family::OpenLimit,
-    Family::Refused,
-    Family::Waiting,
-    Family::Buffered,
-    Family::Limit,
-    Family::Connections,
-    Family::Read,
-    Family::Written,
-    Family::Dropped,
-    Family::Lost,
-    Family::Requests,
-    Family::Times,
-    Family::Units,
-    Family::Slow,
-    Family::TenantRequests,
-    Family::TenantUnits,
-    Family::TenantRefused,
-    Family::TenantCollections,
-    Family::TenantDocuments,
-    Family::TenantTexts,
-    Family::TenantMemory,
-    Family::TenantWaiting,
+macro_rules! rows {
+    ($($name:literal $kind:literal $samples:ident $(($place:literal))? $help:literal;)*) => {
+        &[$(($name, $kind, Samples::$samples $(($place))?, $help)),*]
+    };
+}
+
+/// The metrics, in the order in which they are told: the fields of [`Family`].
+const FAMILIES: &[(&str, &str, Samples, &str)] = rows![
+    "path_server_build_info" "gauge" Build "The program: its version, its commit, whether it was proved, and its kit.";
+    "path_server_uptime_seconds" "gauge" Gauge(0) "Seconds since the start.";
+    "path_server_ready" "gauge" Gauge(1) "Whether it was said that the server is ready.";
+    "path_server_connections_open" "gauge" Gauge(2) "Connections that are open.";
+    "path_server_connections_limit" "gauge" Gauge(3) "The most connections that may be open.";
+    "path_server_accept_refused" "gauge" Gauge(4) "Whether the system had no descriptor or no memory for the last connection.";
+    "path_server_connections_waiting" "gauge" Gauge(5) "Connections that wait for memory.";
+    "path_server_buffered_bytes" "gauge" Gauge(6) "Bytes buffered for all connections.";
+    "path_server_buffered_limit_bytes" "gauge" Gauge(7) "The most bytes that are buffered.";
+    "path_server_connections_total" "counter" Gauge(8) "Connections that were accepted.";
+    "path_server_read_bytes_total" "counter" Gauge(9) "Bytes read.";
+    "path_server_written_bytes_total" "counter" Gauge(10) "Bytes written.";
+    "path_server_dropped_lines_total" "counter" Gauge(11) "Lines of the log that were dropped.";
+    "path_server_lost_lines_total" "counter" Gauge(12) "Lines of the log that could not be written.";
+    "path_server_requests_total" "counter" Cells "Requests by command and status.";
+    "path_server_request_seconds" "histogram" Times "How long requests took.";
+    "path_server_charged_units_total" "counter" Total(0) "Units that queries were charged.";
+    "path_server_slow_queries_total" "counter" Total(1) "Queries that took longer than --slow.";
+    "path_server_tenant_requests_total" "counter" TenantTotal(0) "Requests of a tenant.";
+    "path_server_tenant_charged_units_total" "counter" TenantTotal(1) "Units that a tenant's queries were charged.";
+    "path_server_tenant_refused_bytes_total" "counter" TenantTotal(2) "Bytes of a tenant's requests that a limit refused.";
+    "path_server_tenant_collections" "gauge" TenantGauge(0) "Collections of a tenant.";
+    "path_server_tenant_documents" "gauge" TenantGauge(1) "Documents of a tenant.";
+    "path_server_tenant_text_bytes" "gauge" TenantGauge(2) "Bytes of texts of a tenant.";
+    "path_server_tenant_memory_bytes" "gauge" TenantGauge(3) "Bytes of memory that the documents of a tenant take.";
+    "path_server_tenant_connections_waiting" "gauge" TenantGauge(4) "Connections that wait for memory, of the tenant that was answered on each last.";
 ];
 
 /// How many samples a metric has.
-pub(crate) fn rows_of(shape: Shape, tenants: usize) -> usize
-    ensures { result ≡ rows_of shape tenants }
+pub(crate) fn rows_of(samples: Samples, tenants: usize) -> usize
+    ensures { result ≡ rows_of samples tenants }
 {
-    match shape {
-        Shape::One | Shape::Build => 1,
-        Shape::Cells => 225,
-        Shape::Times => 19,
-        Shape::Tenants => tenants,
+    match samples {
+        Samples::Build | Samples::Gauge(_) | Samples::Total(_) => 1,
+        Samples::Cells => CELLS,
+        Samples::Times => TIMES + 2,
+        Samples::TenantTotal(_) | Samples::TenantGauge(_) => tenants,
     }
 }
 
@@ -270,15 +91,21 @@ pub(crate) fn family_count() -> usize
 /// The metric with this number.
 #[tactic(auto, unfolding(crate::specs::Families::families))]
 pub(crate) fn family_at(number: usize) -> Option<Family>
-    ensures metric { result ≡ slice_get families number }
+    ensures metric { option_map shown result ≡ slice_get families number }
     ensures within { IsSome result → number < 64 }
 {
-    at(&FAMILIES, number)
+    at(FAMILIES, number)
 }
 
-fn at(families: &[Family], number: usize) -> Option<Family>
-    ensures metric { result ≡ slice_get families.now number }
-    ensures within { IsSome result → number < length families.now }
+fn at(rows: &[(&'static str, &'static str, Samples, &'static str)], number: usize) -> Option<Family>
+    ensures metric { option_map shown result ≡ slice_get (map (λ row. record { name = row.0.now; kind = row.1.now; samples = row.2; help = row.3.now }) rows.now) number }
+    ensures within { IsSome result → number < length rows.now }
 {
-    families.get(number).copied()
+    let (name, kind, samples, help) = *rows.get(number)?;
+    Some(Family {
+        name,
+        kind,
+        samples,
+        help,
+    })
 }

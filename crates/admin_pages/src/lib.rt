@@ -17,8 +17,8 @@ mod standing;
 
 pub use about::About;
 pub use counted::{Metrics, Served};
-pub use families::Family;
 pub use heads::{Reading, read_request};
+pub use labels::STATUS_PLACES;
 pub use laws::{counted_once, named_once};
 pub use page::{Gauges, Page};
 pub use replies::{Reply, append_body, append_reply};

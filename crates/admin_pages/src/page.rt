@@ -1,13 +1,14 @@
 //! The page of metrics, in the text format of Prometheus (version 0.0.4).
 ghost use Rattle.std.specs.Prelude.{◌≡◌, ◌++◌, [], slice_index, IsTrue, OnErr, OnOk};
-ghost use Rattle.admin_pages.specs.declared.families.Shape.TheVariants.{Tenants};
+ghost use Rattle.admin_pages.specs.Counting.{sums_at};
+ghost use Rattle.admin_pages.specs.Families.{gauges_of, numbers, shown, tenant_gauges_of};
 ghost use Rattle.admin_pages.specs.Labels.{escaped, tenant_name};
-ghost use Rattle.admin_pages.specs.Pages.{build_label, head, is_whole, label, left, moved, page, row, sample, start, suffix, time_value, total, value, value_end};
+ghost use Rattle.admin_pages.specs.Pages.{build_label, head, is_whole, label, left, moved, page, row, sample, start, suffix, tenant_label, time_value, total, value, value_end};
 
 use crate::about::About;
 use crate::counted::{Metrics, TENANTS};
-use crate::families::{Family, Shape, family_at, family_count, rows_of};
-use crate::labels::{bound_name, command_name, status_name};
+use crate::families::{Family, Samples, family_at, family_count, rows_of};
+use crate::labels::{STATUS_PLACES, TIMES, bound_name, command_name, status_name};
 use crate::pieces::{append_all, append_escaped, append_number};
 use std::alloc::AllocError;
 
@@ -91,7 +92,7 @@ impl Page {
     /// # Errors
     ///
     /// Where a growth was refused: the page goes on where it was, and the bytes behind those that were there are to be cut off.
-    #[tactic(auto, using(crate::proofs::Lines::row_left, crate::proofs::Lines::metric_left, crate::proofs::Lines::moved_row, crate::proofs::Lines::moved_metric, crate::proofs::Lines::moved_end))]
+    #[tactic(auto, using(crate::proofs::Lines::moved_row, crate::proofs::Lines::moved_metric, crate::proofs::Lines::moved_end))]
     pub fn append_line(&mut self, about: &About, out: &mut Vec<u8>) -> Result<(), AllocError>
         ensures text { OnOk result (out.new.items ++ left about.now self.new ≡ out.old.items ++ left about.now self.old) }
         ensures moved { OnOk result (self.new ≡ moved self.old) }
@@ -100,7 +101,7 @@ impl Page {
         let Some(family) = family_at(self.family) else {
             return Ok(());
         };
-        if self.place >= rows_of(family.shape(), self.gauges.tenants) {
+        if self.place >= rows_of(family.samples, self.gauges.tenants) {
             self.family += 1;
             self.place = 0;
             return Ok(());
@@ -112,17 +113,17 @@ impl Page {
 
     #[tactic(auto, unfolding(crate::specs::Pages::row))]
     fn append_row(&self, about: &About, family: Family, out: &mut Vec<u8>) -> Result<(), AllocError>
-        ensures { OnOk result (out.new.items ≡ out.old.items ++ row about.now self.now.metrics self.now.gauges family self.now.place) }
+        ensures { OnOk result (out.new.items ≡ out.old.items ++ row about.now self.now.metrics self.now.gauges (shown family) self.now.place) }
     {
         append_start(family, self.place, out)?;
-        let number = value(&self.metrics, &self.gauges, family, self.place);
+        let number = value(&self.metrics, &self.gauges, family.samples, self.place);
         append_sample(about, family, self.place, number, out)
     }
 }
 
 // The head of a metric stands before its first sample.
 fn append_start(family: Family, place: usize, out: &mut Vec<u8>) -> Result<(), AllocError>
-    ensures { OnOk result (out.new.items ≡ out.old.items ++ start family place) }
+    ensures { OnOk result (out.new.items ≡ out.old.items ++ start (shown family) place) }
 {
     if place != 0 {
         return Ok(());
@@ -131,9 +132,9 @@ fn append_start(family: Family, place: usize, out: &mut Vec<u8>) -> Result<(), A
 }
 
 fn append_head(family: Family, out: &mut Vec<u8>) -> Result<(), AllocError>
-    ensures { OnOk result (out.new.items ≡ out.old.items ++ head family) }
+    ensures { OnOk result (out.new.items ≡ out.old.items ++ head (shown family)) }
 {
-    let (name, help) = (family.name().as_bytes(), family.help().as_bytes());
+    let (name, help) = (family.name.as_bytes(), family.help.as_bytes());
     append_all(
         &[
             b"# HELP ",
@@ -143,7 +144,7 @@ fn append_head(family: Family, out: &mut Vec<u8>) -> Result<(), AllocError>
             b"\n# TYPE ",
             name,
             b" ",
-            family.kind().as_bytes(),
+            family.kind.as_bytes(),
             b"\n",
         ],
         out,
@@ -158,72 +159,72 @@ fn append_sample(
     number: u64,
     out: &mut Vec<u8>,
 ) -> Result<(), AllocError>
-    ensures { OnOk result (out.new.items ≡ out.old.items ++ sample about.now family place number) }
+    ensures { OnOk result (out.new.items ≡ out.old.items ++ sample about.now (shown family) place number) }
 {
-    let shape = family.shape();
+    let samples = family.samples;
     append_all(
-        &[family.name().as_bytes(), suffix(shape, place).as_bytes()],
+        &[family.name.as_bytes(), suffix(samples, place).as_bytes()],
         out,
     )?;
-    append_label(about, shape, place, out)?;
+    append_label(about, samples, place, out)?;
     out.extend_from_slice(b" ")?;
     append_number(number, out)?;
-    out.extend_from_slice(value_end(shape, place).as_bytes())
+    out.extend_from_slice(value_end(samples, place).as_bytes())
 }
 
 // What stands behind the name of a histogram.
-fn suffix(shape: Shape, place: usize) -> &'static str
-    ensures { result.now ≡ suffix shape place }
+fn suffix(samples: Samples, place: usize) -> &'static str
+    ensures { result.now ≡ suffix samples place }
 {
-    match shape {
-        Shape::Times if place < 17 => "_bucket",
-        Shape::Times if place == 17 => "_sum",
-        Shape::Times => "_count",
+    match samples {
+        Samples::Times if place < TIMES => "_bucket",
+        Samples::Times if place == TIMES => "_sum",
+        Samples::Times => "_count",
         _ => "",
     }
 }
 
 // What stands behind a number: the sum of times is counted in microseconds, and told in seconds.
-fn value_end(shape: Shape, place: usize) -> &'static str
-    ensures { result.now ≡ value_end shape place }
+fn value_end(samples: Samples, place: usize) -> &'static str
+    ensures { result.now ≡ value_end samples place }
 {
-    match shape {
-        Shape::Times if place == 17 => "e-6\n",
+    match samples {
+        Samples::Times if place == TIMES => "e-6\n",
         _ => "\n",
     }
 }
 
 fn append_label(
     about: &About,
-    shape: Shape,
+    samples: Samples,
     place: usize,
     out: &mut Vec<u8>,
 ) -> Result<(), AllocError>
-    ensures { OnOk result (out.new.items ≡ out.old.items ++ label about.now shape place) }
+    ensures { OnOk result (out.new.items ≡ out.old.items ++ label about.now samples place) }
 {
-    match shape {
-        Shape::Cells => append_all(
+    match samples {
+        Samples::Cells => append_all(
             &[
                 b"{command=\"",
-                command_name(place / 25).as_bytes(),
+                command_name(place / STATUS_PLACES).as_bytes(),
                 b"\",status=\"",
-                status_name(place % 25).as_bytes(),
+                status_name(place % STATUS_PLACES).as_bytes(),
                 b"\"}",
             ],
             out,
         ),
-        Shape::Times if place < 17 => append_all(
+        Samples::Times if place < TIMES => append_all(
             &[b"{le=\"", bound_name(place).as_bytes(), b"\"}"],
             out,
         ),
-        Shape::Build => append_build(about, out),
-        Shape::Tenants => append_tenant(about, place, out),
+        Samples::Build => append_build(about, out),
+        Samples::TenantTotal(_) | Samples::TenantGauge(_) => append_tenant(about, place, out),
         _ => Ok(()),
     }
 }
 
 fn append_tenant(about: &About, place: usize, out: &mut Vec<u8>) -> Result<(), AllocError>
-    ensures { OnOk result (out.new.items ≡ out.old.items ++ label about.now Tenants place) }
+    ensures { OnOk result (out.new.items ≡ out.old.items ++ tenant_label about.now place) }
 {
     out.extend_from_slice(b"{tenant=\"")?;
     append_tenant_name(&about.tenants, place, out)?;
@@ -258,37 +259,65 @@ fn append_value(before: &[u8], text: &[u8], out: &mut Vec<u8>) -> Result<(), All
 }
 
 // The number of a sample.
-fn value(metrics: &Metrics, gauges: &Gauges, family: Family, place: usize) -> u64
-    ensures { result ≡ value metrics.now gauges.now family place }
+fn value(metrics: &Metrics, gauges: &Gauges, samples: Samples, place: usize) -> u64
+    ensures { result ≡ value metrics.now gauges.now samples place }
 {
-    match family {
-        Family::Build => 1,
-        Family::Uptime => gauges.uptime,
-        Family::Ready => u64::from(gauges.is_ready),
-        Family::Open => gauges.open,
-        Family::OpenLimit => gauges.open_limit,
-        Family::Refused => u64::from(gauges.is_refused),
-        Family::Waiting => gauges.waiting,
-        Family::Buffered => gauges.buffered,
-        Family::Limit => gauges.limit,
-        Family::Connections => gauges.connections,
-        Family::Read => gauges.read,
-        Family::Written => gauges.written,
-        Family::Dropped => gauges.dropped,
-        Family::Lost => gauges.lost,
-        Family::Requests => number_at(&metrics.requests, place),
-        Family::Times => time_number(metrics, place),
-        Family::Units => metrics.units,
-        Family::Slow => metrics.slow,
-        Family::TenantRequests => number_at(&metrics.tenants, place),
-        Family::TenantUnits => number_at(&metrics.tenant_units, place),
-        Family::TenantRefused => number_at(&metrics.tenant_refused, place),
-        Family::TenantCollections => number_at(&gauges.collections, place),
-        Family::TenantDocuments => number_at(&gauges.documents, place),
-        Family::TenantTexts => number_at(&gauges.texts, place),
-        Family::TenantMemory => number_at(&gauges.memory, place),
-        Family::TenantWaiting => number_at(&gauges.waiting_of, place),
+    match samples {
+        Samples::Build => 1,
+        Samples::Gauge(number) => gauge(gauges, number),
+        Samples::Cells => number_at(&metrics.requests, place),
+        Samples::Times => time_number(metrics, place),
+        Samples::Total(number) => number_at(&metrics.totals, number),
+        Samples::TenantTotal(number) => tenant_total(metrics, place, number),
+        Samples::TenantGauge(number) => tenant_gauge(gauges, place, number),
     }
+}
+
+fn gauge(gauges: &Gauges, number: usize) -> u64
+    ensures { result ≡ slice_index (numbers (gauges_of gauges.now)) number }
+{
+    number_at(
+        &[
+            gauges.uptime,
+            u64::from(gauges.is_ready),
+            gauges.open,
+            gauges.open_limit,
+            u64::from(gauges.is_refused),
+            gauges.waiting,
+            gauges.buffered,
+            gauges.limit,
+            gauges.connections,
+            gauges.read,
+            gauges.written,
+            gauges.dropped,
+            gauges.lost,
+        ],
+        number,
+    )
+}
+
+fn tenant_total(metrics: &Metrics, tenant: usize, number: usize) -> u64
+    ensures { result ≡ slice_index (sums_at metrics.now.tenants tenant) number }
+{
+    match metrics.tenants.get(tenant) {
+        Some(sums) => number_at(sums, number),
+        None => 0,
+    }
+}
+
+fn tenant_gauge(gauges: &Gauges, tenant: usize, number: usize) -> u64
+    ensures { result ≡ slice_index (numbers (tenant_gauges_of gauges.now tenant)) number }
+{
+    number_at(
+        &[
+            number_at(&gauges.collections, tenant),
+            number_at(&gauges.documents, tenant),
+            number_at(&gauges.texts, tenant),
+            number_at(&gauges.memory, tenant),
+            number_at(&gauges.waiting_of, tenant),
+        ],
+        number,
+    )
 }
 
 fn number_at(numbers: &[u64], place: usize) -> u64
@@ -301,9 +330,9 @@ fn number_at(numbers: &[u64], place: usize) -> u64
 fn time_number(metrics: &Metrics, place: usize) -> u64
     ensures { result ≡ time_value metrics.now place }
 {
-    if place < 17 {
+    if place < TIMES {
         total(&metrics.times[..place + 1])
-    } else if place == 17 {
+    } else if place == TIMES {
         metrics.micros
     } else {
         total(&metrics.times)

@@ -4,38 +4,11 @@ use crate::line_writer::{LineWriter, Outlet};
 use connection_turns::{End, Ending};
 use jiff::Timestamp;
 use open_connections::{Held, Journal, Slow, Totals};
+use protocol::status_at;
 use socket_poll::Gate;
 use std::alloc::{AllocError, Global};
 use std::fmt;
 use std::time::{Clock, SystemTime, UNIX_EPOCH};
-
-/// The names of the statuses from 0 on, as the protocol has them. 19 is never given.
-const STATUSES: [&str; 24] = [
-    "Ok",
-    "Short",
-    "NoTenant",
-    "BadCommand",
-    "BadFields",
-    "TooLong",
-    "NotUtf8",
-    "NotJson",
-    "TooDeep",
-    "NumberLimit",
-    "LoneSurrogate",
-    "DuplicateName",
-    "TooManyCollections",
-    "TooManyDocuments",
-    "TooManyBytes",
-    "NotFound",
-    "QueryTooLong",
-    "NotWellFormed",
-    "NotValid",
-    "Retired",
-    "ReplyTooLarge",
-    "NoMemory",
-    "Costly",
-    "Exists",
-];
 
 /// The most lines that are printed in a second.
 const MOST_LINES: u32 = 100;
@@ -315,6 +288,14 @@ fn name_of(end: End) -> &'static str {
     }
 }
 
+// The name of a status, as the protocol has it. Frames that it does not read get FrameFault.
+fn status_name(status: usize) -> &'static str {
+    match status_at(status) {
+        Some(status) => status.name,
+        None => "FrameFault",
+    }
+}
+
 /// The line with counts, without its line feed: refusals stand behind the others, those with a count of 0 left out.
 #[derive(Clone, Copy)]
 struct CountLine<'a>(&'a Totals);
@@ -331,7 +312,7 @@ impl<'a> fmt::Display for CountLine<'a> {
         write!(f, ", read {}, written {}", totals.read, totals.written)?;
         'statuses: for (status, count) in totals.counts.statuses.iter().enumerate() {
             if status > 0 && *count > 0 {
-                let name = STATUSES.get(status).copied().unwrap_or("FrameFault");
+                let name = status_name(status);
                 write!(f, ", {name} {count}")?;
             }
         }
@@ -343,16 +324,17 @@ impl<'a> fmt::Display for CountLine<'a> {
 mod tests {
     use super::*;
     use connection_turns::Counts;
+    use protocol::STATUSES;
     use std::net::{Ipv4Addr, SocketAddr, SocketAddrV4};
     use std::test::Fail;
 
     #[test]
     fn lines(rt: HostRuntime) -> Result<(), Fail> {
-        let mut statuses = [0; 256];
+        let mut statuses = [0; STATUSES.len() + 1];
         statuses[0] = 5;
         statuses[15] = 2;
-        statuses[23] = 1;
-        statuses[255] = 1;
+        statuses[22] = 1;
+        statuses[STATUSES.len()] = 1;
         let totals = Totals {
             connections: 4,
             connected: 3,
@@ -365,7 +347,7 @@ mod tests {
         };
         let printed = format!(in rt.alloc(); "{}", CountLine(&totals))?;
         let wanted =
-            "connections 4, open 3, requests 9, read 1000, written 2000, NotFound 2, Exists 1, FrameFault 1";
+            "connections 4, open 3, requests 9, read 1000, written 2000, NotFound 2, Costly 1, FrameFault 1";
         assert_eq!(rt; printed.as_str(), wanted);
         Ok(())
     }
