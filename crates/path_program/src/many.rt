@@ -8,7 +8,7 @@ use crate::key_file::read_key_file;
 use crate::named_keys::NamedKeys;
 use command_line::{Failure, Listening};
 use connection_lines::LoopLines;
-use event_loop::{Gate, Limits, LoopCore, LoopFault, Server, Since, Sockets, Time, Totals};
+use event_loop::{Gate, Limits, LoopCore, LoopFault, Server, Since, Sockets, Totals};
 use hub_metrics::MeasuredHub;
 use path_hub::Hub;
 use path_listen::HubCore;
@@ -21,9 +21,6 @@ use std::rt::{Clock, Env, Files};
 
 /// A server of this core at an address.
 type Bound<'r, R, C> = Server<Sockets, C, Since<'r, R>>;
-
-/// The hub, whose answers are measured.
-type Measured<'r, R> = MeasuredHub<Since<'r, R>>;
 
 /// The descriptor of standard error.
 const STANDARD_ERROR: i32 = 2;
@@ -55,7 +52,7 @@ fn serve_at<'r, R: Print + Env + Net + Clock + AllocGlobal, P: Print + Drop>(
     errors: P,
     wanted: &Listening<'_>,
     keys: &NamedKeys,
-    server: &mut Bound<'r, R, Measured<'r, R>>,
+    server: &mut Bound<'r, R, MeasuredHub>,
 ) -> Result<(), Failure> {
     let lines = begin(rt, errors, wanted, keys, server)?;
     run(rt, wanted, server, lines)?;
@@ -164,7 +161,7 @@ fn lines<'r, R: Net + Clock + AllocGlobal, P: Print + Drop>(
 fn run<'r, R: Net + Clock + AllocGlobal, P: Print + Drop>(
     rt: &'r R,
     wanted: &Listening<'_>,
-    server: &mut Bound<'r, R, Measured<'r, R>>,
+    server: &mut Bound<'r, R, MeasuredHub>,
     mut lines: LoopLines<'r, R, P>,
 ) -> Result<(), Failure> {
     match hub_metrics::serve(server, &mut lines) {
@@ -197,7 +194,7 @@ fn bind<'r, R: Net + Clock + AllocGlobal>(
     rt: &'r R,
     wanted: &Listening<'_>,
     keys: &[[u8; 16]],
-) -> Result<Box<Bound<'r, R, Measured<'r, R>>>, Failure> {
+) -> Result<Box<Bound<'r, R, MeasuredHub>>, Failure> {
     let addr = address_of(rt, wanted.address)?;
     let core = core_of(rt, wanted, keys)?;
     bind_at(rt, wanted, addr, core)
@@ -221,43 +218,18 @@ fn boxed<T: Drop>(alloc: Global, value: T) -> Result<Box<T>, AllocError> {
     Ok(value)
 }
 
-// The hub of these keys. Where somebody is told of it, the time of its answers is measured, and slow queries are counted and told.
-fn core_of<'r, R: Net + Clock + AllocGlobal>(
-    rt: &'r R,
+// The hub of these keys. Where somebody is told of it, slow queries are counted and told.
+fn core_of<R: AllocGlobal>(
+    rt: &R,
     wanted: &Listening<'_>,
     keys: &[[u8; 16]],
-) -> Result<Measured<'r, R>, Failure> {
-    let clock = clock_of(rt, wanted)?;
+) -> Result<MeasuredHub, Failure> {
     let hub = Hub::new(rt.alloc(), keys).map_err(|fault| Failure::of_tenants(keys, fault))?;
-    Ok(measured(rt.alloc(), wanted, hub, clock))
-}
-
-fn measured<T: Time + Drop>(
-    alloc: Global,
-    wanted: &Listening<'_>,
-    hub: Hub,
-    clock: Option<T>,
-) -> MeasuredHub<T> {
-    let mut core = MeasuredHub::new(HubCore::new(alloc, hub));
-    if let Some(clock) = clock {
-        core.measure(clock);
+    let mut core = MeasuredHub::new(HubCore::new(rt.alloc(), hub));
+    if wanted.log || wanted.admin.is_some() {
         core.tell_slow(u64::from(wanted.slow) * 1_000);
     }
-    core
-}
-
-// The clock that measures the time of answers, where it is wanted.
-fn clock_of<'r, R: Net + Clock + AllocGlobal>(
-    rt: &'r R,
-    wanted: &Listening<'_>,
-) -> Result<Option<Since<'r, R>>, Failure> {
-    if !wanted.log && wanted.admin.is_none() {
-        return Ok(None);
-    }
-    match Since::new(rt) {
-        Ok(clock) => Ok(Some(clock)),
-        Err(error) => Err(failure_of(rt.alloc(), wanted.address, LoopFault::from(error))),
-    }
+    Ok(core)
 }
 
 // The first address that a text names.

@@ -233,7 +233,7 @@ fn query_in_steps(
         Progress::Paused(task) => {
             let left = task.units_left();
             match task.step(tenant, alloc, query, collection, BUDGET, out)? {
-                Progress::Complete { charge } => Ok(left == BUDGET - 3 && charge == 8),
+                Progress::Complete { charge } => Ok(BUDGET - 4 < left && left < BUDGET && charge == 8),
                 Progress::Paused(_) => Ok(false),
             }
         }
