@@ -1,7 +1,7 @@
 //! One connection and what is known of it.
 ghost use Rattle.std.specs.Prelude.{◌≡◌, ◌<◌, ◌≤◌, ◌||◌, length, Bool, Some, None, false, IsTrue, if◌then◌else◌};
 ghost use Rattle.outbox.specs.Lines.{fresh, is_over};
-ghost use Rattle.outbox.specs.Told.{IsReadOn};
+ghost use Rattle.outbox.specs.Told.{HasMoved, IsReadOn};
 ghost use Rattle.outbox.specs.Turns as turns;
 ghost use Rattle.outbox.specs.Turns.{Flushes};
 ghost use Rattle.connection_turns.specs.Expiring.{expiry_of, end_in, has_lingered, idle_end, is_quiet};
@@ -234,21 +234,21 @@ impl<S: Peer> Connection<S> {
         most: usize,
         plan: Plan,
         share: Share,
-    ) -> (u64, u64)
+    ) -> (usize, usize)
         requires some { 0 < most }
         requires within { most ≤ length buffer.old }
         ensures turn { Progresses (C.steps.takes conn) (C.steps.answers conn) (can_go_by plan self.old.ready self.old.outbox) (moment_of S.told core.old self.old) (moment_of S.told core.new self.new) }
+        ensures moved { HasMoved (wire_of S.told self.old) (wire_of S.told self.new) result.0 result.1 }
         ensures writes { plan ≡ Plan.Write → core.new ≡ core.old }
         ensures phase { self.new.phase ≡ self.old.phase }
         ensures due { KeepsTurn self.old self.new }
     {
-        self.socket.begin();
         core.begin(plan == Plan::Answer, share);
-        self.go(core, conn, &mut buffer[..most], plan);
+        let counts = self.go(core, conn, &mut buffer[..most], plan);
         let done = core.done();
         self.has_faulted = self.has_faulted || done.has_faulted();
         self.is_known = self.is_known || done.has_heard();
-        self.socket.moved()
+        counts
     }
 
     // What a turn by this plan does.
@@ -259,16 +259,17 @@ impl<S: Peer> Connection<S> {
         conn: u32,
         buffer: &mut [u8],
         plan: Plan,
-    )
+    ) -> (usize, usize)
         requires { 0 < length buffer.old }
         ensures turn { Progresses (C.steps.takes conn) (C.steps.answers conn) (can_go_by plan self.old.ready self.old.outbox) (moment_of S.told core.old self.old) (moment_of S.told core.new self.new) }
+        ensures moved { HasMoved (wire_of S.told self.old) (wire_of S.told self.new) result.0 result.1 }
         ensures writes { plan ≡ Plan.Write → core.new ≡ core.old }
         ensures phase { self.new.phase ≡ self.old.phase }
         ensures due { KeepsTurn self.old self.new }
     {
         match plan {
-            Plan::Read => self.read(core, conn, buffer),
-            Plan::Write => self.write(),
+            Plan::Read => (self.read(core, conn, buffer), 0),
+            Plan::Write => (0, self.write()),
             Plan::Answer => self.serve(core, conn, buffer),
             Plan::All => self.serve(core, conn, buffer),
         }
@@ -291,13 +292,14 @@ impl<S: Peer> Connection<S> {
         core: &mut Counted<C, T>,
         conn: u32,
         buffer: &mut [u8],
-    )
+    ) -> (usize, usize)
         requires { 0 < length buffer.old }
         ensures turn { Progresses (C.steps.takes conn) (C.steps.answers conn) (turns.can_go_on self.old.ready self.old.outbox) (moment_of S.told core.old self.old) (moment_of S.told core.new self.new) }
+        ensures moved { HasMoved (wire_of S.told self.old) (wire_of S.told self.new) result.0 result.1 }
         ensures phase { self.new.phase ≡ self.old.phase }
         ensures due { KeepsTurn self.old self.new }
     {
-        turn(
+        let counts = turn(
             &mut self.outbox,
             &mut self.socket,
             core,
@@ -306,6 +308,7 @@ impl<S: Peer> Connection<S> {
             &mut self.ready,
         );
         self.note_drained();
+        counts
     }
 
     // Reads a piece.
@@ -314,13 +317,14 @@ impl<S: Peer> Connection<S> {
         core: &mut Counted<C, T>,
         conn: u32,
         buffer: &mut [u8],
-    )
+    ) -> usize
         requires { 0 < length buffer.old }
         ensures turn { Progresses (C.steps.takes conn) (C.steps.answers conn) (turns.can_read self.old.ready self.old.outbox) (moment_of S.told core.old self.old) (moment_of S.told core.new self.new) }
+        ensures moved { HasMoved (wire_of S.told self.old) (wire_of S.told self.new) result 0 }
         ensures phase { self.new.phase ≡ self.old.phase }
         ensures due { KeepsTurn self.old self.new }
     {
-        feed(
+        let count = feed(
             &mut self.outbox,
             &mut self.socket,
             core,
@@ -329,15 +333,17 @@ impl<S: Peer> Connection<S> {
             &mut self.ready,
         );
         self.note_drained();
+        count
     }
 
     // Writes.
-    fn write(&mut self)
+    fn write(&mut self) -> usize
         ensures turn { Flushes self.old.outbox (wire_of S.told self.old) self.old.ready self.new.outbox (wire_of S.told self.new) self.new.ready }
+        ensures moved { HasMoved (wire_of S.told self.old) (wire_of S.told self.new) 0 result }
         ensures phase { self.new.phase ≡ self.old.phase }
         ensures due { KeepsTurn self.old self.new }
     {
-        flush(&mut self.outbox, &mut self.socket, &mut self.ready);
+        flush(&mut self.outbox, &mut self.socket, &mut self.ready)
     }
 
     /// Whether it is served although its peer is gone. Its next turn ends it.

@@ -15,7 +15,6 @@ mod journal;
 mod limits;
 mod loop_core;
 mod socket;
-mod waiting;
 
 pub use ahead::Ahead;
 pub use answered::{Answered, Asked, Work};
@@ -27,4 +26,3 @@ pub use ending::{End, Ending};
 pub use journal::{Held, Journal, Slow, Totals};
 pub use limits::Limits;
 pub use loop_core::LoopCore;
-pub use waiting::{Waiting, waiting_among};

@@ -23,9 +23,6 @@ pub(crate) enum Fate {
 #[derive(Drop)]
 pub(crate) struct Socket<S> {
     pub(crate) stream: S,
-    // The bytes that were read and written in this turn.
-    read: u32,
-    written: u32,
     pub(crate) fate: Fate,
     // The last read gave less than it had room for, and nothing was reported since: a further one would only say that it would wait.
     pub(crate) is_drained: bool,
@@ -42,26 +39,11 @@ impl<S: Wire> Socket<S> {
     {
         Socket {
             stream,
-            read: 0,
-            written: 0,
             fate: Fate::Lives,
             is_drained: false,
             may_stop_short: false,
             is_left: false,
         }
-    }
-
-    /// A turn begins.
-    pub fn begin(&mut self)
-        ensures { self.new.stream ≡ self.old.stream }
-    {
-        self.read = 0;
-        self.written = 0;
-    }
-
-    /// The bytes that were read and written in this turn.
-    pub fn moved(&self) -> (u64, u64) {
-        (u64::from(self.read), u64::from(self.written))
     }
 
     /// Whether a read would only say that it would wait.
@@ -106,7 +88,6 @@ impl<S: Wire> Wire for Socket<S> {
         match given {
             Given::Bytes(count) => {
                 self.is_drained = count < buffer.len() && !self.may_stop_short;
-                self.read = sum(self.read, count);
             }
             Given::Ended => self.fate = Fate::Ended,
             Given::Blocked => {}
@@ -117,16 +98,9 @@ impl<S: Wire> Wire for Socket<S> {
 
     fn write(&mut self, bytes: &[u8]) -> Taken {
         let taken = self.stream.write(bytes);
-        match taken {
-            Taken::Bytes(count) => self.written = sum(self.written, count),
-            Taken::Blocked => {}
-            Taken::Failed => self.fate = Fate::Unwritten,
+        if let Taken::Failed = taken {
+            self.fate = Fate::Unwritten;
         }
         taken
     }
-}
-
-// What a turn moved with so many bytes more: it is far below the greatest number.
-fn sum(moved: u32, count: usize) -> u32 {
-    moved.saturating_add(u32::try_from(count).unwrap_or(u32::MAX))
 }

@@ -6,7 +6,7 @@ use Rattle.outbox.specs.Lines.{Line}
 use Rattle.outbox.specs.Told.{Told, IsUnused, IsReadOn}
 use Rattle.connection_turns.specs.Turning.{TakesTurn}
 use Rattle.connection_turns.specs.Cores.{CoreSteps}
-use Rattle.open_connections.specs.Looping.{Lanes, Step, TakenIn, HasTurn, LetGo, Drained, OthersStay, Does, DoesEach, DoesSome, DoesAtMost, TurnsAtMost, Stays, TakesNone, DoesOn, ServesNoNew}
+use Rattle.open_connections.specs.Looping.{CountsMoved, Lanes, Step, TakenIn, HasTurn, LetGo, Drained, OthersStay, Does, DoesEach, DoesSome, DoesAtMost, TurnsAtMost, Stays, TakesNone, DoesOn, ServesNoNew}
 
 pub stays : {C : Type 0} (a : Lanes C) → Stays a a
 stays a = record { core_stays = refl; lines_stay = λ q. refl; wires_stay = λ q. refl; limits_stay = refl; bytes_stay = refl }
@@ -31,6 +31,15 @@ before_others conn a b c h k = record { lines_stay = λ q e. k.lines_stay q e �
 others_then : {C : Type 0} (conn : ℕ) (a b c : Lanes C) → OthersStay conn a b → Stays b c → OthersStay conn a c
 others_then conn a b c k h = record { lines_stay = λ q e. h.lines_stay q ∙ k.lines_stay q e; wires_stay = λ q e. h.wires_stay q ∙ k.wires_stay q e; limits_stay = h.limits_stay ∙ k.limits_stay }
 
+-- what is counted of a turn
+pub counts_from : {C : Type 0} (conn : ℕ) (a b c : Lanes C) → Stays a b → CountsMoved (b.wires conn) (c.wires conn) b.bytes c.bytes → CountsMoved (a.wires conn) (c.wires conn) a.bytes c.bytes
+counts_from conn a b c h d =
+    subst (λ (x : Option Told). CountsMoved x (c.wires conn) a.bytes c.bytes) (h.wires_stay conn) (subst (λ (x : ℕ × ℕ). CountsMoved (b.wires conn) (c.wires conn) x c.bytes) h.bytes_stay d)
+
+counts_to : {C : Type 0} (conn : ℕ) (a b c : Lanes C) → Stays b c → CountsMoved (a.wires conn) (b.wires conn) a.bytes b.bytes → CountsMoved (a.wires conn) (c.wires conn) a.bytes c.bytes
+counts_to conn a b c h d =
+    subst (λ (x : Option Told). CountsMoved (a.wires conn) x a.bytes c.bytes) (sym (h.wires_stay conn)) (subst (λ (x : ℕ × ℕ). CountsMoved (a.wires conn) (b.wires conn) a.bytes x) (sym h.bytes_stay) d)
+
 pub before_step : {C : Type 0} (s : CoreSteps C) (step : Step) (a b c : Lanes C) → Stays a b → Does s step b c → Does s step a c
 before_step {C} s (TakenIn conn) a b c h d = record {
   opens = subst (λ (x : C). s.opens conn x c.core) h.core_stays d.opens;
@@ -44,7 +53,7 @@ before_step {C} s (HasTurn conn) a b c h d =
     let w : Option Told = c.wires conn in
     let t : TakesTurn (s.takes conn) (s.answers conn) d.line (b.wires conn) a.core d.line' w c.core = subst (λ (x : C). TakesTurn (s.takes conn) (s.answers conn) d.line (b.wires conn) x d.line' w c.core) h.core_stays d.takes_turn in
     let u : TakesTurn (s.takes conn) (s.answers conn) d.line (a.wires conn) a.core d.line' w c.core = subst (λ (x : Option Told). TakesTurn (s.takes conn) (s.answers conn) d.line x a.core d.line' w c.core) (h.wires_stay conn) t in
-    record { line = d.line; line' = d.line'; was = sym (h.lines_stay conn) ∙ d.was; is = d.is; takes_turn = u; others = before_others conn a b c h d.others }
+    record { line = d.line; line' = d.line'; was = sym (h.lines_stay conn) ∙ d.was; is = d.is; takes_turn = u; counts = counts_from conn a b c h d.counts; others = before_others conn a b c h d.others }
 before_step {C} s (LetGo conn) a b c h d = record {
   closes = subst (λ (x : C). s.closes conn x c.core) h.core_stays d.closes;
   is_gone = d.is_gone;
@@ -74,7 +83,7 @@ step_then {C} s (HasTurn conn) a b c d h =
     let w : Option Told = a.wires conn in
     let t : TakesTurn (s.takes conn) (s.answers conn) d.line w a.core d.line' (b.wires conn) c.core = subst (λ (x : C). TakesTurn (s.takes conn) (s.answers conn) d.line w a.core d.line' (b.wires conn) x) (sym h.core_stays) d.takes_turn in
     let u : TakesTurn (s.takes conn) (s.answers conn) d.line w a.core d.line' (c.wires conn) c.core = subst (λ (x : Option Told). TakesTurn (s.takes conn) (s.answers conn) d.line w a.core d.line' x c.core) (sym (h.wires_stay conn)) t in
-    record { line = d.line; line' = d.line'; was = d.was; is = h.lines_stay conn ∙ d.is; takes_turn = u; others = others_then conn a b c d.others h }
+    record { line = d.line; line' = d.line'; was = d.was; is = h.lines_stay conn ∙ d.is; takes_turn = u; counts = counts_to conn a b c h d.counts; others = others_then conn a b c d.others h }
 step_then {C} s (LetGo conn) a b c d h = record {
   closes = subst (λ (x : C). s.closes conn a.core x) (sym h.core_stays) d.closes;
   is_gone = h.lines_stay conn ∙ d.is_gone;

@@ -17,19 +17,19 @@ use Rattle.connection_turns.specs.declared.connection.Phase.TheVariants.{Served,
 use Rattle.connection_turns.specs.declared.connection.Plan.{Plan}
 use Rattle.open_connections.specs.declared.open.Open.{Open}
 use Rattle.connection_turns.specs.Cores.{CoreSteps}
-use Rattle.open_connections.specs.Looping.{Does, Drained, HasTurn, Stays}
+use Rattle.open_connections.specs.Looping.{CountsMoved, Does, Drained, HasTurn, Stays}
 use Rattle.open_connections.specs.Opened.{bytes_of, lanes_of, wires_in}
 use Rattle.open_connections.specs.Shares.{limits_in}
 use Rattle.open_connections.specs.Turns.{DrainsAt, GetsTurn, GetsTurnIn, HasTurnBy, HasTurnIn, Prepares, StatesStay, TurnsBy, has_room, is_answering, plan_at, plan_in, standing_of}
-use Rattle.open_connections.proofs.Looping.{before_others}
+use Rattle.open_connections.proofs.Looping.{before_others, counts_from}
 use Rattle.open_connections.proofs.Steps.{does_all, lanes, line_at, others_stay, wire_at}
 
 -- the turn of one that is served, as a step has it
 pub turn_lanes : {S C : Type 0} (s : CoreSteps C) (told : S → Option Told) (can : Bool) (limits limits' bytes bytes' : ℕ × ℕ) (core core' : C) (slab slab' : Slab (Connection S)) (key conn : ℕ) (c c' : Connection S) (takes answers : C → List ℕ → C → Type 0)
     → ((old : C) (piece : List ℕ) (new : C) → takes old piece new → s.takes conn old piece new) → ((old : C) (reply : List ℕ) (new : C) → answers old reply new → s.answers conn old reply new)
     → conn ≡ key → get slab key ≡ Some c → Updates slab slab' key (Some c') → limits' ≡ limits → c.phase ≡ Served → c'.phase ≡ c.phase
-    → Progresses takes answers can (moment_of told core c) (moment_of told core' c') → Does s (HasTurn key) (lanes told limits bytes core slab) (lanes told limits' bytes' core' slab')
-turn_lanes {S} {C} s told can limits limits' bytes bytes' core core' slab slab' key conn c c' takes answers t a n h u l p k d =
+    → Progresses takes answers can (moment_of told core c) (moment_of told core' c') → CountsMoved (wire_of told c) (wire_of told c') bytes bytes' → Does s (HasTurn key) (lanes told limits bytes core slab) (lanes told limits' bytes' core' slab')
+turn_lanes {S} {C} s told can limits limits' bytes bytes' core core' slab slab' key conn c c' takes answers t a n h u l p k d w =
     let es : List Event = d.turn.events in
     let was : line_of c ≡ Some c.outbox = ap (λ (x : Phase). line_in x c.outbox) p in
     let is : line_of c' ≡ Some c'.outbox = ap (λ (x : Phase). line_in x c'.outbox) (k ∙ p) in
@@ -45,6 +45,7 @@ turn_lanes {S} {C} s told can limits limits' bytes bytes' core core' slab slab' 
         wire_is = wire_at told (get slab' key) (Some c') u.changed ∙ d.turn.wire_is ∙ ap (λ (x : Option Told). moved (read c.outbox es) (sent c.outbox es) x) (sym (wire_at told (get slab key) (Some c) h));
         core_is = subst (λ (m : ℕ). DoesAll (s.takes m) (s.answers m) c.outbox es core core') n (does_all s conn takes answers t a c.outbox es core core' d.turn.core_is);
       };
+      counts = subst (λ (x : Option Told). CountsMoved x (wires_in told slab' key) bytes bytes') (sym (wire_at told (get slab key) (Some c) h)) (subst (λ (x : Option Told). CountsMoved (wire_of told c) x bytes bytes') (sym (wire_at told (get slab' key) (Some c') u.changed)) w);
       others = record { lines_stay = others.lines_stay; wires_stay = others.wires_stay; limits_stay = l };
     }
 
@@ -52,11 +53,11 @@ turn_lanes {S} {C} s told can limits limits' bytes bytes' core core' slab slab' 
 pub turned_by : {S C T : Type 0} (s : CoreSteps C) (told : S → Option Told) (plan : Plan) (key conn : ℕ) (result : Outcome) (o o' : Open S C T) (c c' : Connection S) (takes answers : C → List ℕ → C → Type 0)
     → ((old : C) (piece : List ℕ) (new : C) → takes old piece new → s.takes conn old piece new) → ((old : C) (reply : List ℕ) (new : C) → answers old reply new → s.answers conn old reply new)
     → conn ≡ key → get o.connections key ≡ Some c → Updates o.connections o'.connections key (Some c') → limits_in o'.budgets ≡ limits_in o.budgets → c.phase ≡ Served → c'.phase ≡ c.phase
-    → Progresses takes answers (can_go_by plan c.ready c.outbox) (moment_of told o.core c) (moment_of told o'.core c') → ends result ≡ is_over c'.outbox → TurnsBy s told plan key c.ready result o o'
+    → Progresses takes answers (can_go_by plan c.ready c.outbox) (moment_of told o.core c) (moment_of told o'.core c') → CountsMoved (wire_of told c) (wire_of told c') (bytes_of o) (bytes_of o') → ends result ≡ is_over c'.outbox → TurnsBy s told plan key c.ready result o o'
 unfolding turn_lanes
-turned_by {S} s told plan key conn result o o' c c' takes answers t a n h u l p k d e =
+turned_by {S} s told plan key conn result o o' c c' takes answers t a n h u l p k d w e =
     record {
-      turn = turn_lanes s told (can_go_by plan c.ready c.outbox) (limits_in o.budgets) (limits_in o'.budgets) (bytes_of o) (bytes_of o') o.core o'.core o.connections o'.connections key conn c c' takes answers t a n h u l p k d;
+      turn = turn_lanes s told (can_go_by plan c.ready c.outbox) (limits_in o.budgets) (limits_in o'.budgets) (bytes_of o) (bytes_of o') o.core o'.core o.connections o'.connections key conn c c' takes answers t a n h u l p k d w;
       ready' = c'.ready;
       is_ready = ap (λ (x : Option (Connection S)). option_map {U = Phase × Readiness} (λ c. (c.phase, c.ready)) x) u.changed ∙ ap (λ (x : Phase). Some (x, c'.ready)) (k ∙ p);
       goes_on = d.goes_on;
@@ -111,6 +112,7 @@ then_turned {S} {C} s told plan key ready result a b c h d =
           wire_is = t.wire_is ∙ ap (λ (x : Option Told). moved (read d.turn.line t.events) (sent d.turn.line t.events) x) (h.wires_stay key);
           core_is = subst (λ (x : C). DoesAll (s.takes key) (s.answers key) d.turn.line t.events x c.core) h.core_stays t.core_is;
         };
+        counts = counts_from key (lanes_of told a) (lanes_of told b) (lanes_of told c) h d.turn.counts;
         others = before_others key (lanes_of told a) (lanes_of told b) (lanes_of told c) h d.turn.others;
       };
       ready' = d.ready';

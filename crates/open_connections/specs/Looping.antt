@@ -1,7 +1,7 @@
 -- What a loop over one core does, a step at a time: this project's own.
-use Rattle.std.specs.Prelude.{◌≡◌, ◌≢◌, ◌⊎◌, ℕ, List, [], ◌∷◌, Option, Some, None}
+use Rattle.std.specs.Prelude.{◌≡◌, ◌≢◌, ◌⊎◌, ℕ, ◌+◌, ◌-◌, ◌^◌, min, List, [], ◌∷◌, Option, Some, None}
 use Rattle.outbox.specs.Lines.{Line, fresh}
-use Rattle.outbox.specs.Told.{Told, IsUnused, IsReadOn}
+use Rattle.outbox.specs.Told.{Told, HasMoved, IsUnused, IsReadOn}
 use Rattle.connection_turns.specs.Cores.{CoreSteps}
 use Rattle.connection_turns.specs.Turning.{TakesTurn}
 
@@ -12,6 +12,18 @@ pub record Lanes (C : Type 0) : Type 0 where
   pub wires : ℕ → Option Told
   pub limits : ℕ × ℕ
   pub bytes : ℕ × ℕ
+
+-- so many bytes more: the number stops at the greatest of 64 bits
+abbrev pub counted : (count more : ℕ) → ℕ
+counted count more = min (count + more) (2 ^ 64 - 1)
+
+-- the bytes that moved on a stream are counted, as far as it shows them
+pub record CountsMoved (old new : Option Told) (bytes bytes' : ℕ × ℕ) : Type 0 where
+  pub read : ℕ
+  pub written : ℕ
+  pub moved : HasMoved old new read written
+  pub read_is : bytes'.0 ≡ counted bytes.0 read
+  pub written_is : bytes'.1 ≡ counted bytes.1 written
 
 -- a connection is taken in, one has a turn, one is served no further, what still comes on one that is not served is thrown away
 pub data Step : Type 0 where
@@ -35,13 +47,14 @@ pub record TakesIn {C : Type 0} (s : CoreSteps C) (conn : ℕ) (old new : Lanes 
   pub others : OthersStay conn old new
   pub bytes_stay : new.bytes ≡ old.bytes
 
--- one that is served has a turn: the bytes of its events are those that moved on its own stream
+-- one that is served has a turn: the bytes of its events are those that moved on its own stream, and those are counted
 pub record TurnAt {C : Type 0} (s : CoreSteps C) (conn : ℕ) (old new : Lanes C) : Type 0 where
   pub line : Line
   pub line' : Line
   pub was : old.lines conn ≡ Some line
   pub is : new.lines conn ≡ Some line'
   pub takes_turn : TakesTurn (s.takes conn) (s.answers conn) line (old.wires conn) old.core line' (new.wires conn) new.core
+  pub counts : CountsMoved (old.wires conn) (new.wires conn) old.bytes new.bytes
   pub others : OthersStay conn old new
 
 -- one is served no further, and closed, or open without a byte more

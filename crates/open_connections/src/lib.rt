@@ -9,8 +9,10 @@ mod needs;
 mod numbers;
 mod open;
 mod spares;
+mod waiting;
 
 pub use budgets::LEAST_MEMORY;
-pub use connection_turns::{Held, Journal, LoopCore, Slow, Totals, Waiting};
+pub use connection_turns::{Held, Journal, LoopCore, Slow, Totals};
 pub use due_list::Due;
 pub use open::Open;
+pub use waiting::Waiting;

@@ -38,6 +38,14 @@ pub(crate) fn is_held(claim: Option<Claim>) -> bool
     }
 }
 
+/// Whether bytes wait where this is in front, or a request that may be answered.
+pub(crate) fn has_part(front: Option<Ahead>) -> bool {
+    match front {
+        Some(front) => front.waiting > 0,
+        None => true,
+    }
+}
+
 /// The most bytes that a turn reads: what is left of a frame that there is room for, and else what each may have.
 pub(crate) fn piece_of<S: Peer, C: LoopCore>(
     connection: &Connection<S>,

@@ -1,5 +1,6 @@
 //! Numbers of connections and of bytes.
 ghost use Rattle.std.specs.Prelude.{◌≡◌, ◌<◌, ◌≤◌, ◌^◌, IfSome, IsFalse, MatchOption};
+ghost use Rattle.open_connections.specs.Looping.{counted};
 
 /// The number that the core knows a connection by.
 pub(crate) fn conn_of(key: usize) -> Option<u32>
@@ -10,15 +11,16 @@ pub(crate) fn conn_of(key: usize) -> Option<u32>
 }
 
 /// Whether one of these numbers of bytes is not 0.
-pub(crate) fn has_moved(read: u64, written: u64) -> bool
+pub(crate) fn has_moved(read: usize, written: usize) -> bool
     ensures { IsFalse result → (read ≡ 0) × (written ≡ 0) }
 {
     read > 0 || written > 0
 }
 
 /// A count of bytes with so many more. It stops at its greatest number.
-pub(crate) fn added(count: u64, more: u64) -> u64
-    ensures { more ≡ 0 → result ≡ count }
+pub(crate) fn added(count: u64, more: usize) -> u64
+    ensures all { result ≡ counted count more }
+    ensures none { more ≡ 0 → result ≡ count }
 {
-    count.saturating_add(more)
+    count.saturating_add(more as u64)
 }

@@ -14,12 +14,13 @@ ghost use Rattle.open_connections.specs.Turns.{ClaimsStay, GetsTurn, HasTurnBy, 
 ghost use Rattle.open_connections.specs.Woken.{Hands, IsWoken, Passes, Recalls, StaysWoken, TakesOff, TurnsStay, Wakes, WakesOthers, is_awake};
 
 use crate::budgets::Budgets;
-use crate::needs::piece_of;
+use crate::needs::{has_part, piece_of};
 use crate::numbers::{added, conn_of, has_moved};
+use crate::waiting::{Waiting, waiting_among};
 use admin_pages::Metrics;
 use connection_turns::{
     Ahead, Claim, Connection, Counted, End, Ending, Limits, LoopCore, Outcome, Phase, Plan, Pool,
-    Share, Slow, Waiting, Work, waiting_among,
+    Share, Slow, Work,
 };
 use due_list::{Due, DueList};
 use outbox::CAP;
@@ -793,13 +794,5 @@ fn share_of(due: &DueList, micros: u64) -> Share
             since: None,
         },
         is_shared,
-    }
-}
-
-// Whether bytes wait where this is in front, or a request that may be answered.
-fn has_part(front: Option<Ahead>) -> bool {
-    match front {
-        Some(front) => front.waiting > 0,
-        None => true,
     }
 }

@@ -31,7 +31,7 @@ does_both : {C : Type 0} (T R : C → List ℕ → C → Type 0) (line : Line) (
 does_both {C} T R line [] fs a b c h k = subst (λ (x : C). DoesAll T R line fs x c) h k
 does_both {C} T R line (e ∷ es) fs a b c h k = (h.0, h.1, does_both T R (after line e) es fs h.0 b c h.2 k)
 
-moved_twice : (o : Option Told) (p q s t : List ℕ) → moved q t (moved p s o) ≡ moved (p ++ q) (s ++ t) o
+pub moved_twice : (o : Option Told) (p q s t : List ℕ) → moved q t (moved p s o) ≡ moved (p ++ q) (s ++ t) o
 moved_twice None p q s t = refl
 moved_twice (Some o) p q s t = ap (λ (xs : List ℕ). Some (record { read = xs; written = (o.written ++ s) ++ t })) (append_assoc o.read p q) ∙ ap (λ (xs : List ℕ). Some (record { read = o.read ++ (p ++ q); written = xs })) (append_assoc o.written s t)
 

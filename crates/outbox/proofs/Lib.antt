@@ -1,3 +1,4 @@
 pub mod Orders
 pub mod Joining
 pub mod Single
+pub mod Counting

@@ -1,5 +1,5 @@
 -- The bytes that a wire moved, where it tells them: this project's own.
-use Rattle.std.specs.Prelude.{◌≡◌, ℕ, List, [], ◌++◌, Option, Some, None}
+use Rattle.std.specs.Prelude.{◌≡◌, ℕ, ◌-◌, ◌^◌, List, [], ◌++◌, length, min, Option, Some, None}
 use Rattle.std.specs.Option.{option_map}
 
 pub record Told : Type 0 where
@@ -26,3 +26,11 @@ IsUnused (Some t) = (t.read ≡ []) × (t.written ≡ [])
 -- nothing was written; a piece may have been read
 abbrev pub IsReadOn : Option Told → Option Told → Type 0
 IsReadOn old new = (piece : List ℕ) × (new ≡ with_read piece old)
+
+-- so many bytes were read and written, as far as it is told: each number stops at the greatest of 64 bits
+pub record HasMoved (old new : Option Told) (read written : ℕ) : Type 0 where
+  pub piece : List ℕ
+  pub bytes : List ℕ
+  pub is : new ≡ moved piece bytes old
+  pub read_is : read ≡ min (length piece) (2 ^ 64 - 1)
+  pub written_is : written ≡ min (length bytes) (2 ^ 64 - 1)

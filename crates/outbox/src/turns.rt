@@ -1,6 +1,6 @@
 //! One turn on one connection.
 ghost use Rattle.std.specs.Prelude.{◌<◌, length, Option};
-ghost use Rattle.outbox.specs.Told.{Told};
+ghost use Rattle.outbox.specs.Told.{HasMoved, Told};
 ghost use Rattle.outbox.specs.Turns.{Turned, Flushes, here, can_read, can_answer, can_go_on, most_requests};
 
 use crate::answers::{Core, Step};
@@ -15,7 +15,7 @@ pub const REQUESTS: u32 = 64;
 /// nor answers while the outbox is at its cap, and stops after one answer if the core rests.
 ///
 /// A fault of the wire discards the bytes owed and ends the connection. They are still written after the end of the input, a declined
-/// piece, a last answer or a refused one.
+/// piece, a last answer or a refused one. The numbers are those of the bytes that were read and written.
 pub fn turn<W: Wire, C: Core>(
     outbox: &mut Outbox,
     wire: &mut W,
@@ -23,34 +23,47 @@ pub fn turn<W: Wire, C: Core>(
     conn: u32,
     buffer: &mut [u8],
     ready: &mut Readiness,
-)
+) -> (usize, usize)
     requires { 0 < length buffer.old }
-    ensures { Turned 1 most_requests (C.takes conn) (C.answers conn) (C.idle conn) (C.over conn) can_go_on
+    ensures turned { Turned 1 most_requests (C.takes conn) (C.answers conn) (C.idle conn) (C.over conn) can_go_on
         (here outbox.old (W.told wire.old) core.old ready.old) (here outbox.new (W.told wire.new) core.new ready.new) }
+    ensures moved { HasMoved (W.told wire.old) (W.told wire.new) result.0 result.1 }
 {
-    flush(outbox, wire, ready);
-    feed(outbox, wire, core, conn, buffer, ready);
+    let before = flush(outbox, wire, ready);
+    let read = feed(outbox, wire, core, conn, buffer, ready);
     answer(outbox, core, conn, ready);
-    flush(outbox, wire, ready);
+    let behind = flush(outbox, wire, ready);
+    (read, before.saturating_add(behind))
 }
 
-/// Writes once, if something is owed and there may be room for it. It neither reads nor answers.
+/// Writes once, if something is owed and there may be room for it. It neither reads nor answers. The number is that of the bytes that were written.
 ///
 /// A fault of the wire has the same effect as in a [`turn`].
-pub fn flush<W: Wire>(outbox: &mut Outbox, wire: &mut W, ready: &mut Readiness)
-    ensures { Flushes outbox.old (W.told wire.old) ready.old outbox.new (W.told wire.new) ready.new }
+pub fn flush<W: Wire>(outbox: &mut Outbox, wire: &mut W, ready: &mut Readiness) -> usize
+    ensures flushes { Flushes outbox.old (W.told wire.old) ready.old outbox.new (W.told wire.new) ready.new }
+    ensures moved { HasMoved (W.told wire.old) (W.told wire.new) 0 result }
 {
     if !ready.can_write(outbox) {
-        return;
+        return 0;
     }
     match wire.write(outbox.owed()) {
-        Taken::Bytes(count) => outbox.wrote(count),
-        Taken::Blocked => ready.writable = false,
-        Taken::Failed => outbox.fail(),
+        Taken::Bytes(count) => {
+            outbox.wrote(count);
+            count
+        }
+        Taken::Blocked => {
+            ready.writable = false;
+            0
+        }
+        Taken::Failed => {
+            outbox.fail();
+            0
+        }
     }
 }
 
-/// Reads one piece if no request waits, and neither answers nor writes. The caller can then reserve what the request needs.
+/// Reads one piece if no request waits, and neither answers nor writes. The caller can then reserve what the request needs. The number is that of the bytes
+/// that were read.
 ///
 /// Faults of the wire, the end of the input and declined pieces have the same effect as in a [`turn`].
 pub fn feed<W: Wire, C: Core>(
@@ -60,25 +73,37 @@ pub fn feed<W: Wire, C: Core>(
     conn: u32,
     buffer: &mut [u8],
     ready: &mut Readiness,
-)
+) -> usize
     requires { 0 < length buffer.old }
-    ensures { Turned 1 0 (C.takes conn) (C.answers conn) (C.idle conn) (C.over conn) can_read
+    ensures turned { Turned 1 0 (C.takes conn) (C.answers conn) (C.idle conn) (C.over conn) can_read
         (here outbox.old (W.told wire.old) core.old ready.old) (here outbox.new (W.told wire.new) core.new ready.new) }
+    ensures moved { HasMoved (W.told wire.old) (W.told wire.new) result 0 }
 {
     if !ready.can_read(outbox) {
-        return;
+        return 0;
     }
     match wire.read(buffer) {
         Given::Bytes(count) => {
             if core.take(conn, &buffer[..count]) {
                 ready.waiting = true;
+                count
             } else {
                 outbox.end();
+                count
             }
         }
-        Given::Ended => outbox.end(),
-        Given::Blocked => ready.readable = false,
-        Given::Failed => outbox.fail(),
+        Given::Ended => {
+            outbox.end();
+            0
+        }
+        Given::Blocked => {
+            ready.readable = false;
+            0
+        }
+        Given::Failed => {
+            outbox.fail();
+            0
+        }
     }
 }
 

@@ -1,16 +1,22 @@
 use Rattle.outbox.specs.Turns.{here}
+use Rattle.outbox.proofs.Counting.{all_moved}
 use Rattle.outbox.proofs.Joining.{four}
 use Rattle.outbox.proofs.Single.{flushed}
 use Rattle.outbox.proofs.turns.turn.Goals as goal
 
-pub returns : goal.returns
-returns g c =
+pub returns-clause-turned : goal.returns-clause-turned
+returns-clause-turned g c =
     four _ _ _ _ (here c.args.outbox.now (g.W.Wire.told c.args.wire.now) c.args.core.now c.args.ready.now)
-    (here c.flush.new.outbox (g.W.Wire.told c.flush.new.wire) c.args.core.now c.flush.new.ready)
-    (here c.feed.new.outbox (g.W.Wire.told c.feed.new.wire) c.feed.new.core c.feed.new.ready)
-    (here c.answer.new.outbox (g.W.Wire.told c.feed.new.wire) c.answer.new.core c.answer.new.ready)
-    (here c.flush-2.new.outbox (g.W.Wire.told c.flush-2.new.wire) c.answer.new.core c.flush-2.new.ready)
-    (flushed _ _ _ _ c.args.outbox.now c.flush.new.outbox (g.W.Wire.told c.args.wire.now) (g.W.Wire.told c.flush.new.wire) c.args.ready.now c.flush.new.ready c.args.core.now c.flush.ensures)
-    c.feed.ensures
-    (c.answer.ensures (g.W.Wire.told c.feed.new.wire))
-    (flushed _ _ _ _ c.answer.new.outbox c.flush-2.new.outbox (g.W.Wire.told c.feed.new.wire) (g.W.Wire.told c.flush-2.new.wire) c.answer.new.ready c.flush-2.new.ready c.answer.new.core c.flush-2.ensures)
+    (here c.flush-before.new.outbox (g.W.Wire.told c.flush-before.new.wire) c.args.core.now c.flush-before.new.ready)
+    (here c.feed-read.new.outbox (g.W.Wire.told c.feed-read.new.wire) c.feed-read.new.core c.feed-read.new.ready)
+    (here c.answer.new.outbox (g.W.Wire.told c.feed-read.new.wire) c.answer.new.core c.answer.new.ready)
+    (here c.flush-behind.new.outbox (g.W.Wire.told c.flush-behind.new.wire) c.answer.new.core c.flush-behind.new.ready)
+    (flushed _ _ _ _ c.args.outbox.now c.flush-before.new.outbox (g.W.Wire.told c.args.wire.now) (g.W.Wire.told c.flush-before.new.wire) c.args.ready.now c.flush-before.new.ready c.args.core.now c.flush-before.ensures.flushes)
+    c.feed-read.ensures.turned
+    (c.answer.ensures (g.W.Wire.told c.feed-read.new.wire))
+    (flushed _ _ _ _ c.answer.new.outbox c.flush-behind.new.outbox (g.W.Wire.told c.feed-read.new.wire) (g.W.Wire.told c.flush-behind.new.wire) c.answer.new.ready c.flush-behind.new.ready c.answer.new.core c.flush-behind.ensures.flushes)
+
+pub returns-clause-moved : goal.returns-clause-moved
+returns-clause-moved g c =
+    rw c.saturating_add.ensures (all_moved (g.W.Wire.told c.args.wire.now) (g.W.Wire.told c.flush-before.new.wire) (g.W.Wire.told c.feed-read.new.wire) (g.W.Wire.told c.flush-behind.new.wire) c.flush-before.result c.feed-read.result c.flush-behind.result
+    c.flush-before.ensures.moved c.feed-read.ensures.moved c.flush-behind.ensures.moved)

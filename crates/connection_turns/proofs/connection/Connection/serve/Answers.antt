@@ -2,4 +2,4 @@ use Rattle.connection_turns.proofs.Progress.{drained, progressed}
 use Rattle.connection_turns.proofs.connection.Connection.serve.Goals as goal
 
 pub returns-clause-turn : goal.returns-clause-turn
-returns-clause-turn g c = drained _ _ _ _ g.S.Wire.told c.turn.new.core (record c.args.self.now { outbox = c.turn.new.outbox; socket = c.turn.new.wire; ready = c.turn.new.ready }) c.note_drained.new.self c.turn.new.wire.is_drained c.note_drained.ensures.drained (progressed _ _ _ _ _ _ _ _ _ c.turn.ensures)
+returns-clause-turn g c = drained _ _ _ _ g.S.Wire.told c.turn-counts.new.core (record c.args.self.now { outbox = c.turn-counts.new.outbox; socket = c.turn-counts.new.wire; ready = c.turn-counts.new.ready }) c.note_drained.new.self c.turn-counts.new.wire.is_drained c.note_drained.ensures.drained (progressed _ _ _ _ _ _ _ _ _ c.turn-counts.ensures.turned)

@@ -5,6 +5,7 @@ use Rattle.open_connections.specs.Shares.{limits_in}
 use Rattle.open_connections.proofs.Steps.{written}
 use Rattle.open_connections.proofs.Turns.{at_slot, drain_lanes, drained_by, lingers_by, served_by, turn_lanes, turned_by}
 use Rattle.open_connections.proofs.Keeping.{one_changes}
+use Rattle.open_connections.proofs.Woken.{others_woken}
 use Rattle.open_connections.proofs.open.Open.work.Goals as goal
 
 pub returns-in-Lingering-clause-lanes : goal.returns-in-Lingering-clause-lanes
@@ -22,16 +23,21 @@ pub returns-in-Served-clause-lanes : goal.returns-in-Served-clause-lanes
 returns-in-Served-clause-lanes g c =
     inl (turn_lanes g.C.LoopCore.steps g.S.Wire.told (can_go_by c.args.plan c.in-Some-get_mut.connection.now.ready c.in-Some-get_mut.connection.now.outbox) (limits_in c.args.self.now.budgets) _ (bytes_of c.args.self.now) _ c.args.self.now.core c.turn-read.new.core c.args.self.now.connections _ c.args.key c.in-Some.conn c.in-Some-get_mut.connection.now c.turn-read.new.self _ _
     (λ old piece new t. t) (λ old reply new a. a) c.in-Some.ensures.same (sym c.in-Some-get_mut.ensures.value)
-    (written c.args.self.now.connections c.args.key c.in-Some-get_mut.connection.now c.turn-read.new.self (sym c.in-Some-get_mut.ensures.value)) refl c.in-Served.is c.turn-read.ensures.phase c.turn-read.ensures.turn)
+    (written c.args.self.now.connections c.args.key c.in-Some-get_mut.connection.now c.turn-read.new.self (sym c.in-Some-get_mut.ensures.value)) refl c.in-Served.is c.turn-read.ensures.phase c.turn-read.ensures.turn
+    (record { read = c.turn-read.result.0; written = c.turn-read.result.1; moved = c.turn-read.ensures.moved; read_is = c.added-self.ensures.all; written_is = c.added-self-in-Served.ensures.all }))
 
 pub returns-in-Served-clause-given : goal.returns-in-Served-clause-given
 returns-in-Served-clause-given g c =
     at_slot _ _ c.in-Some-get_mut.connection.now (sym c.in-Some-get_mut.ensures.value) (λ k. served_by g.C.LoopCore.steps g.S.Wire.told c.args.plan c.args.key c.in-Some-get_mut.connection.now _ c.args.self.now _ c.in-Served.is
     (turned_by g.C.LoopCore.steps g.S.Wire.told c.args.plan c.args.key c.in-Some.conn _ c.args.self.now _ c.in-Some-get_mut.connection.now c.turn-read.new.self _ _ (λ old piece new t. t) (λ old reply new a. a) c.in-Some.ensures.same (sym c.in-Some-get_mut.ensures.value)
-    (written c.args.self.now.connections c.args.key c.in-Some-get_mut.connection.now c.turn-read.new.self (sym c.in-Some-get_mut.ensures.value)) refl c.in-Served.is c.turn-read.ensures.phase c.turn-read.ensures.turn c.outcome.ensures.over))
+    (written c.args.self.now.connections c.args.key c.in-Some-get_mut.connection.now c.turn-read.new.self (sym c.in-Some-get_mut.ensures.value)) refl c.in-Served.is c.turn-read.ensures.phase c.turn-read.ensures.turn
+    (record { read = c.turn-read.result.0; written = c.turn-read.result.1; moved = c.turn-read.ensures.moved; read_is = c.added-self.ensures.all; written_is = c.added-self-in-Served.ensures.all }) c.outcome.ensures.over))
 
 pub returns-in-Lingering-clause-others : goal.returns-in-Lingering-clause-others
 returns-in-Lingering-clause-others g c = one_changes c.args.key c.args.self.now _ _ (written c.args.self.now.connections c.args.key c.in-Some-get_mut.connection.now c.drain.new.self (sym c.in-Some-get_mut.ensures.value)) (search rules)
 
 pub returns-in-Served-clause-others : goal.returns-in-Served-clause-others
 returns-in-Served-clause-others g c = one_changes c.args.key c.args.self.now _ _ (written c.args.self.now.connections c.args.key c.in-Some-get_mut.connection.now c.turn-read.new.self (sym c.in-Some-get_mut.ensures.value)) (search rules)
+
+pub returns-in-Served-clause-woken : goal.returns-in-Served-clause-woken
+returns-in-Served-clause-woken g c = others_woken _ _ _ _ c.args.self.now.connections c.args.key c.in-Some-get_mut.connection.now c.turn-read.new.self (sym c.in-Some-get_mut.ensures.value) c.turn-read.ensures.due

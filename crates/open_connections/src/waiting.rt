@@ -1,7 +1,6 @@
 //! Who waits for memory.
 
-use crate::claim::Pool;
-use crate::connection::Connection;
+use connection_turns::{Connection, Pool};
 use slab::Slab;
 use socket_poll::Peer;
 use tenant_map::TENANT_LIMIT;
