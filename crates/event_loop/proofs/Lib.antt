@@ -1,4 +1,5 @@
 pub mod Deaf
+pub mod Going
 pub mod Serving
 pub mod Waking
 pub mod Seats

@@ -1,5 +1,5 @@
 -- A server of many connections, as its clauses see it: this project's own.
-use Rattle.std.specs.Prelude.{◌≡◌, ℕ, Bool, IsFalse, List, Option, None, slice_index_or}
+use Rattle.std.specs.Prelude.{◌≡◌, ℕ, Bool, IsFalse, List, [], ◌∷◌, Option, None, slice_index_or}
 use Rattle.outbox.specs.Lines.{Line}
 use Rattle.outbox.specs.Told.{Told}
 use Rattle.connection_turns.specs.declared.limits.Limits.{Limits}
@@ -52,6 +52,20 @@ Shows told o server = server ≡ record server { connected = connected_in o; rea
 -- Each connection that was to have a turn has it in this round if it is open still, or is put off: from what a server shows before the round to what it shows behind it.
 abbrev pub GivesTurns : (S T : Type 0) {C : Type 0} → CoreSteps C → (S → Option Told) → (may_wait longs : ℕ → C → Bool) → (old new : Serving C) → Type 0
 GivesTurns S T {C} s told may_wait longs old new = (was : Open S C T) × (is : Open S C T) × Shows told was old × Shows told is new × GoesRound s told may_wait longs was is
+
+-- a round that ends well: it gives its turns, and forgets nobody
+pub record IsRound (S T : Type 0) {C : Type 0} (s : CoreSteps C) (told : S → Option Told) (may_wait longs : ℕ → C → Bool) (old new : Serving C) : Type 0 where
+  pub turns : GivesTurns S T s told may_wait longs old new
+  pub woken : NobodyIsForgotten old → NobodyIsForgotten new
+
+-- such rounds, one after the other, and nothing between them: a list of what the server shows behind each
+abbrev pub GoesRounds : (S T : Type 0) {C : Type 0} → CoreSteps C → (S → Option Told) → (may_wait longs : ℕ → C → Bool) → List (Serving C) → (old new : Serving C) → Type 0
+GoesRounds S T s told may_wait longs [] old new = new ≡ old
+GoesRounds S T s told may_wait longs (next ∷ rounds) old new = IsRound S T s told may_wait longs old next × GoesRounds S T s told may_wait longs rounds next new
+
+-- some rounds, or none
+abbrev pub GoesSomeRounds : (S T : Type 0) {C : Type 0} → CoreSteps C → (S → Option Told) → (may_wait longs : ℕ → C → Bool) → (old new : Serving C) → Type 0
+GoesSomeRounds S T {C} s told may_wait longs old new = (rounds : List (Serving C)) × GoesRounds S T s told may_wait longs rounds old new
 
 -- it takes in no connection any more, and none is open
 pub record IsOver {C : Type 0} (server : Serving C) : Type 0 where

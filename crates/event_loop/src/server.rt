@@ -1,6 +1,6 @@
 //! A server of many connections.
 ghost use Rattle.std.specs.Prelude.{◌≡◌, ℕ, None, is_some, OnOk, IfOk, IsTrue, IsFalse};
-ghost use Rattle.event_loop.specs.Servers.{GivesTurns, IsOver, NobodyIsForgotten, StaysDeaf, lanes_in};
+ghost use Rattle.event_loop.specs.Servers.{GivesTurns, GoesSomeRounds, IsOver, NobodyIsForgotten, StaysDeaf, lanes_in};
 ghost use Rattle.open_connections.specs.Looping.{DoesSome};
 ghost use Rattle.open_connections.specs.Shares.{fresh_budgets, limits_in, IsWithin};
 
@@ -145,6 +145,7 @@ impl<S: System + Drop, C: LoopCore, T: Time + Drop> Server<S, C, T> {
     pub fn serve<J: Journal>(&mut self, journal: &mut J) -> Result<(), LoopFault>
         ensures over { OnOk result (IsOver self.new) }
         ensures steps { DoesSome C.steps (lanes_in self.old) (lanes_in self.new) }
+        ensures rounds { OnOk result (GoesSomeRounds S.Stream T C.steps S.Stream.told C.may_wait C.longs self.old self.new) }
         ensures deaf { IsFalse self.old.listens → StaysDeaf self.old self.new }
         ensures limits { limits_in self.new.budgets ≡ limits_in self.old.budgets }
         ensures within { IsWithin self.new.budgets }
@@ -165,6 +166,7 @@ impl<S: System + Drop, C: LoopCore, T: Time + Drop> Server<S, C, T> {
     fn run<J: Journal>(&mut self, journal: &mut J) -> Result<(), LoopFault>
         ensures over { OnOk result (IsOver self.new) }
         ensures steps { DoesSome C.steps (lanes_in self.old) (lanes_in self.new) }
+        ensures rounds { OnOk result (GoesSomeRounds S.Stream T C.steps S.Stream.told C.may_wait C.longs self.old self.new) }
         ensures deaf { IsFalse self.old.listens → StaysDeaf self.old self.new }
     {
         'rounds: for _ in 0..u64::MAX {

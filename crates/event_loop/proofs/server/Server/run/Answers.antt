@@ -1,13 +1,19 @@
 use Rattle.open_connections.proofs.Looping.{no_step, some_then, stays}
 use Rattle.event_loop.proofs.Deaf.{deaf_still, deaf_then}
+use Rattle.event_loop.proofs.Going.{no_round, round_then}
 use Rattle.event_loop.proofs.server.Server.run.Goals as goal
 
 pub rounds-init : goal.rounds-init
-rounds-init g c = record { steps = no_step g.C.LoopCore.steps _ _ (stays _); deaf = λ h. deaf_still _ h }
+rounds-init g c = record {
+  steps = no_step g.C.LoopCore.steps _ _ (stays _);
+  rounds = no_round g.row.S-Stream.Denot g.row.T.Denot g.C.LoopCore.steps g.S.Stream.Wire.told g.C.LoopCore.may_wait g.C.LoopCore.longs _;
+  deaf = λ h. deaf_still _ h;
+}
 
 pub rounds-preserved : goal.rounds-preserved
 rounds-preserved g c = record {
   steps = some_then g.C.LoopCore.steps _ _ _ c.rounds.invariant.steps c.round.ensures.steps;
+  rounds = round_then g.row.S-Stream.Denot g.row.T.Denot g.C.LoopCore.steps g.S.Stream.Wire.told g.C.LoopCore.may_wait g.C.LoopCore.longs _ _ _ c.rounds.invariant.rounds (record { turns = c.in_ok-round.ensures.turns; woken = c.in_ok-round.ensures.woken });
   deaf = λ h. let d = c.rounds.invariant.deaf h in deaf_then _ _ _ d (c.round.ensures.deaf d.deaf);
 }
 
