@@ -36,9 +36,9 @@ pub fn named(
     Ok(())
 }
 
-// How many nodes there are below a node. Each is the child of one.
+/// How many nodes there are below a node. Each is the child of one.
 #[tactic(auto, using(crate::proofs::Below::below_total))]
-fn below_total(doc: &Document, n: NodeId) -> u32
+pub fn below_total(doc: &Document, n: NodeId) -> u32
     requires { n.0 < count doc.now }
     ensures { result ≡ length (flat_map children (visit (node_at doc.now n.0))) }
 {

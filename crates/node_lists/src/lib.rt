@@ -13,7 +13,7 @@ mod slices;
 mod steps;
 
 pub use chains::{followed, step};
-pub use descendants::{children_below, named};
+pub use descendants::{below_total, children_below, named};
 pub use fault::SelectFault;
 pub use meter::Meter;
 pub use nodes::{child_total, lone, push, push_some, reserve, wild};

@@ -69,22 +69,7 @@ pub fn child_total(doc: &Document, n: NodeId) -> u32
     }
 }
 
-// The children of a node.
-#[inline(always)]
-#[tactic(auto, using(crate::proofs::Adding::adding))]
-fn add_children(doc: &Document, n: NodeId, out: &mut Vec<NodeId>) -> Result<(), SelectFault>
-    requires inside { n.0 < count doc.now }
-    requires sound { Inside doc.now out.old.items }
-    ensures { MatchResult result (λ _. Holds doc.now out.new.items (nodes_of doc.now out.old.items ++ children (node_at doc.now n.0))) (λ e. e ≡ SelectFault.Memory) }
-{
-    for child in doc.children(n) {
-        push(doc, out, child)?;
-    }
-    Ok(())
-}
-
 /// All children.
-#[tactic(auto, using(crate::proofs::Adding::adding))]
 pub fn wild(
     doc: &Document,
     n: NodeId,
@@ -95,9 +80,11 @@ pub fn wild(
     requires sound { Inside doc.now out.old.items }
     ensures { Adds doc.now result out.new.items (nodes_of doc.now out.old.items ++ children (node_at doc.now n.0)) (length (children (node_at doc.now n.0))) meter.old.left meter.new.left }
 {
-    let before = out.len();
-    add_children(doc, n, out)?;
-    meter.spend((out.len() - before) as u64)
+    let total = child_total(doc, n);
+    meter.spend(u64::from(total))?;
+    reserve(out, total)?;
+    push_children(doc, n, out);
+    Ok(())
 }
 
 /// Room for so many nodes more.

@@ -1,5 +1,5 @@
 -- Queries above one another: what is put on top and taken off, and that what is spent on all of them is part of the whole charge.
-use Rattle.std.proofs.Common.{◌≡◌, ℕ, zero, suc, ◌+◌, ◌-◌, ◌<◌, ◌≤◌, List, [], ◌∷◌, ◌++◌, map, length, take, drop, get_or, refl, sym, ap, subst, ◌∙◌, arith, Bool, Option, Some, None, Result, Ok, Err, Bor, true, false}
+use Rattle.std.proofs.Common.{◌≡◌, ℕ, zero, suc, ◌+◌, ◌-◌, ◌<◌, ◌≤◌, List, [], ◌∷◌, ◌++◌, map, length, take, drop, get_or, refl, sym, ap, subst, ◌∙◌, arith, Option, Some, None, Result, Ok, Err, Bor, false}
 use Rattle.std.specs.Prelude.{IfOk, MatchResult}
 use Rattle.json_tape.specs.Document.{Doc, count, node_at, IsIn}
 use Rattle.json_tape.specs.Nodes.{Node}
@@ -31,7 +31,7 @@ use Rattle.query_machine.specs.Cursors.{ahead, condition_at, due, price, IsCurso
 use Rattle.query_machine.specs.Stacks.{owed, remaining, remaining_due, segment_at, segments_in, whole_ahead, whole_due, Goes, IsUnderWay}
 use Rattle.query_machine.specs.Stacks.{IsOneStep as IsOneStepOf}
 use Rattle.tape_select.specs.Memo.{Keeps}
-use Rattle.query_machine.specs.Levels.{path_of, behind_of, left_in, lowest, rest_of, Leads, Begins, AwaitsStep, IsAbove, AreAbove, Stack, IsEnd, IsOneStep, IsOnWay, IsRun, IsStepped, Moved, Pauses, behind_at, path_at, top_segments}
+use Rattle.query_machine.specs.Levels.{path_of, behind_of, left_in, lowest, rest_of, Leads, Begins, AwaitsStep, IsAbove, AreAbove, Stack, IsEnd, IsOneStep, IsOnWay, IsRun, Moved, Pauses, behind_at, path_at, top_segments}
 use Rattle.query_machine.specs.declared.cursor.Cursor.{Cursor}
 use Rattle.query_machine.specs.declared.stepping.Track.{Track}
 use Rattle.query_machine.specs.declared.levels.Machine.{Machine}
@@ -442,40 +442,7 @@ module _ (d : Doc) (plan : Parts) where
       let e = rest_is units (rest_of d plan before) next h in
       record { on_way = subst (λ all. IsOnWay d plan units all next) (sym e) h; rest = e; spent = lt }
 
--- ---- A step of the query on top
-
-module _ (d : Doc) (plan : Parts) (units : ℕ) (ss : List OneSegment) (before next : Machine) (same : ss ≡ top_segments plan before.below.items before.origin) where
-  pub stepped_on : (is_more : Bool) → IsOnWay d plan units (rest_of d plan before) before → Keeps d (claims_of plan.stages.items) next.state → next.origin ≡ before.origin → next.below.items ≡ before.below.items
-      → Goes d ss before.track next.track (left_in before) (left_in next) → (is_more ≡ false → next.track.cursors.items ≡ []) → (is_more ≡ true → IsOneStepOf d ss (left_in before) (left_in next)) → (is_more ≡ false → left_in next ≡ left_in before)
-      → IsStepped d plan units is_more before next
-  stepped_on is_more h kept o b g ends little still =
-      let all = rest_of d plan before in
-      let e : rest_of d plan next ≡ all = ap (λ (ws : List Waiting). whole_ahead d (segments_in plan.stages.items) (lowest d plan ws next.track)) b ∙ same_rest d plan units all before.below.items before.origin ss same before.track next.track (left_in before) (left_in next) g in
-      let s = steps_on d plan units all before.below.items before.origin ss same before.track next.track (left_in before) (left_in next) h.stack g in
-      record {
-        on_way = record {
-          stack = subst (λ ns. Stack d plan units ns next.below.items next.origin next.track (left_in next)) (sym e)
-              (subst (λ ws. Stack d plan units all ws next.origin next.track (left_in next)) (sym b) (subst (λ x. Stack d plan units all before.below.items x next.track (left_in next)) (sym o) s));
-          kept = kept;
-        };
-        rest = e;
-        origin = o;
-        below = b;
-        little = by is_more refl;
-        still = λ f. (let k = still f in omega (arith, k));
-        ended = ends;
-      }
-    where
-      by : (b : Bool) → is_more ≡ b → IsOneStep d plan (left_in before) (left_in next)
-      by true e = little_step d plan units (rest_of d plan before) before.below.items before.origin ss same (left_in before) (left_in next) (little e)
-      by false e = let k = still e in spends_none d plan (left_in before) (left_in next) (omega (arith, k))
-
-  pub stepped_if : (r : Result Bool SelectFault) → IsOnWay d plan units (rest_of d plan before) before → IfOk r (λ more. Keeps d (claims_of plan.stages.items) next.state) → next.origin ≡ before.origin → next.below.items ≡ before.below.items
-      → MatchResult r (λ more. Goes d ss before.track next.track (left_in before) (left_in next) × (more ≡ false → next.track.cursors.items ≡ [])) (λ e. Refuses (whole_due d ss before.track) (left_in before) e)
-      → IfOk r (λ more. more ≡ true → IsOneStepOf d ss (left_in before) (left_in next)) → IfOk r (λ more. more ≡ false → left_in next ≡ left_in before)
-      → MatchResult r (λ more. IsStepped d plan units more before next) (λ e. Refuses (charge_from (node_at d 0) (query_of plan.stages.items) (node_at d 0 ∷ [])) units e)
-  stepped_if (Ok more) h kept o b g little still = stepped_on more h kept o b g.0 g.1 little still
-  stepped_if (Err e) h kept o b g little still = steps_refused d plan units (rest_of d plan before) before.below.items before.origin ss same before.track (left_in before) e h.stack g
+-- ---- Steps of the query on top
 
 module _ (d : Doc) (plan : Parts) (units : ℕ) (ss : List OneSegment) (before next : Machine) (same : ss ≡ top_segments plan before.below.items before.origin) where
   pub ran_on : (least : ℕ) → IsOnWay d plan units (rest_of d plan before) before → Keeps d (claims_of plan.stages.items) next.state → next.origin ≡ before.origin → next.below.items ≡ before.below.items

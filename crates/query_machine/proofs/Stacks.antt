@@ -1,19 +1,19 @@
 -- Cursors above one another.
-use Rattle.std.proofs.Common.{◌≡◌, ℕ, zero, suc, ◌+◌, ◌<◌, ◌≤◌, Bool, false, Option, None, Some, Result, Ok, Err, List, [], ◌∷◌, ◌++◌, length, take, drop, get_or, refl, sym, ap, ◌∙◌, arith, append_assoc, subst, inl, inr}
-use Rattle.std.specs.Prelude.{flat_map, is_some, slice_set, MatchOption, MatchResult}
-use Rattle.std.proofs.lemmas.List.Elements.{All-set, All-take}
+use Rattle.std.proofs.Common.{◌≡◌, ℕ, zero, suc, ◌+◌, ◌<◌, ◌≤◌, Bool, false, Option, None, Some, Result, Ok, Err, List, [], ◌∷◌, ◌++◌, length, drop, get_or, refl, sym, ap, ◌∙◌, arith, append_assoc, subst, inl, inr}
+use Rattle.std.specs.Prelude.{flat_map, true, IfOk, MatchOption, MatchResult}
 use Rattle.std.specs.List.{All}
+use Rattle.std.proofs.lemmas.List.Elements.{All-pop}
 use Rattle.std.proofs.lemmas.Grind.{common_steps}
 use Rattle.std.proofs.lemmas.List.{drop_all}
 use Rattle.path_grammar.specs.Tree.{OneSegment, Segments, no_segments, segment, segments_of, Selectors, selector, no_selectors}
 use Rattle.json_tape.specs.Nodes.{Node}
-use Rattle.json_tape.specs.Document.{Doc, node_at, single, count, IsIn}
+use Rattle.json_tape.specs.Document.{Doc, node_at}
 use Rattle.json_text.specs.declared.tape.NodeId.{NodeId}
 use Rattle.node_lists.specs.Evaluation.{evaluated, selected, selected_by, starts, from_starts}
 use Rattle.node_lists.specs.Charge.{total_of, charge_from, charge_in}
 use Rattle.node_lists.specs.Extra.{nodes_from, charge_at}
 use Rattle.node_lists.specs.Nodelists.{nodes_of}
-use Rattle.node_lists.specs.Paying.{Holds, Refuses}
+use Rattle.node_lists.specs.Paying.{Holds, Inside, Refuses}
 use Rattle.node_lists.specs.declared.fault.SelectFault.{SelectFault}
 use Rattle.node_lists.specs.declared.fault.SelectFault.TheVariants.{Memory}
 use Rattle.node_lists.proofs.Adding.{append_nil}
@@ -23,14 +23,9 @@ use Rattle.path_meaning.specs.declared.links.Link.{Link}
 use Rattle.query_plan.specs.Slots.{AreClaimed}
 use Rattle.query_plan.specs.Planned.{Claims, claims_of, stage_view}
 use Rattle.query_plan.specs.declared.plan.Stage.{Stage}
-use Rattle.json_tape.specs.Document.{following}
-use Rattle.json_tape.specs.Nodes.{elements}
-use Rattle.node_lists.specs.Nodelists.{nodes_between}
-use Rattle.query_machine.proofs.Steps.{child_then}
-use Rattle.query_machine.specs.Cursors.{condition_at, strided, visited, visits_due}
-use Rattle.query_machine.specs.Cursors.{ahead, due, Draws, IsCursor, IsStepOf, IsStride, Runs}
+use Rattle.query_machine.specs.Cursors.{ahead, due, Draws, Drains, IsCursor, IsStepOf, Runs, Takes}
 use Rattle.std.proofs.lemmas.Bool.{cases_lt}
-use Rattle.query_machine.specs.Stacks.{after, given, owed, remaining, remaining_due, segment_at, segments_in, whole_due, Goes, IsOneStep, IsUnderWay, Places, PutOn, Emits, Puts, Follows}
+use Rattle.query_machine.specs.Stacks.{after, given, owed, remaining, remaining_due, rest_due, rest_given, segment_at, segments_in, whole_ahead, whole_due, Follows, Gives, Goes, IsOneStep, IsUnderWay, Places, PutBack, PutOn, Puts}
 use Rattle.query_machine.specs.declared.cursor.Cursor.{Cursor}
 use Rattle.query_machine.specs.declared.stepping.Track.{Track}
 
@@ -82,25 +77,6 @@ behind_is [] k lt = absurd (omega arith)
 behind_is (s ∷ ss) zero lt = refl
 behind_is (s ∷ ss) (suc k) lt = let n : suc k + 1 ≡ suc (k + 1) = omega arith in rw n (behind_is ss k (omega arith))
 
--- ---- The last of a list
-
-last_apart : (cs : List Cursor) (k : ℕ) (c : Cursor) → k + 1 ≡ length cs → c ≡ get_or cs k c → cs ≡ take k cs ++ c ∷ []
-last_apart [] k c e is = absurd (omega (arith, e))
-last_apart (x ∷ []) zero c e is = ap (λ (y : Cursor). y ∷ []) (sym is)
-last_apart (x ∷ y ∷ cs) zero c e is = absurd (omega (arith, e))
-last_apart (x ∷ cs) (suc k) c e is = ap (λ (ys : List Cursor). x ∷ ys) (last_apart cs k c (omega (arith, e)) is)
-
-pub same_item : (cs : List Cursor) (k : ℕ) (a b : Cursor) → k + 1 ≡ length cs → a ≡ get_or cs k a → b ≡ get_or cs k b → a ≡ b
-same_item [] k a b e p q = absurd (omega (arith, e))
-same_item (x ∷ cs) zero a b e p q = p ∙ sym q
-same_item (x ∷ cs) (suc k) a b e p q = same_item cs k a b (omega (arith, e)) p q
-
-last_set : (cs : List Cursor) (k : ℕ) (c : Cursor) → k + 1 ≡ length cs → slice_set cs k c ≡ take k cs ++ c ∷ []
-last_set [] k c e = absurd (omega (arith, e))
-last_set (x ∷ []) zero c e = refl
-last_set (x ∷ y ∷ cs) zero c e = absurd (omega (arith, e))
-last_set (x ∷ cs) (suc k) c e = ap (λ (ys : List Cursor). x ∷ ys) (last_set cs k c (omega (arith, e)))
-
 module _ (d : Doc) (ss : List OneSegment) where
   -- ---- The last cursor gives first
 
@@ -145,240 +121,170 @@ module _ (d : Doc) (ss : List OneSegment) where
   opened_if k n c t u (Ok x) lt e nodes charged p = opened k n c t u lt e nodes charged p
   opened_if k n c t u (Err f) lt e nodes charged p = p
 
-  -- the node is out
-  pub emitted : (k : ℕ) (n : Node) (t u : Track) → length ss ≤ k + 1 → IsUnderWay d ss t → u.cursors.items ≡ t.cursors.items → Holds d u.out.items (nodes_of d t.out.items ++ n ∷ []) → Places d ss k (n ∷ []) t u
-  emitted k n t u h w e o =
-      let none : after d ss k ≡ no_segments = ap segments_of (drop_all (k + 1) ss h) in
-      record {
-        same = rw (e, o.same, none) (append_assoc (nodes_of d t.out.items) (n ∷ []) (remaining d ss t.cursors.items));
-        paid = rw (e, none) (omega arith);
-        under_way = record { cursors = rw e w.cursors; sound = o.inside };
-      }
+  -- ---- A cursor is put back
 
-  none_placed : (k : ℕ) (t : Track) → IsUnderWay d ss t → Places d ss k [] t t
-  none_placed k t w =
-      let z = nothing_for_nothing (node_at d 0) (after d ss k) in
-      record { same = rw (nothing_from_nothing (node_at d 0) (after d ss k)) refl; paid = omega (arith, z); under_way = w }
+  pub put_again_if : (c : Cursor) (t u : Track) (r : Result (Unit {0}) SelectFault) → MatchResult r (λ x. PutOn d ss c t u) (λ e. e ≡ Memory) → MatchResult r (λ x. PutBack d ss c t u) (λ e. e ≡ Memory)
+  put_again_if c t u (Ok x) p = record { same = rw p.pushed (last_first t.cursors.items c); paid = rw p.pushed (last_due t.cursors.items c); out = p.out; under_way = p.under_way }
+  put_again_if c t u (Err e) p = p
 
-  -- ---- Steps of the last cursor, in its place
+  -- nothing is ahead of it
+  pub ends : (c : Cursor) (t : Track) → IsUnderWay d ss t → ahead d (segment_at ss c.stage) c ≡ [] → due d (segment_at ss c.stage) c ≡ 0 → PutBack d ss c t t
+  ends c t w none free =
+      let q = after d ss c.stage in
+      let z = nothing_for_nothing (node_at d 0) q in
+      let o : owed d ss c ≡ 0 = rw none (omega (arith, free, z)) in
+      let g : given d ss c ≡ [] = rw none (nothing_from_nothing (node_at d 0) q) in
+      record { same = sym (ap (λ ns. ns ++ remaining d ss t.cursors.items) g); paid = omega (arith, o); out = refl; under_way = w }
 
-  module _ (k : ℕ) (c : Cursor) (t : Track) (last : k + 1 ≡ length t.cursors.items) (is : c ≡ get_or t.cursors.items k c) (way : IsUnderWay d ss t) where
-    before : List Cursor
-    before = take k t.cursors.items
+  -- ---- A cursor gives nodes
 
-    whole : t.cursors.items ≡ take k t.cursors.items ++ c ∷ []
-    whole = last_apart t.cursors.items k c last is
+  pub gives_none : (c : Cursor) (out : List NodeId) (left : ℕ) → IsCursor d (length ss) c → Inside d out → Gives d ss c c None out out left left
+  gives_none c out left i o = record { same = refl; paid = omega arith; inside = tt; cursor = i; stage = refl; sound = o }
 
-    -- nothing is ahead of it
-    pub ends : (u : Track) (left : ℕ) → u.cursors.items ≡ take k t.cursors.items → u.out.items ≡ t.out.items → ahead d (segment_at ss c.stage) c ≡ [] → due d (segment_at ss c.stage) c ≡ 0 → Goes d ss t u left left
-    ends u left e o none free =
-        let q = after d ss c.stage in
-        let z = nothing_for_nothing (node_at d 0) q in
-        let w : owed d ss c ≡ 0 = rw none (omega (arith, free, z)) in
-        let g : given d ss c ≡ [] = rw none (nothing_from_nothing (node_at d 0) q) in
-        let l = last_due (take k t.cursors.items) c in
-        let m = ap (λ (cs : List Cursor). remaining_due d ss cs) whole in
-        let n = ap (λ (cs : List Cursor). remaining_due d ss cs) e in
-        record {
-          same = rw (e, o) (ap (λ xs. nodes_of d t.out.items ++ xs) (sym (ap (λ (cs : List Cursor). remaining d ss cs) whole ∙ last_first (take k t.cursors.items) c ∙ ap (λ xs. xs ++ remaining d ss (take k t.cursors.items)) g)));
-          paid = omega (arith, l, m, n, w);
-          under_way = record { cursors = rw e (All-take (IsCursor d (length ss)) k t.cursors.items way.cursors); sound = rw o way.sound };
-        }
-
-    module _ (next : Cursor) (found : Option NodeId) (u : Track) (left rest_left : ℕ) (e : u.cursors.items ≡ slice_set t.cursors.items k next) (o : u.out.items ≡ t.out.items) (h : Draws d (segment_at ss c.stage) found c next left rest_left) where
-      way_then : IsUnderWay d ss u
-      way_then =
-          let i : IsCursor d (length ss) c = subst (λ x. IsCursor d (length ss) x) (sym is) (way.cursors k c (omega (arith, last))) in
-          let at = i.stage in
-          let same = h.stage in
-          record {
-            cursors = rw e (All-set (IsCursor d (length ss)) t.cursors.items k next (record { stage = omega (arith, at, same); visit = h.visit; end = h.end; child = h.child; stride = h.stride }) way.cursors);
-            sound = rw o way.sound;
-          }
-
-      -- it draws a node, which is placed
-      pub moves : (v : Track) → Places d ss c.stage (single d found) u v → Goes d ss t v left rest_left
-      moves v g =
-          let root = node_at d 0 in
-          let q = after d ss c.stage in
-          let s = segment_at ss c.stage in
-          let xs = single d found in
-          let cs = take k t.cursors.items in
-          let stage = h.stage in
-          let given_next : given d ss next ≡ evaluated root q (ahead d s next) = rw stage refl in
-          let owed_next : owed d ss next ≡ due d s next + charge_from root q (ahead d s next) = rw stage refl in
-          let parts : given d ss c ≡ evaluated root q xs ++ evaluated root q (ahead d s next) = ap (λ ys. evaluated root q ys) (sym h.same) ∙ gives_append root q xs (ahead d s next) in
-          let sums : charge_from root q (ahead d s c) ≡ charge_from root q xs + charge_from root q (ahead d s next) = ap (λ ys. charge_from root q ys) (sym h.same) ∙ costs_append root q xs (ahead d s next) in
-          let now : u.cursors.items ≡ cs ++ next ∷ [] = e ∙ last_set t.cursors.items k next last in
-          let rests : remaining d ss u.cursors.items ≡ evaluated root q (ahead d s next) ++ remaining d ss cs = ap (λ (ds : List Cursor). remaining d ss ds) now ∙ last_first cs next ∙ ap (λ ys. ys ++ remaining d ss cs) given_next in
-          let olds : remaining d ss t.cursors.items ≡ given d ss c ++ remaining d ss cs = ap (λ (ds : List Cursor). remaining d ss ds) whole ∙ last_first cs c in
-          let paid = h.paid in
-          let placed = g.paid in
-          let l = last_due cs c in
-          let m = last_due cs next in
-          let x = ap (λ (ds : List Cursor). remaining_due d ss ds) whole in
-          let y = ap (λ (ds : List Cursor). remaining_due d ss ds) now in
-          record {
-            same = g.same ∙ rw (o, rests)
-                (ap (λ ys. nodes_of d t.out.items ++ ys)
-                (sym (append_assoc (evaluated root q xs) (evaluated root q (ahead d s next)) (remaining d ss cs)) ∙ ap (λ ys. ys ++ remaining d ss cs) (sym parts) ∙ sym olds));
-            paid = omega (arith, paid, placed, sums, owed_next, l, m, x, y);
-            under_way = g.under_way;
-          }
-
-      -- none yet
-      pub moves_on : found ≡ None → Goes d ss t u left rest_left
-      moves_on none = moves u (rw none (none_placed c.stage u way_then))
-
-      pub little : IsOneStep d ss left rest_left
-      little = (c, h.little)
-
-    pub refuses_cursor : (left : ℕ) (e : SelectFault) → Refuses (due d (segment_at ss c.stage) c) left e → Refuses (whole_due d ss t) left e
-    refuses_cursor left e h =
-        let l = last_due (take k t.cursors.items) c in
-        let m = ap (λ (cs : List Cursor). remaining_due d ss cs) whole in
-        refuses_from (due d (segment_at ss c.stage) c) left (whole_due d ss t) left e (λ lt. omega (arith, l, m, lt)) h
-
--- its segment is one of the query's
-pub stage_within : (d : Doc) (ss : List Stage) (t : Track) (k : ℕ) (c : Cursor) → k + 1 ≡ length t.cursors.items → c ≡ get_or t.cursors.items k c → IsUnderWay d (segments_in ss) t → c.stage < length ss
-stage_within d ss t k c last is w =
-    let i : IsCursor d (length (segments_in ss)) c = subst (λ x. IsCursor d (length (segments_in ss)) x) (sym is) (w.cursors k c (omega (arith, last))) in
-    let at = i.stage in
-    let total = segment_total ss in
-    omega (arith, at, total)
-
--- ---- Children of the last segment's wildcard, at once
-
-module _ (d : Doc) (ss : List OneSegment) (k : ℕ) (c : Cursor) (t : Track) (last : k + 1 ≡ length t.cursors.items) (is : c ≡ get_or t.cursors.items k c) (way : IsUnderWay d ss t) (end : c.stage + 1 ≡ length ss) (wild : condition_at c.asked (segment_at ss c.stage).selectors ≡ None) where
-  no_segment : after d ss c.stage ≡ no_segments
-  no_segment = ap segments_of (drop_all (c.stage + 1) ss (omega (arith, end)))
-
-  given_is : (n : Option NodeId) → given d ss (child_then c n) ≡ following d n ++ (strided c.stride (elements (node_at d c.visit)) ++ visited (node_at d 0) (segment_at ss c.stage).selectors c.passed (nodes_between d c.visit c.end))
-  given_is n = rw (no_segment, wild) refl
-
-  owed_is : (n : Option NodeId) → owed d ss (child_then c n) ≡ length (following d n) + (length (strided c.stride (elements (node_at d c.visit))) + visits_due (node_at d 0) (segment_at ss c.stage).selectors c.passed (nodes_between d c.visit c.end))
-  owed_is n = rw (no_segment, wild) (omega arith)
-
-  pub emits : (next : Option NodeId) (u : Track) (left rest_left : ℕ) → u.cursors.items ≡ slice_set t.cursors.items k (child_then c next) → Emits d c.child next t.out.items u.out.items left rest_left → Goes d ss t u left rest_left
-  emits next u left rest_left e m =
-      let cs = take k t.cursors.items in
-      let whole = last_apart t.cursors.items k c last is in
-      let now : u.cursors.items ≡ cs ++ child_then c next ∷ [] = e ∙ last_set t.cursors.items k (child_then c next) last in
-      let others = strided c.stride (elements (node_at d c.visit)) ++ visited (node_at d 0) (segment_at ss c.stage).selectors c.passed (nodes_between d c.visit c.end) in
-      let olds : remaining d ss t.cursors.items ≡ following d c.child ++ (others ++ remaining d ss cs) = ap (λ (ds : List Cursor). remaining d ss ds) whole ∙ last_first d ss cs c ∙ ap (λ ys. ys ++ remaining d ss cs) (given_is c.child) ∙ append_assoc (following d c.child) others (remaining d ss cs) in
-      let news : remaining d ss u.cursors.items ≡ following d next ++ (others ++ remaining d ss cs) = ap (λ (ds : List Cursor). remaining d ss ds) now ∙ last_first d ss cs (child_then c next) ∙ ap (λ ys. ys ++ remaining d ss cs) (given_is next) ∙ append_assoc (following d next) others (remaining d ss cs) in
-      let i : IsCursor d (length ss) c = subst (λ x. IsCursor d (length ss) x) (sym is) (way.cursors k c (omega (arith, last))) in
-      let l = last_due d ss cs c in
-      let n = last_due d ss cs (child_then c next) in
-      let x = ap (λ (ds : List Cursor). remaining_due d ss ds) whole in
-      let y = ap (λ (ds : List Cursor). remaining_due d ss ds) now in
-      let o = owed_is c.child in
-      let p = owed_is next in
-      let paid = m.paid in
-      record {
-        same = ap (λ ys. nodes_of d u.out.items ++ ys) news ∙ sym (append_assoc (nodes_of d u.out.items) (following d next) (others ++ remaining d ss cs)) ∙ ap (λ ys. ys ++ (others ++ remaining d ss cs)) m.same
-            ∙ append_assoc (nodes_of d t.out.items) (following d c.child) (others ++ remaining d ss cs) ∙ ap (λ ys. nodes_of d t.out.items ++ ys) (sym olds);
-        paid = omega (arith, l, n, x, y, o, p, paid);
-        under_way = record { cursors = rw e (All-set (IsCursor d (length ss)) t.cursors.items k (child_then c next) (record { stage = i.stage; visit = i.visit; end = i.end; child = m.inside; stride = i.stride }) way.cursors); sound = m.sound };
-      }
-
-  pub refuses_children : (left : ℕ) (e : SelectFault) → Refuses (length (following d c.child)) left e → Refuses (whole_due d ss t) left e
-  refuses_children left e h =
-      let l = last_due d ss (take k t.cursors.items) c in
-      let x = ap (λ (ds : List Cursor). remaining_due d ss ds) (last_apart t.cursors.items k c last is) in
-      let o = owed_is c.child in
-      refuses_from (length (following d c.child)) left (whole_due d ss t) left e (λ lt. omega (arith, l, x, o, lt)) h
-
--- ---- Several steps at once
-
-module _ (d : Doc) (s : OneSegment) where
-  pub runs_of : (found : Option NodeId) (a b : Cursor) (old new : ℕ) → Draws d s found a b old new → Runs d s (single d found) a b old new
-  runs_of found a b old new h = record { same = h.same; paid = h.paid; stage = h.stage; visit = h.visit; end = h.end; child = h.child; stride = h.stride }
-
-  pub runs_none : (a : Cursor) (left : ℕ) → (a.stride.first < a.stride.end → a.visit < count d) → a.end ≤ count d → IsIn d a.child → IsStride a.stride → Runs d s [] a a left left
-  runs_none a left v e i w = record { same = refl; paid = refl; stage = refl; visit = v; end = e; child = i; stride = w }
-
-  pub runs_then : (xs ys : List Node) (a b c : Cursor) (old mid new : ℕ) → Runs d s xs a b old mid → Runs d s ys b c mid new → Runs d s (xs ++ ys) a c old new
-  runs_then xs ys a b c old mid new h g =
+  pub gives_then : (a b c : Cursor) (rest : Option (ℕ × NodeId)) (out mid new : List NodeId) (old between left : ℕ) → Gives d ss a b None out mid old between → Gives d ss b c rest mid new between left → Gives d ss a c rest out new old left
+  gives_then a b c rest out mid new old between left h g =
       let p = h.paid in
       let q = g.paid in
-      record {
-        same = append_assoc xs ys (ahead d s c) ∙ ap (λ ns. xs ++ ns) g.same ∙ h.same;
-        paid = omega (arith, p, q);
-        stage = g.stage ∙ h.stage;
-        visit = g.visit;
-        end = g.end;
-        child = g.child;
-        stride = g.stride;
-      }
+      record { same = g.same ∙ h.same; paid = omega (arith, p, q); inside = g.inside; cursor = g.cursor; stage = g.stage ∙ h.stage; sound = g.sound }
 
   -- where the units do not suffice further on, they do not from the beginning
-  pub runs_refused : (xs : List Node) (a b : Cursor) (old mid : ℕ) (e : SelectFault) → Runs d s xs a b old mid → Refuses (due d s b) mid e → Refuses (due d s a) old e
-  runs_refused xs a b old mid e h r = let p = h.paid in refuses_from (due d s b) mid (due d s a) old e (λ lt. omega (arith, p, lt)) r
+  pub gives_refused : (a b : Cursor) (out mid : List NodeId) (old between : ℕ) (e : SelectFault) → Gives d ss a b None out mid old between → Refuses (owed d ss b) between e → Refuses (owed d ss a) old e
+  gives_refused a b out mid old between e h r = let p = h.paid in refuses_from (owed d ss b) between (owed d ss a) old e (λ lt. omega (arith, p, lt)) r
 
-module _ (d : Doc) (ss : List OneSegment) (k : ℕ) (c : Cursor) (t : Track) (last : k + 1 ≡ length t.cursors.items) (is : c ≡ get_or t.cursors.items k c) (way : IsUnderWay d ss t) where
-  module _ (next : Cursor) (ns : List Node) (u : Track) (left rest_left : ℕ) (e : u.cursors.items ≡ slice_set t.cursors.items k next) (o : u.out.items ≡ t.out.items) (h : Runs d (segment_at ss c.stage) ns c next left rest_left) where
-    pub run_under_way : IsUnderWay d ss u
-    run_under_way =
-        let i : IsCursor d (length ss) c = subst (λ x. IsCursor d (length ss) x) (sym is) (way.cursors k c (omega (arith, last))) in
-        let at = i.stage in
-        let same = h.stage in
-        record {
-          cursors = rw e (All-set (IsCursor d (length ss)) t.cursors.items k next (record { stage = omega (arith, at, same); visit = h.visit; end = h.end; child = h.child; stride = h.stride }) way.cursors);
-          sound = rw o way.sound;
-        }
+  pub owes : (c : Cursor) (left : ℕ) (e : SelectFault) → Refuses (due d (segment_at ss c.stage) c) left e → Refuses (owed d ss c) left e
+  owes c left e r = refuses_from (due d (segment_at ss c.stage) c) left (owed d ss c) left e (λ lt. omega (arith, lt)) r
 
-    -- it draws nodes, which are put on
-    pub runs_put : (v : Track) (last_left : ℕ) → Puts d ss c.stage ns u v rest_left last_left → Goes d ss t v left last_left
-    runs_put v last_left g =
+  -- it draws nodes, which are put somewhere
+  module _ (c next : Cursor) (ns : List Node) (old mid : ℕ) (i : IsCursor d (length ss) c) (h : Runs d (segment_at ss c.stage) ns c next old mid) where
+    sums : charge_from (node_at d 0) (after d ss c.stage) (ahead d (segment_at ss c.stage) c)
+        ≡ charge_from (node_at d 0) (after d ss c.stage) ns + charge_from (node_at d 0) (after d ss c.stage) (ahead d (segment_at ss c.stage) next)
+    sums = ap (λ ys. charge_from (node_at d 0) (after d ss c.stage) ys) (sym h.same) ∙ costs_append (node_at d 0) (after d ss c.stage) ns (ahead d (segment_at ss c.stage) next)
+
+    pub draws_put : (rest : Option (ℕ × NodeId)) (out new : List NodeId) (left : ℕ) → Puts d ss c.stage ns rest out new mid left → Gives d ss c next rest out new old left
+    draws_put rest out new left g =
         let root = node_at d 0 in
         let q = after d ss c.stage in
         let s = segment_at ss c.stage in
-        let cs = take k t.cursors.items in
-        let whole = last_apart t.cursors.items k c last is in
         let stage = h.stage in
+        let at = i.stage in
         let given_next : given d ss next ≡ evaluated root q (ahead d s next) = rw stage refl in
         let owed_next : owed d ss next ≡ due d s next + charge_from root q (ahead d s next) = rw stage refl in
         let parts : given d ss c ≡ evaluated root q ns ++ evaluated root q (ahead d s next) = ap (λ ys. evaluated root q ys) (sym h.same) ∙ gives_append root q ns (ahead d s next) in
-        let sums : charge_from root q (ahead d s c) ≡ charge_from root q ns + charge_from root q (ahead d s next) = ap (λ ys. charge_from root q ys) (sym h.same) ∙ costs_append root q ns (ahead d s next) in
-        let now : u.cursors.items ≡ cs ++ next ∷ [] = e ∙ last_set t.cursors.items k next last in
-        let rests : remaining d ss u.cursors.items ≡ evaluated root q (ahead d s next) ++ remaining d ss cs = ap (λ (ds : List Cursor). remaining d ss ds) now ∙ last_first d ss cs next ∙ ap (λ ys. ys ++ remaining d ss cs) given_next in
-        let olds : remaining d ss t.cursors.items ≡ given d ss c ++ remaining d ss cs = ap (λ (ds : List Cursor). remaining d ss ds) whole ∙ last_first d ss cs c in
-        let paid = h.paid in
+        let drawn = h.paid in
         let placed = g.paid in
-        let l = last_due d ss cs c in
-        let m = last_due d ss cs next in
-        let x = ap (λ (ds : List Cursor). remaining_due d ss ds) whole in
-        let y = ap (λ (ds : List Cursor). remaining_due d ss ds) now in
+        let all = sums in
         record {
-          same = g.same ∙ rw (o, rests)
-              (ap (λ ys. nodes_of d t.out.items ++ ys)
-              (sym (append_assoc (evaluated root q ns) (evaluated root q (ahead d s next)) (remaining d ss cs)) ∙ ap (λ ys. ys ++ remaining d ss cs) (sym parts) ∙ sym olds));
-          paid = omega (arith, paid, placed, sums, owed_next, l, m, x, y);
-          under_way = g.under_way;
+          same = sym (append_assoc (nodes_of d new) (rest_given d ss rest) (given d ss next)) ∙ ap (λ ys. ys ++ given d ss next) g.same ∙ append_assoc (nodes_of d out) (evaluated root q ns) (given d ss next)
+              ∙ ap (λ ys. nodes_of d out ++ (evaluated root q ns ++ ys)) given_next ∙ ap (λ ys. nodes_of d out ++ ys) (sym parts);
+          paid = omega (arith, drawn, placed, all, owed_next);
+          inside = g.inside;
+          cursor = record { stage = omega (arith, at, stage); visit = h.visit; end = h.end; child = h.child; stride = h.stride };
+          stage = stage;
+          sound = g.sound;
         }
 
     -- none yet
-    pub runs_on : ns ≡ [] → Goes d ss t u left rest_left
-    runs_on none =
-        let z = nothing_for_nothing (node_at d 0) (after d ss c.stage) in
-        runs_put u rest_left (record { same = rw (none, nothing_from_nothing (node_at d 0) (after d ss c.stage)) refl; paid = rw none (omega (arith, z)); under_way = run_under_way })
-
-    -- what it draws is not put on
-    pub runs_put_refused : (f : SelectFault) → Refuses (charge_from (node_at d 0) (after d ss c.stage) ns) rest_left f → Refuses (whole_due d ss t) left f
-    runs_put_refused f r =
+    pub draws_none : (out : List NodeId) → ns ≡ [] → Inside d out → Gives d ss c next None out out old mid
+    draws_none out none o =
         let root = node_at d 0 in
         let q = after d ss c.stage in
-        let s = segment_at ss c.stage in
-        let cs = take k t.cursors.items in
-        let sums : charge_from root q (ahead d s c) ≡ charge_from root q ns + charge_from root q (ahead d s next) = ap (λ ys. charge_from root q ys) (sym h.same) ∙ costs_append root q ns (ahead d s next) in
-        let paid = h.paid in
-        let l = last_due d ss cs c in
-        let x = ap (λ (ds : List Cursor). remaining_due d ss ds) (last_apart t.cursors.items k c last is) in
-        refuses_from (charge_from root q ns) rest_left (whole_due d ss t) left f (λ lt. omega (arith, lt, sums, paid, l, x)) r
+        let z = nothing_for_nothing root q in
+        draws_put None out out mid (record { same = rw (none, nothing_from_nothing root q) refl; paid = rw none (omega (arith, z)); inside = tt; sound = o })
 
-  pub runs_refuse : (left : ℕ) (e : SelectFault) → Refuses (due d (segment_at ss c.stage) c) left e → Refuses (whole_due d ss t) left e
-  runs_refuse left e h = refuses_cursor d ss k c t last is way left e h
+    pub draws_refused : (e : SelectFault) → Refuses (charge_from (node_at d 0) (after d ss c.stage) ns) mid e → Refuses (owed d ss c) old e
+    draws_refused e r =
+        let all = sums in
+        let drawn = h.paid in
+        refuses_from (charge_from (node_at d 0) (after d ss c.stage) ns) mid (owed d ss c) old e (λ lt. omega (arith, lt, all, drawn)) r
+
+  -- what the last segment selects is out
+  pub drains : (c next : Cursor) (out new : List NodeId) (old left : ℕ) → IsCursor d (length ss) c → c.stage + 1 ≡ length ss → Drains d (segment_at ss c.stage) c next out new old left → Gives d ss c next None out new old left
+  drains c next out new old left i end h =
+      let none : after d ss c.stage ≡ no_segments = ap segments_of (drop_all (c.stage + 1) ss (omega (arith, end))) in
+      let at = i.stage in
+      let stage = h.stage in
+      let paid = h.paid in
+      record {
+        same = rw (stage, none) h.same;
+        paid = rw (stage, none) (omega (arith, paid));
+        inside = tt;
+        cursor = record { stage = omega (arith, at, stage); visit = h.visit; end = h.end; child = h.child; stride = h.stride };
+        stage = stage;
+        sound = h.sound;
+      }
+
+  -- ---- The last cursor is taken off, goes on and is put back
+
+  module _ (t b : Track) (c : Cursor) (popped : t.cursors.items ≡ b.cursors.items ++ c ∷ []) (way : IsUnderWay d ss t) where
+    pub last_is : IsCursor d (length ss) c
+    last_is = (All-pop (IsCursor d (length ss)) t.cursors.items b.cursors.items (Some c) popped way.cursors).1
+
+    pub below_is : b.out.items ≡ t.out.items → IsUnderWay d ss b
+    below_is o = record { cursors = (All-pop (IsCursor d (length ss)) t.cursors.items b.cursors.items (Some c) popped way.cursors).0; sound = rw o way.sound }
+
+    pub gone_on : (next : Cursor) (rest : Option (ℕ × NodeId)) (u v : Track) (old left : ℕ) → Gives d ss c next rest t.out.items b.out.items old left → PutBack d ss next b u
+        → whole_ahead d ss v ≡ nodes_of d u.out.items ++ (rest_given d ss rest ++ remaining d ss u.cursors.items) → whole_due d ss v ≡ rest_due d ss rest + whole_due d ss u → IsUnderWay d ss v → Goes d ss t v old left
+    gone_on next rest u v old left g p ahead_is due_is w =
+        let xs = rest_given d ss rest in
+        let ys = remaining d ss b.cursors.items in
+        let l = last_due b.cursors.items c in
+        let m = ap (λ (cs : List Cursor). remaining_due d ss cs) popped in
+        let back = p.paid in
+        let paid = g.paid in
+        record {
+          same = ahead_is ∙ rw (p.out, p.same) (ap (λ zs. nodes_of d b.out.items ++ zs) (sym (append_assoc xs (given d ss next) ys)) ∙ sym (append_assoc (nodes_of d b.out.items) (xs ++ given d ss next) ys) ∙ ap (λ zs. zs ++ ys) g.same
+              ∙ append_assoc (nodes_of d t.out.items) (given d ss c) ys ∙ ap (λ zs. nodes_of d t.out.items ++ zs) (sym (ap (λ (cs : List Cursor). remaining d ss cs) popped ∙ last_first b.cursors.items c)));
+          paid = omega (arith, l, m, back, paid, due_is);
+          under_way = w;
+        }
+
+    pub gone_none : (next : Cursor) (u : Track) (old left : ℕ) → Gives d ss c next None t.out.items b.out.items old left → PutBack d ss next b u → Goes d ss t u old left
+    gone_none next u old left g p = gone_on next None u u old left g p refl (omega arith) p.under_way
+
+    pub gone_some : (next : Cursor) (k : ℕ) (n : NodeId) (u v : Track) (old left : ℕ) → Gives d ss c next (Some (k, n)) t.out.items b.out.items old left → PutBack d ss next b u → Places d ss k (node_at d n.0 ∷ []) u v → Goes d ss t v old left
+    gone_some next k n u v old left g p o = gone_on next (Some (k, n)) u v old left g p o.same o.paid o.under_way
+
+    pub gone_refused : (left : ℕ) (e : SelectFault) → Refuses (owed d ss c) left e → Refuses (whole_due d ss t) left e
+    gone_refused left e r =
+        let l = last_due b.cursors.items c in
+        let m = ap (λ (cs : List Cursor). remaining_due d ss cs) popped in
+        refuses_from (owed d ss c) left (whole_due d ss t) left e (λ lt. omega (arith, l, m, lt)) r
+
+-- ---- A cursor that went on goes further
+
+module _ (d : Doc) (stages : List Stage) (stage : Stage) (c u : Cursor) (out mid : List NodeId) (old left : ℕ) (is : segment_at (segments_in stages) c.stage ≡ (stage_view stage).tree)
+    (g : Gives d (segments_in stages) c u None out mid old left) where
+  here : segment_at (segments_in stages) u.stage ≡ (stage_view stage).tree
+  here = ap (λ k. segment_at (segments_in stages) k) g.stage ∙ is
+
+  pub then_same : (next : Cursor) (new : List NodeId) (rest_left : ℕ) → (next ≡ u) × ((new ≡ mid) × (rest_left ≡ left)) → Gives d (segments_in stages) c next None out new old rest_left
+  then_same next new rest_left e = rw (e.0, e.1.0, e.1.1) g
+
+  pub then_drains : (next : Cursor) (new : List NodeId) (rest_left : ℕ) → c.stage + 1 ≡ length stages → Drains d (stage_view stage).tree u next mid new left rest_left → Gives d (segments_in stages) c next None out new old rest_left
+  then_drains next new rest_left end h =
+      let total = segment_total stages in
+      let same = g.stage in
+      gives_then d (segments_in stages) c u next None out mid new old left rest_left g (drains d (segments_in stages) u next mid new left rest_left g.cursor (omega (arith, end, total, same)) (subst (λ s. Drains d s u next mid new left rest_left) (sym here) h))
+
+  pub then_draws : (next : Cursor) (ns : List Node) (rest_left : ℕ) → ns ≡ [] → Runs d (stage_view stage).tree ns u next left rest_left → Gives d (segments_in stages) c next None out mid old rest_left
+  then_draws next ns rest_left none h =
+      gives_then d (segments_in stages) c u next None out mid mid old left rest_left g (draws_none d (segments_in stages) u next ns left rest_left g.cursor (subst (λ s. Runs d s ns u next left rest_left) (sym here) h) mid none g.sound)
+
+  pub then_puts : (next : Cursor) (ns : List Node) (rest : Option (ℕ × NodeId)) (new : List NodeId) (drawn_left rest_left : ℕ) → Runs d (stage_view stage).tree ns u next left drawn_left
+      → Puts d (segments_in stages) c.stage ns rest mid new drawn_left rest_left → Gives d (segments_in stages) c next rest out new old rest_left
+  then_puts next ns rest new drawn_left rest_left h p =
+      gives_then d (segments_in stages) c u next rest out mid new old left rest_left g
+      (draws_put d (segments_in stages) u next ns left drawn_left g.cursor (subst (λ s. Runs d s ns u next left drawn_left) (sym here) h) rest mid new rest_left (subst (λ k. Puts d (segments_in stages) k ns rest mid new drawn_left rest_left) (sym g.stage) p))
+
+  pub then_refuses : (e : SelectFault) → Refuses (due d (stage_view stage).tree u) left e → Refuses (owed d (segments_in stages) c) old e
+  then_refuses e r =
+      gives_refused d (segments_in stages) c u out mid old left e g (owes d (segments_in stages) u left e (subst (λ s. Refuses (due d s u) left e) (sym here) r))
+
+  pub then_put_refused : (next : Cursor) (ns : List Node) (drawn_left : ℕ) (e : SelectFault) → Runs d (stage_view stage).tree ns u next left drawn_left
+      → Refuses (charge_from (node_at d 0) (after d (segments_in stages) c.stage) ns) drawn_left e → Refuses (owed d (segments_in stages) c) old e
+  then_put_refused next ns drawn_left e h r =
+      gives_refused d (segments_in stages) c u out mid old left e g
+      (draws_refused d (segments_in stages) u next ns left drawn_left g.cursor (subst (λ s. Runs d s ns u next left drawn_left) (sym here) h) e (subst (λ k. Refuses (charge_from (node_at d 0) (after d (segments_in stages) k) ns) drawn_left e) (sym g.stage) r))
 
 -- steps one after the other
 module _ (d : Doc) (ss : List OneSegment) where
@@ -407,19 +313,57 @@ module _ (d : Doc) (ss : List OneSegment) where
         let u = one_unit (node_at d 0) n l in
         omega (arith, a, b, u)
 
-  -- followed, and then placed
-  pub put_placed : (k to : ℕ) (n : Node) (found : Option NodeId) (t u : Track) (old new : ℕ) → Follows d ss k n to found old new → Places d ss to (single d found) t u → Puts d ss k (n ∷ []) t u old new
-  put_placed k to n found t u old new f p =
-      let a = f.paid in
-      let b = p.paid in
-      record {
-        same = p.same ∙ ap (λ ns. nodes_of d t.out.items ++ (ns ++ remaining d ss t.cursors.items)) f.same;
-        paid = omega (arith, a, b);
-        under_way = p.under_way;
-      }
+  -- ---- Where a node goes that was reached
 
-  pub put_nothing : (k to : ℕ) (n : Node) (found : Option NodeId) (t : Track) (old new : ℕ) → found ≡ None → IsUnderWay d ss t → Follows d ss k n to found old new → Puts d ss k (n ∷ []) t t old new
-  put_nothing k to n found t old new e w f = put_placed k to n found t t old new f (subst (λ (x : Option NodeId). Places d ss to (single d x) t t) (sym e) (none_placed d ss to t w))
+  module _ (k to : ℕ) (n : Node) (found : NodeId) (out : List NodeId) (old mid : ℕ) (f : Follows d ss k n to (Some found) old mid) where
+    -- it is out
+    pub put_out : (new : List NodeId) → length ss ≤ to + 1 → Holds d new (nodes_of d out ++ node_at d found.0 ∷ []) → Puts d ss k (n ∷ []) None out new old mid
+    put_out new h o =
+        let none : after d ss to ≡ no_segments = ap segments_of (drop_all (to + 1) ss h) in
+        let same = rw none at f.same in
+        let paid = rw none at f.paid in
+        record { same = append_nil (nodes_of d new) ∙ o.same ∙ ap (λ ns. nodes_of d out ++ ns) same; paid = omega (arith, paid); inside = tt; sound = o.inside }
+
+    -- a cursor goes on from it
+    pub put_rest : to + 1 < length ss → Inside d out → Puts d ss k (n ∷ []) (Some (to, found)) out out old mid
+    put_rest lt o = record { same = ap (λ ns. nodes_of d out ++ ns) f.same; paid = f.paid; inside = (lt, f.inside); sound = o }
+
+    -- all that the last segment selects from it is out
+    module _ (end : to + 1 + 1 ≡ length ss) where
+      last_gives : evaluated (node_at d 0) (after d ss to) (node_at d found.0 ∷ []) ≡ nodes_from (node_at d 0) (segment_at ss (to + 1)) (node_at d found.0)
+      last_gives =
+          let more = ap segments_of (behind_is ss (to + 1) (omega (arith, end))) in
+          let none : after d ss (to + 1) ≡ no_segments = ap segments_of (drop_all (to + 1 + 1) ss (omega (arith, end))) in
+          rw (more, none) (append_nil (nodes_from (node_at d 0) (segment_at ss (to + 1)) (node_at d found.0)))
+
+      last_costs : charge_from (node_at d 0) (after d ss to) (node_at d found.0 ∷ []) ≡ charge_at (node_at d 0) (segment_at ss (to + 1)) (node_at d found.0)
+      last_costs =
+          let more = ap segments_of (behind_is ss (to + 1) (omega (arith, end))) in
+          let none : after d ss (to + 1) ≡ no_segments = ap segments_of (drop_all (to + 1 + 1) ss (omega (arith, end))) in
+          rw (more, none) (omega arith)
+
+      pub put_whole : (new : List NodeId) (left : ℕ) → Takes d (segment_at ss (to + 1)) (node_at d found.0) true out new mid left → Puts d ss k (n ∷ []) None out new old left
+      put_whole new left t =
+          let costs = last_costs in
+          let paid = f.paid in
+          let spent = t.1 in
+          record { same = append_nil (nodes_of d new) ∙ t.0.same ∙ ap (λ ns. nodes_of d out ++ ns) (sym last_gives ∙ f.same); paid = omega (arith, costs, paid, spent); inside = tt; sound = t.0.inside }
+
+      pub put_refused : (e : SelectFault) → Refuses (charge_at (node_at d 0) (segment_at ss (to + 1)) (node_at d found.0)) mid e → Refuses (charge_from (node_at d 0) (after d ss k) (n ∷ [])) old e
+      put_refused e r =
+          let costs = last_costs in
+          let paid = f.paid in
+          refuses_from (charge_at (node_at d 0) (segment_at ss (to + 1)) (node_at d found.0)) mid (charge_from (node_at d 0) (after d ss k) (n ∷ [])) old e (λ lt. omega (arith, costs, paid, lt)) r
+
+  -- there is none
+  pub put_nothing : (k to : ℕ) (n : Node) (found : Option NodeId) (out : List NodeId) (old mid : ℕ) → found ≡ None → Inside d out → Follows d ss k n to found old mid → Puts d ss k (n ∷ []) None out out old mid
+  put_nothing k to n found out old mid e o f =
+      let root = node_at d 0 in
+      let q = after d ss to in
+      let same = rw (e, nothing_from_nothing root q) at f.same in
+      let z = nothing_for_nothing root q in
+      let paid = rw e at f.paid in
+      record { same = ap (λ ns. nodes_of d out ++ ns) same; paid = omega (arith, paid, z); inside = tt; sound = o }
 
 pub stays : (d : Doc) (ss : List OneSegment) (t : Track) (left : ℕ) → IsUnderWay d ss t → Goes d ss t t left left
 stays d ss t left w = record { same = refl; paid = refl; under_way = w }
@@ -427,10 +371,6 @@ stays d ss t left w = record { same = refl; paid = refl; under_way = w }
 -- so many units are within a step
 pub spends_less : (d : Doc) (ss : List OneSegment) (least left : ℕ) → least ≤ left + 1 → IsOneStep d ss least left
 spends_less d ss least left h = (record { stage = 0; visit = 0; end = 0; passed = 0; asked = 0; child = None; stride = record { first = 0; end = 0; step = 1; is_back = false } }, omega (arith, h))
-
-pub none_if : {A : Type 0} {X : Type 0} (Y : A → Type 0) (r : Option A) → is_some r ≡ false → MatchOption r X Y → X
-none_if Y None e h = h
-none_if Y (Some a) e h = absurd cc
 
 pub step_of_less : (d : Doc) (s : OneSegment) (least left : ℕ) → least ≤ left → IsStepOf d s least left
 step_of_less d s least left h = (record { stage = 0; visit = 0; end = 0; passed = 0; asked = 0; child = None; stride = record { first = 0; end = 0; step = 1; is_back = false } }, omega (arith, h))
@@ -445,3 +385,10 @@ little_put d ss k s least mid new e h f g = elim (cases_lt mid least) [
   | inl lt ↦ step_in d ss k s least new e (subst (λ x. IsStepOf d s least x) (sym (g lt)) h)
   | inr ge ↦ spends_less d ss least new (f ge)
 ]
+
+-- what is asked within few units costs no more than a step
+pub little_asked : (d : Doc) (s : OneSegment) (r : Result (Option (Option NodeId)) SelectFault) (before next : Cursor) (least old new : ℕ) → least ≤ old
+    → MatchResult r (λ some. MatchOption some ((next ≡ before) × (new ≡ old)) (λ found. Draws d s found before next old new)) (λ e. Refuses (due d s before) old e) → IfOk r (λ some. IsStepOf d s least new)
+little_asked d s (Ok None) before next least old new lt h = let e = h.1 in step_of_less d s least new (omega (arith, lt, e))
+little_asked d s (Ok (Some found)) before next least old new lt h = let l = h.little in (before, omega (arith, lt, l))
+little_asked d s (Err e) before next least old new lt h = tt

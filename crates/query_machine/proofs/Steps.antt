@@ -10,7 +10,7 @@ use Rattle.json_text.specs.declared.tape.NodeId.{NodeId}
 use Rattle.node_lists.specs.Evaluation.{selected, selected_by, holds, starts}
 use Rattle.node_lists.specs.Charge.{total_of, charge_in, charge_by, charge_expr}
 use Rattle.node_lists.specs.Extra.{nodes_from, charge_at}
-use Rattle.node_lists.specs.Nodelists.{nodes_between}
+use Rattle.node_lists.specs.Nodelists.{nodes_between, nodes_of}
 use Rattle.node_lists.specs.Paying.{Refuses}
 use Rattle.node_lists.specs.declared.fault.SelectFault.{SelectFault}
 use Rattle.node_lists.proofs.Following.{refuses_from}
@@ -21,7 +21,8 @@ use Rattle.query_plan.specs.declared.plan.Selection.{Selection}
 use Rattle.query_plan.specs.declared.plan.Stage.{Stage}
 use Rattle.query_plan.proofs.LoneLinks.{stage_is}
 use Rattle.node_lists.proofs.Adding.{append_nil}
-use Rattle.query_machine.specs.Cursors.{ahead, behind, condition_at, condition_in, due, first_condition, price_of, rest_of, strided, taken, taking, visited, visits_due, Draws, IsAsked, IsStride}
+use Rattle.query_machine.specs.Cursors.{ahead, behind, condition_at, condition_in, due, first_condition, price_of, rest_of, strided, taken, taking, visited, visits_due, Drains, Draws, IsAsked, IsStride}
+use Rattle.query_machine.specs.Stacks.{Emits}
 use Rattle.query_machine.specs.declared.cursor.Cursor.{Cursor}
 use Rattle.query_machine.specs.declared.cursor.Stride.{Stride}
 use Rattle.query_machine.proofs.Strides.{passed_stride, rest_fits}
@@ -180,6 +181,23 @@ module _ (d : Doc) (s : OneSegment) (c : Cursor) (child : NodeId) (next : Option
 
     pub refuses_asked : (left rest_left : ℕ) (e : SelectFault) → rest_left + 2 ≡ left → Refuses (charge_expr (node_at d 0) x (node_at d child.0)) rest_left e → Refuses (due d s c) left e
     refuses_asked left rest_left e paid h = refuses_from (charge_expr (node_at d 0) x (node_at d child.0)) rest_left (due d s c) left e (λ lt. rw (is, f) (omega (arith, lt, paid))) h
+
+-- children are out that a wildcard goes over
+pub drains_children : (d : Doc) (s : OneSegment) (c : Cursor) (next : Option NodeId) (out new : List NodeId) (old left : ℕ) → condition_at c.asked s.selectors ≡ None → (c.stride.first < c.stride.end → c.visit < count d) → c.end ≤ count d → IsStride c.stride
+    → Emits d c.child next out new old left → Drains d s c (child_then c next) out new old left
+drains_children d s c next out new old left w visit end stride e =
+    let rest = strided c.stride (elements (node_at d c.visit)) ++ visited (node_at d 0) s.selectors c.passed (nodes_between d c.visit c.end) in
+    let paid = e.paid in
+    record {
+      same = rw w (sym (append_assoc (nodes_of d new) (following d next) rest) ∙ ap (λ ns. ns ++ rest) e.same ∙ append_assoc (nodes_of d out) (following d c.child) rest);
+      paid = rw w (omega (arith, paid));
+      sound = e.sound;
+      stage = refl;
+      visit = visit;
+      end = end;
+      child = e.inside;
+      stride = stride;
+    }
 
 -- ---- An element
 

@@ -7,10 +7,12 @@ use Rattle.json_tape.specs.Document.{Doc, count, node_at, following, single, IsI
 use Rattle.json_text.specs.declared.tape.NodeId.{NodeId}
 use Rattle.node_lists.specs.Evaluation.{selected, holds}
 use Rattle.node_lists.specs.Charge.{total_of, charge_in, charge_expr}
-use Rattle.node_lists.specs.Nodelists.{nodes_between}
-use Rattle.node_lists.specs.Paying.{Refuses}
+use Rattle.node_lists.specs.Extra.{nodes_from, charge_at}
+use Rattle.node_lists.specs.Nodelists.{nodes_of, nodes_between}
+use Rattle.node_lists.specs.Paying.{Holds, Inside, Refuses}
 use Rattle.node_lists.specs.declared.fault.SelectFault.{SelectFault}
-use Rattle.query_plan.specs.Planned.{With, Claims}
+use Rattle.query_plan.specs.Planned.{With, Claims, stage_view}
+use Rattle.query_plan.specs.declared.plan.Stage.{Stage}
 use Rattle.query_plan.specs.Slots.{AreClaimed}
 use Rattle.tape_values.specs.Selection.{picked}
 use Rattle.tape_values.specs.Places.{is_place}
@@ -40,6 +42,11 @@ first_condition (selector s others) = condition_in s
 -- the condition of the selector with this number, where it is a filter
 abbrev pub condition_at : ℕ → Selectors → Option Expr
 condition_at k ss = first_condition (behind k ss)
+
+-- no selector asks children
+abbrev pub AreUnasked : Selectors → Type 0
+AreUnasked no_selectors = Unit {0}
+AreUnasked (selector s others) = (condition_in s ≡ None) × AreUnasked others
 
 -- the selector with this number is a filter with this condition, whose slots are right
 pub record IsAsked (table : Claims) (k : ℕ) (s : OneSegment) (c : With Expr) : Type 0 where
@@ -158,6 +165,39 @@ abbrev pub IsStepOf : Doc → OneSegment → (old new : ℕ) → Type 0
 IsStepOf d s old new = (c : Cursor) × (old ≤ new + price d s c)
 
 -- nothing is drawn where a child waits
-abbrev pub drawn : Option (Option NodeId) → Option NodeId
+abbrev pub drawn : {A : Type 0} → Option (Option A) → Option A
 drawn None = None
 drawn (Some found) = found
+
+-- ---- Nodes that are passed, and all at once
+
+module _ (d : Doc) (s : Stage) (k : ℕ) where
+  -- the segment selects nothing from the node with this number, for a unit of each selector
+  pub record IsPassed : Type 0 where
+    pub nothing : selected (node_at d 0) (stage_view s).tree.selectors (node_at d k) ≡ []
+    pub charge : charge_in (node_at d 0) (stage_view s).tree.selectors (node_at d k) ≡ length s.selections.items
+
+  -- or one node
+  pub record GivesNode (found : NodeId) : Type 0 where
+    pub node : selected (node_at d 0) (stage_view s).tree.selectors (node_at d k) ≡ single d (Some found)
+    pub charge : charge_in (node_at d 0) (stage_view s).tree.selectors (node_at d k) ≡ length s.selections.items
+
+-- all that the segment selects from a node is out, or nothing is
+abbrev pub Takes : Doc → OneSegment → Node → (taken : Bool) → (out new : List NodeId) → (old left : ℕ) → Type 0
+Takes d s n true out new old left = Holds d new (nodes_of d out ++ nodes_from (node_at d 0) s n) × (left + charge_at (node_at d 0) s n ≡ old)
+Takes d s n false out new old left = (new ≡ out) × (left ≡ old)
+
+-- a part of what is ahead is out, and its charge is paid
+pub record Drains (d : Doc) (s : OneSegment) (before after : Cursor) (out new : List NodeId) (old left : ℕ) : Type 0 where
+  pub same : nodes_of d new ++ ahead d s after ≡ nodes_of d out ++ ahead d s before
+  pub paid : left + due d s before ≡ old + due d s after
+  pub sound : Inside d new
+  pub stage : after.stage ≡ before.stage
+  pub visit : after.stride.first < after.stride.end → after.visit < count d
+  pub end : after.end ≤ count d
+  pub child : IsIn d after.child
+  pub stride : IsStride after.stride
+
+abbrev pub DrainsOr : Doc → OneSegment → (drained : Bool) → (before after : Cursor) → (out new : List NodeId) → (old left : ℕ) → Type 0
+DrainsOr d s true before after out new old left = Drains d s before after out new old left
+DrainsOr d s false before after out new old left = (after ≡ before) × ((new ≡ out) × (left ≡ old))

@@ -111,17 +111,7 @@ module _ (d : Doc) (plan : Parts) where
   abbrev pub IsOneStep : (old new : ℕ) → Type 0
   IsOneStep old new = (ws : List Waiting) × (o : Origin) × (c : Cursor) × (old ≤ new + price d (segment_at (top_segments plan ws o) c.stage) c)
 
-  -- the query on top took a step, or is at its end
-  pub record IsStepped (units : ℕ) (is_more : Bool) (before next : Machine) : Type 0 where
-    pub on_way : IsOnWay units (rest_of next) next
-    pub rest : rest_of next ≡ rest_of before
-    pub origin : next.origin ≡ before.origin
-    pub below : next.below.items ≡ before.below.items
-    pub little : IsOneStep (left_in before) (left_in next)
-    pub still : is_more ≡ false → left_in before ≤ left_in next
-    pub ended : is_more ≡ false → next.track.cursors.items ≡ []
-
-  -- the query on top took steps of one kind, until fewer units are left
+  -- the query on top took steps, until fewer units are left
   pub record IsRun (units least : ℕ) (before next : Machine) : Type 0 where
     pub on_way : IsOnWay units (rest_of next) next
     pub rest : rest_of next ≡ rest_of before

@@ -1,9 +1,9 @@
 -- Cursors above one another. What the last of them gives comes first (this project's own).
-use Rattle.std.specs.Prelude.{Option, ◌≡◌, ℕ, zero, suc, ◌+◌, ◌≤◌, List, [], ◌∷◌, ◌++◌, drop, map, length, false}
+use Rattle.std.specs.Prelude.{Option, None, Some, ◌≡◌, ℕ, zero, suc, ◌+◌, ◌<◌, ◌≤◌, List, [], ◌∷◌, ◌++◌, drop, map, length, false}
 use Rattle.std.specs.List.{All}
 use Rattle.path_grammar.specs.Tree.{OneSegment, Segments, segments_of, no_selectors}
 use Rattle.json_tape.specs.Nodes.{Node}
-use Rattle.json_tape.specs.Document.{Doc, node_at, following, single, IsIn}
+use Rattle.json_tape.specs.Document.{Doc, count, node_at, following, single, IsIn}
 use Rattle.json_text.specs.declared.tape.NodeId.{NodeId}
 use Rattle.node_lists.specs.Evaluation.{evaluated}
 use Rattle.node_lists.specs.Charge.{charge_from}
@@ -76,10 +76,40 @@ module _ (d : Doc) (ss : List OneSegment) where
     pub paid : whole_due after_it ≡ charge_from (node_at d 0) (after k) ns + whole_due before
     pub under_way : IsUnderWay after_it
 
-  -- the same, and units are paid
-  pub record Puts (k : ℕ) (ns : List Node) (before after_it : Track) (left left_then : ℕ) : Type 0 where
-    pub same : whole_ahead after_it ≡ nodes_of d before.out.items ++ (evaluated (node_at d 0) (after k) ns ++ remaining before.cursors.items)
-    pub paid : left_then + (charge_from (node_at d 0) (after k) ns + whole_due before) ≡ left + whole_due after_it
+  -- what a node gives from which a cursor is to go on, and what that is charged
+  abbrev pub rest_given : Option (ℕ × NodeId) → List Node
+  rest_given None = []
+  rest_given (Some rest) = evaluated (node_at d 0) (after rest.0) (node_at d rest.1.0 ∷ [])
+
+  abbrev pub rest_due : Option (ℕ × NodeId) → ℕ
+  rest_due None = 0
+  rest_due (Some rest) = charge_from (node_at d 0) (after rest.0) (node_at d rest.1.0 ∷ [])
+
+  abbrev pub IsRest : Option (ℕ × NodeId) → Type 0
+  IsRest None = Unit {0}
+  IsRest (Some rest) = (rest.0 + 1 < length ss) × (rest.1.0 < count d)
+
+  -- what nodes give that a segment selected is out, but for what one of them gives
+  pub record Puts (k : ℕ) (ns : List Node) (rest : Option (ℕ × NodeId)) (out new : List NodeId) (old left : ℕ) : Type 0 where
+    pub same : nodes_of d new ++ rest_given rest ≡ nodes_of d out ++ evaluated (node_at d 0) (after k) ns
+    pub paid : left + charge_from (node_at d 0) (after k) ns ≡ old + rest_due rest
+    pub inside : IsRest rest
+    pub sound : Inside d new
+
+  -- a part of what a cursor gives is out, but for what one node gives
+  pub record Gives (before next : Cursor) (rest : Option (ℕ × NodeId)) (out new : List NodeId) (old left : ℕ) : Type 0 where
+    pub same : nodes_of d new ++ (rest_given rest ++ given next) ≡ nodes_of d out ++ given before
+    pub paid : left + owed before ≡ old + (rest_due rest + owed next)
+    pub inside : IsRest rest
+    pub cursor : IsCursor d (length ss) next
+    pub stage : next.stage ≡ before.stage
+    pub sound : Inside d new
+
+  -- a cursor is on the others again, or nothing was ahead of it
+  pub record PutBack (c : Cursor) (before after_it : Track) : Type 0 where
+    pub same : remaining after_it.cursors.items ≡ given c ++ remaining before.cursors.items
+    pub paid : remaining_due after_it.cursors.items ≡ owed c + remaining_due before.cursors.items
+    pub out : after_it.out.items ≡ before.out.items
     pub under_way : IsUnderWay after_it
 
   -- a node is followed through segments, up to the one with this number

@@ -1,7 +1,7 @@
 //! Where an evaluation stands in one segment: the nodes from which it selects, and the children that its last selector has still to go over.
 
 ghost use Rattle.std.specs.Prelude.{◌≡◌, ◌<◌, ◌≤◌, ◌^◌, None, Some, [], MatchOption, IfErr, IfOk, IfSome, length, get_or, unsigned_abs, List, true, false};
-ghost use Rattle.json_tape.specs.Document.{count, node_at, IsIn};
+ghost use Rattle.json_tape.specs.Document.{count, node_at};
 ghost use Rattle.json_tape.specs.Nodes.{Node, elements};
 ghost use Rattle.tape_values.specs.Selection.{in_order, picked, sliced, step_of};
 ghost use Rattle.tape_values.specs.Places.{is_place};
@@ -14,7 +14,7 @@ ghost use Rattle.tape_select.specs.Memo.{Keeps};
 ghost use Rattle.query_machine.specs.Cursors.{ahead, condition_at, condition_in, due, place_of, rest_of, strided, Draws, DrawsOr, IsAsked, IsStride};
 
 use json_tape::{Document, NodeId};
-use node_lists::{SelectFault, step as link_step};
+use node_lists::{Meter, SelectFault, step as link_step};
 use path_grammar::IntLit;
 use query_plan::{Condition, Parts, Selection, Stage};
 use tape_select::{State, does_hold};
@@ -92,14 +92,6 @@ pub fn cursor_at(doc: &Document, stage: &Stage, number: usize, n: NodeId) -> Cur
     }
 }
 
-// Whether a slice is at its end.
-fn is_passed(stride: &Stride) -> bool
-    ensures passed { result ≡ true → stride.now.end ≤ stride.now.first }
-    ensures more { result ≡ false → stride.now.first < stride.now.end }
-{
-    stride.end <= stride.first
-}
-
 /// Whether nothing is ahead.
 #[tactic(auto, using(crate::proofs::Steps::ending))]
 pub fn is_through(doc: &Document, stage: &Stage, c: &Cursor) -> bool
@@ -117,8 +109,8 @@ pub fn is_through(doc: &Document, stage: &Stage, c: &Cursor) -> bool
 
 // ---- Children
 
-// The condition of a filter.
-fn condition_of(selection: &Selection) -> Option<&Condition>
+/// The condition of a filter.
+pub fn condition_of(selection: &Selection) -> Option<&Condition>
     ensures some { IfSome result (λ c. (selection_view selection.now).claims ≡ (condition_view c.now).claims) }
     ensures condition { MatchOption result (condition_in (selection_view selection.now).tree ≡ None) (λ c. condition_in (selection_view selection.now).tree ≡ Some (condition_view c.now).tree) }
 {
@@ -140,14 +132,13 @@ pub fn condition_in_turn<'a>(plan: &Parts, stage: &'a Stage, number: usize) -> O
     }
 }
 
-// The next child, which a wildcard selects.
-fn take_child(
+/// The next child, which a wildcard selects.
+pub fn take_child(
     doc: &Document,
-    plan: &Parts,
     stage: &Stage,
     child: NodeId,
     c: &mut Cursor,
-    state: &mut State,
+    meter: &mut Meter,
 ) -> Result<Option<NodeId>, SelectFault>
     requires child { c.old.child ≡ Some child }
     requires wild { condition_at c.old.asked (stage_view stage.now).tree.selectors ≡ None }
@@ -155,13 +146,10 @@ fn take_child(
     requires visit { c.old.stride.first < c.old.stride.end → c.old.visit < count doc.now }
     requires end { c.old.end ≤ count doc.now }
     requires stride { IsStride c.old.stride }
-    requires kept { Keeps doc.now (claims_of plan.now.stages.items) state.old }
-    ensures drawn { DrawsOr doc.now (stage_view stage.now).tree result c.old c.new state.old.meter.left state.new.meter.left }
-    ensures kept { Keeps doc.now (claims_of plan.now.stages.items) state.new }
+    ensures { DrawsOr doc.now (stage_view stage.now).tree result c.old c.new meter.old.left meter.new.left }
 {
-    let _ = plan;
     let _ = stage;
-    state.meter.spend(1)?;
+    meter.spend(1)?;
     c.child = doc.next_sibling(child);
     Ok(Some(child))
 }
@@ -293,21 +281,17 @@ fn next_stride(stride: &Stride) -> Stride
 // The element at the next place.
 fn take_element(
     doc: &Document,
-    plan: &Parts,
     stage: &Stage,
     c: &mut Cursor,
-    state: &mut State,
+    meter: &mut Meter,
 ) -> Result<Option<NodeId>, SelectFault>
     requires child { c.old.child ≡ None }
     requires some { c.old.stride.first < c.old.stride.end }
     requires visit { c.old.visit < count doc.now }
     requires end { c.old.end ≤ count doc.now }
     requires stride { IsStride c.old.stride }
-    requires kept { Keeps doc.now (claims_of plan.now.stages.items) state.old }
-    ensures drawn { DrawsOr doc.now (stage_view stage.now).tree result c.old c.new state.old.meter.left state.new.meter.left }
-    ensures kept { Keeps doc.now (claims_of plan.now.stages.items) state.new }
+    ensures { DrawsOr doc.now (stage_view stage.now).tree result c.old c.new meter.old.left meter.new.left }
 {
-    let _ = plan;
     let _ = stage;
     let place = next_place(&c.stride);
     let found = element(doc, NodeId(c.visit), IntLit::Within(place as i64));
@@ -318,7 +302,7 @@ fn take_element(
             Ok(None)
         }
         Some(n) => {
-            state.meter.spend(1)?;
+            meter.spend(1)?;
             c.stride = next;
             Ok(Some(n))
         }
@@ -330,11 +314,10 @@ fn take_element(
 // The next selector begins at the first node.
 fn begin_selector(
     doc: &Document,
-    plan: &Parts,
     stage: &Stage,
     selection: &Selection,
     c: &mut Cursor,
-    state: &mut State,
+    meter: &mut Meter,
 ) -> Result<Option<NodeId>, SelectFault>
     requires child { c.old.child ≡ None }
     requires passed { c.old.stride.end ≤ c.old.stride.first }
@@ -343,13 +326,10 @@ fn begin_selector(
     requires next { selection.now ≡ get_or stage.now.selections.items c.old.passed selection.now }
     requires end { c.old.end ≤ count doc.now }
     requires stride { IsStride c.old.stride }
-    requires kept { Keeps doc.now (claims_of plan.now.stages.items) state.old }
-    ensures drawn { DrawsOr doc.now (stage_view stage.now).tree result c.old c.new state.old.meter.left state.new.meter.left }
-    ensures kept { Keeps doc.now (claims_of plan.now.stages.items) state.new }
+    ensures { DrawsOr doc.now (stage_view stage.now).tree result c.old c.new meter.old.left meter.new.left }
 {
-    let _ = plan;
     let _ = stage;
-    state.meter.spend(1)?;
+    meter.spend(1)?;
     let n = NodeId(c.visit);
     match selection {
         Selection::One(link) => {
@@ -376,57 +356,44 @@ fn begin_selector(
     }
 }
 
-/// The first node is passed.
-pub fn pass_visit(doc: &Document, stage: &Stage, c: &mut Cursor, state: &mut State)
+// The first node is passed.
+fn pass_visit(doc: &Document, stage: &Stage, c: &mut Cursor, meter: &Meter)
     requires child { c.old.child ≡ None }
     requires stride { c.old.stride.end ≤ c.old.stride.first }
     requires visits { c.old.visit < c.old.end }
     requires passed { length stage.now.selections.items ≤ c.old.passed }
     requires end { c.old.end ≤ count doc.now }
     requires fits { IsStride c.old.stride }
-    ensures drawn { Draws doc.now (stage_view stage.now).tree None c.old c.new state.old.meter.left state.new.meter.left }
-    ensures same { state.new ≡ state.old }
-    ensures child { c.new.child ≡ None }
-    ensures passed { c.new.stride.end ≤ c.new.stride.first }
+    ensures { Draws doc.now (stage_view stage.now).tree None c.old c.new meter.now.left meter.now.left }
 {
     let _ = doc.root();
     let _ = stage;
-    let _ = state;
+    let _ = meter;
     c.visit += 1;
     c.passed = 0;
 }
 
-/// One step of a cursor: the next node that its segment selects, or none yet.
+/// One step of a cursor that goes over no children: the next node that its segment selects, or none yet.
 pub fn draw(
     doc: &Document,
-    plan: &Parts,
     stage: &Stage,
     c: &mut Cursor,
-    state: &mut State,
+    meter: &mut Meter,
 ) -> Result<Option<NodeId>, SelectFault>
-    requires more { c.old.child ≡ None → c.old.stride.end ≤ c.old.stride.first → c.old.visit < c.old.end }
-    requires child { IsIn doc.now c.old.child }
+    requires more { c.old.stride.end ≤ c.old.stride.first → c.old.visit < c.old.end }
+    requires child { c.old.child ≡ None }
     requires visit { c.old.stride.first < c.old.stride.end → c.old.visit < count doc.now }
     requires end { c.old.end ≤ count doc.now }
     requires stride { IsStride c.old.stride }
-    requires claimed { AreClaimed (claims_of plan.now.stages.items) (stage_view stage.now).claims }
-    requires kept { Keeps doc.now (claims_of plan.now.stages.items) state.old }
-    ensures drawn { DrawsOr doc.now (stage_view stage.now).tree result c.old c.new state.old.meter.left state.new.meter.left }
-    ensures kept { Keeps doc.now (claims_of plan.now.stages.items) state.new }
+    ensures { DrawsOr doc.now (stage_view stage.now).tree result c.old c.new meter.old.left meter.new.left }
 {
-    if let Some(child) = c.child {
-        return match condition_in_turn(plan, stage, c.asked) {
-            None => take_child(doc, plan, stage, child, c, state),
-            Some(condition) => ask_child(doc, plan, stage, condition, child, c, state),
-        };
-    }
-    if !is_passed(&c.stride) {
-        return take_element(doc, plan, stage, c, state);
+    if c.stride.first < c.stride.end {
+        return take_element(doc, stage, c, meter);
     }
     match stage.selections.get(c.passed) {
-        Some(selection) => begin_selector(doc, plan, stage, selection, c, state),
+        Some(selection) => begin_selector(doc, stage, selection, c, meter),
         None => {
-            pass_visit(doc, stage, c, state);
+            pass_visit(doc, stage, c, meter);
             Ok(None)
         }
     }

@@ -11,12 +11,12 @@ ghost use Rattle.query_plan.specs.Planned.{claims_of, numbered, query_of};
 ghost use Rattle.query_plan.specs.Slots.{AreClaimed};
 ghost use Rattle.tape_select.specs.Awaiting.{Awaits, AwaitsSome};
 ghost use Rattle.tape_select.specs.Memo.{Keeps};
-ghost use Rattle.query_machine.specs.Levels.{left_in, top_segments, rest_of, Begins, AwaitsStep, IsAbove, IsOnWay, IsOneStep, IsRun, IsStepped, Moved, Stack};
+ghost use Rattle.query_machine.specs.Levels.{left_in, top_segments, rest_of, Begins, AwaitsStep, IsAbove, IsOnWay, IsOneStep, IsRun, Moved, Stack};
 ghost use Rattle.query_machine.specs.Stacks.{segments_in, whole_due, IsUnderWay};
 
 use crate::cursor::{condition_in_turn, cursor_at};
 use crate::runs::run;
-use crate::stepping::{Track, step};
+use crate::stepping::Track;
 use json_tape::{Document, NodeId};
 use node_lists::{SelectFault, followed, push};
 use query_plan::{Nested, Parts, Stage};
@@ -233,30 +233,14 @@ fn end_above(doc: &Document, plan: &Parts, units: u64, machine: &mut Machine) ->
     Move::GoesOn
 }
 
-// One step of the query on top. Whether there was one to take.
-fn step_on(
-    doc: &Document,
-    plan: &Parts,
-    stages: &[Stage],
-    units: u64,
-    machine: &mut Machine,
-) -> Result<bool, SelectFault>
-    requires same { segments_in stages.now ≡ top_segments plan.now machine.old.below.items machine.old.origin }
-    requires claimed { AreClaimed (claims_of plan.now.stages.items) (claims_of stages.now) }
-    requires on_way { IsOnWay doc.now plan.now units (rest_of doc.now plan.now machine.old) machine.old }
-    ensures { MatchResult result (λ more. IsStepped doc.now plan.now units more machine.old machine.new) (λ e. Refuses (charge_from (node_at doc.now 0) (query_of plan.now.stages.items) (node_at doc.now 0 ∷ [])) units e) }
-{
-    let _ = units;
-    step(doc, plan, stages, &mut machine.track, &mut machine.state)
-}
-
-// Steps of one kind of the query on top, at once.
-fn run_at_once(
+// Steps of the query on top, or one of them.
+fn run_top(
     doc: &Document,
     plan: &Parts,
     stages: &[Stage],
     units: u64,
     least: u64,
+    one: bool,
     machine: &mut Machine,
 ) -> Result<(), SelectFault>
     requires same { segments_in stages.now ≡ top_segments plan.now machine.old.below.items machine.old.origin }
@@ -271,6 +255,7 @@ fn run_at_once(
         plan,
         stages,
         least,
+        one,
         &mut machine.track,
         &mut machine.state,
     )
@@ -300,9 +285,12 @@ pub fn run_on(
         if machine.state.meter.left < least {
             return Ok(Move::GoesOn);
         }
-        run_at_once(doc, plan, stages, units, least, machine)?;
+        run_top(doc, plan, stages, units, least, false, machine)?;
         if machine.state.meter.left < least {
             return Ok(Move::GoesOn);
+        }
+        if machine.track.cursors.is_empty() {
+            return Ok(end_above(doc, plan, units, machine));
         }
         if let Some((awaited, child)) = next_query(
             doc,
@@ -315,9 +303,7 @@ pub fn run_on(
                 return begin_above(doc, plan, query, awaited.paid, child, units, machine);
             }
         }
-        if !step_on(doc, plan, stages, units, machine)? {
-            return Ok(end_above(doc, plan, units, machine));
-        }
+        run_top(doc, plan, stages, units, least, true, machine)?;
     }
     Ok(Move::GoesOn)
 }

@@ -10,8 +10,8 @@ pub next_query-requires-clause-under_way : goal.next_query-requires-clause-under
 next_query-requires-clause-under_way c =
     let plan = c.args.plan.now in
     let l = c.loop.machine in
-    let m = c.run_at_once.new.machine in
-    let r = c.in_ok-run_at_once.ensures in
+    let m = c.run_top.new.machine in
+    let r = c.in_ok-run_top.ensures in
     let same : segments_in c.in-Some.stages.now ≡ top_segments plan m.below.items m.origin =
     c.loop.invariant.same ∙ ap (λ (ws : List Waiting). top_segments plan ws l.origin) (sym r.below) ∙ ap (λ (o : Origin). top_segments plan m.below.items o) (sym r.origin) in
     way_of c.args.doc.now plan c.args.units (rest_of c.args.doc.now plan m) m.below.items m.origin (segments_in c.in-Some.stages.now) same m.track m.state.meter.left r.on_way.stack
@@ -19,4 +19,4 @@ next_query-requires-clause-under_way c =
 pub returns-in-Some-query-clause-little : goal.returns-in-Some-query-clause-little
 returns-in-Some-query-clause-little c =
     let not_less = c.if-machine-least-2.false in
-    further_if c.args.doc.now c.args.plan.now c.args.least (left_in c.run_at_once.new.machine) (left_in c.begin_above.new.machine) c.begin_above.result (omega (arith, not_less)) c.begin_above.ensures.little
+    further_if c.args.doc.now c.args.plan.now c.args.least (left_in c.run_top.new.machine) (left_in c.begin_above.new.machine) c.begin_above.result (omega (arith, not_less)) c.begin_above.ensures.little

@@ -4,12 +4,12 @@ use Rattle.query_machine.specs.Stacks.{segments_in}
 use Rattle.query_machine.proofs.Stacks.{in_turn, opened_if, segment_total}
 use Rattle.query_machine.proofs.stepping.place.Goals as goal
 
-pub returns-then-next-stages : goal.returns-then-next-stages
-returns-then-next-stages c =
+pub returns : goal.returns
+returns c =
     let d = c.args.doc.now in
     let ss = c.args.stages.now in
     let k = c.args.number in
-    let lt = c.if-next-stages.true in
+    let lt = c.requires.number in
     let total = segment_total ss in
     let is = in_turn ss (k + 1) c.index-stages-next.result lt c.index-stages-next.is in
     let e = c.cursor_at-c.ensures in

@@ -3,7 +3,7 @@ use Rattle.query_machine.specs.Levels.{rest_of}
 use Rattle.query_machine.specs.Stacks.{segments_in}
 use Rattle.query_machine.specs.declared.levels.Machine.{Machine}
 use Rattle.query_machine.proofs.Above.{ran_if, way_of}
-use Rattle.query_machine.proofs.levels.run_at_once.Goals as goal
+use Rattle.query_machine.proofs.levels.run_top.Goals as goal
 
 pub run-requires-clause-under_way : goal.run-requires-clause-under_way
 run-requires-clause-under_way c =
