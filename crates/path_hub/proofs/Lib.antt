@@ -12,3 +12,4 @@ pub mod Sent
 pub mod Once
 pub mod Standing
 pub mod UnderWay
+pub mod Spending

@@ -1,7 +1,6 @@
 -- Queries under way, as tenants and their queries change.
 use Rattle.std.proofs.Common.{◌≡◌, ◌≢◌, ◌<◌, inl, ℕ, List, [], ◌∷◌, Bool, true, false, not, ◌&&◌, ◌||◌, eqb, Option, Some, None, Result, Ok, Err, cond, refl, sym, ap, ◌∙◌, subst, arith}
-use Rattle.std.specs.Prelude.{slice_get, IfOk, IfSome}
-use Rattle.std.specs.Bool.{MatchBool}
+use Rattle.std.specs.Prelude.{Box, slice_get, IfOk, IfSome, is_some, length, nat_lt}
 use Rattle.std.specs.BTreeMap.{is_at}
 use Rattle.std.specs.List.{list_any}
 use Rattle.std.specs.Map.{lookup}
@@ -9,14 +8,19 @@ use Rattle.std.specs.Option.{option_map_or}
 use Rattle.std.specs.Ordering.{nat_cmp}
 use Rattle.std.proofs.lemmas.Bool.Decides.{nat_tests}
 use Rattle.std.proofs.lemmas.Option.{none-some, same_Some}
+use Rattle.std.specs.declared.alloc.Global.{Global}
 use Rattle.tenant_map.specs.Maps.{Map}
-use Rattle.tenant_map.specs.Tenancy.{Tenancy, place_in}
+use Rattle.tenant_map.specs.Tenancy.{Tenancy, place_in, with_map}
 use Rattle.tenant_store.specs.Walks.{work_left}
 use Rattle.tenant_store.specs.declared.tasks.QueryTask.{QueryTask}
 use Rattle.wire_frames.specs.Frames.{Whole, front}
 use Rattle.wire_frames.specs.Framing.{Framing}
 use Rattle.wire_frames.specs.Splitting.{Splitting}
-use Rattle.wire_frames.specs.Requests.{Asks, Query, key_of, reading}
+use Rattle.wire_frames.specs.Readings.{asked_of}
+use Rattle.wire_frames.specs.Requests as wire
+use Rattle.wire_frames.specs.Requests.{Asks, Query, key_of}
+use Rattle.wire_frames.specs.declared.framing.Next.{Next}
+use Rattle.wire_frames.specs.declared.framing.Next.TheVariants as next
 use Rattle.json_tape.specs.Shares.{Share as ReadShare}
 use Rattle.json_tape.specs.Going as Reached
 use Rattle.json_tape.specs.declared.progress.Progress.{Progress}
@@ -26,19 +30,22 @@ use Rattle.path_hub.specs.declared.tasks.Reading.{Reading}
 use Rattle.path_hub.specs.declared.tasks.Tasks.{Tasks}
 use Rattle.path_hub.specs.declared.tasks.Share.{Share}
 use Rattle.path_hub.specs.declared.tasks.Share.TheVariants as share
-use Rattle.request_replies.specs.Answers.{is_no_memory}
-use Rattle.request_replies.specs.Tenants.{Serves, ServesBody, ServesBy, map_of, put_at, is_short}
+use Rattle.request_replies.specs.Answers.{Gives, MayWant}
+use Rattle.request_replies.specs.Shares.{Goes, IsChargeOf, IsPlaced, IsUnderWay}
+use Rattle.request_replies.specs.Tenants.{Serves}
+use Rattle.request_replies.specs.declared.placing.Placed.{Placed}
 use Rattle.path_hub.specs.Sessions.{Sessions, session, Sets}
 use Rattle.path_hub.specs.HubState.{state}
-use Rattle.path_hub.specs.UnderWay.{AreOnWay, AsksQuery, Goes, GoesOn, IsBodyCharge, IsCharge, IsChargeAt, IsFirstCharge, IsOf, ReadsOn, SetsReading, SetsTask, SharesBody, SharesFirst, SharesQuery, Shares, has_other, is_behind, is_held, is_kept, is_long, is_other, may_read, reading_at, task_at, tenant_asked}
+use Rattle.path_hub.specs.UnderWay.{AreOnWay, AsksQuery, GoesOn, IsAsked, IsBodyCharge, IsChargeAt, IsFirstCharge, ReadsOn, SetsReading, SetsTask, SharesBody, SharesFirst, SharesQuery, Shares, has_other, is_held, is_kept, is_long, is_next_held, is_of_tenant, is_other, may_read, query_in, reading_at, task_at, tenant_asked}
 use Rattle.request_replies.proofs.Keys.{read_other, with_map_at}
-use Rattle.request_replies.proofs.Steps.{serves_command}
+use Rattle.request_replies.proofs.Shares.{goes_at}
+use Rattle.request_replies.proofs.Steps.{query_may_want, serves_command, shape_at}
 use Rattle.path_hub.proofs.Calls.{one_step}
 
 at_same : (p q : ℕ) → is_at (nat_cmp p) q ≡ true → q ≡ p
 at_same p q h = grind (arith, nat_tests)
 
-at_itself : (p : ℕ) → is_at (nat_cmp p) p ≡ true
+pub at_itself : (p : ℕ) → is_at (nat_cmp p) p ≡ true
 at_itself p = grind (arith, nat_tests)
 
 at_other : (p q : ℕ) → is_at (nat_cmp p) q ≡ false → q ≢ p
@@ -51,10 +58,10 @@ none_on_way t tasks e conn a m h here = absurd (none-some a (ap (λ es. lookup (
 
 -- what is left is on its way, and so is what is set
 pub set_on_way : (t : Tenancy) (conn : ℕ) (v : Option Asked) (old new : Tasks) → AreOnWay t old → SetsTask conn v old new
-    → ((a : Asked) (m : Map) → v ≡ Some a → slice_get t.maps a.place ≡ Some m → Goes a.collection.items a.query.items m a.task) → AreOnWay t new
+    → ((a : Asked) (m : Map) → v ≡ Some a → slice_get t.maps a.place ≡ Some m → Goes a.collection.items a.query.items m a.task.value) → AreOnWay t new
 set_on_way t conn v old new w s g q a m k h = by (is_at (nat_cmp conn) q) refl
   where
-    by : (b : Bool) → is_at (nat_cmp conn) q ≡ b → Goes a.collection.items a.query.items m a.task
+    by : (b : Bool) → is_at (nat_cmp conn) q ≡ b → Goes a.collection.items a.query.items m a.task.value
     by true e = g a m (sym (s q ∙ ap (λ b. cond b v (task_at q old)) e) ∙ k) h
     by false e = w q a m (sym (s q ∙ ap (λ b. cond b v (task_at q old)) e) ∙ k) h
 
@@ -73,29 +80,6 @@ pub sets_still : (conn : ℕ) (v : Option Asked) (old mid new : Tasks) → SetsT
 sets_still conn v old mid new a e q = ap (λ es. lookup (is_at (nat_cmp q)) es) e ∙ a q
 
 -- ---- Who waits
-
--- another tenant's map stays
-serves_elsewhere : (t t' : Tenancy) (body before after : List ℕ) → Serves t body before after t' → (i : ℕ) → (tenant_asked t body ≡ Some i → ⊥) → slice_get t'.maps i ≡ slice_get t.maps i
-serves_elsewhere t t' body before after s i n = by _ _ (is_no_memory s.0) s.2
-  where
-    same : t' ≡ t → slice_get t'.maps i ≡ slice_get t.maps i
-    same e = ap (λ (x : Tenancy). slice_get x.maps i) e
-
-    put : (m : Map) → is_short body ≡ false → (o : Option ℕ) → place_in t.keys (key_of body) ≡ o → slice_get (put_at o m t).maps i ≡ slice_get t.maps i
-    put m long None p = refl
-    put m long (Some k) p = read_other t.maps k i m (λ e. n (ap (λ b. cond b None (place_in t.keys (key_of body))) long ∙ p ∙ ap (λ x. Some x) (sym e)))
-
-    at : (o : Option Map) → is_short body ≡ false → ServesBy o body t s.0 t' → slice_get t'.maps i ≡ slice_get t.maps i
-    at None long h = same h.1
-    at (Some m) long h = ap (λ (x : Tenancy). slice_get x.maps i) h.2 ∙ put h.0 long (place_in t.keys (key_of body)) refl
-
-    whole : (A : Type 0) (z : Bool) → is_short body ≡ z → MatchBool z (A × (t' ≡ t)) (ServesBy (map_of (key_of body) t) body t s.0 t') → slice_get t'.maps i ≡ slice_get t.maps i
-    whole A true z h = same h.1
-    whole A false z h = at (map_of (key_of body) t) z h
-
-    by : (A B : Type 0) (z : Bool) → MatchBool z (A × (t' ≡ t) × B) (ServesBody t body s.0 t') → slice_get t'.maps i ≡ slice_get t.maps i
-    by A B true h = same h.1
-    by A B false h = whole _ (is_short body) refl h
 
 both : (k conn p place : ℕ) → k ≢ conn → p ≡ place → (not (eqb k conn) && eqb p place) ≡ true
 both k conn p place n e = ap (λ b. not b && eqb p place) (other k conn n) ∙ ap (λ b. not false && b) (own p place e)
@@ -125,20 +109,39 @@ found conn place q a (e ∷ es) h n p = by (is_at (nat_cmp q) e.0) refl (λ h. f
         ap (λ b. b || rest) (both e.0 conn e.1.place place (λ k. n (sym key ∙ k)) (ap (λ (x : Asked). x.place) same ∙ p))
     by false r again = ap (λ b. is_other place conn e || b) (again (sym (ap (λ b. cond b (Some e.1) (lookup (is_at (nat_cmp q)) es)) r) ∙ h)) ∙ or_true (is_other place conn e)
 
+-- the tenant of what a body asks
+placed_at : (t : Tenancy) (body : List ℕ) (request : Placed) → IsPlaced t body request → tenant_asked t body ≡ Some request.place
+placed_at t body request p =
+    let s = shape_at body _ p.reads in
+    ap (λ b. cond b None (place_in t.keys (key_of body))) s.0 ∙ ap (place_in t.keys) (sym s.2) ∙ p.at
+
 -- a body that does not wait is behind no query of its tenant
-pub held_behind : (conn : ℕ) (body : List ℕ) (t : Tenancy) (tasks : Tasks) → is_held conn body t tasks ≡ false → is_behind conn body t tasks ≡ false
-held_behind conn body t tasks h = by (tenant_asked t body) h
+pub held_behind : (conn : ℕ) (body : List ℕ) (t : Tenancy) (request : Placed) (old new : Tasks) → IsPlaced t body request → new.asked.entries ≡ old.asked.entries → is_held conn body t old ≡ false → has_other request.place conn new ≡ false
+held_behind conn body t request old new p same h =
+    ap (λ es. list_any (is_other request.place conn) es) same ∙ first (has_other request.place conn old) _ (sym (ap (λ o. option_map_or (λ place. is_kept place conn body old) o false) (placed_at t body request p)) ∙ h)
   where
     first : (a b : Bool) → (a || b) ≡ false → a ≡ false
     first false b e = refl
     first true b e = absurd cc
 
-    by : (o : Option ℕ) → option_map_or (λ place. is_kept place conn body tasks) o false ≡ false → option_map_or (λ place. has_other place conn tasks) o false ≡ false
-    by None e = refl
-    by (Some place) e = first (has_other place conn tasks) (is_long body && not (may_read place conn tasks)) e
+-- nothing waits where nothing is under way
+none_kept : (conn : ℕ) (body : List ℕ) (tasks : Tasks) → tasks.asked.entries ≡ [] → tasks.readings.entries ≡ [] → (place : ℕ) → is_kept place conn body tasks ≡ false
+none_kept conn body tasks a r place =
+    ap (λ es. list_any (is_other place conn) es || (is_long body && not (may_read place conn tasks))) a
+    ∙ ap (λ es. is_long body && not (is_some (lookup (is_at (nat_cmp conn)) es) || (nat_lt (length es) 4 && not (list_any (is_of_tenant place) es)))) r ∙ last (is_long body)
+  where
+    last : (b : Bool) → (b && false) ≡ false
+    last true = refl
+    last false = refl
 
-pub behind_same : (conn : ℕ) (body : List ℕ) (t : Tenancy) (old new : Tasks) → new.asked.entries ≡ old.asked.entries → is_behind conn body t old ≡ false → is_behind conn body t new ≡ false
-behind_same conn body t old new same h = ap (λ es. option_map_or (λ place. list_any (is_other place conn) es) (tenant_asked t body) false) same ∙ h
+none_of : (conn : ℕ) (body : List ℕ) (tasks : Tasks) → ((place : ℕ) → is_kept place conn body tasks ≡ false) → (o : Option ℕ) → option_map_or (λ place. is_kept place conn body tasks) o false ≡ false
+none_of conn body tasks h None = refl
+none_of conn body tasks h (Some place) = h place
+
+pub none_held : (conn : ℕ) (next : Next) (t : Tenancy) (tasks : Tasks) → tasks.asked.entries ≡ [] → tasks.readings.entries ≡ [] → is_next_held conn next t tasks ≡ false
+none_held conn (next.Frame body) t tasks a r = none_of conn body tasks (none_kept conn body tasks a r) (tenant_asked t body)
+none_held conn next.Wait t tasks a r = refl
+none_held conn next.Fault t tasks a r = refl
 
 -- a text is read on, and no query goes on
 pub read_on_way : (t : Tenancy) (old new : Tasks) → new.asked.entries ≡ old.asked.entries → AreOnWay t old → AreOnWay t new
@@ -156,90 +159,135 @@ reading_twice conn v w old mid new a b q = b q ∙ ap (cond (is_at (nat_cmp conn
     twice false = refl
 
 -- a text that was taken out and read on is put back
-pub reads_on : (conn place places : ℕ) (old mid new : Tasks) (reading : Option Reading) (progress : Option Progress) (task : ReadShare) → 0 < places → new.asked.entries ≡ old.asked.entries → reading ≡ reading_at conn old
-    → SetsReading conn None old mid → progress ≡ Some (Paused task) → ((r : Reading) → reading ≡ Some r → IfSome progress (Reached.GoesOn r.task places)) → SetsReading conn (Some (record { place = place; task = task })) mid new → ReadsOn conn old new
-reads_on conn place places old mid new reading progress task some same was out p goes put = record {
+pub reads_on : (conn places : ℕ) (old mid new : Tasks) (reading : Option Reading) (progress : Option Progress) (task : ReadShare) → 0 < places → new.asked.entries ≡ old.asked.entries → reading ≡ reading_at conn old
+    → SetsReading conn None old mid → progress ≡ Some (Paused task) → ((r : Reading) → reading ≡ Some r → IfSome progress (Reached.GoesOn r.task.value places)) → ((k : Reading) × (k.task.value ≡ task) × SetsReading conn (Some k) mid new) → ReadsOn conn old new
+reads_on conn places old mid new reading progress task some same was out p goes (k, t, put) = record {
   same = same;
-  reading = record { place = place; task = task };
+  reading = k;
   sets = reading_twice conn None _ old mid new out put;
-  less = λ r e. (let on = subst (λ o. IfSome o (Reached.GoesOn r.task places)) p (goes r (was ∙ e)) in omega (arith, some, on.1));
+  less = λ r e. (let on = subst (λ o. IfSome o (Reached.GoesOn r.task.value places)) p (goes r (was ∙ e)) in subst (λ (x : ReadShare). x.left < r.task.value.left) (sym t) (omega (arith, some, on.1)));
 }
 
 -- what a share of another task is, over tasks of which readings differ
 pub sets_before : (conn : ℕ) (v : Option Asked) (old mid new : Tasks) → mid.asked.entries ≡ old.asked.entries → SetsTask conn v mid new → SetsTask conn v old new
 sets_before conn v old mid new same s q = s q ∙ ap (λ es. cond (is_at (nat_cmp conn) q) v (lookup (is_at (nat_cmp q)) es)) same
 
--- a body that does not wait is answered beside what others have under way
-pub served_on_way : (conn : ℕ) (t t' : Tenancy) (body before after : List ℕ) (old new : Tasks) → AreOnWay t old → is_behind conn body t old ≡ false → SetsTask conn None old new → Serves t body before after t' → AreOnWay t' new
-served_on_way conn t t' body before after old new w free s served q a m k h = by (is_at (nat_cmp conn) q) refl
+-- one tenant's map is another, and of its queries none is under way but one that is taken out
+pub changed_on_way : (t t' : Tenancy) (conn place : ℕ) (m : Map) (old new : Tasks) → AreOnWay t old → has_other place conn old ≡ false → SetsTask conn None old new → t' ≡ with_map t place m → AreOnWay t' new
+changed_on_way t t' conn place m old new w free s e q a n k h = by (is_at (nat_cmp conn) q) refl
   where
-    by : (b : Bool) → is_at (nat_cmp conn) q ≡ b → Goes a.collection.items a.query.items m a.task
+    by : (b : Bool) → is_at (nat_cmp conn) q ≡ b → Goes a.collection.items a.query.items n a.task.value
     by true e = absurd (none-some a (sym (s q ∙ ap (λ b. cond b None (task_at q old)) e) ∙ k))
-    by false e =
-        let was : task_at q old ≡ Some a = sym (s q ∙ ap (λ b. cond b None (task_at q old)) e) ∙ k in
-        w q a m was (sym (serves_elsewhere t t' body before after served a.place (λ p.
-        let none : has_other a.place conn old ≡ false = sym (ap (λ o. option_map_or (λ place. has_other place conn old) o false) p) ∙ free in
-        let some : has_other a.place conn old ≡ true = found conn a.place q a old.asked.entries was (at_other conn q e) refl in
-        let n : true ≡ false = sym some ∙ none in
-        absurd cc)) ∙ h)
+    by false apart =
+        let was : task_at q old ≡ Some a = sym (s q ∙ ap (λ b. cond b None (task_at q old)) apart) ∙ k in
+        w q a n was (sym (read_other t.maps place a.place m (λ p.
+        let some : has_other place conn old ≡ true = found conn place q a old.asked.entries was (at_other conn q apart) p in
+        let no : true ≡ false = sym some ∙ free in
+        absurd cc)) ∙ ap (λ (x : Tenancy). slice_get x.maps a.place) (sym e) ∙ h)
 
 -- ---- A share of a query
 
--- the task that goes on is that of this query
-pub resumed : (t : Tenancy) (m : Map) (conn place : ℕ) (collection text : List ℕ) (tasks : Tasks) (asked : Option Asked) (task : Option QueryTask) → AreOnWay t tasks → slice_get t.maps place ≡ Some m → asked ≡ task_at conn tasks
-    → IfSome task (λ k. IfSome asked (λ a. IsOf a place collection text × (a.task ≡ k))) → (asked ≡ None → task ≡ None) → IfSome task (Goes collection text m)
-resumed t m conn place collection text tasks asked None w h e its only = tt
-resumed t m conn place collection text tasks None (Some k) w h e its only = absurd (let n : Some k ≡ None = only refl in cc)
-resumed t m conn place collection text tasks (Some a) (Some k) w h e its only =
-    let own : IsOf a place collection text = its.0 in
-    let g : Goes a.collection.items a.query.items m a.task = w conn a m (sym e) (ap (λ i. slice_get t.maps i) own.0 ∙ h) in
-    subst (λ j. Goes collection text m j) its.1 (subst (λ c. Goes c text m a.task) own.1 (subst (λ x. Goes a.collection.items x m a.task) own.2 g))
+-- a query that is asked, by its parts
+query_is : (asked : wire.Asked) (collection text : List ℕ) → query_in asked ≡ Some (collection, text) → asked ≡ Query collection text
+query_is (Query c x) collection text e = ap (λ (p : List ℕ × List ℕ). Query p.0 p.1) (same_Some (c, x) (collection, text) e)
+query_is (wire.Put c d x) collection text e = absurd cc
+query_is (wire.Get c d) collection text e = absurd cc
+query_is (wire.Remove c d) collection text e = absurd cc
+query_is (wire.ListNames c) collection text e = absurd cc
+query_is (wire.DropCollection c) collection text e = absurd cc
+query_is wire.Usage collection text e = absurd cc
+query_is (wire.PutNew c d x) collection text e = absurd cc
+
+-- the task that goes on is that of what is asked
+pub resumed : (t : Tenancy) (m : Map) (conn : ℕ) (request : Placed) (tasks : Tasks) (asked : Option Asked) (task : Option (Box QueryTask Global)) → AreOnWay t tasks → slice_get t.maps request.place ≡ Some m → asked ≡ task_at conn tasks
+    → IfSome task (λ k. IfSome asked (λ a. IsAsked a request × (a.task ≡ k))) → (asked ≡ None → task ≡ None) → IfSome task (λ k. IsUnderWay (asked_of request.command) m k.value)
+resumed t m conn request tasks asked None w h e its only = tt
+resumed t m conn request tasks None (Some k) w h e its only = absurd (let n : Some k ≡ None = only refl in cc)
+resumed t m conn request tasks (Some a) (Some k) w h e its only = (
+  a.collection.items,
+  a.query.items,
+  query_is (asked_of request.command) a.collection.items a.query.items its.0.1,
+  subst (λ (j : Box QueryTask Global). Goes a.collection.items a.query.items m j.value) its.1 (w conn a m (sym e) (ap (λ i. slice_get t.maps i) its.0.0 ∙ h)),
+)
 
 -- what the connection had under way is taken out, and is put back with less left
-pub goes_on : (conn place : ℕ) (old mid new : Tasks) (collection text : List ℕ) (asked : Option Asked) (task : Option QueryTask) (to : QueryTask) → SetsTask conn None old mid → asked ≡ task_at conn old
-    → ((a : Asked) → asked ≡ Some a → IsOf a place collection text → task ≡ Some a.task) → IfSome task (λ t. work_left to < work_left t)
-    → ((a : Asked) × IsOf a place collection text × (a.task ≡ to) × SetsTask conn (Some a) mid new) → GoesOn conn place collection text old new
-goes_on conn place old mid new collection text asked task to out was same less (a, i, t, put) = record {
-  asked = a;
-  sets = sets_twice conn None (Some a) old mid new out put;
-  its = i;
-  less = λ b e o. subst (λ k. work_left k < work_left b.task) (sym t) (fewer b.task (same b (was ∙ e) o));
-}
+pub goes_on : (conn : ℕ) (request : Placed) (old mid new : Tasks) (c text : List ℕ) (asked : Option Asked) (task : Option (Box QueryTask Global)) (to : Box QueryTask Global) → SetsTask conn None old mid → asked ≡ task_at conn old
+    → ((a : Asked) → asked ≡ Some a → IsAsked a request → task ≡ Some a.task) → IfSome task (λ from. work_left to.value < work_left from.value) → asked_of request.command ≡ Query c text
+    → ((a : Asked) × IsAsked a request × (a.task ≡ to) × SetsTask conn (Some a) mid new) → GoesOn conn request.place c text old new
+goes_on conn request old mid new c text asked task to out was same less e (a, i, t, put) =
+    let parts = same_Some (a.collection.items, a.query.items) (c, text) (sym i.1 ∙ ap query_in e) in
+    record {
+      asked = a;
+      sets = sets_twice conn None (Some a) old mid new out put;
+      its = (i.0, ap (λ (k : List ℕ × List ℕ). k.0) parts, ap (λ (k : List ℕ × List ℕ). k.1) parts);
+      less = λ b h o. subst (λ (k : Box QueryTask Global). work_left k.value < work_left b.task.value) (sym t) (fewer b.task (same b (was ∙ h) (o.0, ap query_in e ∙ ap (λ x. Some (x, text)) (sym o.1) ∙ ap (λ x. Some (b.collection.items, x)) (sym o.2))));
+    }
   where
-    fewer : (u : QueryTask) → task ≡ Some u → work_left to < work_left u
-    fewer u e = subst (λ o. IfSome o (λ t. work_left to < work_left t)) e less
+    fewer : (u : Box QueryTask Global) → task ≡ Some u → work_left to.value < work_left u.value
+    fewer u h = subst (λ o. IfSome o (λ (from : Box QueryTask Global). work_left to.value < work_left from.value)) h less
 
-pub kept_on_way : (t : Tenancy) (m : Map) (conn place : ℕ) (collection text : List ℕ) (old mid new : Tasks) (to : QueryTask) → AreOnWay t old → slice_get t.maps place ≡ Some m → SetsTask conn None old mid → Goes collection text m to
-    → ((a : Asked) × IsOf a place collection text × (a.task ≡ to) × SetsTask conn (Some a) mid new) → AreOnWay t new
-kept_on_way t m conn place collection text old mid new to w h out g (a, i, e, put) =
-    set_on_way t conn (Some a) mid new (out_on_way t conn old mid w out) put (λ b n s k. on b n (same_Some a b s) k)
+-- a map that is set as it was
+pub stays : (t t' : Tenancy) (m m' : Map) (request : Placed) → slice_get t.maps request.place ≡ Some m → t' ≡ with_map t request.place m' → m' ≡ m → t' ≡ t
+stays t t' m m' request h x y = x ∙ ap (with_map t request.place) y ∙ with_map_at t request.place m h
+
+pub kept_on_way : (t t' : Tenancy) (m m' : Map) (conn : ℕ) (request : Placed) (old mid new : Tasks) (to : Box QueryTask Global) → AreOnWay t old → slice_get t.maps request.place ≡ Some m → t' ≡ with_map t request.place m' → m' ≡ m → SetsTask conn None old mid
+    → IsUnderWay (asked_of request.command) m to.value → ((a : Asked) × IsAsked a request × (a.task ≡ to) × SetsTask conn (Some a) mid new) → AreOnWay t' new
+kept_on_way t t' m m' conn request old mid new to w h x y out u (a, i, e, put) =
+    subst (λ k. AreOnWay k new) (sym (stays t t' m m' request h x y)) (set_on_way t conn (Some a) mid new (out_on_way t conn old mid w out) put (λ b n s k. on b n (same_Some a b s) k))
   where
-    on : (b : Asked) (n : Map) → a ≡ b → slice_get t.maps b.place ≡ Some n → Goes b.collection.items b.query.items n b.task
+    on : (b : Asked) (n : Map) → a ≡ b → slice_get t.maps b.place ≡ Some n → Goes b.collection.items b.query.items n b.task.value
     on b n s k =
-        let p : b.place ≡ place = ap (λ (x : Asked). x.place) (sym s) ∙ i.0 in
+        let p : b.place ≡ request.place = ap (λ (x : Asked). x.place) (sym s) ∙ i.0 in
         let same : m ≡ n = same_Some m n (sym h ∙ ap (λ j. slice_get t.maps j) (sym p) ∙ k) in
-        let c : collection ≡ b.collection.items = sym i.1 ∙ ap (λ (x : Asked). x.collection.items) s in
-        let q : text ≡ b.query.items = sym i.2 ∙ ap (λ (x : Asked). x.query.items) s in
-        let task : to ≡ b.task = sym e ∙ ap (λ (x : Asked). x.task) s in
-        subst (λ j. Goes b.collection.items b.query.items n j) task (subst (λ x. Goes b.collection.items x n to) q (subst (λ x. Goes x text n to) c (subst (λ x. Goes collection text x to) same g)))
+        let g : Goes a.collection.items a.query.items m to.value = goes_at (asked_of request.command) a.collection.items a.query.items m to.value (query_is (asked_of request.command) a.collection.items a.query.items i.1) u in
+        subst (λ (x : Asked). Goes x.collection.items x.query.items n x.task.value) s
+        (subst (λ y. Goes a.collection.items a.query.items y a.task.value) same (subst (λ (j : Box QueryTask Global). Goes a.collection.items a.query.items m j.value) (sym e) g))
 
--- a query of the tenant whose key the body has
-body_charge : (charge : Option ℕ) (body : List ℕ) (t : Tenancy) (a : AsksQuery body t) (m : Map) → slice_get t.maps a.place ≡ Some m → IsCharge charge a.collection a.text m → IsBodyCharge charge body t
-body_charge None body t a m h c = tt
-body_charge (Some units) body t a m h c = (a, m, h, c)
+-- what is asked, as it is copied
+pub copied : (q : Option (List ℕ × List ℕ)) (c t c' t' : List ℕ) → Some (c, t) ≡ q → c' ≡ c → t' ≡ t → q ≡ Some (c', t')
+copied q c t c' t' e x y = sym e ∙ ap (λ k. Some (k, t)) (sym x) ∙ ap (λ k. Some (c', k)) (sym y)
 
-pub asked_shares : (s : Share) (conn place number : ℕ) (key collection text body : List ℕ) (t : Tenancy) (tasks tasks' : Tasks) (before after : List ℕ) → Asks number key (Query collection text) ≡ reading body → place_in t.keys key ≡ Some place
-    → SharesQuery s conn place number collection text t tasks before tasks' after → SharesBody s conn body t tasks before t tasks' after
-asked_shares s conn place number key collection text body t tasks tasks' before after r p = by s
-  where
-    asks : AsksQuery body t
-    asks = record { number = number; key = key; collection = collection; text = text; reads = r; place = place; placed = p }
+-- ---- A share of what a body asks
 
-    by : (s : Share) → SharesQuery s conn place number collection text t tasks before tasks' after → SharesBody s conn body t tasks before t tasks' after
-    by (share.Replied charge) (m, h, g, out, c) =
-        (subst (λ x. Serves t body before after x) (with_map_at t place m h) (serves_command t body before after number place key (Query collection text) m m r p h g), out, body_charge charge body t asks m h c)
-    by share.Working s = (refl, s.0, inl (asks, s.1))
-    by share.Idle s = absurd s
+abbrev pub asks_query : (t : Tenancy) (body : List ℕ) (request : Placed) (c text : List ℕ) → IsPlaced t body request → asked_of request.command ≡ Query c text → AsksQuery body t
+asks_query t body request c text p e = record { number = request.number; key = p.key; collection = c; text = text; reads = ap (Asks request.number p.key) (sym e) ∙ p.reads; place = request.place; placed = p.at }
+
+body_charge : (charge : Option ℕ) (t : Tenancy) (body : List ℕ) (request : Placed) (m : Map) → IsPlaced t body request → slice_get t.maps request.place ≡ Some m → IsChargeOf charge (asked_of request.command) m → IsBodyCharge charge body t
+body_charge None t body request m p h c = tt
+body_charge (Some units) t body request m p h (c, text, e, k) = (asks_query t body request c text p e, m, h, k)
+
+-- it is answered
+pub replied : (charge : Option ℕ) (conn : ℕ) (t t' : Tenancy) (body : List ℕ) (request : Placed) (m m' : Map) (tasks tasks' : Tasks) (before after : List ℕ) → IsPlaced t body request → slice_get t.maps request.place ≡ Some m → t' ≡ with_map t request.place m'
+    → Gives m (asked_of request.command) request.number before after m' → IsChargeOf charge (asked_of request.command) m → SetsTask conn None tasks tasks' → SharesQuery (share.Replied charge) conn body t tasks before t' tasks' after
+replied charge conn t t' body request m m' tasks tasks' before after p h x g c s = (
+  subst (λ k. Serves t body before after k) (sym x) (serves_command t body before after request.number request.place p.key (asked_of request.command) m m' p.reads p.at h g),
+  s,
+  body_charge charge t body request m p h c,
+)
+
+-- it is a query that goes on
+pub works : (conn : ℕ) (t t' : Tenancy) (body : List ℕ) (request : Placed) (m m' : Map) (c text : List ℕ) (tasks tasks' : Tasks) (before after : List ℕ) → IsPlaced t body request → slice_get t.maps request.place ≡ Some m → t' ≡ with_map t request.place m' → m' ≡ m → after ≡ before
+    → asked_of request.command ≡ Query c text → GoesOn conn request.place c text tasks tasks' → SharesQuery share.Working conn body t tasks before t' tasks' after
+works conn t t' body request m m' c text tasks tasks' before after p h x y o e g = (stays t t' m m' request h x y, o, (asks_query t body request c text p e, g))
+
+-- the same queries are under way
+pub task_same : (conn : ℕ) (old mid : Tasks) → mid.asked.entries ≡ old.asked.entries → task_at conn mid ≡ task_at conn old
+task_same conn old mid same = ap (λ es. lookup (is_at (nat_cmp conn)) es) same
+
+-- over tasks of which readings differ
+pub shares_before : (s : Share) (conn : ℕ) (body : List ℕ) (t t' : Tenancy) (old mid new : Tasks) (before after : List ℕ) → mid.asked.entries ≡ old.asked.entries → SharesQuery s conn body t mid before t' new after → SharesBody s conn body t old before t' new after
+shares_before (share.Replied charge) conn body t t' old mid new before after same h = (h.0, sets_before conn None old mid new same h.1, h.2)
+shares_before share.Working conn body t t' old mid new before after same h =
+    let g = h.2.1 in (
+      h.0,
+      h.1,
+      inl (h.2.0, record { asked = g.asked; sets = sets_before conn (Some g.asked) old mid new same g.sets; its = g.its; less = λ a e o. g.less a (task_same conn old mid same ∙ e) o }),
+    )
+shares_before share.Idle conn body t t' old mid new before after same h = absurd h
+
+-- or one for which memory runs out
+pub may_want : (asked : wire.Asked) (n : ℕ) (m : Map) (task : QueryTask) → IsUnderWay asked m task → MayWant asked n m
+may_want asked n m task (c, text, e, g) = subst (λ k. MayWant k n m) (sym e) (query_may_want c text n m g.valid.short)
 
 -- ---- A share of work on a connection is one of the hub
 

@@ -7,23 +7,28 @@ use Rattle.std.specs.Option.{option_map_or}
 use Rattle.std.specs.Ordering.{nat_cmp}
 use Rattle.path_grammar.specs.Tree.{Segments}
 use Rattle.path_types.specs.Verdict.{IsValidQuery}
+use Rattle.tape_select.specs.Budget.{budget}
 use Rattle.tenant_map.specs.Maps.{Map, documents_of}
 use Rattle.tenant_map.specs.Tenancy.{Tenancy, place_in}
-use Rattle.tenant_store.specs.Walks.{Charges, IsOnWay, work_left}
-use Rattle.tenant_store.specs.declared.tasks.QueryTask.{QueryTask}
+use Rattle.tenant_store.specs.Walks.{SpendsShare, units_left, work_left}
+use Rattle.tenant_store.specs.declared.tasks.Progress.{Progress}
+use Rattle.tenant_store.specs.declared.tasks.Progress.TheVariants.{Complete, Paused}
 use Rattle.wire_frames.specs.Frames.{Whole, front}
 use Rattle.wire_frames.specs.Framing.{Framing}
 use Rattle.wire_frames.specs.NextFrame.{next_of}
 use Rattle.wire_frames.specs.declared.framing.Next.{Next}
 use Rattle.wire_frames.specs.declared.framing.Next.TheVariants as next
+use Rattle.wire_frames.specs.Readings.{asked_of}
+use Rattle.wire_frames.specs.Requests as wire
 use Rattle.wire_frames.specs.Requests.{Asks, Query, key_of, reading}
 use Rattle.path_hub.specs.declared.tasks.Asked.{Asked}
 use Rattle.path_hub.specs.declared.tasks.Reading.{Reading}
 use Rattle.path_hub.specs.declared.tasks.Tasks.{Tasks}
 use Rattle.path_hub.specs.declared.tasks.Share.{Share}
 use Rattle.path_hub.specs.declared.tasks.Share.TheVariants as share
-use Rattle.request_replies.specs.Answers.{Gives}
+use Rattle.request_replies.specs.Shares.{Goes, IsCharge}
 use Rattle.request_replies.specs.Tenants.{Serves, is_short}
+use Rattle.request_replies.specs.declared.placing.Placed.{Placed}
 use Rattle.path_hub.specs.Pending.{Answered, IsIdle}
 use Rattle.path_hub.specs.Sessions.{session}
 use Rattle.path_hub.specs.HubState.{HubState}
@@ -41,20 +46,31 @@ SetsTask conn v old new = (q : ℕ) → task_at q new ≡ (if is_at (nat_cmp con
 abbrev pub IsOf : Asked → (place : ℕ) → (collection text : List ℕ) → Type 0
 IsOf a place collection text = (a.place ≡ place) × (a.collection.items ≡ collection) × (a.query.items ≡ text)
 
--- the query that the text is, on its way to its answer from the collection of this map
-abbrev pub Goes : (collection text : List ℕ) → Map → QueryTask → Type 0
-Goes collection text m task = (q : Segments) → IsValidQuery text q → IsOnWay q (documents_of collection m) task
+-- the collection and the text of a query that is asked
+abbrev pub query_in : wire.Asked → Option (List ℕ × List ℕ)
+query_in (Query collection text) = Some (collection, text)
+query_in (wire.Put collection document text) = None
+query_in (wire.Get collection document) = None
+query_in (wire.Remove collection document) = None
+query_in (wire.ListNames collection) = None
+query_in (wire.DropCollection collection) = None
+query_in wire.Usage = None
+query_in (wire.PutNew collection document text) = None
+
+-- it is what is asked
+abbrev pub IsAsked : Asked → Placed → Type 0
+IsAsked a request = (a.place ≡ request.place) × (query_in (asked_of request.command) ≡ Some (a.collection.items, a.query.items))
 
 -- each query under way is on its way to its answer from its tenant's map
 abbrev pub AreOnWay : Tenancy → Tasks → Type 0
-AreOnWay t tasks = (conn : ℕ) (a : Asked) (m : Map) → task_at conn tasks ≡ Some a → slice_get t.maps a.place ≡ Some m → Goes a.collection.items a.query.items m a.task
+AreOnWay t tasks = (conn : ℕ) (a : Asked) (m : Map) → task_at conn tasks ≡ Some a → slice_get t.maps a.place ≡ Some m → Goes a.collection.items a.query.items m a.task.value
 
 -- the connection's query is under way, with less left than it had
 pub record GoesOn (conn place : ℕ) (collection text : List ℕ) (old new : Tasks) : Type 0 where
   pub asked : Asked
   pub sets : SetsTask conn (Some asked) old new
   pub its : IsOf asked place collection text
-  pub less : (a : Asked) → task_at conn old ≡ Some a → IsOf a place collection text → work_left asked.task < work_left a.task
+  pub less : (a : Asked) → task_at conn old ≡ Some a → IsOf a place collection text → work_left asked.task.value < work_left a.task.value
 
 -- ---- Readings
 
@@ -70,7 +86,7 @@ pub record ReadsOn (conn : ℕ) (old new : Tasks) : Type 0 where
   pub same : new.asked.entries ≡ old.asked.entries
   pub reading : Reading
   pub sets : SetsReading conn (Some reading) old new
-  pub less : (r : Reading) → reading_at conn old ≡ Some r → reading.task.left < r.task.left
+  pub less : (r : Reading) → reading_at conn old ≡ Some r → reading.task.value.left < r.task.value.left
 
 -- a body that may have a text to be read a share at a time
 abbrev pub is_long : List ℕ → Bool
@@ -100,10 +116,6 @@ is_other place conn e = not (e.0 == conn) && (e.1.place == place)
 abbrev pub has_other : (place conn : ℕ) → Tasks → Bool
 has_other place conn tasks = list_any (is_other place conn) tasks.asked.entries
 
--- so it has one of the tenant that the body asks
-abbrev pub is_behind : ℕ → List ℕ → Tenancy → Tasks → Bool
-is_behind conn body t tasks = option_map_or (λ place. has_other place conn tasks) (tenant_asked t body) false
-
 -- a body of the tenant waits for another connection's query, or for those whose texts are read
 abbrev pub is_kept : (place conn : ℕ) → List ℕ → Tasks → Bool
 is_kept place conn body tasks = has_other place conn tasks || (is_long body && not (may_read place conn tasks))
@@ -121,11 +133,6 @@ abbrev pub is_first_held : ℕ → HubState → Tasks → Bool
 is_first_held conn h tasks = option_map_or (λ f. is_next_held conn (next_of f) h.tenants tasks) (session conn h.sessions) false
 
 -- ---- A share of work
-
--- if units are told, they are the charge of the query on the collection of this map
-abbrev pub IsCharge : Option ℕ → (collection text : List ℕ) → Map → Type 0
-IsCharge None collection text m = Unit {0}
-IsCharge (Some units) collection text m = (q : Segments) × IsValidQuery text q × Charges q (documents_of collection m) units
 
 -- the body asks a query of a tenant
 pub record AsksQuery (body : List ℕ) (t : Tenancy) : Type 0 where
@@ -159,14 +166,13 @@ abbrev pub IsChargeAt : Option ℕ → ℕ → HubState → Type 0
 IsChargeAt None conn h = Unit {0}
 IsChargeAt (Some units) conn h = (f : Framing) × (session conn h.sessions ≡ Some f) × IsFirstCharge (Some units) f h.tenants
 
--- What a share of work on a tenant's query leaves: the step of its reply, or nothing but its task.
-abbrev pub SharesQuery : Share → (conn place number : ℕ) → (collection text : List ℕ) → Tenancy → Tasks → List ℕ → Tasks → List ℕ → Type 0
-SharesQuery (share.Replied charge) conn place number collection text t tasks before tasks' after =
-    (m : Map) × (slice_get t.maps place ≡ Some m) × Gives m (Query collection text) number before after m × SetsTask conn None tasks tasks' × IsCharge charge collection text m
-SharesQuery share.Working conn place number collection text t tasks before tasks' after = (after ≡ before) × GoesOn conn place collection text tasks tasks'
-SharesQuery share.Idle conn place number collection text t tasks before tasks' after = ⊥
+-- What a share of work on a body leaves, whose text is not read: the step of its reply, or nothing but a query under way.
+abbrev pub SharesQuery : Share → ℕ → List ℕ → Tenancy → Tasks → List ℕ → Tenancy → Tasks → List ℕ → Type 0
+SharesQuery (share.Replied charge) conn body t tasks before t' tasks' after = Serves t body before after t' × SetsTask conn None tasks tasks' × IsBodyCharge charge body t
+SharesQuery share.Working conn body t tasks before t' tasks' after = (t' ≡ t) × (after ≡ before) × ((a : AsksQuery body t) × GoesOn conn a.place a.collection a.text tasks tasks')
+SharesQuery share.Idle conn body t tasks before t' tasks' after = ⊥
 
--- on a body
+-- on any body
 abbrev pub SharesBody : Share → ℕ → List ℕ → Tenancy → Tasks → List ℕ → Tenancy → Tasks → List ℕ → Type 0
 SharesBody (share.Replied charge) conn body t tasks before t' tasks' after = Serves t body before after t' × SetsTask conn None tasks tasks' × IsBodyCharge charge body t
 SharesBody share.Working conn body t tasks before t' tasks' after = (t' ≡ t) × (after ≡ before) × WorksOn conn body t tasks tasks'
@@ -183,3 +189,48 @@ abbrev pub Shares : Share → ℕ → HubState → Tasks → List ℕ → HubSta
 Shares (share.Replied charge) conn old tasks before new tasks' after = AnswersOne conn old before new after × SetsTask conn None tasks tasks' × IsChargeAt charge conn old
 Shares share.Idle conn old tasks before new tasks' after = AnswersNone conn old before new after × (tasks' ≡ tasks)
 Shares share.Working conn old tasks before new tasks' after = (new ≡ old) × (after ≡ before) × ((f : Framing) × (session conn old.sessions ≡ Some f) × WorksOnFirst conn f old.tenants tasks tasks')
+
+-- no work is left
+abbrev pub HasEnded : Share → Type 0
+HasEnded (share.Replied charge) = Unit {0}
+HasEnded share.Idle = Unit {0}
+HasEnded share.Working = ⊥
+
+-- ---- What a share of a query spends
+
+-- the units with which it begins: those of the connection's query where it is this one, or all
+pub record BeginsWith (conn place : ℕ) (collection text : List ℕ) (old : Tasks) (left : ℕ) : Type 0 where
+  pub going : (a : Asked) → task_at conn old ≡ Some a → IsOf a place collection text → left ≡ units_left a.task.value
+  pub anew : task_at conn old ≡ None → left ≡ budget
+
+-- a share of the query that a body asks spends so many units and one step of it
+pub record SpendsOnBody (conn : ℕ) (body : List ℕ) (t : Tenancy) (old : Tasks) (units : ℕ) (to : Progress) : Type 0 where
+  pub asks : AsksQuery body t
+  pub map : Map
+  pub at : slice_get t.maps asks.place ≡ Some map
+  pub tree : Segments
+  pub valid : IsValidQuery asks.text tree
+  pub left : ℕ
+  pub begins : BeginsWith conn asks.place asks.collection asks.text old left
+  pub spends : SpendsShare tree (documents_of asks.collection map) units left to
+
+-- where it goes on, or its charge is told
+abbrev pub SpendsQuery : Share → (conn : ℕ) → (body : List ℕ) → Tenancy → (old new : Tasks) → (units : ℕ) → Type 0
+SpendsQuery (share.Replied None) conn body t old new units = Unit {0}
+SpendsQuery (share.Replied (Some charge)) conn body t old new units = SpendsOnBody conn body t old units (Complete charge)
+SpendsQuery share.Idle conn body t old new units = Unit {0}
+SpendsQuery share.Working conn body t old new units = (a : Asked) × (task_at conn new ≡ Some a) × SpendsOnBody conn body t old units (Paused a.task.value)
+
+-- or the text of a long body is read on
+abbrev pub SpendsBody : Share → (conn : ℕ) → (body : List ℕ) → Tenancy → (old new : Tasks) → (units : ℕ) → Type 0
+SpendsBody (share.Replied charge) conn body t old new units = SpendsQuery (share.Replied charge) conn body t old new units
+SpendsBody share.Idle conn body t old new units = Unit {0}
+SpendsBody share.Working conn body t old new units = ((is_long body ≡ true) × ReadsOn conn old new) ⊎ SpendsQuery share.Working conn body t old new units
+
+-- the same of the first body that waits
+abbrev pub SpendsFirst : Share → ℕ → Framing → Tenancy → (old new : Tasks) → (units : ℕ) → Type 0
+SpendsFirst s conn f t old new units = (body behind : List ℕ) → front f.waiting ≡ Whole body behind → SpendsBody s conn body t old new units
+
+-- and on a connection
+abbrev pub SpendsAt : Share → ℕ → HubState → (old new : Tasks) → (units : ℕ) → Type 0
+SpendsAt s conn h old new units = (f : Framing) → session conn h.sessions ≡ Some f → SpendsFirst s conn f h.tenants old new units

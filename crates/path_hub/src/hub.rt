@@ -8,11 +8,11 @@ ghost use Rattle.path_hub.specs.Sessions.{session, Sets, opened_session, Feeds, 
 ghost use Rattle.path_hub.specs.Into.{Bytes, Takes, AnswersOne, AnswersNone, HasDue};
 ghost use Rattle.path_hub.specs.HubState.{state};
 ghost use Rattle.path_hub.specs.Headline.{Runs};
-ghost use Rattle.path_hub.specs.UnderWay.{AreOnWay, Shares, is_first_held};
+ghost use Rattle.path_hub.specs.UnderWay.{AreOnWay, Shares, SpendsAt, is_first_held};
 
 use crate::event::{Event, Reply};
 use crate::fault::{ConnectFault, HubFault, RunFault, TakeFault};
-use crate::sharing::{answer_some, waits_first};
+use crate::sharing::{Work, answer_some, waits_first};
 use crate::step::{answer_all, answer_next};
 use crate::tasks::{Share, Tasks};
 use query_cache::Cache;
@@ -207,6 +207,7 @@ impl Hub {
         requires on_way { AreOnWay self.old.tenants tasks.old }
         requires free { is_first_held conn self.old tasks.old ≡ false }
         ensures shares { IfOk result (λ share. Shares share conn self.old tasks.old out.old.items self.new tasks.new out.new.items) }
+        ensures little { IfOk result (λ share. SpendsAt share conn self.old tasks.old tasks.new units) }
         ensures on_way { AreOnWay self.new.tenants tasks.new }
         ensures due { OnErr result (HasDue conn self.old) }
         ensures unchanged { OnErr result (self.new ≡ self.old) }
@@ -218,9 +219,7 @@ impl Hub {
             &mut self.tenants,
             &mut self.cache,
             tasks,
-            alloc,
-            conn,
-            units,
+            Work { alloc, conn, units },
             out,
         )
     }
@@ -330,24 +329,23 @@ fn share_at(
     tenants: &mut Tenants,
     cache: &mut Cache,
     tasks: &mut Tasks,
-    alloc: Global,
-    conn: u32,
-    units: u64,
+    work: Work,
     out: &mut Vec<u8>,
 ) -> Result<Share, AllocError>
     requires on_way { AreOnWay tenants.old tasks.old }
-    requires free { is_first_held conn (state sessions.old.entries tenants.old) tasks.old ≡ false }
-    ensures shares { IfOk result (λ share. Shares share conn (state sessions.old.entries tenants.old) tasks.old out.old.items (state sessions.new.entries tenants.new) tasks.new out.new.items) }
+    requires free { is_first_held work.conn (state sessions.old.entries tenants.old) tasks.old ≡ false }
+    ensures shares { IfOk result (λ share. Shares share work.conn (state sessions.old.entries tenants.old) tasks.old out.old.items (state sessions.new.entries tenants.new) tasks.new out.new.items) }
+    ensures little { IfOk result (λ share. SpendsAt share work.conn (state sessions.old.entries tenants.old) tasks.old tasks.new work.units) }
     ensures on_way { AreOnWay tenants.new tasks.new }
-    ensures due { OnErr result (HasDue conn (state sessions.old.entries tenants.old)) }
+    ensures due { OnErr result (HasDue work.conn (state sessions.old.entries tenants.old)) }
     ensures unchanged { OnErr result (state sessions.new.entries tenants.new ≡ state sessions.old.entries tenants.old) }
     ensures same_tasks { OnErr result (tasks.new ≡ tasks.old) }
     ensures unwritten { OnErr result (out.new.items ≡ out.old.items) }
 {
     splits_from_the_front();
-    match sessions.get_mut(&conn) {
+    match sessions.get_mut(&work.conn) {
         None => Ok(Share::Idle),
-        Some(framer) => answer_some(framer, tenants, cache, tasks, alloc, conn, units, out),
+        Some(framer) => answer_some(framer, tenants, cache, tasks, work, out),
     }
 }
 

@@ -1,32 +1,21 @@
 //! One request of a tenant, whose query is answered a share at a time, and whose text is read so.
 
-ghost use Rattle.std.specs.Prelude.{◌≡◌, ◌+◌, ◌<◌, ◌≤◌, IfErr, IfOk, OnOk, OnErr, IfSome, None, true, false, length, vec_len};
+ghost use Rattle.std.specs.Prelude.{◌≡◌, ◌≢◌, ◌+◌, ◌<◌, ◌≤◌, IfOk, List, ℕ, None, OnErr, false, true, length, vec_len};
 ghost use Rattle.std.specs.Vec.{vec_capacity};
-ghost use Rattle.path_grammar.specs.View.{query_view};
-ghost use Rattle.path_types.specs.Verdict.{RefusesQueryText};
-ghost use Rattle.store_names.specs.Lengths.{payload_limit};
-ghost use Rattle.tenant_map.specs.Maps.{documents_of};
-ghost use Rattle.tenant_store.specs.Payloads.{RefusesQuery};
-ghost use Rattle.tenant_store.specs.Walks.{IsOnWay, Reaches, left_in, work_left};
+ghost use Rattle.tape_select.specs.Budget.{budget};
 ghost use Rattle.wire_frames.specs.NextFrame.{next_of};
-ghost use Rattle.wire_frames.specs.Requests.{Query};
-ghost use Rattle.request_replies.specs.Answers.{Gives};
-ghost use Rattle.request_replies.specs.Tenants.{Serves};
+ghost use Rattle.request_replies.specs.Shares.{IsPlaced};
 ghost use Rattle.path_hub.specs.Pending.{IsDue};
-ghost use Rattle.path_hub.specs.UnderWay.{AreOnWay, Goes, IsCharge, ReadsOn, SetsTask, SharesBody, SharesFirst, SharesQuery, is_behind, is_held, is_kept, is_long, is_next_held, tenant_asked};
+ghost use Rattle.path_hub.specs.UnderWay.{AreOnWay, HasEnded, ReadsOn, SharesBody, SharesFirst, SharesQuery, SpendsBody, SpendsFirst, SpendsQuery, has_other, is_held, is_kept, is_long, is_next_held, task_at, tenant_asked};
 
-use crate::step::FRAME_FAULT;
-use crate::tasks::{Read, Share, Tasks, task_of};
+use crate::tasks::{Read, Share, Tasks, task_for};
 use json_tape::Verdict;
-use path_grammar::queries_have_one_tree;
-use path_types::{QueryFault, ValidQuery};
 use query_cache::Cache;
-use request_replies::{
-    NO_MEMORY, SHORT_REPLY, begin, finish, serve_body, status_of_query, take_back, write_small,
-};
+use request_replies::{NO_MEMORY, Placed, SHORT_REPLY, SoFar, answer, place_request, write_small};
 use std::alloc::{AllocError, Global};
-use tenant_store::{CollName, Progress, QueryTask, StoreFault, Tenant, Tenants};
-use wire_frames::{Command, Framer, Front, read_request};
+use tape_select::BUDGET;
+use tenant_store::Tenants;
+use wire_frames::{Command, Framer, Front};
 
 /// Where a request's key begins in its body, behind the command and the number.
 const KEY_AT: usize = 5;
@@ -39,6 +28,17 @@ const LONG: usize = 65_536;
 
 /// The places of a text that are read for a unit of a query's work.
 const PLACES: u64 = 5;
+
+/// The status of the reply to a framing fault.
+const FRAME_FAULT: u8 = 255;
+
+/// Work on a connection, for about so many units. With [`BUDGET`] of them none is left over.
+#[derive(Clone, Copy)]
+pub struct Work {
+    pub alloc: Global,
+    pub conn: u32,
+    pub units: u64,
+}
 
 /// The place of the tenant whose key is in a request's body.
 pub fn place_asked(tenants: &Tenants, body: &[u8]) -> Option<usize>
@@ -78,262 +78,110 @@ pub fn waits_first(framer: &Framer, tenants: &Tenants, tasks: &Tasks, conn: u32)
     }
 }
 
-// Begins a query, or goes on with it.
-fn run_query(
-    map: &Tenant,
-    alloc: Global,
-    query: &ValidQuery,
-    collection: CollName<'_>,
-    units: u64,
-    task: Option<QueryTask>,
-    out: &mut Vec<u8>,
-) -> Result<Progress, StoreFault>
-    requires { IfSome task (IsOnWay (query_view query.now) (documents_of collection.bytes.now map.now)) }
-    ensures reached { IfOk result (λ progress. Reaches progress (query_view query.now) (documents_of collection.entry.bytes.now map.now) out.old.items out.new.items) }
-    ensures fewer { IfOk result (λ progress. IfSome task (λ from. left_in progress < work_left from)) }
-    ensures short { OnOk result (length out.new.items ≤ length out.old.items + payload_limit) }
-    ensures refused { IfErr result (RefusesQuery (query_view query.now) (documents_of collection.entry.bytes.now map.now)) }
-    ensures unchanged { OnErr result (out.new.items ≡ out.old.items) }
-    ensures same_length { OnErr result (vec_len out.new ≡ vec_len out.old) }
-    ensures capacity { vec_capacity out.old ≤ vec_capacity out.new }
-{
-    match task {
-        None => QueryTask::begin(map, alloc, query, collection, units, out),
-        Some(task) => task.step(map, alloc, query, collection, units, out),
+// The text of a put.
+fn text_of<'a>(command: &Command<'a>) -> Option<&'a [u8]> {
+    match command {
+        Command::Put { text, .. } | Command::PutNew { text, .. } => Some(text),
+        _ => None,
     }
 }
 
-// Begins a query, or goes on with it. Its charge where its hits are the reply, and its task where it is not answered by then.
-fn answer_query_some(
-    map: &Tenant,
-    cache: &mut Cache,
-    alloc: Global,
-    number: u32,
-    collection: CollName<'_>,
-    query: &[u8],
-    units: u64,
-    task: Option<QueryTask>,
-    out: &mut Vec<u8>,
-) -> Result<Option<u64>, QueryTask>
-    requires room { vec_len out.old + 21 ≤ vec_capacity out.old }
-    requires going { IfSome task (Goes collection.bytes.now query.now map.now) }
-    ensures answered { OnOk result (Gives map.now (Query collection.entry.bytes.now query.now) number out.old.items out.new.items map.now) }
-    ensures charge { IfOk result (λ charge. IsCharge charge collection.entry.bytes.now query.now map.now) }
-    ensures unwritten { OnErr result (out.new.items ≡ out.old.items) }
-    ensures going { IfErr result (Goes collection.entry.bytes.now query.now map.now) }
-    ensures within { OnErr result (RefusesQueryText query.now QueryFault.Memory) }
-    ensures less { IfSome task (λ t. IfErr result (λ to. work_left to < work_left t)) }
-    ensures room { OnErr result (vec_len out.new + 21 ≤ vec_capacity out.new) }
+// Reads on in the text of a long put. The verdict, where there is one.
+fn read_some(tasks: &mut Tasks, work: Work, body: &[u8], request: &Placed<'_>) -> Read
+    ensures same { tasks.new.asked.entries ≡ tasks.old.asked.entries }
+    ensures further { result ≡ Read.Further → (is_long body.now ≡ true) × ReadsOn work.conn tasks.old tasks.new }
+    ensures whole { budget ≤ work.units → result ≢ Read.Further }
 {
-    queries_have_one_tree();
-    match cache.lookup(alloc, query) {
-        Ok(compiled) => {
-            let valid = compiled.query();
-            let start = out.len();
-            begin(out);
-            match run_query(map, alloc, valid, collection, units, task, out) {
-                Ok(Progress::Complete { charge }) => {
-                    finish(start, number, out);
-                    Ok(Some(charge))
-                }
-                Ok(Progress::Paused(task)) => {
-                    out.truncate(start);
-                    Err(task)
-                }
-                Err(fault) => {
-                    take_back(fault, start, number, out);
-                    Ok(None)
-                }
-            }
-        }
-        Err(fault) => {
-            write_small(status_of_query(fault), number, &[], out);
-            Ok(None)
+    if work.units < BUDGET && is_long(body) {
+        if let Some(text) = text_of(&request.command) {
+            let places = work.units.saturating_mul(PLACES).max(1) as usize;
+            return tasks.read_on(work.alloc, work.conn, request.place, text, places);
         }
     }
+    Read::Over(None)
 }
 
-// Does a share of a query of the tenant at a place.
-fn share_query(
-    tenants: &Tenants,
+// Answers what is asked of a tenant, or goes on with the query that it is.
+fn share_request(
+    tenants: &mut Tenants,
     cache: &mut Cache,
     tasks: &mut Tasks,
-    alloc: Global,
-    conn: u32,
-    place: usize,
-    number: u32,
-    collection: CollName<'_>,
-    query: &[u8],
-    units: u64,
+    work: Work,
+    request: &Placed<'_>,
+    known: Option<Box<Verdict>>,
     out: &mut Vec<u8>,
 ) -> Share
     requires room { vec_len out.old + 21 ≤ vec_capacity out.old }
-    requires inside { place < length tenants.now.maps }
-    requires on_way { AreOnWay tenants.now tasks.old }
-    ensures shares { SharesQuery result conn place number collection.entry.bytes.now query.now tenants.now tasks.old out.old.items tasks.new out.new.items }
-    ensures on_way { AreOnWay tenants.now tasks.new }
+    requires on_way { AreOnWay tenants.old tasks.old }
+    requires inside { request.now.place < length tenants.old.maps }
+    requires free { has_other request.now.place work.conn tasks.old ≡ false }
+    ensures shares { (body : List ℕ) → IsPlaced tenants.old body request.now → SharesQuery result work.conn body tenants.old tasks.old out.old.items tenants.new tasks.new out.new.items }
+    ensures on_way { AreOnWay tenants.new tasks.new }
+    ensures little { (body : List ℕ) → IsPlaced tenants.old body request.now → SpendsQuery result work.conn body tenants.old tasks.old tasks.new work.units }
+    ensures whole { budget ≤ work.units → task_at work.conn tasks.old ≡ None → HasEnded result }
 {
-    let map = tenants.tenant(place);
-    let task = task_of(tasks.take(conn), place, collection.bytes, query);
-    match answer_query_some(
-        map, cache, alloc, number, collection, query, units, task, out,
-    ) {
+    let task = task_for(tasks.take(work.conn), request);
+    let so_far = SoFar { known, task };
+    let map = tenants.tenant_mut(request.place);
+    match answer(map, cache, work.alloc, request, work.units, so_far, out) {
         Ok(charge) => Share::Replied { charge },
-        Err(task) => match tasks.keep(alloc, conn, place, collection.bytes, query, task) {
+        Err(task) => match tasks.keep(work.alloc, work.conn, request, task) {
             Ok(()) => Share::Working,
             Err(_) => {
-                write_small(NO_MEMORY, number, &[], out);
+                write_small(NO_MEMORY, request.number, &[], out);
                 Share::Replied { charge: None }
             }
         },
     }
 }
 
-// Answers a body at once. The connection has nothing under way then.
-fn serve_whole(
-    tenants: &mut Tenants,
-    cache: &mut Cache,
-    tasks: &mut Tasks,
-    alloc: Global,
-    conn: u32,
-    body: &[u8],
-    known: Option<Verdict>,
-    out: &mut Vec<u8>,
-)
-    requires room { vec_len out.old + 21 ≤ vec_capacity out.old }
-    requires on_way { AreOnWay tenants.old tasks.old }
-    requires free { is_behind conn body.now tenants.old tasks.old ≡ false }
-    ensures served { Serves tenants.old body.now out.old.items out.new.items tenants.new }
-    ensures sets { SetsTask conn None tasks.old tasks.new }
-    ensures on_way { AreOnWay tenants.new tasks.new }
-{
-    tasks.abandon(conn);
-    serve_body(tenants, cache, alloc, body, known, out);
-}
-
-// The text of a put.
-fn text_of<'a>(command: &Command<'a>) -> Option<&'a [u8]> {
-    match command {
-        Command::Put { text, .. } => Some(text),
-        Command::PutNew { text, .. } => Some(text),
-        Command::Get { .. }
-        | Command::Query { .. }
-        | Command::List { .. }
-        | Command::Remove { .. }
-        | Command::DropCollection { .. }
-        | Command::Usage => None,
-    }
-}
-
-// Reads on in the text of a long body, if it is a tenant's put. The verdict, where there is one.
-fn read_some(
-    tenants: &Tenants,
-    tasks: &mut Tasks,
-    alloc: Global,
-    conn: u32,
-    units: u64,
-    body: &[u8],
-) -> Read
-    ensures same { tasks.new.asked.entries ≡ tasks.old.asked.entries }
-    ensures further { result ≡ Read.Further → ReadsOn conn tasks.old tasks.new }
-{
-    if let Ok(request) = read_request(body) {
-        if let Some(text) = text_of(&request.command) {
-            if let Some(place) = tenants.place_of(&request.key) {
-                let places = units.saturating_mul(PLACES).max(1) as usize;
-                return tasks.read_on(alloc, conn, place, text, places);
-            }
-        }
-    }
-    Read::Over(None)
-}
-
-// Reads on in the text of a long body, or answers it where the verdict on the text is there.
-fn serve_long(
-    tenants: &mut Tenants,
-    cache: &mut Cache,
-    tasks: &mut Tasks,
-    alloc: Global,
-    conn: u32,
-    units: u64,
-    body: &[u8],
-    out: &mut Vec<u8>,
-) -> Share
-    requires room { vec_len out.old + 21 ≤ vec_capacity out.old }
-    requires on_way { AreOnWay tenants.old tasks.old }
-    requires free { is_held conn body.now tenants.old tasks.old ≡ false }
-    requires long { is_long body.now ≡ true }
-    ensures shares { SharesBody result conn body.now tenants.old tasks.old out.old.items tenants.new tasks.new out.new.items }
-    ensures on_way { AreOnWay tenants.new tasks.new }
-{
-    match read_some(tenants, tasks, alloc, conn, units, body) {
-        Read::Further => Share::Working,
-        Read::Over(known) => {
-            serve_whole(tenants, cache, tasks, alloc, conn, body, known, out);
-            Share::Replied { charge: None }
-        }
-    }
-}
-
-// Does a share of work on a body: answers it, or goes on with the query that it asks. There is room for a short reply.
+// Does a share of work on a body. There is room for a short reply.
 fn serve_some(
     tenants: &mut Tenants,
     cache: &mut Cache,
     tasks: &mut Tasks,
-    alloc: Global,
-    conn: u32,
-    units: u64,
+    work: Work,
     body: &[u8],
     out: &mut Vec<u8>,
 ) -> Share
     requires room { vec_len out.old + 21 ≤ vec_capacity out.old }
     requires on_way { AreOnWay tenants.old tasks.old }
-    requires free { is_held conn body.now tenants.old tasks.old ≡ false }
-    ensures shares { SharesBody result conn body.now tenants.old tasks.old out.old.items tenants.new tasks.new out.new.items }
+    requires free { is_held work.conn body.now tenants.old tasks.old ≡ false }
+    ensures shares { SharesBody result work.conn body.now tenants.old tasks.old out.old.items tenants.new tasks.new out.new.items }
     ensures on_way { AreOnWay tenants.new tasks.new }
+    ensures little { SpendsBody result work.conn body.now tenants.old tasks.old tasks.new work.units }
+    ensures whole { budget ≤ work.units → task_at work.conn tasks.old ≡ None → HasEnded result }
 {
-    if is_long(body) {
-        return serve_long(tenants, cache, tasks, alloc, conn, units, body, out);
-    }
-    if let Ok(request) = read_request(body) {
-        if let Command::Query { collection, query } = request.command {
-            if let Some(place) = tenants.place_of(&request.key) {
-                return share_query(
-                    tenants,
-                    cache,
-                    tasks,
-                    alloc,
-                    conn,
-                    place,
-                    request.number,
-                    collection,
-                    query,
-                    units,
-                    out,
-                );
-            }
+    match place_request(tenants, body) {
+        Err(refused) => {
+            tasks.abandon(work.conn);
+            write_small(refused.status, refused.number, &[], out);
+            Share::Replied { charge: None }
         }
+        Ok(request) => match read_some(tasks, work, body, &request) {
+            Read::Further => Share::Working,
+            Read::Over(known) => {
+                share_request(tenants, cache, tasks, work, &request, known, out)
+            }
+        },
     }
-    serve_whole(tenants, cache, tasks, alloc, conn, body, None, out);
-    Share::Replied { charge: None }
 }
 
-/// Does a share of work, for about so many units, on the frame or fault that is first on a connection. Only where there is one, growth may
-/// be refused, and that changes nothing.
+/// Does a share of work on the frame or fault that is first on a connection. Only for one may growth be refused, and that changes nothing.
 pub fn answer_some(
     framer: &mut Framer,
     tenants: &mut Tenants,
     cache: &mut Cache,
     tasks: &mut Tasks,
-    alloc: Global,
-    conn: u32,
-    units: u64,
+    work: Work,
     out: &mut Vec<u8>,
 ) -> Result<Share, AllocError>
     requires on_way { AreOnWay tenants.old tasks.old }
-    requires free { is_next_held conn (next_of framer.old) tenants.old tasks.old ≡ false }
-    ensures shares { IfOk result (λ share. SharesFirst share conn framer.old tenants.old tasks.old out.old.items framer.new tenants.new tasks.new out.new.items) }
+    requires free { is_next_held work.conn (next_of framer.old) tenants.old tasks.old ≡ false }
+    ensures shares { IfOk result (λ share. SharesFirst share work.conn framer.old tenants.old tasks.old out.old.items framer.new tenants.new tasks.new out.new.items) }
     ensures on_way { AreOnWay tenants.new tasks.new }
+    ensures little { IfOk result (λ share. SpendsFirst share work.conn framer.old tenants.old tasks.old tasks.new work.units) }
+    ensures whole { budget ≤ work.units → task_at work.conn tasks.old ≡ None → IfOk result HasEnded }
     ensures due { OnErr result (IsDue framer.old) }
     ensures same_framer { OnErr result (framer.new ≡ framer.old) }
     ensures same_tenants { OnErr result (tenants.new ≡ tenants.old) }
@@ -347,14 +195,14 @@ pub fn answer_some(
         Front::Wait => Ok(Share::Idle),
         Front::Fault => {
             out.reserve(SHORT_REPLY)?;
-            tasks.abandon(conn);
+            tasks.abandon(work.conn);
             write_small(FRAME_FAULT, 0, &[], out);
             framer.pass();
             Ok(Share::Replied { charge: None })
         }
         Front::Frame(body) => {
             out.reserve(SHORT_REPLY)?;
-            match serve_some(tenants, cache, tasks, alloc, conn, units, body, out) {
+            match serve_some(tenants, cache, tasks, work, body, out) {
                 Share::Replied { charge } => {
                     framer.pass();
                     Ok(Share::Replied { charge })

@@ -4,16 +4,16 @@ ghost use Rattle.std.specs.Bool.{MatchBool};
 ghost use Rattle.path_hub.specs.Pending.{Answered, IsIdle, IsDue, AnswersSome, pending};
 
 use crate::event::Reply;
+use crate::sharing::{Work, answer_some};
+use crate::tasks::{Share, Tasks};
 use query_cache::Cache;
-use request_replies::{SHORT_REPLY, serve_body, write_small};
 use std::alloc::{AllocError, Global};
+use tape_select::BUDGET;
 use tenant_store::Tenants;
 use wire_frames::{Framer, Front, splits_from_the_front};
 
-pub const FRAME_FAULT: u8 = 255;
-
-/// Takes one frame or fault of a connection and answers it. There is `false` where none is whole. Only where one is, growth may be
-/// refused, and that changes nothing.
+/// Takes one frame or fault of a connection and answers it: a share with nothing under way, of so many units that nothing is left. There is
+/// `false` where none is whole. Only where one is, growth may be refused, and that changes nothing.
 pub fn answer_next(
     framer: &mut Framer,
     tenants: &mut Tenants,
@@ -29,23 +29,16 @@ pub fn answer_next(
     ensures same_tenants { OnErr result (tenants.new ≡ tenants.old) }
     ensures same_out { OnErr result (out.new.items ≡ out.old.items) }
 {
-    if framer.is_closed() {
-        return Ok(false);
-    }
-    match framer.front() {
-        Front::Wait => Ok(false),
-        Front::Fault => {
-            out.reserve(SHORT_REPLY)?;
-            write_small(FRAME_FAULT, 0, &[], out);
-            framer.pass();
-            Ok(true)
-        }
-        Front::Frame(body) => {
-            out.reserve(SHORT_REPLY)?;
-            serve_body(tenants, cache, alloc, body, None, out);
-            framer.pass();
-            Ok(true)
-        }
+    let mut tasks = Tasks::new(alloc);
+    let work = Work {
+        alloc,
+        conn: 0,
+        units: BUDGET,
+    };
+    match answer_some(framer, tenants, cache, &mut tasks, work, out) {
+        Ok(Share::Idle) => Ok(false),
+        Ok(Share::Replied { .. } | Share::Working) => Ok(true),
+        Err(fault) => Err(fault),
     }
 }
 

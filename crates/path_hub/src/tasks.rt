@@ -1,16 +1,20 @@
 //! Queries and readings under way, which are no part of a hub's state.
 
 ghost use Rattle.std.specs.Prelude.{◌≡◌, ◌<◌, IfSome, OnOk, OnErr, None, Some, []};
+ghost use Rattle.std.specs.Option.{option_map};
 ghost use Rattle.tenant_map.specs.Tenancy.{Tenancy};
+ghost use Rattle.wire_frames.specs.Readings.{asked_of};
 ghost use Rattle.path_hub.specs.declared.tasks.Asked.{Asked};
-ghost use Rattle.path_hub.specs.UnderWay.{AreOnWay, IsOf, ReadsOn, SetsReading, SetsTask, has_other, is_read_for, may_read, reading_at, task_at};
+ghost use Rattle.path_hub.specs.UnderWay.{AreOnWay, IsAsked, ReadsOn, SetsReading, SetsTask, has_other, is_read_for, may_read, query_in, reading_at, task_at};
 ghost use Rattle.path_hub.specs.declared.tasks.Reading.{Reading};
 ghost use Rattle.json_tape.specs.Going.{GoesOn};
 
 use json_tape::{Progress, ReadTask, Verdict};
+use request_replies::Placed;
 use std::alloc::{AllocError, Global};
 use std::collections::BTreeMap;
-use tenant_store::QueryTask;
+use tenant_store::{CollName, QueryTask};
+use wire_frames::Command;
 
 /// The most texts that are read a share at a time side by side, each of another tenant.
 pub const READINGS: usize = 4;
@@ -35,25 +39,24 @@ pub struct Asked {
     pub place: usize,
     pub collection: Vec<u8>,
     pub query: Vec<u8>,
-    pub task: QueryTask,
+    pub task: Box<QueryTask>,
 }
 
 /// A text that is read: the place of its tenant, and how far the reading came.
 #[derive(Drop)]
 pub struct Reading {
     pub place: usize,
-    pub task: ReadTask,
+    pub task: Box<ReadTask>,
 }
 
 /// What comes of a share of a reading.
 #[derive(Drop)]
 pub(crate) enum Read {
     Further,
-    Over(Option<Verdict>),
+    Over(Option<Box<Verdict>>),
 }
 
-/// The queries under way, one of each tenant at most: its other connections wait. Each has a payload and lists of nodes. And the texts that are
-/// read: each has an index, and a tape that grows.
+/// The queries under way, one of each tenant at most, and the texts that are read, each with its index and a tape that grows.
 #[derive(Drop)]
 pub struct Tasks {
     asked: BTreeMap<u32, Asked>,
@@ -64,6 +67,7 @@ impl Tasks {
     /// Nothing under way.
     pub fn new(alloc: Global) -> Tasks
         ensures none { result.asked.entries ≡ [] }
+        ensures none_read { result.readings.entries ≡ [] }
         ensures on_way { (t : Tenancy) → AreOnWay t result }
     {
         Tasks {
@@ -112,6 +116,7 @@ impl Tasks {
     }
 
     /// Begins to read a text on a connection, or goes on over so many places.
+    #[inline(never)]
     pub(crate) fn read_on(
         &mut self,
         alloc: Global,
@@ -126,11 +131,11 @@ impl Tasks {
     {
         let reading = self.take_reading(conn);
         match read_further(alloc, reading, text, places) {
-            Some(Progress::Paused(task)) => match self.keep_reading(conn, Reading { place, task }) {
+            Some(Progress::Paused(task)) => match self.keep_reading(alloc, conn, place, task) {
                 Ok(()) => Read::Further,
                 Err(_) => Read::Over(None),
             },
-            Some(Progress::Complete(verdict)) => Read::Over(Some(verdict)),
+            Some(Progress::Complete(verdict)) => Read::Over(Box::new(alloc, verdict).ok()),
             None => Read::Over(None),
         }
     }
@@ -143,11 +148,18 @@ impl Tasks {
         self.readings.remove(&conn)
     }
 
-    fn keep_reading(&mut self, conn: u32, reading: Reading) -> Result<(), AllocError>
+    fn keep_reading(
+        &mut self,
+        alloc: Global,
+        conn: u32,
+        place: usize,
+        task: ReadTask,
+    ) -> Result<(), AllocError>
         ensures same { self.new.asked.entries ≡ self.old.asked.entries }
-        ensures ok { OnOk result (SetsReading conn (Some reading) self.old self.new) }
+        ensures ok { OnOk result ((r : Reading) × (r.task.value ≡ task) × SetsReading conn (Some r) self.old self.new) }
     {
-        self.readings.insert(conn, reading)?;
+        let task = Box::new(alloc, task)?;
+        self.readings.insert(conn, Reading { place, task })?;
         Ok(())
     }
 
@@ -160,22 +172,23 @@ impl Tasks {
         self.asked.remove(&conn)
     }
 
-    /// Has the connection's query under way. A refusal drops it, and leaves the others.
+    /// Has a query under way on a connection. A refusal drops it, and leaves the others. Nothing else that is asked may be under way.
     pub(crate) fn keep(
         &mut self,
         alloc: Global,
         conn: u32,
-        place: usize,
-        collection: &[u8],
-        query: &[u8],
-        task: QueryTask,
+        request: &Placed<'_>,
+        task: Box<QueryTask>,
     ) -> Result<(), AllocError>
-        ensures ok { OnOk result ((a : Asked) × IsOf a place collection.now query.now × (a.task ≡ task) × SetsTask conn (Some a) self.old self.new) }
+        ensures ok { OnOk result ((a : Asked) × IsAsked a request.now × (a.task ≡ task) × SetsTask conn (Some a) self.old self.new) }
         ensures err { OnErr result (self.new.asked.entries ≡ self.old.asked.entries) }
     {
+        let Some((collection, query)) = query_asked(&request.command) else {
+            return Err(AllocError);
+        };
         let asked = Asked {
-            place,
-            collection: Vec::from_slice(alloc, collection)?,
+            place: request.place,
+            collection: Vec::from_slice(alloc, collection.bytes)?,
             query: Vec::from_slice(alloc, query)?,
             task,
         };
@@ -184,17 +197,16 @@ impl Tasks {
     }
 }
 
-// Begins to read a text, or goes on.
 fn read_further(
     alloc: Global,
     reading: Option<Reading>,
     text: &[u8],
     places: usize,
 ) -> Option<Progress>
-    ensures { (r : Reading) → reading ≡ Some r → IfSome result (GoesOn r.task places) }
+    ensures { (r : Reading) → reading ≡ Some r → IfSome result (GoesOn r.task.value places) }
 {
     match reading {
-        Some(reading) => Some(reading.task.step(alloc, places)),
+        Some(reading) => Some(Box::into_inner(reading.task).step(alloc, places)),
         None => match ReadTask::begin(alloc, text) {
             Ok(task) => Some(task.step(alloc, places)),
             Err(_) => None,
@@ -202,21 +214,35 @@ fn read_further(
     }
 }
 
-/// The task of a query under way, where this is the query.
-pub fn task_of(
-    asked: Option<Asked>,
-    place: usize,
-    collection: &[u8],
-    query: &[u8],
-) -> Option<QueryTask>
-    ensures its { IfSome result (λ task. IfSome asked (λ a. IsOf a place collection.now query.now × (a.task ≡ task))) }
-    ensures only { asked ≡ None → result ≡ None }
-    ensures same { (a : Asked) → asked ≡ Some a → IsOf a place collection.now query.now → result ≡ Some a.task }
+// The query that a command asks.
+fn query_asked<'a>(command: &Command<'a>) -> Option<(CollName<'a>, &'a [u8])>
+    ensures { option_map (λ p. (p.0.bytes.now, p.1.now)) result ≡ query_in (asked_of command.now) }
 {
+    match command {
+        Command::Query { collection, query } => Some((*collection, query)),
+        Command::Put { .. }
+        | Command::PutNew { .. }
+        | Command::Get { .. }
+        | Command::List { .. }
+        | Command::Remove { .. }
+        | Command::DropCollection { .. }
+        | Command::Usage => None,
+    }
+}
+
+/// The task of a query under way, where it is what is asked.
+pub(crate) fn task_for(asked: Option<Asked>, request: &Placed<'_>) -> Option<Box<QueryTask>>
+    ensures its { IfSome result (λ task. IfSome asked (λ a. IsAsked a request.now × (a.task ≡ task))) }
+    ensures only { asked ≡ None → result ≡ None }
+    ensures same { (a : Asked) → asked ≡ Some a → IsAsked a request.now → result ≡ Some a.task }
+{
+    let Some((collection, query)) = query_asked(&request.command) else {
+        return None;
+    };
     match asked {
         Some(asked) => {
-            if asked.place == place
-                && asked.collection.as_slice() == collection
+            if asked.place == request.place
+                && asked.collection.as_slice() == collection.bytes
                 && asked.query.as_slice() == query
             {
                 Some(asked.task)

@@ -1,5 +1,5 @@
 -- Who waits for another connection's query, or for readings, waits with a request of a tenant.
-use Rattle.std.proofs.Common.{◌≡◌, ◌≤◌, ℕ, List, length, Bool, true, false, Option, Some, None, ap, sym, ◌∙◌, subst, refl}
+use Rattle.std.proofs.Common.{◌≡◌, ◌≤◌, ℕ, List, length, Bool, true, false, Option, Some, None, Result, Ok, Err, ap, sym, ◌∙◌, subst, refl}
 use Rattle.std.specs.Prelude.{◌&&◌, ◌||◌, MatchOption, is_some}
 use Rattle.std.specs.Option.{option_map_or}
 use Rattle.wire_frames.specs.Frames.{front}
@@ -14,6 +14,9 @@ use Rattle.path_hub.specs.UnderWay.{Shares, is_first_held, is_kept, is_next_held
 use Rattle.path_hub.specs.declared.tasks.Share.{Share}
 use Rattle.path_hub.specs.declared.tasks.Share.TheVariants as share
 use Rattle.path_hub.specs.HubState.{HubState}
+use Rattle.path_hub.specs.Into.{Takes}
+use Rattle.path_hub.specs.declared.fault.TakeFault.{TakeFault}
+use Rattle.path_hub.specs.declared.fault.TakeFault.TheVariants as fault
 use Rattle.path_hub.specs.Sessions.{session}
 use Rattle.outbox.specs.declared.answers.Step.{Step}
 use Rattle.outbox.specs.declared.answers.Step.TheVariants.{Replied, Idle, Last, Refused, Working}
@@ -74,3 +77,10 @@ told_ahead conn hub tasks t bytes part tenant most waits is_long e b p n l m g w
   waits = λ h. first_tenants conn hub.tenants tasks (session conn hub.sessions) (sym w ∙ h);
   long = g ∙ ap (λ (x : Tenancy). option_map_or (is_long_to x) (body_at (front bytes)) false) e ∙ ap (λ (xs : List ℕ). option_map_or (is_long_to hub.tenants) (body_at (front xs)) false) b;
 }
+
+-- a piece that comes changes no map
+pub takes_tenants : (conn : ℕ) (piece : List ℕ) (old new : HubState) (r : Result (Unit {0}) TakeFault) → Takes conn piece old r new → new.tenants ≡ old.tenants
+takes_tenants conn piece old new (Ok u) t = t.tenants_stay
+takes_tenants conn piece old new (Err fault.NoConnection) t = ap (λ (h : HubState). h.tenants) t.1
+takes_tenants conn piece old new (Err fault.Closed) t = ap (λ (h : HubState). h.tenants) t.1
+takes_tenants conn piece old new (Err fault.Memory) t = ap (λ (h : HubState). h.tenants) t.1

@@ -7,6 +7,8 @@ use Rattle.path_hub.specs.HubState.{HubState}
 use Rattle.path_hub.specs.Into.{HasDue}
 use Rattle.path_hub.specs.Sessions.{session}
 use Rattle.path_hub.specs.UnderWay.{IsChargeAt, SetsReading, SetsTask, WorksOnFirst, is_first_held}
+use Rattle.path_hub.specs.declared.tasks.Share.{Share}
+use Rattle.path_hub.specs.declared.tasks.Share.TheVariants as share
 use Rattle.path_hub.specs.declared.tasks.Tasks.{Tasks}
 use Rattle.path_listen.specs.Long.{is_first_long}
 
@@ -39,3 +41,12 @@ Works Idle units has_gone_on is_brief conn old new = IsFalse (is_kept_back is_br
 Works Refused units has_gone_on is_brief conn old new = HasDue conn old.hub × GivesUp conn old.tasks new.tasks
 Works Working units true is_brief conn old new = GoesOn conn old new
 Works Working units false is_brief conn old new = IsTrue (is_kept_back is_brief conn old) × (new.tasks ≡ old.tasks)
+
+-- the share of work that a step was, where it was one
+abbrev pub share_of : Step → (units : Option ℕ) → (has_gone_on : Bool) → Share
+share_of Replied units has_gone_on = share.Replied units
+share_of Last units has_gone_on = share.Replied units
+share_of Working units true = share.Working
+share_of Working units false = share.Idle
+share_of Idle units has_gone_on = share.Idle
+share_of Refused units has_gone_on = share.Idle

@@ -4,13 +4,13 @@ ghost use Rattle.std.specs.Bool.{MatchBool};
 ghost use Rattle.std.specs.Option.{option_map};
 ghost use Rattle.outbox.specs.Appends.{Appends};
 ghost use Rattle.path_hub.specs.Sessions.{session};
-ghost use Rattle.path_hub.specs.UnderWay.{is_first_held};
+ghost use Rattle.path_hub.specs.UnderWay.{SpendsAt, is_first_held};
 ghost use Rattle.path_listen.specs.Answering.{Opens, Closes, Answers, IsIdle, is_over, takes};
 ghost use Rattle.path_listen.specs.Asking.{asks, is_first_tenants};
 ghost use Rattle.path_listen.specs.InFront.{IsAhead, waiting_on};
 ghost use Rattle.path_listen.specs.Long.{is_first_long};
 ghost use Rattle.path_listen.specs.Replies.{body_at};
-ghost use Rattle.path_listen.specs.Steps.{GivesUp, Works, is_kept_back};
+ghost use Rattle.path_listen.specs.Steps.{GivesUp, Works, is_kept_back, share_of};
 ghost use Rattle.request_replies.specs.Tenants.{map_of};
 ghost use Rattle.tenant_map.specs.Quotas.{usage_of};
 ghost use Rattle.wire_frames.specs.Frames.{front};
@@ -100,6 +100,7 @@ impl HubCore {
         ensures appends { Appends (Answers conn) (IsIdle conn) (is_over conn) result.step self.old.hub out.old.items out.new.items self.new.hub }
         ensures asked { result.asked ≡ asks self.old.hub.tenants (body_at (front (waiting_on conn self.old.hub))) }
         ensures works { Works result.step result.units result.has_gone_on work.is_brief conn self.old self.new }
+        ensures little { SpendsAt (share_of result.step result.units result.has_gone_on) conn self.old.hub self.old.tasks self.new.tasks work.units }
         ensures working { result.step ≡ Step.Working → IsTrue (result.has_gone_on || (is_first_tenants conn self.old.hub || (work.is_brief && is_first_long conn self.old.hub))) }
     {
         let asked = asked_of(self.hub.tenants(), self.hub.waiting_bytes(conn));
@@ -120,6 +121,7 @@ impl HubCore {
     fn step(&mut self, conn: u32, work: Work, out: &mut Vec<u8>) -> (Step, Option<u64>, bool)
         ensures appends { Appends (Answers conn) (IsIdle conn) (is_over conn) result.0 self.old.hub out.old.items out.new.items self.new.hub }
         ensures works { Works result.0 result.1 result.2 work.is_brief conn self.old self.new }
+        ensures little { SpendsAt (share_of result.0 result.1 result.2) conn self.old.hub self.old.tasks self.new.tasks work.units }
     {
         if self.is_kept_back(conn, work.is_brief) {
             return (Step::Working, None, false);

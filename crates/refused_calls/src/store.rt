@@ -232,8 +232,10 @@ fn query_in_steps(
         Progress::Complete { .. } => Ok(false),
         Progress::Paused(task) => {
             let left = task.units_left();
-            match task.step(tenant, alloc, query, collection, BUDGET, out)? {
-                Progress::Complete { charge } => Ok(BUDGET - 4 < left && left < BUDGET && charge == 8),
+            match task.step(tenant, alloc, collection, BUDGET, out)? {
+                Progress::Complete { charge } => Ok(
+                    BUDGET - 4 < left && left < BUDGET && charge == 8,
+                ),
                 Progress::Paused(_) => Ok(false),
             }
         }

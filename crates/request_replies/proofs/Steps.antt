@@ -20,6 +20,7 @@ use Rattle.path_types.specs.declared.query_text.QueryFault.TheVariants as q
 use Rattle.wire_frames.specs.Requests.{Reading, Short, BadCommand, BadFields, Asks, Asked, Put, Query, PutNew, reading, with_fields, asked_at, fields_of, number_of, key_of}
 use Rattle.wire_frames.specs.Replies.{reply}
 use Rattle.request_replies.specs.Answers.{Gives, Answers, AnswersReading, IsAnswer, Does, Refuses, HasStatus, IsMissing, RefusesHits, query_status, is_no_memory, may_want, MayWant, reading_wants, is_free, is_plain, status_in}
+use Rattle.request_replies.specs.Shares.{Settles}
 use Rattle.request_replies.specs.Tenants.{map_of, with_map_of, put_at, Serves, ServesBody, ServesBy, BodyMayWant, is_short, short_number}
 use Rattle.std.proofs.lemmas.Bool.{false≢true}
 use Rattle.std.proofs.lemmas.Option.{slice_get-get_or}
@@ -53,6 +54,10 @@ plainly s n p A B e b = made (is_no_memory (reply s n p)) A B (λ z. absurd (fal
 -- a command that is done
 pub gives_done : (old new : Map) (asked : Asked) (n : ℕ) (before after payload : List ℕ) → after ≡ before ++ reply 0 n payload → Does asked old payload new → Gives old asked n before after new
 gives_done old new asked n before after payload e d = (reply 0 n payload, e, plainly 0 n payload _ _ refl (inl (record { payload = payload; does = d; frame_is = refl })))
+
+-- a reply without a payload
+pub settled : (old new : Map) (asked : Asked) (n : ℕ) (before after : List ℕ) (s : ℕ) → Settles old asked s new → after ≡ before ++ reply s n [] → Gives old asked n before after new
+settled old new asked n before after s h e = subst (λ x. Gives old asked n before x new) (sym e) (h n before)
 
 -- a status of the store is that memory ran out for one fault alone
 only_memory : (e : StoreFault) → eqb (status_of e) 21 ≡ true → e ≡ f.NoMemory
@@ -221,6 +226,15 @@ serves_refused os body before after s n i k e long j place inside t says =
     let found : map_of (key_of body) os ≡ Some m = ap (λ x. map_of x os) (sym j) ∙ map_at_place os k i m place (slice_get-get_or os.maps i [] inside) in
     serves_by os os body before after s n t e (long_body os os body (reply s n []) long
     (subst (λ (o : Option Map). ServesBy o body os (reply s n []) os) (sym found) (m, says m, sym (with_map_same (key_of body) m os found))))
+
+-- a refusal where the key is a tenant's, and that there is none where it is not
+pub serves_at : (os : Tenancy) (body : List ℕ) (fault n : ℕ) (k : List ℕ) (s : ℕ) → nat_lt (length body) 21 ≡ false → n ≡ number_of body → k ≡ key_of body → (place_in os.keys k ≡ None → s ≡ 2)
+    → ((i : ℕ) → place_in os.keys k ≡ Some i → (s ≡ fault) × (i < length os.maps)) → eqb fault 21 ≡ false → ((m : Map) → Answers m body (reply fault n []) m) → (before : List ℕ) → Serves os body before (before ++ reply s n []) os
+serves_at os body fault n k s long m j none some t says before = by (place_in os.keys k) refl
+  where
+    by : (o : Option ℕ) → place_in os.keys k ≡ o → Serves os body before (before ++ reply s n []) os
+    by None e = serves_none os body before _ n k (ap (λ x. before ++ reply x n []) (none e)) long m j e
+    by (Some i) e = serves_refused os body before _ fault n i k (ap (λ x. before ++ reply x n []) (some i e).0) long j e (some i e).1 t says
 
 pub answers_at : (m m' : Map) (body frame : List ℕ) (r : Reading) → r ≡ reading body → AnswersReading r m frame m' → Answers m body frame m'
 answers_at m m' body frame r h a = subst (λ q. AnswersReading q m frame m') h a

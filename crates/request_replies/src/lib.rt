@@ -1,12 +1,15 @@
 //! The reply to one request: what it is, by the maps of all tenants and the request's body alone, and how it is written.
 //!
-//! [`serve_body`] is all of it. The other calls write parts of a reply, for whoever answers a query a share at a time.
+//! [`place_request`] says of which tenant a body asks what, or is the reply where it asks none. [`answer`] is what that tenant's map says.
 #![tactic(auto)]
 
 mod laws;
+mod placing;
+mod queries;
 mod replies;
 mod writing;
 
 pub use laws::told_once;
-pub use replies::serve_body;
-pub use writing::{NO_MEMORY, SHORT_REPLY, begin, finish, status_of_query, take_back, write_small};
+pub use placing::{Placed, Refused, place_request};
+pub use replies::{SoFar, answer};
+pub use writing::{NO_MEMORY, SHORT_REPLY, write_small};

@@ -1,61 +1,83 @@
-//! One request of a tenant, answered.
-ghost use Rattle.std.specs.Prelude.{◌≡◌, ◌≤◌, ◌+◌, vec_len};
+//! What a tenant asks, answered.
+ghost use Rattle.std.specs.Prelude.{◌≡◌, ◌≤◌, ◌+◌, ◌<◌, IfErr, IfSome, IsOk, None, OnErr, vec_len};
 ghost use Rattle.std.specs.Vec.{vec_capacity};
-ghost use Rattle.wire_frames.specs.Requests.{Get, Put, Remove, ListNames, Query, DropCollection, Usage, PutNew, reading};
-ghost use Rattle.wire_frames.specs.Readings.{asked_of, refusal};
+ghost use Rattle.tape_select.specs.Budget.{budget};
+ghost use Rattle.tenant_store.specs.Walks.{work_left};
+ghost use Rattle.wire_frames.specs.Requests.{Get, Put, Remove, ListNames, DropCollection, Usage, PutNew};
+ghost use Rattle.wire_frames.specs.Readings.{asked_of};
 ghost use Rattle.request_replies.specs.Answers.{Gives};
-ghost use Rattle.request_replies.specs.Tenants.{Serves};
+ghost use Rattle.request_replies.specs.Shares.{AnswersSome, IsUnderWay, Settles, Spends, left_with};
 
+use crate::placing::Placed;
+use crate::queries::{Stage, share_query};
 use crate::writing::{NO_MEMORY, OK, begin, finish, status_of_query, take_back, write_small};
 use json_tape::Verdict;
 use query_cache::Cache;
 use std::alloc::Global;
-use tenant_store::{CollName, DocName, Queries, Tenant, Tenants};
-use wire_frames::{Command, RequestFault, read_request, write_reply};
+use tenant_store::{CollName, DocName, QueryTask, Tenant};
+use wire_frames::{Command, write_reply};
 
-const SHORT: u8 = 1;
+/// What earlier shares of a request came to: the verdict on the text of a put, and the query that is under way.
+#[derive(Drop)]
+pub struct SoFar {
+    pub known: Option<Box<Verdict>>,
+    pub task: Option<Box<QueryTask>>,
+}
 
-const NO_TENANT: u8 = 2;
-
-const BAD_COMMAND: u8 = 3;
-
-const BAD_FIELDS: u8 = 4;
-
-fn answer_put(
-    map: &mut Tenant,
-    alloc: Global,
-    number: u32,
-    collection: CollName<'_>,
-    document: DocName<'_>,
-    text: &[u8],
-    known: Option<Verdict>,
-    out: &mut Vec<u8>,
-)
-    requires { vec_len out.old + 21 ≤ vec_capacity out.old }
-    ensures { Gives map.old (Put collection.entry.bytes.now document.entry.bytes.now text.now) number out.old.items out.new.items map.new }
-{
-    match map.put(alloc, collection, document, text, known) {
-        Ok(()) => write_small(OK, number, &[], out),
-        Err(fault) => write_small(fault.status(), number, &[], out),
+fn unboxed(known: Option<Box<Verdict>>) -> Option<Verdict> {
+    match known {
+        Some(verdict) => Some(Box::into_inner(verdict)),
+        None => None,
     }
 }
 
-fn answer_put_new(
+fn put(
     map: &mut Tenant,
     alloc: Global,
-    number: u32,
     collection: CollName<'_>,
     document: DocName<'_>,
     text: &[u8],
-    known: Option<Verdict>,
-    out: &mut Vec<u8>,
-)
-    requires { vec_len out.old + 21 ≤ vec_capacity out.old }
-    ensures { Gives map.old (PutNew collection.entry.bytes.now document.entry.bytes.now text.now) number out.old.items out.new.items map.new }
+    known: Option<Box<Verdict>>,
+) -> u8
+    ensures { Settles map.old (Put collection.entry.bytes.now document.entry.bytes.now text.now) result map.new }
 {
-    match map.put_new(alloc, collection, document, text, known) {
-        Ok(()) => write_small(OK, number, &[], out),
-        Err(fault) => write_small(fault.status(), number, &[], out),
+    match map.put(alloc, collection, document, text, unboxed(known)) {
+        Ok(()) => OK,
+        Err(fault) => fault.status(),
+    }
+}
+
+fn put_new(
+    map: &mut Tenant,
+    alloc: Global,
+    collection: CollName<'_>,
+    document: DocName<'_>,
+    text: &[u8],
+    known: Option<Box<Verdict>>,
+) -> u8
+    ensures { Settles map.old (PutNew collection.entry.bytes.now document.entry.bytes.now text.now) result map.new }
+{
+    match map.put_new(alloc, collection, document, text, unboxed(known)) {
+        Ok(()) => OK,
+        Err(fault) => fault.status(),
+    }
+}
+
+fn remove(map: &mut Tenant, collection: CollName<'_>, document: DocName<'_>) -> u8
+    ensures { Settles map.old (Remove collection.entry.bytes.now document.entry.bytes.now) result map.new }
+{
+    match map.remove(collection, document) {
+        Ok(()) => OK,
+        Err(fault) => fault.status(),
+    }
+}
+
+fn drop_collection(map: &mut Tenant, collection: CollName<'_>) -> u8
+    ensures { Settles map.old (DropCollection collection.entry.bytes.now) result map.new }
+{
+    match map.drop_collection(collection) {
+        Ok(()) => OK,
+        Err(fault) => fault.status(),
     }
 }
 
@@ -78,32 +100,6 @@ fn answer_get(
     }
 }
 
-fn answer_remove(
-    map: &mut Tenant,
-    number: u32,
-    collection: CollName<'_>,
-    document: DocName<'_>,
-    out: &mut Vec<u8>,
-)
-    requires { vec_len out.old + 21 ≤ vec_capacity out.old }
-    ensures { Gives map.old (Remove collection.entry.bytes.now document.entry.bytes.now) number out.old.items out.new.items map.new }
-{
-    match map.remove(collection, document) {
-        Ok(()) => write_small(OK, number, &[], out),
-        Err(fault) => write_small(fault.status(), number, &[], out),
-    }
-}
-
-fn answer_drop(map: &mut Tenant, number: u32, collection: CollName<'_>, out: &mut Vec<u8>)
-    requires { vec_len out.old + 21 ≤ vec_capacity out.old }
-    ensures { Gives map.old (DropCollection collection.entry.bytes.now) number out.old.items out.new.items map.new }
-{
-    match map.drop_collection(collection) {
-        Ok(()) => write_small(OK, number, &[], out),
-        Err(fault) => write_small(fault.status(), number, &[], out),
-    }
-}
-
 fn answer_list(map: &Tenant, number: u32, collection: CollName<'_>, out: &mut Vec<u8>)
     requires { vec_len out.old + 21 ≤ vec_capacity out.old }
     ensures { Gives map.now (ListNames collection.entry.bytes.now) number out.old.items out.new.items map.now }
@@ -113,32 +109,6 @@ fn answer_list(map: &Tenant, number: u32, collection: CollName<'_>, out: &mut Ve
     match map.list(collection, out) {
         Ok(()) => finish(start, number, out),
         Err(fault) => take_back(fault, start, number, out),
-    }
-}
-
-fn answer_query(
-    map: &Tenant,
-    cache: &mut Cache,
-    alloc: Global,
-    number: u32,
-    collection: CollName<'_>,
-    query: &[u8],
-    out: &mut Vec<u8>,
-)
-    requires { vec_len out.old + 21 ≤ vec_capacity out.old }
-    ensures { Gives map.now (Query collection.entry.bytes.now query.now) number out.old.items out.new.items map.now }
-{
-    match cache.lookup(alloc, query) {
-        Ok(compiled) => {
-            let valid = compiled.query();
-            let start = out.len();
-            begin(out);
-            match map.query(alloc, valid, collection, out) {
-                Ok(()) => finish(start, number, out),
-                Err(fault) => take_back(fault, start, number, out),
-            }
-        }
-        Err(fault) => write_small(status_of_query(fault), number, &[], out),
     }
 }
 
@@ -154,94 +124,95 @@ fn answer_usage(map: &Tenant, number: u32, out: &mut Vec<u8>)
     write_small(OK, number, &payload, out)
 }
 
-/// Answers a command. There is room for a short reply.
-fn answer_command(
+/// Answers what a tenant asks, and tells the units that a query was charged whose hits are the reply. A query is evaluated for about so many
+/// units, and begins where it paused before. A verdict that is known on the text of a put spares its reading. There is room for a short reply.
+/// Where an allocation fails the reply has the status [`NO_MEMORY`], and the map is not changed.
+///
+/// # Errors
+///
+/// The query, if it pauses: after at least so many units, so that with [`tape_select::BUDGET`] of them none does that begins. Nothing is
+/// changed then.
+pub fn answer(
     map: &mut Tenant,
     cache: &mut Cache,
     alloc: Global,
-    number: u32,
-    command: Command<'_>,
-    known: Option<Verdict>,
+    request: &Placed<'_>,
+    units: u64,
+    so_far: SoFar,
     out: &mut Vec<u8>,
-)
-    requires { vec_len out.old + 21 ≤ vec_capacity out.old }
-    ensures { Gives map.old (asked_of command.entry) number out.old.items out.new.items map.new }
+) -> Result<Option<u64>, Box<QueryTask>>
+    requires room { vec_len out.old + 21 ≤ vec_capacity out.old }
+    requires going { IfSome so_far.task (λ task. IsUnderWay (asked_of request.now.command) map.old task.value) }
+    ensures answers { AnswersSome result (asked_of request.now.command) request.now.number map.old out.old.items map.new out.new.items }
+    ensures less { IfSome so_far.task (λ from. IfErr result (λ to. work_left to.value < work_left from.value)) }
+    ensures little { Spends result (asked_of request.now.command) map.old units (left_with so_far.task) }
+    ensures whole { so_far.task ≡ None → budget ≤ units → IsOk result }
+    ensures room { OnErr result (vec_len out.new + 21 ≤ vec_capacity out.new) }
 {
-    match command {
+    let SoFar { known, task } = so_far;
+    let number = request.number;
+    match request.command {
+        Command::Query { collection, query } => match task {
+            Some(task) => {
+                let stage = Stage::UnderWay(task);
+                share_query(map, alloc, number, collection, stage, units, out)
+            }
+            None => match cache.lookup(alloc, query) {
+                Ok(compiled) => {
+                    let stage = Stage::Fresh(compiled.query());
+                    share_query(map, alloc, number, collection, stage, units, out)
+                }
+                Err(fault) => {
+                    write_small(status_of_query(fault), number, &[], out);
+                    Ok(None)
+                }
+            },
+        },
         Command::Put {
             collection,
             document,
             text,
-        } => answer_put(map, alloc, number, collection, document, text, known, out),
-        Command::Get {
-            collection,
-            document,
-        } => answer_get(map, number, collection, document, out),
-        Command::Remove {
-            collection,
-            document,
-        } => answer_remove(map, number, collection, document, out),
-        Command::List { collection } => answer_list(map, number, collection, out),
-        Command::Query { collection, query } => {
-            answer_query(map, cache, alloc, number, collection, query, out)
+        } => {
+            let status = put(map, alloc, collection, document, text, known);
+            write_small(status, number, &[], out);
+            Ok(None)
         }
-        Command::DropCollection { collection } => answer_drop(map, number, collection, out),
-        Command::Usage => answer_usage(map, number, out),
         Command::PutNew {
             collection,
             document,
             text,
-        } => answer_put_new(map, alloc, number, collection, document, text, known, out),
-    }
-}
-
-/// Appends the reply to the body of a request, and does what it asks for its tenant. There is room for a short reply. Where an allocation fails
-/// the reply has the status [`NO_MEMORY`], and no map is changed. A verdict that is known on the text of a put spares its reading.
-pub fn serve_body(
-    tenants: &mut Tenants,
-    cache: &mut Cache,
-    alloc: Global,
-    body: &[u8],
-    known: Option<Verdict>,
-    out: &mut Vec<u8>,
-)
-    requires { vec_len out.old + 21 ≤ vec_capacity out.old }
-    ensures { Serves tenants.old body.now out.old.items out.new.items tenants.new }
-{
-    match read_request(body) {
-        Err(fault) => refuse(tenants, body, fault, out),
-        Ok(request) => match tenants.place_of(&request.key) {
-            None => write_small(NO_TENANT, request.number, &[], out),
-            Some(place) => {
-                let map = tenants.tenant_mut(place);
-                answer_command(
-                    map,
-                    cache,
-                    alloc,
-                    request.number,
-                    request.command,
-                    known,
-                    out,
-                )
-            }
-        },
-    }
-}
-
-fn refuse(tenants: &Tenants, body: &[u8], fault: RequestFault, out: &mut Vec<u8>)
-    requires read { refusal fault ≡ reading body.now }
-    requires room { vec_len out.old + 21 ≤ vec_capacity out.old }
-    ensures { Serves tenants.now body.now out.old.items out.new.items tenants.now }
-{
-    match fault {
-        RequestFault::Short { number } => write_small(SHORT, number, &[], out),
-        RequestFault::BadCommand { number, key } => match tenants.place_of(&key) {
-            None => write_small(NO_TENANT, number, &[], out),
-            Some(_) => write_small(BAD_COMMAND, number, &[], out),
-        },
-        RequestFault::BadFields { number, key } => match tenants.place_of(&key) {
-            None => write_small(NO_TENANT, number, &[], out),
-            Some(_) => write_small(BAD_FIELDS, number, &[], out),
-        },
+        } => {
+            let status = put_new(map, alloc, collection, document, text, known);
+            write_small(status, number, &[], out);
+            Ok(None)
+        }
+        Command::Remove {
+            collection,
+            document,
+        } => {
+            let status = remove(map, collection, document);
+            write_small(status, number, &[], out);
+            Ok(None)
+        }
+        Command::DropCollection { collection } => {
+            let status = drop_collection(map, collection);
+            write_small(status, number, &[], out);
+            Ok(None)
+        }
+        Command::Get {
+            collection,
+            document,
+        } => {
+            answer_get(map, number, collection, document, out);
+            Ok(None)
+        }
+        Command::List { collection } => {
+            answer_list(map, number, collection, out);
+            Ok(None)
+        }
+        Command::Usage => {
+            answer_usage(map, number, out);
+            Ok(None)
+        }
     }
 }

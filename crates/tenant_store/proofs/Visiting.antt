@@ -1,22 +1,23 @@
 -- What a document leaves of a step.
-use Rattle.std.proofs.Common.{◌≡◌, ◌≤◌, ◌<◌, ◌+◌, ◌-◌, ℕ, List, [], ◌∷◌, length, drop, Option, Some, None, refl, sym, ap, ◌∙◌, subst, arith}
+use Rattle.std.proofs.Common.{inl, inr, ◌≡◌, ◌≤◌, ◌<◌, ◌+◌, ◌-◌, ℕ, List, [], ◌∷◌, length, drop, Option, Some, None, refl, sym, ap, ◌∙◌, subst, arith}
 use Rattle.std.specs.Prelude.{MatchOption}
 use Rattle.std.specs.declared.vec.Vec.{Vec}
 use Rattle.std.specs.declared.alloc.Global.{Global}
 use Rattle.json_tape.specs.Document.{Doc, tree_of}
 use Rattle.path_grammar.specs.Tree.{Segments}
 use Rattle.tape_select.specs.Charge.{charge}
-use Rattle.query_machine.specs.Evaluators.{IsAtRest, IsEvaluating, IsWithinText, left_on}
+use Rattle.query_machine.specs.Evaluators.{IsAtRest, IsEvaluating, IsWithinText, left_on, query_in}
+use Rattle.query_machine.specs.Levels.{IsOneStep}
 use Rattle.query_machine.specs.declared.evaluator.Evaluator.{Evaluator}
 use Rattle.query_machine.specs.declared.levels.Machine.{Machine}
-use Rattle.tenant_map.specs.Kept.{texts}
+use Rattle.tenant_map.specs.Kept.{AreKept, texts}
 use Rattle.tenant_map.specs.Maps.{Documents}
 use Rattle.tenant_store.specs.declared.walk.Place.{Place}
 use Rattle.tenant_store.specs.declared.walk.Visited.{Visited}
 use Rattle.tenant_store.specs.Payloads.{Text}
 use Rattle.tenant_store.specs.TextsRead.{text_read, texts_read}
 use Rattle.tenant_store.specs.Steps.{Adds, AreSizes, PassesOne, Visits}
-use Rattle.tenant_store.specs.Walks.{IsAt, IsReady, Passes, cut_of, last_of, left_by, spent_on}
+use Rattle.tenant_store.specs.Walks.{IsAt, IsLittle, IsOneStepOn, IsReady, Passes, cut_of, last_of, left_by, spent_on}
 use Rattle.tenant_store.proofs.Passing.{adds_next, at_last, last_texts, length-read, step_ends, step_goes}
 
 -- ---- Evaluators
@@ -125,3 +126,43 @@ none_left it n e all l z a r =
     let none = ap (λ (ds : List (Vec ℕ Global × Doc)). length ds) z in
     let same = ap (λ (ts : List Text). length ts) a in
     rw r.rest (omega (arith, l, none, same))
+
+-- ---- What is spent
+
+-- behind a document none of its units are with an evaluation
+pub spent_behind : (d : Doc) (e : Evaluator) (old units share : ℕ) (o : Option Machine) → o ≡ None → IsOneStep d e.parts old (units + share) → IsOneStep d e.parts old (left_on units o + share)
+spent_behind d e old units share o r s = subst (λ x. IsOneStep d e.parts old (left_on units x + share)) (sym r) s
+
+pub step_on : (q : Segments) (es it rest : List (Vec ℕ Global × Doc)) (e : Vec ℕ Global × Doc) (place : ℕ) (evaluator : Evaluator) (old new before after : ℕ) → it ≡ e ∷ rest → it ≡ last_of place es → AreKept it → query_in evaluator ≡ q
+    → IsOneStep e.1 evaluator.parts old new → before + new ≤ after + old → IsOneStepOn q (texts es) before after
+step_on q es it rest e place evaluator old new before after i l k h s m = record {
+  document = e.1;
+  accepted = (subst AreKept i k).0.accepted;
+  place = place;
+  name = e.0.items;
+  others = texts rest;
+  its = sym (last_texts place es it l) ∙ ap (λ ds. texts ds) i;
+  evaluator = evaluator;
+  query = h;
+  one = (let few = s.3 in (s.0, s.1, s.2, omega (arith, few, m)));
+}
+
+-- more is left
+pub little_for : (q : Segments) (ds : Documents) (old new more : ℕ) → IsLittle q ds old new → new ≤ more → IsLittle q ds old more
+little_for q ds old new more (inl h) m = inl (omega (arith, h, m))
+little_for q ds old new more (inr s) m = inr (record {
+  document = s.document;
+  accepted = s.accepted;
+  place = s.place;
+  name = s.name;
+  others = s.others;
+  its = s.its;
+  evaluator = s.evaluator;
+  query = s.query;
+  one = (let few = s.one.3 in (s.one.0, s.one.1, s.one.2, omega (arith, few, m)));
+})
+
+-- no document is left, or none is cut
+pub left_uncut : (units : ℕ) (o : Option Machine) → cut_of o ≡ 0 → left_on units o ≡ units
+left_uncut units None e = refl
+left_uncut units (Some w) e = absurd cc

@@ -41,6 +41,11 @@ PassesOne None q t share place old new before after =
     (after ≡ before) × (left_on place.units new.evaluation + share < left_on place.units old.evaluation) × (place.units ≤ left_on place.units new.evaluation + charge t.tree q)
 PassesOne (Some next) q t share place old new before after = Adds q t place next before after × (new.evaluation ≡ None) × (place.units ≤ left_on place.units old.evaluation + charge t.tree q)
 
+-- the units that are left then
+abbrev pub left_passed : (next : Option Place) → Place → Evaluator → ℕ
+left_passed None place new = left_on place.units new.evaluation
+left_passed (Some next) place new = next.units
+
 -- One text, in a step that has so many units left. It ends where more than these are spent, within the text or behind it.
 pub record Visits (to : Visited) (q : Segments) (t : Text) (more : ℕ) (place : Place) (old new : Evaluator) (before after : List ℕ) : Type 0 where
   pub passed : MatchOption new.evaluation (Adds q t place to.place before after) (λ w. (to.place ≡ place) × (after ≡ before))

@@ -1,10 +1,13 @@
 -- A query that is evaluated in steps (this project's own): what it has done, what is left, and how far a step goes. The documents are passed one after the other, in key order,
 -- and a step ends within one of them or behind it.
-use Rattle.std.specs.Prelude.{◌≡◌, ◌<◌, ◌≤◌, ◌+◌, ◌-◌, ℕ, List, [], ◌∷◌, ◌++◌, length, drop, nat_lt, if◌then◌else◌, Option, None, Some}
+use Rattle.std.specs.Prelude.{◌≡◌, ◌⊎◌, ◌<◌, ◌≤◌, ◌+◌, ◌-◌, ℕ, List, [], ◌∷◌, ◌++◌, length, drop, nat_lt, if◌then◌else◌, Option, None, Some}
+use Rattle.json_tape.specs.Document.{Doc, tree_of}
+use Rattle.json_tape.specs.Verdict.{IsAccepted}
 use Rattle.path_grammar.specs.Tree.{Segments}
 use Rattle.tape_select.specs.Budget.{budget}
 use Rattle.tape_select.specs.Charge.{total_of, charge}
 use Rattle.query_machine.specs.Evaluators.{IsAtRest, IsEvaluating, left_on, query_in}
+use Rattle.query_machine.specs.Levels.{IsOneStep}
 use Rattle.query_machine.specs.declared.evaluator.Evaluator.{Evaluator}
 use Rattle.query_machine.specs.declared.levels.Machine.{Machine}
 use Rattle.tenant_map.specs.Listings.{number}
@@ -48,6 +51,10 @@ pub record IsOnWay (q : Segments) (ds : Documents) (task : QueryTask) : Type 0 w
   pub some : 1 ≤ task.place.documents
   pub query : query_in task.evaluator ≡ q
   pub ready : IsReady (last_of task.place.documents ds) task.place.units task.evaluator
+
+-- the query that it answers
+abbrev pub query_of : QueryTask → Segments
+query_of task = query_in task.evaluator
 
 -- how many units are left
 abbrev pub units_left : QueryTask → ℕ
@@ -112,3 +119,30 @@ pub record IsStep (q : Segments) (ds : Documents) (units documents begun left : 
   pub read : AreTextsOf ds texts
   pub passed : documents_left to ≡ length (left_by q (units + begun) (last_of documents texts)) + cut_in to
   pub spent : HasSpent units left to
+
+-- ---- What a step spends at most
+
+-- one step of the query on one of these documents takes so many units to so many others at least
+pub record IsOneStepOn (q : Segments) (ds : Documents) (old new : ℕ) : Type 0 where
+  pub document : Doc
+  pub accepted : IsAccepted document.text (tree_of document)
+  pub place : ℕ
+  pub name : List ℕ
+  pub others : Documents
+  pub its : last_of place ds ≡ (name, document.text) ∷ others
+  pub evaluator : Evaluator
+  pub query : query_in evaluator ≡ q
+  pub one : IsOneStep document evaluator.parts old new
+
+-- or none
+abbrev pub IsLittle : Segments → Documents → (old new : ℕ) → Type 0
+IsLittle q ds old new = (old ≤ new) ⊎ IsOneStepOn q ds old new
+
+-- the units that are left then
+abbrev pub left_then : Progress → ℕ
+left_then (Complete charge) = budget - charge
+left_then (Paused task) = units_left task
+
+-- A step of so many units, begun where so many were left, spends these and one step of the query.
+pub record SpendsShare (q : Segments) (ds : Documents) (units left : ℕ) (to : Progress) : Type 0 where
+  pub little : IsLittle q ds left (units + left_then to)

@@ -8,7 +8,7 @@ ghost use Rattle.tape_select.specs.Budget.{budget};
 ghost use Rattle.tenant_map.specs.Kept.{AreKept, texts};
 ghost use Rattle.tenant_map.specs.Maps.{documents_of};
 ghost use Rattle.tenant_store.specs.Payloads.{RefusesQuery, IsFaultOfQuery};
-ghost use Rattle.tenant_store.specs.Walks.{IsComplete, IsOnWay, IsStep, Reaches, left_in, spent_on, units_left, work_left};
+ghost use Rattle.tenant_store.specs.Walks.{IsComplete, IsOnWay, IsStep, Reaches, SpendsShare, left_in, query_of, spent_on, units_left, work_left};
 
 use crate::numbers::put_number;
 use crate::walk::{Place, begin_behind, go_on};
@@ -61,6 +61,7 @@ impl QueryTask {
     ) -> Result<Progress, StoreFault>
         ensures reached { IfOk result (λ progress. Reaches progress (query_view query.now) (documents_of collection.entry.bytes.now tenant.now) out.old.items out.new.items) }
         ensures step { IfOk result (λ progress. IsStep (query_view query.now) (documents_of collection.entry.bytes.now tenant.now) units (length (documents_of collection.entry.bytes.now tenant.now)) 0 budget progress) }
+        ensures little { IfOk result (λ progress. SpendsShare (query_view query.now) (documents_of collection.entry.bytes.now tenant.now) units budget progress) }
         ensures all { IfOk result (λ progress. budget ≤ units → IsComplete progress) }
         ensures short { OnOk result (length out.new.items ≤ length out.old.items + payload_limit) }
         ensures refused { IfErr result (RefusesQuery (query_view query.now) (documents_of collection.entry.bytes.now tenant.now)) }
@@ -84,25 +85,26 @@ impl QueryTask {
         self,
         tenant: &Tenant,
         alloc: Global,
-        query: &ValidQuery,
         collection: CollName<'_>,
         units: u64,
         out: &mut Vec<u8>,
     ) -> Result<Progress, StoreFault>
-        requires { IsOnWay (query_view query.now) (documents_of collection.bytes.now tenant.now) self }
-        ensures reached { IfOk result (λ progress. Reaches progress (query_view query.now) (documents_of collection.entry.bytes.now tenant.now) out.old.items out.new.items) }
-        ensures step { IfOk result (λ progress. IsStep (query_view query.now) (documents_of collection.entry.bytes.now tenant.now) units self.place.documents (spent_on self.place.units self.evaluator) (units_left self) progress) }
+        requires { IsOnWay (query_of self) (documents_of collection.bytes.now tenant.now) self }
+        ensures reached { IfOk result (λ progress. Reaches progress (query_of self) (documents_of collection.entry.bytes.now tenant.now) out.old.items out.new.items) }
+        ensures step { IfOk result (λ progress. IsStep (query_of self) (documents_of collection.entry.bytes.now tenant.now) units self.place.documents (spent_on self.place.units self.evaluator) (units_left self) progress) }
+        ensures little { IfOk result (λ progress. SpendsShare (query_of self) (documents_of collection.entry.bytes.now tenant.now) units (units_left self) progress) }
         ensures fewer { IfOk result (λ progress. left_in progress < work_left self) }
         ensures short { OnOk result (length out.new.items ≤ length out.old.items + payload_limit) }
-        ensures refused { IfErr result (RefusesQuery (query_view query.now) (documents_of collection.entry.bytes.now tenant.now)) }
+        ensures refused { IfErr result (RefusesQuery (query_of self) (documents_of collection.entry.bytes.now tenant.now)) }
         ensures named { IfErr result IsFaultOfQuery }
         ensures unchanged { OnErr result (out.new.items ≡ out.old.items) }
         ensures same_length { OnErr result (vec_len out.new ≡ vec_len out.old) }
         ensures capacity { vec_capacity out.old ≤ vec_capacity out.new }
     {
         match tenant.documents(collection) {
-            Some(documents) => step(alloc, query, documents, units, self, out),
-            None => query_nothing(query, out),
+            Some(documents) => step(alloc, documents, units, self, out),
+            // There are documents, since some are left.
+            None => Err(StoreFault::NoMemory),
         }
     }
 
@@ -148,6 +150,7 @@ fn begin(
     requires { AreKept documents.now.entries }
     ensures reached { IfOk result (λ progress. Reaches progress (query_view query.now) (texts documents.now.entries) out.old.items out.new.items) }
     ensures step { IfOk result (λ progress. IsStep (query_view query.now) (texts documents.now.entries) units (length (texts documents.now.entries)) 0 budget progress) }
+    ensures little { IfOk result (λ progress. SpendsShare (query_view query.now) (texts documents.now.entries) units budget progress) }
     ensures all { IfOk result (λ progress. budget ≤ units → IsComplete progress) }
     ensures short { OnOk result (length out.new.items ≤ length out.old.items + payload_limit) }
     ensures refused { IfErr result (RefusesQuery (query_view query.now) (texts documents.now.entries)) }
@@ -178,25 +181,24 @@ fn begin(
 // Goes on with a query on documents in key order. Where it is not complete, and at a refusal, the vector's bytes are unchanged.
 fn step(
     alloc: Global,
-    query: &ValidQuery,
     documents: &BTreeMap<Vec<u8>, Document>,
     units: u64,
     task: QueryTask,
     out: &mut Vec<u8>,
 ) -> Result<Progress, StoreFault>
     requires kept { AreKept documents.now.entries }
-    requires on_way { IsOnWay (query_view query.now) (texts documents.now.entries) task }
-    ensures reached { IfOk result (λ progress. Reaches progress (query_view query.now) (texts documents.now.entries) out.old.items out.new.items) }
-    ensures step { IfOk result (λ progress. IsStep (query_view query.now) (texts documents.now.entries) units task.place.documents (spent_on task.place.units task.evaluator) (units_left task) progress) }
+    requires on_way { IsOnWay (query_of task) (texts documents.now.entries) task }
+    ensures reached { IfOk result (λ progress. Reaches progress (query_of task) (texts documents.now.entries) out.old.items out.new.items) }
+    ensures step { IfOk result (λ progress. IsStep (query_of task) (texts documents.now.entries) units task.place.documents (spent_on task.place.units task.evaluator) (units_left task) progress) }
+    ensures little { IfOk result (λ progress. SpendsShare (query_of task) (texts documents.now.entries) units (units_left task) progress) }
     ensures fewer { IfOk result (λ progress. left_in progress < work_left task) }
     ensures short { OnOk result (length out.new.items ≤ length out.old.items + payload_limit) }
-    ensures refused { IfErr result (RefusesQuery (query_view query.now) (texts documents.now.entries)) }
+    ensures refused { IfErr result (RefusesQuery (query_of task) (texts documents.now.entries)) }
     ensures named { IfErr result IsFaultOfQuery }
     ensures unchanged { OnErr result (out.new.items ≡ out.old.items) }
     ensures capacity { vec_capacity out.old ≤ vec_capacity out.new }
 {
     one_tree();
-    let _ = query;
     let QueryTask {
         mut evaluator,
         place,
@@ -229,6 +231,7 @@ fn step(
 fn query_nothing(query: &ValidQuery, out: &mut Vec<u8>) -> Result<Progress, StoreFault>
     ensures reached { IfOk result (λ progress. Reaches progress (query_view query.now) [] out.old.items out.new.items) }
     ensures step { IfOk result (λ progress. (units documents begun left : ℕ) → IsStep (query_view query.now) [] units documents begun left progress) }
+    ensures little { IfOk result (λ progress. (units : ℕ) → SpendsShare (query_view query.now) [] units budget progress) }
     ensures complete { IfOk result IsComplete }
     ensures short { OnOk result (length out.new.items ≤ length out.old.items + payload_limit) }
     ensures refused { IfErr result (RefusesQuery (query_view query.now) []) }

@@ -8,12 +8,13 @@ ghost use Rattle.tape_select.specs.Budget.{budget};
 ghost use Rattle.tape_select.specs.Charge.{charge};
 ghost use Rattle.tape_select.specs.Evaluation.{nodes_selected};
 ghost use Rattle.tape_select.specs.Nodelists.{nodes_of};
-ghost use Rattle.query_machine.specs.Evaluators.{IsAtRest, IsEvaluating, left_on, query_in};
+ghost use Rattle.query_machine.specs.Evaluators.{IsAtRest, IsEvaluating, SpendsShare, left_on, query_in};
+ghost use Rattle.query_machine.specs.Levels.{IsOneStep};
 ghost use Rattle.tenant_map.specs.Kept.{AreKept, texts};
 ghost use Rattle.tenant_store.specs.Payloads.{query_fault, IsFault, IsCostlyOrMemory};
 ghost use Rattle.tenant_store.specs.TextsRead.{text_read, texts_read};
-ghost use Rattle.tenant_store.specs.Steps.{AreSizes, FailsAt, PassesOne, Visits};
-ghost use Rattle.tenant_store.specs.Walks.{IsAt, IsReady, cut_of, last_of, left_by, spent_on};
+ghost use Rattle.tenant_store.specs.Steps.{AreSizes, FailsAt, PassesOne, Visits, left_passed};
+ghost use Rattle.tenant_store.specs.Walks.{IsAt, IsLittle, IsReady, cut_of, last_of, left_by, spent_on};
 
 use crate::hits::write_hits;
 use json_tape::Document;
@@ -66,6 +67,7 @@ fn select_some(
     ensures ready { IfOk result (λ some. IsEvaluating document.now.text units evaluator.new) }
     ensures rest { IfOk result (λ some. IfSome some (λ s. evaluator.new.evaluation ≡ None)) }
     ensures spent { IfOk result (λ some. MatchOption some (left_on units evaluator.new.evaluation + share < left_on units evaluator.old.evaluation) (λ s. Unit {0})) }
+    ensures little { IfOk result (λ some. SpendsShare document.now evaluator.old.parts units share some evaluator.old.evaluation evaluator.new.evaluation) }
     ensures due { IfOk result (λ some. units ≤ left_on units evaluator.old.evaluation + charge (tree_of document.now) (query_in evaluator.old)) }
     ensures due_on { IfOk result (λ some. units ≤ left_on units evaluator.new.evaluation + charge (tree_of document.now) (query_in evaluator.old)) }
 {
@@ -92,6 +94,7 @@ fn pass(
     requires sizes { AreSizes place start (length out.old.items) }
     requires ready { IsEvaluating document.now.text place.units evaluator.old }
     ensures passed { IfOk result (λ next. PassesOne next (query_in evaluator.old) (text_read name.now document.now) share place evaluator.old evaluator.new out.old.items out.new.items) }
+    ensures little { IfOk result (λ next. IsOneStep document.now evaluator.old.parts (left_on place.units evaluator.old.evaluation) (left_passed next place evaluator.new + share)) }
     ensures sizes { IfOk result (λ next. IfSome next (λ to. AreSizes to start (length out.new.items))) }
     ensures query { query_in evaluator.new ≡ query_in evaluator.old }
     ensures ready { IfOk result (λ next. IsEvaluating document.now.text place.units evaluator.new) }
@@ -134,6 +137,7 @@ fn visit(
     requires sizes { AreSizes place start (length out.old.items) }
     requires ready { IsEvaluating document.now.text place.units evaluator.old }
     ensures visits { IfOk result (λ to. Visits to (query_in evaluator.old) (text_read name.now document.now) more place evaluator.old evaluator.new out.old.items out.new.items) }
+    ensures little { IfOk result (λ to. IsOneStep document.now evaluator.old.parts (left_on place.units evaluator.old.evaluation) (left_on to.place.units evaluator.new.evaluation + more)) }
     ensures sizes { IfOk result (λ to. AreSizes to.place start (length out.new.items)) }
     ensures query { query_in evaluator.new ≡ query_in evaluator.old }
     ensures ready { IfOk result (λ to. IsEvaluating document.now.text place.units evaluator.new) }
@@ -173,6 +177,7 @@ pub fn go_on(
     ensures ready { IfOk result (λ to. IsReady (last_of to.documents (texts documents.now.entries)) to.units evaluator.new) }
     ensures step { IfOk result (λ to. to.documents ≡ length (left_by (query_in evaluator.old) (units + spent_on place.units evaluator.old) (last_of place.documents (texts_read documents.now.entries))) + cut_of evaluator.new.evaluation) }
     ensures spent { IfOk result (λ to. 1 ≤ to.documents → units + left_on to.units evaluator.new.evaluation < left_on place.units evaluator.old.evaluation) }
+    ensures little { IfOk result (λ to. IsLittle (query_in evaluator.old) (texts documents.now.entries) (left_on place.units evaluator.old.evaluation) (units + left_on to.units evaluator.new.evaluation)) }
     ensures all { IfOk result (λ to. place.units ≤ units → to.documents ≡ 0) }
     ensures refused { IfErr result (IsFault (query_fault (query_in evaluator.old) 0 4 (texts_read documents.now.entries))) }
     ensures front { take start out.new.items ≡ take start out.old.items }
@@ -207,6 +212,7 @@ pub fn begin_behind(
     ensures ready { IfOk result (λ to. IsReady (last_of to.documents (texts documents.now.entries)) to.units evaluator.new) }
     ensures step { IfOk result (λ to. to.documents ≡ length (left_by (query_in evaluator.old) units (texts_read documents.now.entries)) + cut_of evaluator.new.evaluation) }
     ensures spent { IfOk result (λ to. 1 ≤ to.documents → units + left_on to.units evaluator.new.evaluation < budget) }
+    ensures little { IfOk result (λ to. IsLittle (query_in evaluator.old) (texts documents.now.entries) budget (units + left_on to.units evaluator.new.evaluation)) }
     ensures all { IfOk result (λ to. budget ≤ units → to.documents ≡ 0) }
     ensures refused { IfErr result (IsFault (query_fault (query_in evaluator.old) 0 4 (texts_read documents.now.entries))) }
     ensures front { take (length out.old.items) out.new.items ≡ out.old.items }

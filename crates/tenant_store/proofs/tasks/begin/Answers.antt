@@ -2,12 +2,14 @@ use Rattle.std.proofs.Common.{◌≡◌, ◌+◌, ◌++◌, length, take, drop, 
 use Rattle.std.proofs.lemmas.Result.{err_from_is_err_and}
 use Rattle.path_grammar.specs.View.{query_view}
 use Rattle.query_machine.specs.declared.evaluator.Evaluator.{Evaluator}
+use Rattle.tape_select.specs.Budget.{budget}
 use Rattle.tenant_map.specs.Listings.{number}
 use Rattle.tenant_store.specs.declared.walk.Place.{Place}
 use Rattle.tenant_store.specs.TextsRead.{texts_read}
 use Rattle.tenant_store.specs.Walks.{cut_of}
 use Rattle.tenant_store.proofs.Walking.{names_fault}
 use Rattle.tenant_store.proofs.Passing.{answers_at, charges_at, on_way, refuses_memory, refuses_read, step_begun, written_over}
+use Rattle.tenant_store.proofs.Visiting.{left_uncut, little_for}
 use Rattle.tenant_store.proofs.tasks.begin.Goals as goal
 
 pub returns-in_err-evaluator-clause-refused : goal.returns-in_err-evaluator-clause-refused
@@ -64,3 +66,15 @@ pub returns-clause-step : goal.returns-clause-step
 returns-clause-step c =
     let step = rw c.in_ok-evaluator.ensures.query at c.in-Ok.ensures.step in
     step_begun (query_view c.args.query.now) c.args.documents.now.entries c.args.units _ c.requires (omega (arith, step, c.if-place-gt0.false)) tt
+
+pub returns-then-place-gt0-clause-little : goal.returns-then-place-gt0-clause-little
+returns-then-place-gt0-clause-little c =
+    let taken = c.in_ok-task-in-Ok.ensures.taken in
+    record { little = rw (taken.0, taken.1) (rw c.in_ok-evaluator.ensures.query at c.in-Ok.ensures.little) }
+
+pub returns-clause-little : goal.returns-clause-little
+returns-clause-little c =
+    let step = c.in-Ok.ensures.step in
+    let none = left_uncut c.in-Ok.place.units c.begin_behind.new.evaluator.evaluation (omega (arith, step, c.if-place-gt0.false)) in
+    let most = c.in-Ok.ensures.sizes.budgeted in
+    record { little = little_for (query_view c.args.query.now) _ budget _ _ (rw c.in_ok-evaluator.ensures.query at c.in-Ok.ensures.little) (omega (arith, none, most)) }

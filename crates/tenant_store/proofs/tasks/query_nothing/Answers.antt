@@ -1,4 +1,4 @@
-use Rattle.std.proofs.Common.{[], ◌++◌, refl, ap, ◌∙◌}
+use Rattle.std.proofs.Common.{[], ◌++◌, inl, refl, ap, ◌∙◌, arith}
 use Rattle.path_grammar.specs.View.{query_view}
 use Rattle.tenant_store.proofs.Walking.{answers_nothing}
 use Rattle.tenant_store.proofs.Passing.{step_of_none}
@@ -12,3 +12,6 @@ returns-clause-reached c = (
 
 pub returns-clause-step : goal.returns-clause-step
 returns-clause-step c = λ units documents begun left. step_of_none (query_view c.args.query.now) units documents begun left 0
+
+pub returns-clause-little : goal.returns-clause-little
+returns-clause-little c = λ units. record { little = inl (omega arith) }

@@ -3,7 +3,7 @@ use Rattle.tape_select.specs.Budget.{budget}
 use Rattle.query_machine.specs.Evaluators.{left_on, query_in}
 use Rattle.tenant_map.specs.Kept.{texts}
 use Rattle.tenant_store.specs.TextsRead.{texts_read}
-use Rattle.tenant_store.specs.Walks.{cut_of, last_of, left_by, spent_on}
+use Rattle.tenant_store.specs.Walks.{IsLittle, cut_of, last_of, left_by, spent_on}
 use Rattle.tenant_store.proofs.Passing.{begins_at, last_all, length-read}
 use Rattle.tenant_store.proofs.Visiting.{ready_at_rest}
 use Rattle.tenant_store.proofs.walk.begin_behind.Goals as goal
@@ -28,3 +28,9 @@ returns-clause-step c =
 pub returns-clause-spent : goal.returns-clause-spent
 returns-clause-spent c =
     subst (λ o. IfOk c.go_on.result (λ to. 1 ≤ to.documents → c.args.units + left_on to.units c.go_on.new.evaluator.evaluation < left_on budget o)) c.requires.rest.rest c.go_on.ensures.spent
+
+pub returns-clause-little : goal.returns-clause-little
+returns-clause-little c =
+    let es = c.args.documents.now.entries in
+    let q = query_in c.args.evaluator.now in
+    subst (λ o. IfOk c.go_on.result (λ to. IsLittle q (texts es) (left_on budget o) (c.args.units + left_on to.units c.go_on.new.evaluator.evaluation))) c.requires.rest.rest c.go_on.ensures.little

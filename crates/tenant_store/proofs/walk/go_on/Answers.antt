@@ -1,4 +1,4 @@
-use Rattle.std.proofs.Common.{◌≡◌, ◌≤◌, ◌+◌, ℕ, List, [], length, drop, sym, ap, ◌∙◌, subst, arith, refl}
+use Rattle.std.proofs.Common.{◌≡◌, ◌≤◌, ◌+◌, ℕ, List, [], length, drop, sym, ap, ◌∙◌, subst, arith, inl, inr, refl}
 use Rattle.std.proofs.lemmas.Result.{err_from_is_err_and}
 use Rattle.std.specs.declared.vec.Vec.{Vec}
 use Rattle.std.specs.declared.alloc.Global.{Global}
@@ -9,7 +9,7 @@ use Rattle.tenant_store.specs.TextsRead.{text_read, texts_read}
 use Rattle.tenant_store.specs.Steps.{Visits}
 use Rattle.tenant_store.specs.Walks.{IsReady, last_of, left_by, spent_on}
 use Rattle.tenant_store.proofs.Passing.{adds_next, fails_next, few_left, front_kept, goes_on, kept_last, last_next, last_read, last_texts, length-last, sizes, step_none}
-use Rattle.tenant_store.proofs.Visiting.{ends_at, ends_ready, ends_step, goes_behind, none_left, none_ready, ready_at_rest, ready_within, rests}
+use Rattle.tenant_store.proofs.Visiting.{ends_at, ends_ready, ends_step, goes_behind, none_left, none_ready, ready_at_rest, ready_within, rests, step_on}
 use Rattle.tenant_store.proofs.walk.go_on.Goals as goal
 
 pub last_of-name-items-requires : goal.last_of-name-items-requires
@@ -125,3 +125,14 @@ returns-clause-step c =
     let all = step_none q c.loop-name.name-iterator (c.loop-name.more + spent_on c.loop-name.reached.units c.loop-name.evaluator) _ none i.step in
     let rest = none_ready c.loop-name.name-iterator c.loop-name.reached.units c.loop-name.evaluator none i.ready in
     none_left c.loop-name.name-iterator c.loop-name.reached.documents c.loop-name.evaluator _ i.left none all rest
+
+pub returns-in-None-more-clause-little : goal.returns-in-None-more-clause-little
+returns-in-None-more-clause-little c =
+    let e : Vec ℕ Global × Doc = (c.in-Some.name.now, c.in-Some.document.now) in
+    let i = c.loop-name.invariant in
+    let share = i.share in
+    inr (step_on (query_in c.args.evaluator.now) c.args.documents.now.entries c.loop-name.name-iterator c.next.new.self e c.loop-name.reached.documents c.loop-name.evaluator _ _ _ _ c.in-Some.ensures.steps i.last i.kept i.query
+    c.in_ok-to.ensures.little (omega (arith, share)))
+
+pub returns-clause-little : goal.returns-clause-little
+returns-clause-little c = let share = c.loop-name.invariant.share in inl (omega (arith, share))
