@@ -1,7 +1,7 @@
 #!/usr/bin/env python3
 """Tests `bin/edits try` on a made crate, with the prover: an edit that turns a body or a definition is refused, at the function that it is about,
 though others have no proof, and at the clause that it names; one that is still proved, as to any function that it names, that cannot be read, or that says nothing is told; what was refused is not tried again; and
-where a function is not proved as it stands, no edit counts as refused."""
+where a function is not proved as it stands, no edit counts as refused. Where the crate is proved elsewhere the same edits are refused without a control."""
 import os
 import re
 import subprocess
@@ -110,6 +110,11 @@ def main():
         status, lines = tried(root, "--only", "turned")
         expect("a control that fails is told", any("not proved without one" in line for line in lines), lines)
         expect("no edit counts then", lines[-1] == "0 passed, 1 failed" and status == 1, lines)
+        write(root, SOURCE)
+        status, lines = tried(root, "--anew", "--proved", "--times")
+        for name, (_, said) in EDITS.items():
+            expect(f"{name} is told without a control", said in line_of(name, lines), lines)
+        expect("there is no control", not any(line.endswith(": control") for line in lines), lines)
     print(f"{len(right)} passed, {len(wrong)} failed")
     sys.exit(1 if wrong else 0)
 

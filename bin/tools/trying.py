@@ -101,8 +101,9 @@ class Kept:
 class Trial:
     """The edits of a crate, and what came of them."""
 
-    def __init__(self, crates, name, files, kit, libraries, kept, are_timed):
-        self.crates, self.name, self.files, self.kit, self.libraries, self.kept, self.are_timed = crates, name, files, kit, libraries, kept, are_timed
+    def __init__(self, crates, name, files, kit, libraries, kept, is_proved, are_timed):
+        self.crates, self.name, self.files, self.kit, self.libraries, self.kept = crates, name, files, kit, libraries, kept
+        self.is_proved, self.are_timed = is_proved, are_timed
         self.said, self.refused, self.copy, self.places, self.checks, self.spent = [], dict.fromkeys(KINDS, 0), None, {}, 0, 0.0
 
     def run(self, *_):
@@ -141,12 +142,13 @@ class Trial:
                     self.against(it)
 
     def control(self, at, folder, edits):
-        """Makes the copy in which the edits are tried; whether all functions that judge them are proved in it as they stand."""
+        """Makes the copy in which the edits are tried; whether all functions that judge them are proved in it as they stand. Where another run proves the
+        crate, only what the functions say is read, and kept for the checks of edits."""
         judges = list(dict.fromkeys(path for it in edits for path in it.judges))
         words = [str(self.kit / "bin/rattle"), "check", *front_end(self.kit, self.crates, self.name, self.libraries.folder)]
         self.copy = HoledCopy(at, folder, self.name, words, judges)
-        lines = self.check("control", judges, is_saved=True)
-        whole = [it for it in judges if self.is_whole(it, lines)]
+        lines = self.check(*("contracts", []) if self.is_proved else ("control", judges), is_saved=True)
+        whole = judges if self.is_proved else [it for it in judges if self.is_whole(it, lines)]
         against = [f"{it}, which an edit names, is no function of the crate" for it in self.copy.unknown]
         against += [line for line in lines if is_open(line) or UNREAD.match(line)] + [f"{it} was not judged" for it in judges if it not in whole]
         if against or not was_judged(lines):
@@ -233,10 +235,10 @@ def prove_libraries(crates, names):
     return True
 
 
-def try_edits(crates, kind, names, word, folder, are_named, is_anew, are_timed, many):
+def try_edits(crates, kind, names, word, folder, are_named, are_proved, is_anew, are_timed, many):
     """Tries the edits of a kind whose name has the word, of the crates that are named or of all, many crates at a time. The libraries stand in a folder like
     that of the repository, which may be told to come as they are named on standard input; with no folder they are proved first. Prints what
-    comes of them; how many were refused, and how many were not."""
+    comes of them; how many were refused, and how many were not. Where another run proves all crates, there is no control."""
     kit = Path(shutil.which("rt")).resolve().parent.parent
     edits = {name: sorted(it for it in (crates.folder(name) / kind).glob("*.edit") if word in it.name) for name in names or crates.uses}
     edits = {name: files for name, files in edits.items() if files}
@@ -245,7 +247,7 @@ def try_edits(crates, kind, names, word, folder, are_named, is_anew, are_timed, 
     if not folder and not prove_libraries(crates, edits):
         return 0, max(total, 1)
     libraries, kept = Libraries((folder or crates.top).resolve(), are_named), Kept(kit, is_anew)
-    trials = {name: Trial(crates, name, files, kit, libraries, kept, are_timed) for name, files in edits.items()}
+    trials = {name: Trial(crates, name, files, kit, libraries, kept, are_proved, are_timed) for name, files in edits.items()}
 
     def tell(task, how):
         lines = [f"still at {', '.join(how)}"] if task is None else trials[task.name].said
