@@ -1,6 +1,0 @@
-use Rattle.std.proofs.Common.{ℕ, ◌*◌, ◌<◌}
-use Rattle.command_line.specs.Causes.{IsKeyAt}
-use Rattle.command_line.proofs.failure.bad_key.Given as goal
-
-abbrev pub invariant-loop-n : goal.invariant-loop-n
-invariant-loop-n l = (i : ℕ) → i < l.n → IsKeyAt l.words (33 * i)

@@ -1,0 +1,5 @@
+use Rattle.hub_server.proofs.Counting.{counted_once}
+use Rattle.hub_server.proofs.measured_hub.MeasuredHub.count.Goals as goal
+
+pub returns-clause-counts : goal.returns-clause-counts
+returns-clause-counts c = counted_once _ (record { hub = c.self.inside.core.hub; metrics = c.self.inside.metrics }) _ _ _ _ _ _ _ c.self.view_is c.served-served.ensures c.count.ensures

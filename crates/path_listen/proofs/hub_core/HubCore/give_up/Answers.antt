@@ -1,4 +1,0 @@
-use Rattle.path_listen.proofs.hub_core.HubCore.give_up.Goals as goal
-
-pub invariant_of-self : goal.invariant_of-self
-invariant_of-self c = c.abandon.ensures.on_way c.self.inside.hub.tenants c.self.invariant

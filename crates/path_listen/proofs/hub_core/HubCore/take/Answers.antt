@@ -1,7 +1,0 @@
-use Rattle.std.proofs.Common.{sym, subst}
-use Rattle.path_hub.specs.UnderWay.{AreOnWay}
-use Rattle.path_listen.proofs.Waiting.{takes_tenants}
-use Rattle.path_listen.proofs.hub_core.HubCore.take.Goals as goal
-
-pub invariant_of-self : goal.invariant_of-self
-invariant_of-self c = subst (λ t. AreOnWay t c.self.inside.tasks) (sym (takes_tenants c.args.conn c.args.piece.now c.self.inside.hub c.take.new.self c.take.result c.take.ensures)) c.self.invariant
