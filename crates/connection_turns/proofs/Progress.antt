@@ -1,11 +1,12 @@
 -- A turn that goes on, by each of its plans.
-use Rattle.std.proofs.Common.{◌≡◌, ℕ, List, Bool, true, false, Option, refl, sym, subst, inl, inr}
-use Rattle.std.specs.Prelude.{◌&&◌, ◌||◌, if◌then◌else◌}
-use Rattle.outbox.specs.Lines.{Line, reads}
-use Rattle.outbox.specs.Told.{Told}
-use Rattle.outbox.specs.Turns.{Flushes, HasFallen, Moment, Turned, can_answer, can_go_on, can_write, here}
+use Rattle.std.proofs.Common.{◌≡◌, ℕ, List, [], ◌∷◌, ◌++◌, Bool, true, false, Option, Some, None, take, refl, sym, ap, ◌∙◌, subst, inl, inr}
+use Rattle.std.specs.Prelude.{◌&&◌, ◌||◌, nat_lt, if◌then◌else◌}
+use Rattle.std.proofs.lemmas.Bool.{and_from, and_parts, cases_Bool, false≢true, lt-ltb, or_right, MatchBool-at_true, MatchBool-at_false}
+use Rattle.std.proofs.lemmas.List.{append-nil}
+use Rattle.outbox.specs.Lines.{Line, Event, Fails, Writable, after, is_open, owes, read_at, reads, sent_at}
+use Rattle.outbox.specs.Traffic.{Traffic, moved, with_written}
+use Rattle.outbox.specs.Turns.{DoesAt, Flushes, HasFallen, HasNotRisen, Moment, Turned, WritesOnce, can_answer, can_go_on, can_write, here, moves_at}
 use Rattle.outbox.specs.declared.readiness.Readiness.{Readiness}
-use Rattle.outbox.proofs.Single.{flushed}
 use Rattle.connection_turns.specs.Turning.{Progresses, dried, moment_of}
 use Rattle.connection_turns.specs.declared.connection.Connection.{Connection}
 
@@ -14,11 +15,48 @@ pub progressed : {C : Type 0} (m n : ℕ) (takes answers : C → List ℕ → C 
 progressed m n takes answers idle over can old new t =
     record { turn = record { events = t.events; line_is = t.line_is; wire_is = t.wire_is; core_is = t.core_is }; goes_on = t.goes_on; rises = t.rises }
 
-pub only_written : {C : Type 0} (takes answers : C → List ℕ → C → Type 0) (line line' : Line) (wire wire' : Option Told) (ready ready' : Readiness) (core : C)
+-- ---- A write
+
+still : (o : Option Traffic) → o ≡ moved [] [] o
+still None = refl
+still (Some o) = λ i. Some (record { read = sym (append-nil o.read) i; written = sym (append-nil o.written) i })
+
+wrote : (o : Option Traffic) (bytes : List ℕ) → with_written bytes o ≡ moved [] (bytes ++ []) o
+wrote None bytes = refl
+wrote (Some o) bytes = λ i. Some (record { read = sym (append-nil o.read) i; written = o.written ++ sym (append-nil bytes) i })
+
+module _ {C : Type 0} (takes answers : C → List ℕ → C → Type 0) (line line' : Line) (wire wire' : Option Traffic) (ready ready' : Readiness) (core : C) where
+  one : (e : Event) → line' ≡ after line e → wire' ≡ moved (read_at line e ++ []) (sent_at line e ++ []) wire → DoesAt takes answers line e core core → moves_at line e ≡ true
+      → Progresses takes answers (can_write ready line) (here line wire core ready) (here line' wire' core ready')
+  one e line_is wire_is does moved_one =
+      let some : (moves_at line e || false) ≡ true = ap (λ b. b || false) moved_one in
+      record {
+        turn = record { events = e ∷ []; line_is = line_is; wire_is = wire_is; core_is = (core, does, refl) };
+        goes_on = λ h. inl some;
+        rises = λ h. absurd (false≢true (sym h ∙ some));
+      }
+
+  none : line' ≡ line → wire' ≡ wire → (can_write ready line ≡ true → HasFallen ready ready') → HasNotRisen ready ready'
+      → Progresses takes answers (can_write ready line) (here line wire core ready) (here line' wire' core ready')
+  none same quiet falls down = record {
+    turn = record { events = []; line_is = same; wire_is = quiet ∙ still wire; core_is = refl };
+    goes_on = λ h. inr (falls h);
+    rises = λ h. down;
+  }
+
+  went : can_write ready line ≡ true → WritesOnce line wire ready line' wire' ready' → Progresses takes answers (can_write ready line) (here line wire core ready) (here line' wire' core ready')
+  went can (inl x) = one (Writable x.0) x.2 (x.3 ∙ wrote wire (take x.0 line.owed)) refl (and_from (nat_lt 0 x.0) (owes line) (lt-ltb 0 x.0 x.1) (and_parts ready.writable (owes line) can).1)
+  went can (inr (inl x)) = none x.0 x.1 (λ h. rw x.2 (inr (inl ((and_parts ready.writable (owes line) can).0, refl)))) (rw x.2 (record { readable = λ e. e; writable = λ e. refl; waiting = λ e. e }))
+  went can (inr (inr x)) = one Fails x.0 (x.1 ∙ still wire) refl (or_right (is_open line.stage) (owes line) (and_parts ready.writable (owes line) can).1)
+
+pub only_written : {C : Type 0} (takes answers : C → List ℕ → C → Type 0) (line line' : Line) (wire wire' : Option Traffic) (ready ready' : Readiness) (core : C)
     → Flushes line wire ready line' wire' ready' → Progresses takes answers (can_write ready line) (here line wire core ready) (here line' wire' core ready')
-only_written {C} takes answers line line' wire wire' ready ready' core h =
-    progressed 0 0 takes answers (λ (x : C). Unit {0}) (λ (x : C). false) can_write (here line wire core ready) (here line' wire' core ready')
-    (flushed takes answers (λ (x : C). Unit {0}) (λ (x : C). false) line line' wire wire' ready ready' core h)
+only_written takes answers line line' wire wire' ready ready' core h = elim (cases_Bool (can_write ready line)) [
+  | inl can ↦ went takes answers line line' wire wire' ready ready' core can (MatchBool-at_true _ _ can h)
+  | inr cannot ↦
+      let same : (line' ≡ line) × (wire' ≡ wire) × (ready' ≡ ready) = MatchBool-at_false _ _ cannot h in
+      none takes answers line line' wire wire' ready ready' core same.0 same.1 (λ can. absurd (false≢true (sym cannot ∙ can))) (rw same.2 (record { readable = λ e. e; writable = λ e. e; waiting = λ e. e }))
+]
 
 -- a turn that answers may do more than that
 can_answer_so : (r w s b : Bool) → (w && s) ≡ true → ((r || w) && s || b) ≡ true
@@ -36,7 +74,7 @@ answered takes answers old new p =
 fallen_more : (old new : Readiness) → HasFallen old new → HasFallen old (record { readable = false; writable = new.writable; waiting = new.waiting })
 fallen_more old new h = elim h [ inl e ↦ inl (e.0, refl) | inr k ↦ inr k ]
 
-pub drained : {S C : Type 0} (takes answers : C → List ℕ → C → Type 0) (can : Bool) (old : Moment C) (told : S → Option Told) (core : C) (b b' : Connection S) (is_drained : Bool)
+pub drained : {S C : Type 0} (takes answers : C → List ℕ → C → Type 0) (can : Bool) (old : Moment C) (told : S → Option Traffic) (core : C) (b b' : Connection S) (is_drained : Bool)
     → b' ≡ (if is_drained then dried b else b) → Progresses takes answers can old (moment_of told core b) → Progresses takes answers can old (moment_of told core b')
 drained {S} {C} takes answers can old told core b b' true e p = subst (λ (x : Connection S). Progresses takes answers can old (moment_of told core x)) (sym e) (record {
   turn = p.turn;

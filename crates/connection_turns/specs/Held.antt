@@ -1,5 +1,5 @@
 -- What a connection holds of the budgets: this project's own.
-use Rattle.std.specs.Prelude.{◌==◌, ℕ, nat_le, Bool, not, Option, Some, None, if◌then◌else◌}
+use Rattle.std.specs.Prelude.{◌==◌, ◌&&◌, ℕ, nat_le, Bool, true, false, not, Option, Some, None, if◌then◌else◌}
 use Rattle.connection_turns.specs.declared.claim.After.{After}
 use Rattle.connection_turns.specs.declared.claim.After.TheVariants as after
 use Rattle.connection_turns.specs.declared.claim.Claim.{Claim}
@@ -25,3 +25,12 @@ share_in purpose.Written owed has_answered = if owed == 0 then after.Released el
 -- one that waits is kept
 abbrev pub share_after : Claim → (owed : ℕ) → (has_answered : Bool) → After
 share_after claim owed has_answered = if not claim.is_granted then after.Kept else share_in claim.purpose owed has_answered
+
+-- whether a reply of so many bytes may be given with a share that is granted: that to a long frame is short
+abbrev pub covers_in : Purpose → (bytes reply : ℕ) → Bool
+covers_in purpose.Frame bytes reply = true
+covers_in purpose.Reply bytes reply = nat_le reply bytes
+covers_in purpose.Written bytes reply = false
+
+abbrev pub covers : Claim → (reply : ℕ) → Bool
+covers claim reply = claim.is_granted && covers_in claim.purpose claim.bytes reply

@@ -1,7 +1,7 @@
 -- What a connection of the loop is owed, and the bytes that moved on its stream: this project's own.
 use Rattle.std.specs.Prelude.{Bool, false, not, ◌&&◌, Option, Some, None}
 use Rattle.outbox.specs.Lines.{Line, owes}
-use Rattle.outbox.specs.Told.{Told}
+use Rattle.outbox.specs.Traffic.{Traffic}
 use Rattle.connection_turns.specs.declared.connection.Phase.{Phase}
 use Rattle.connection_turns.specs.declared.connection.Phase.TheVariants.{Served, Lingering}
 use Rattle.connection_turns.specs.declared.connection.Connection.{Connection}
@@ -15,7 +15,7 @@ abbrev pub line_of : {S : Type 0} → Connection S → Option Line
 line_of c = line_in c.phase c.outbox
 
 -- what its stream shows
-abbrev pub wire_of : {S : Type 0} → (S → Option Told) → Connection S → Option Told
+abbrev pub wire_of : {S : Type 0} → (S → Option Traffic) → Connection S → Option Traffic
 wire_of told c = told c.socket.stream
 
 -- it is read no more

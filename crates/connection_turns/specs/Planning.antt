@@ -9,8 +9,8 @@ use Rattle.connection_turns.specs.declared.claim.Purpose.{Purpose}
 use Rattle.connection_turns.specs.declared.claim.Purpose.TheVariants.{Frame, Reply, Written}
 use Rattle.connection_turns.specs.declared.connection.Phase.{Phase}
 use Rattle.connection_turns.specs.declared.connection.Phase.TheVariants.{Served, Lingering}
-use Rattle.connection_turns.specs.declared.connection.Plan.{Plan}
-use Rattle.connection_turns.specs.declared.connection.Plan.TheVariants.{Write, Read, Answer, All}
+use Rattle.connection_turns.specs.declared.connection.TurnPlan.{TurnPlan}
+use Rattle.connection_turns.specs.declared.connection.TurnPlan.TheVariants.{Write, Read, Answer, All}
 use Rattle.connection_turns.specs.declared.connection.Outcome.{Outcome}
 use Rattle.connection_turns.specs.declared.connection.Outcome.TheVariants as outcome
 use Rattle.connection_turns.specs.declared.connection.Connection.{Connection}
@@ -30,11 +30,11 @@ granted ticket now None = None
 granted ticket now (Some claim) = if claim.ticket == ticket then Some (record claim { is_granted = true; since = now }) else Some claim
 
 -- what waits is answered, or else a piece is read
-abbrev pub next_of : Readiness → Plan
+abbrev pub next_of : Readiness → TurnPlan
 next_of ready = if ready.waiting then Answer else Read
 
 -- with a granted share, by what it is for
-abbrev pub plan_for : Purpose → Readiness → Plan
+abbrev pub plan_for : Purpose → Readiness → TurnPlan
 plan_for Frame ready = next_of ready
 plan_for Reply ready = Answer
 plan_for Written ready = Write
@@ -44,16 +44,16 @@ abbrev pub owes_little : Line → Bool
 owes_little line = nat_lt (length line.owed) 16384
 
 -- with a share, and with none
-abbrev pub plan_in : (has_room is_working : Bool) → Option Claim → Readiness → Line → Plan
+abbrev pub plan_in : (has_room is_working : Bool) → Option Claim → Readiness → Line → TurnPlan
 plan_in has_room is_working (Some claim) ready line = if not claim.is_granted || turns.can_write ready line then Write else plan_for claim.purpose ready
 plan_in has_room is_working None ready line =
     if has_room && (not is_working && owes_little line) then All else (if turns.can_write ready line || not (owes_little line) then Write else next_of ready)
 
-abbrev pub plan_of : {S : Type 0} → (has_room : Bool) → Connection S → Plan
+abbrev pub plan_of : {S : Type 0} → (has_room : Bool) → Connection S → TurnPlan
 plan_of has_room c = plan_in has_room c.is_working c.claim c.ready c.outbox
 
 -- whether a turn by this plan does anything
-abbrev pub can_go_by : Plan → Readiness → Line → Bool
+abbrev pub can_go_by : TurnPlan → Readiness → Line → Bool
 can_go_by Write ready line = turns.can_write ready line
 can_go_by Read ready line = turns.can_read ready line
 can_go_by Answer ready line = turns.can_answer ready line

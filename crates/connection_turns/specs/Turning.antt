@@ -1,7 +1,7 @@
 -- What a turn of the loop does to a connection, whatever the others do: this project's own.
 use Rattle.std.specs.Prelude.{◌≡◌, ◌⊎◌, ℕ, ◌<◌, List, length, Option, Bool, true, false}
 use Rattle.outbox.specs.Lines.{Line, Event, run, read, sent}
-use Rattle.outbox.specs.Told.{Told, moved, with_read}
+use Rattle.outbox.specs.Traffic.{Traffic, moved, with_read}
 use Rattle.outbox.specs.Turns.{DoesAll, HasFallen, HasNotRisen, Moment, here, moves}
 use Rattle.outbox.specs.declared.readiness.Readiness.{Readiness}
 use Rattle.connection_turns.specs.Owed.{wire_of}
@@ -10,14 +10,14 @@ use Rattle.connection_turns.specs.declared.connection.Outcome.{Outcome}
 use Rattle.connection_turns.specs.declared.connection.Outcome.TheVariants as outcome
 
 -- these events happened: to its output, on its wire, and to the core
-pub record TakesTurn {C : Type 0} (takes answers : C → List ℕ → C → Type 0) (line : Line) (wire : Option Told) (core : C) (line' : Line) (wire' : Option Told) (core' : C) : Type 0 where
+pub record TakesTurn {C : Type 0} (takes answers : C → List ℕ → C → Type 0) (line : Line) (wire : Option Traffic) (core : C) (line' : Line) (wire' : Option Traffic) (core' : C) : Type 0 where
   pub events : List Event
   pub line_is : line' ≡ run line events
   pub wire_is : wire' ≡ moved (read line events) (sent line events) wire
   pub core_is : DoesAll takes answers line events core core'
 
 -- what a turn changes of a connection, and the core
-abbrev pub moment_of : {S C : Type 0} → (S → Option Told) → C → Connection S → Moment C
+abbrev pub moment_of : {S C : Type 0} → (S → Option Traffic) → C → Connection S → Moment C
 moment_of told core c = here c.outbox (wire_of told c) core c.ready
 
 -- one that a read would wait at
@@ -32,5 +32,5 @@ pub record Progresses {C : Type 0} (takes answers : C → List ℕ → C → Typ
   pub rises : moves old.line turn.events ≡ false → HasNotRisen old.ready new.ready
 
 -- bytes came and are thrown away, or a read would wait, or the connection is to be closed
-abbrev pub DrainsOn : (old new : Option Told) → Readiness → Outcome → Type 0
+abbrev pub DrainsOn : (old new : Option Traffic) → Readiness → Outcome → Type 0
 DrainsOn old new ready result = ((piece : List ℕ) × (0 < length piece) × (new ≡ with_read piece old)) ⊎ ((ready.readable ≡ false) ⊎ (result ≡ outcome.Closed))

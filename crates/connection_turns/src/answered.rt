@@ -18,7 +18,7 @@ pub struct Work {
 
 /// A request, as it is counted.
 #[derive(Clone, Copy, Debug, PartialEq, Eq)]
-pub struct Asked {
+pub struct RequestKind {
     /// The byte of its command. 0 if its body is empty, or its frame too long.
     pub command: u8,
     /// The place of its key in the list of keys, if it is a tenant's.
@@ -33,7 +33,7 @@ pub struct Answered {
     /// How it ended.
     pub step: Step,
     /// What the request in front asked.
-    pub asked: Asked,
+    pub asked: RequestKind,
     /// The units that it was charged, where hits are its reply.
     pub units: Option<u64>,
     /// The microseconds that it took so far.

@@ -1,6 +1,6 @@
 //! What a connection holds of the budgets of memory, or waits for.
 ghost use Rattle.std.specs.Prelude.{◌≡◌};
-ghost use Rattle.connection_turns.specs.Held.{claimed, share_after};
+ghost use Rattle.connection_turns.specs.Held.{claimed, covers, share_after};
 
 use crate::connection::ALLOWANCE;
 
@@ -105,7 +105,12 @@ impl Claim {
     }
 
     /// Whether a reply of so many bytes may be given with it. That to a long frame is short.
-    pub fn covers(&self, reply: usize) -> bool {
+    pub fn covers(&self, reply: usize) -> bool
+        ensures { result ≡ covers self.now reply }
+    {
+        if !self.is_granted {
+            return false;
+        }
         match self.purpose {
             Purpose::Frame => true,
             Purpose::Reply => reply <= self.bytes,

@@ -1,7 +1,7 @@
 //! One connection and what is known of it.
 ghost use Rattle.std.specs.Prelude.{◌≡◌, ◌<◌, ◌≤◌, ◌||◌, length, Bool, Some, None, false, IsTrue, if◌then◌else◌};
 ghost use Rattle.outbox.specs.Lines.{fresh, is_over};
-ghost use Rattle.outbox.specs.Told.{HasMoved, IsReadOn};
+ghost use Rattle.outbox.specs.Traffic.{HasMoved, IsReadOn};
 ghost use Rattle.outbox.specs.Turns as turns;
 ghost use Rattle.outbox.specs.Turns.{Flushes};
 ghost use Rattle.connection_turns.specs.Expiring.{expiry_of, end_in, has_lingered, idle_end, is_quiet};
@@ -12,7 +12,7 @@ ghost use Rattle.connection_turns.specs.Planning.{raised, ends, end_of, outcome_
 ghost use Rattle.connection_turns.specs.Turning.{DrainsOn, Progresses, dried, moment_of};
 
 use crate::claim::{Claim, Pool, Purpose};
-use crate::counted::{Counted, Share};
+use crate::counted::{Counted, TurnBounds};
 use crate::ending::{End, Ending};
 use crate::limits::Limits;
 use crate::loop_core::LoopCore;
@@ -55,7 +55,7 @@ pub enum Outcome {
 
 /// What a turn does.
 #[derive(Clone, Copy, PartialEq, Eq)]
-pub enum Plan {
+pub enum TurnPlan {
     /// It writes what is owed.
     Write,
     /// It reads a piece.
@@ -109,6 +109,7 @@ impl<S: Peer> Connection<S> {
     pub fn new(alloc: Global, number: u64, peer: SocketAddr, stream: S, now: u64) -> Connection<S>
         ensures line { line_of result ≡ Some fresh }
         ensures wire { wire_of S.told result ≡ S.told stream }
+        ensures claim { result.claim ≡ None }
         ensures quiet { (result.is_due ≡ false) × (planning.can_go_on false result ≡ false) }
     {
         Connection {
@@ -137,12 +138,13 @@ impl<S: Peer> Connection<S> {
     }
 
     /// Notes what was reported. It stays known until a call says that it would wait.
-    pub fn note(&mut self, report: Report)
+    pub fn note_report(&mut self, report: Report)
         ensures line { line_of self.new ≡ line_of self.old }
         ensures wire { wire_of S.told self.new ≡ wire_of S.told self.old }
         ensures gone { self.new.is_gone ≡ (self.old.is_gone || report.is_gone) }
         ensures ready { self.new.ready ≡ raised report self.old.ready }
         ensures due { KeepsTurn self.old self.new }
+        ensures claim { self.new.claim ≡ self.old.claim }
     {
         self.is_gone = self.is_gone || report.is_gone;
         self.socket.report(report.is_ending || report.is_urgent);
@@ -177,14 +179,14 @@ impl<S: Peer> Connection<S> {
 
     /// What its next turn does: all where there is room for any reply and its peer takes what it is owed, and else one thing after the other.
     /// While a query of it is under way, it goes on with a share of memory only.
-    pub fn plan(&self, has_room: bool) -> Plan
+    pub fn plan(&self, has_room: bool) -> TurnPlan
         ensures { result ≡ plan_of has_room self.now }
     {
         match &self.claim {
             Some(claim) => self.plan_with(claim),
             None => {
                 if has_room && !self.is_working && self.outbox.owed().len() < ALLOWANCE {
-                    Plan::All
+                    TurnPlan::All
                 } else {
                     self.plan_without()
                 }
@@ -192,36 +194,36 @@ impl<S: Peer> Connection<S> {
         }
     }
 
-    fn plan_with(&self, claim: &Claim) -> Plan
+    fn plan_with(&self, claim: &Claim) -> TurnPlan
         ensures { result ≡ plan_in false false (Some claim.now) self.now.ready self.now.outbox }
     {
         if !claim.is_granted || self.can_write() {
-            return Plan::Write;
+            return TurnPlan::Write;
         }
         match claim.purpose {
             Purpose::Frame => self.read_or_answer(),
-            Purpose::Reply => Plan::Answer,
-            Purpose::Written => Plan::Write,
+            Purpose::Reply => TurnPlan::Answer,
+            Purpose::Written => TurnPlan::Write,
         }
     }
 
-    fn plan_without(&self) -> Plan
+    fn plan_without(&self) -> TurnPlan
         ensures { result ≡ plan_in false false None self.now.ready self.now.outbox }
     {
         if self.can_write() || self.outbox.owed().len() >= ALLOWANCE {
-            Plan::Write
+            TurnPlan::Write
         } else {
             self.read_or_answer()
         }
     }
 
-    fn read_or_answer(&self) -> Plan
+    fn read_or_answer(&self) -> TurnPlan
         ensures { result ≡ next_of self.now.ready }
     {
         if self.ready.waiting {
-            Plan::Answer
+            TurnPlan::Answer
         } else {
-            Plan::Read
+            TurnPlan::Read
         }
     }
 
@@ -232,18 +234,19 @@ impl<S: Peer> Connection<S> {
         conn: u32,
         buffer: &mut [u8],
         most: usize,
-        plan: Plan,
-        share: Share,
+        plan: TurnPlan,
+        share: TurnBounds,
     ) -> (usize, usize)
         requires some { 0 < most }
         requires within { most ≤ length buffer.old }
         ensures turn { Progresses (C.steps.takes conn) (C.steps.answers conn) (can_go_by plan self.old.ready self.old.outbox) (moment_of S.told core.old self.old) (moment_of S.told core.new self.new) }
         ensures moved { HasMoved (wire_of S.told self.old) (wire_of S.told self.new) result.0 result.1 }
-        ensures writes { plan ≡ Plan.Write → core.new ≡ core.old }
+        ensures writes { plan ≡ TurnPlan.Write → core.new ≡ core.old }
         ensures phase { self.new.phase ≡ self.old.phase }
         ensures due { KeepsTurn self.old self.new }
+        ensures claim { self.new.claim ≡ self.old.claim }
     {
-        core.begin(plan == Plan::Answer, share);
+        core.begin(plan == TurnPlan::Answer, share);
         let counts = self.go(core, conn, &mut buffer[..most], plan);
         let done = core.done();
         self.has_faulted = self.has_faulted || done.has_faulted();
@@ -258,20 +261,21 @@ impl<S: Peer> Connection<S> {
         core: &mut Counted<C, T>,
         conn: u32,
         buffer: &mut [u8],
-        plan: Plan,
+        plan: TurnPlan,
     ) -> (usize, usize)
         requires { 0 < length buffer.old }
         ensures turn { Progresses (C.steps.takes conn) (C.steps.answers conn) (can_go_by plan self.old.ready self.old.outbox) (moment_of S.told core.old self.old) (moment_of S.told core.new self.new) }
         ensures moved { HasMoved (wire_of S.told self.old) (wire_of S.told self.new) result.0 result.1 }
-        ensures writes { plan ≡ Plan.Write → core.new ≡ core.old }
+        ensures writes { plan ≡ TurnPlan.Write → core.new ≡ core.old }
         ensures phase { self.new.phase ≡ self.old.phase }
         ensures due { KeepsTurn self.old self.new }
+        ensures claim { self.new.claim ≡ self.old.claim }
     {
         match plan {
-            Plan::Read => (self.read(core, conn, buffer), 0),
-            Plan::Write => (0, self.write()),
-            Plan::Answer => self.serve(core, conn, buffer),
-            Plan::All => self.serve(core, conn, buffer),
+            TurnPlan::Read => (self.read(core, conn, buffer), 0),
+            TurnPlan::Write => (0, self.write()),
+            TurnPlan::Answer => self.serve(core, conn, buffer),
+            TurnPlan::All => self.serve(core, conn, buffer),
         }
     }
 
@@ -280,6 +284,7 @@ impl<S: Peer> Connection<S> {
         ensures drained { self.new ≡ (if self.old.socket.is_drained then dried self.old else self.old) }
         ensures phase { self.new.phase ≡ self.old.phase }
         ensures due { KeepsTurn self.old self.new }
+        ensures claim { self.new.claim ≡ self.old.claim }
     {
         if self.socket.is_drained() {
             self.ready.readable = false;
@@ -298,6 +303,7 @@ impl<S: Peer> Connection<S> {
         ensures moved { HasMoved (wire_of S.told self.old) (wire_of S.told self.new) result.0 result.1 }
         ensures phase { self.new.phase ≡ self.old.phase }
         ensures due { KeepsTurn self.old self.new }
+        ensures claim { self.new.claim ≡ self.old.claim }
     {
         let counts = turn(
             &mut self.outbox,
@@ -323,6 +329,7 @@ impl<S: Peer> Connection<S> {
         ensures moved { HasMoved (wire_of S.told self.old) (wire_of S.told self.new) result 0 }
         ensures phase { self.new.phase ≡ self.old.phase }
         ensures due { KeepsTurn self.old self.new }
+        ensures claim { self.new.claim ≡ self.old.claim }
     {
         let count = feed(
             &mut self.outbox,
@@ -342,6 +349,7 @@ impl<S: Peer> Connection<S> {
         ensures moved { HasMoved (wire_of S.told self.old) (wire_of S.told self.new) 0 result }
         ensures phase { self.new.phase ≡ self.old.phase }
         ensures due { KeepsTurn self.old self.new }
+        ensures claim { self.new.claim ≡ self.old.claim }
     {
         flush(&mut self.outbox, &mut self.socket, &mut self.ready)
     }
@@ -374,10 +382,10 @@ impl<S: Peer> Connection<S> {
             return self.ready.readable;
         }
         match self.plan(has_room) {
-            Plan::Write => self.can_write(),
-            Plan::Read => self.ready.readable && !self.ready.waiting && self.outbox.reads(),
-            Plan::Answer => self.ready.waiting && self.outbox.reads(),
-            Plan::All => self.ready.can_go_on(&self.outbox),
+            TurnPlan::Write => self.can_write(),
+            TurnPlan::Read => self.ready.readable && !self.ready.waiting && self.outbox.reads(),
+            TurnPlan::Answer => self.ready.waiting && self.outbox.reads(),
+            TurnPlan::All => self.ready.can_go_on(&self.outbox),
         }
     }
 
@@ -438,6 +446,7 @@ impl<S: Peer> Connection<S> {
         ensures wire { wire_of S.told self.new ≡ wire_of S.told self.old }
         ensures left { IsTrue (has_left self.new) }
         ensures due { KeepsTurn self.old self.new }
+        ensures claim { self.new.claim ≡ self.old.claim }
         ensures goes { (has_room : Bool) → planning.can_go_on has_room self.new ≡ planning.can_go_on has_room self.old }
     {
         self.socket.leave();
@@ -448,9 +457,9 @@ impl<S: Peer> Connection<S> {
         ensures line { line_of self.new ≡ None }
         ensures wire { wire_of S.told self.new ≡ wire_of S.told self.old }
         ensures due { KeepsTurn self.old self.new }
+        ensures claim { self.new.claim ≡ self.old.claim }
     {
         self.socket.stream.end_writing();
-        self.claim = None;
         self.is_working = false;
         self.moved = now;
         self.phase = Phase::Lingering;
@@ -470,6 +479,7 @@ impl<S: Peer> Connection<S> {
         ensures goes_on { 0 < length buffer.old → DrainsOn (wire_of S.told self.old) (wire_of S.told self.new) self.new.ready result }
         ensures phase { self.new.phase ≡ self.old.phase }
         ensures due { KeepsTurn self.old self.new }
+        ensures claim { self.new.claim ≡ self.old.claim }
     {
         match self.socket.stream.read(buffer) {
             Given::Bytes(_) => Outcome::Open,
@@ -536,7 +546,7 @@ impl<S: Peer> Connection<S> {
         }
     }
 
-    // The same of one with a share.
+    // What becomes by now of a connection that has a share, or waits for one.
     fn expiry_with(
         &self,
         claim: &Claim,

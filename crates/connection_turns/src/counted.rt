@@ -15,7 +15,7 @@ const SPAN: u64 = 1;
 
 /// How much a turn may do.
 #[derive(Clone, Copy, Debug, PartialEq, Eq)]
-pub struct Share {
+pub struct TurnBounds {
     /// What each of its steps may do.
     pub work: Work,
     /// Others wait for a turn: it ends behind a share of work on a query.
@@ -46,7 +46,7 @@ pub struct Counted<C: LoopCore, T: Time + Drop> {
     began: Option<Duration>,
     // This turn answers one request at most.
     is_single: bool,
-    share: Share,
+    share: TurnBounds,
     done: Done,
     // The slow query that was not told yet.
     slow: Option<Slow>,
@@ -68,7 +68,7 @@ impl<C: LoopCore, T: Time + Drop> Counted<C, T> {
             time,
             began: None,
             is_single: false,
-            share: Share {
+            share: TurnBounds {
                 work: Work {
                     units: 0,
                     is_brief: false,
@@ -118,7 +118,7 @@ impl<C: LoopCore, T: Time + Drop> Counted<C, T> {
     }
 
     /// A turn begins, which answers one request or as many as there is time for.
-    pub(crate) fn begin(&mut self, is_single: bool, share: Share)
+    pub(crate) fn begin(&mut self, is_single: bool, share: TurnBounds)
         ensures { self.new ≡ self.old }
     {
         self.began = self.time.now();
@@ -163,10 +163,10 @@ impl<C: LoopCore, T: Time + Drop> Counted<C, T> {
     }
 
     // Notes a step.
-    fn note(&mut self, answered: &Answered)
+    fn note_answer(&mut self, answered: &Answered)
         ensures { self.new ≡ self.old }
     {
-        self.done.note(answered);
+        self.done.note_answer(answered);
         self.share.work = work_behind(self.share.work, answered);
         if answered.is_slow {
             self.slow = Some(slow_of(answered));
@@ -190,7 +190,7 @@ impl<C: LoopCore, T: Time + Drop> Core for Counted<C, T> {
 
     fn answer_next(&mut self, conn: u32, out: &mut Vec<u8>) -> Step {
         let answered = self.core.answer(conn, self.share.work, &self.time, out);
-        self.note(&answered);
+        self.note_answer(&answered);
         answered.step
     }
 
@@ -207,7 +207,7 @@ impl<C: LoopCore, T: Time + Drop> Core for Counted<C, T> {
 
 impl Done {
     // Notes a step.
-    fn note(&mut self, answered: &Answered) {
+    fn note_answer(&mut self, answered: &Answered) {
         match answered.step {
             Step::Replied | Step::Last => {
                 self.answered = self.answered.saturating_add(1);

@@ -49,7 +49,7 @@ pub trait Journal {
     fn counted(&mut self, totals: &Totals);
 
     /// Clients wait because of a limit: reported at once, and then each minute.
-    fn held(&mut self, limit: Held, totals: &Totals);
+    fn tell_held(&mut self, limit: Held, totals: &Totals);
 
     /// A second passed.
     fn ticked(&mut self);

@@ -17,10 +17,10 @@ mod loop_core;
 mod socket;
 
 pub use ahead::Ahead;
-pub use answered::{Answered, Asked, Work};
+pub use answered::{Answered, RequestKind, Work};
 pub use claim::{After, Claim, Need, OWED, Pool, Purpose};
-pub use connection::{ALLOWANCE, Connection, Outcome, Phase, Plan};
-pub use counted::{Counted, Done, Share};
+pub use connection::{ALLOWANCE, Connection, Outcome, Phase, TurnPlan};
+pub use counted::{Counted, Done, TurnBounds};
 pub use counts::Counts;
 pub use ending::{End, Ending};
 pub use journal::{Held, Journal, Slow, Totals};

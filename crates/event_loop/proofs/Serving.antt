@@ -4,9 +4,9 @@ use Rattle.std.specs.Prelude.{IfSome, IsTrue, ◌&&◌, ◌==◌, nat_lt, is_som
 use Rattle.std.specs.Bool.{MatchBool}
 use Rattle.std.proofs.lemmas.Bool.{ltb-true}
 use Rattle.std.proofs.Math.Seq.{drop-cons}
-use Rattle.std.specs.Option.{option_map, option_map_or}
+use Rattle.std.specs.Option.{option_map_or}
 use Rattle.slab.specs.Slab.{get}
-use Rattle.outbox.specs.Told.{Told}
+use Rattle.outbox.specs.Traffic.{Traffic}
 use Rattle.outbox.proofs.Single.{right_true}
 use Rattle.connection_turns.specs.declared.connection.Connection.{Connection}
 use Rattle.due_list.specs.declared.due.Due.{Due}
@@ -16,7 +16,7 @@ use Rattle.connection_turns.specs.declared.connection.Outcome.TheVariants as out
 use Rattle.connection_turns.specs.Cores.{CoreSteps}
 use Rattle.open_connections.specs.Looping.{LetGo, Stays}
 use Rattle.open_connections.specs.Opened.{has_time, is_open_at, is_there, lanes_of}
-use Rattle.open_connections.specs.Turns.{StatesStay, standing_of}
+use Rattle.open_connections.specs.Turns.{StatesStay}
 use Rattle.open_connections.specs.Woken.{TurnsStay}
 use Rattle.open_connections.proofs.Looping.{before_step, stays, stays_then}
 use Rattle.open_connections.proofs.Keeping.{keep_then}
@@ -28,10 +28,10 @@ if_small P key None h k = tt
 if_small P key (Some x) h k = h k
 
 -- what is served of the rest of a list is, behind those before, the whole
-abbrev pub Leads : {S C T : Type 0} → CoreSteps C → (S → Option Told) → (may_wait longs : ℕ → C → Bool) → (all rest : List Due) → Open S C T → Open S C T → Type 0
+abbrev pub Leads : {S C T : Type 0} → CoreSteps C → (S → Option Traffic) → (may_wait longs : ℕ → C → Bool) → (all rest : List Due) → Open S C T → Open S C T → Type 0
 Leads {S} {C} {T} s told may_wait longs all rest start now = (end : Open S C T) → ServesEach s told may_wait longs rest now end → ServesEach s told may_wait longs all start end
 
-pub leads_on : {S C T : Type 0} (s : CoreSteps C) (told : S → Option Told) (may_wait longs : ℕ → C → Bool) (all : List Due) (i : ℕ) (d : Due) (start now next : Open S C T) → i < length all
+pub leads_on : {S C T : Type 0} (s : CoreSteps C) (told : S → Option Traffic) (may_wait longs : ℕ → C → Bool) (all : List Due) (i : ℕ) (d : Due) (start now next : Open S C T) → i < length all
     → Leads s told may_wait longs all (drop i all) start now → ServesOne s told may_wait longs (get_or all i d) now next → TurnsStay now next → Leads s told may_wait longs all (drop (i + 1) all) start next
 leads_on {S} {C} {T} s told may_wait longs all i d start now next l h k t = λ end e.
     let more : drop i all ≡ get_or all i d ∷ drop (i + 1) all = drop-cons all i d l ∙ ap (λ (n : ℕ). get_or all i d ∷ drop n all) (sym (add-one i)) in
@@ -43,27 +43,18 @@ none_dropped [] (suc i) l = refl
 none_dropped (d ∷ dues) zero l = let f : ⊥ = omega arith in absurd f
 none_dropped (d ∷ dues) (suc i) l = none_dropped dues i (omega arith)
 
-pub leads_through : {S C T : Type 0} (s : CoreSteps C) (told : S → Option Told) (may_wait longs : ℕ → C → Bool) (all : List Due) (i : ℕ) (start now end : Open S C T) → length all ≤ i
+pub leads_through : {S C T : Type 0} (s : CoreSteps C) (told : S → Option Traffic) (may_wait longs : ℕ → C → Bool) (all : List Due) (i : ℕ) (start now end : Open S C T) → length all ≤ i
     → Leads s told may_wait longs all (drop i all) start now → ServesEach s told may_wait longs [] now end → ServesEach s told may_wait longs all start end
 leads_through s told may_wait longs all i start now end l h e = h end (subst (λ (ds : List Due). ServesEach s told may_wait longs ds now end) (sym (none_dropped all i l)) e)
 
 -- what follows from where nothing changed
-pub follows_then : {S C T : Type 0} (s : CoreSteps C) (told : S → Option Told) (key : ℕ) (result : Outcome) (a b c : Open S C T) → Stays (lanes_of told a) (lanes_of told b) → StatesStay a b → Follows s told key result b c → Follows s told key result a c
+pub follows_then : {S C T : Type 0} (s : CoreSteps C) (told : S → Option Traffic) (key : ℕ) (result : Outcome) (a b c : Open S C T) → Stays (lanes_of told a) (lanes_of told b) → StatesStay a b → Follows s told key result b c → Follows s told key result a c
 follows_then s told key outcome.Open a b c h k f = elim f [ inl d ↦ inl (before_step s (LetGo key) (lanes_of told a) (lanes_of told b) (lanes_of told c) h d) | inr t ↦ inr (stays_then _ _ _ h t.0, keep_then _ _ _ _ k t.1) ]
 follows_then s told key (outcome.Over how) a b c h k f = before_step s (LetGo key) (lanes_of told a) (lanes_of told b) (lanes_of told c) h f
 follows_then s told key outcome.Closed a b c h k f = before_step s (LetGo key) (lanes_of told a) (lanes_of told b) (lanes_of told c) h f
 
-pub unchanged : {S C T : Type 0} (told : S → Option Told) (a b : Open S C T) → b ≡ a → Stays (lanes_of told a) (lanes_of told b)
+pub unchanged : {S C T : Type 0} (told : S → Option Traffic) (a b : Open S C T) → b ≡ a → Stays (lanes_of told a) (lanes_of told b)
 unchanged {S} {C} {T} told a b e = subst (λ (x : Open S C T). Stays (lanes_of told a) (lanes_of told x)) (sym e) (stays (lanes_of told a))
-
--- one is open still, if all stay what they are
-pub open_still : {S C T : Type 0} (key : ℕ) (a b : Open S C T) → StatesStay a b → is_open_at key a ≡ true → is_open_at key b ≡ true
-open_still {S} key a b h e = still (get a.connections key) (get b.connections key) (h.at key) e
-  where
-    still : (slot slot' : Option (Connection S)) → option_map standing_of slot' ≡ option_map standing_of slot → is_some slot ≡ true → is_some slot' ≡ true
-    still slot (Some c) e f = refl
-    still None None e f = f
-    still (Some c) None e f = absurd cc
 
 -- one that is there is open, under a small key
 pub there_open : {S : Type 0} (key number : ℕ) (slot : Option (Connection S)) → option_map_or (λ c. c.number == number && nat_lt key (2 ^ 32)) slot false ≡ true → is_some slot ≡ true
@@ -79,7 +70,7 @@ at_true P Q true e p = p
 at_true P Q false e p = absurd cc
 
 -- one that has time and is there has its turn
-pub serves_one : {S C T : Type 0} (s : CoreSteps C) (told : S → Option Told) (may_wait longs : ℕ → C → Bool) (due : Due) (old new : Open S C T) → has_time longs due old ≡ true → is_there due old ≡ true
+pub serves_one : {S C T : Type 0} (s : CoreSteps C) (told : S → Option Traffic) (may_wait longs : ℕ → C → Bool) (due : Due) (old new : Open S C T) → has_time longs due old ≡ true → is_there due old ≡ true
     → (IsTrue (is_open_at due.key old) → due.key < 2 ^ 32 → TakesTurnAt s told may_wait due.key old new) → ServesOne s told may_wait longs due old new
 serves_one s told may_wait longs due old new t h k =
     at_true (MatchBool (is_there due old) (TakesTurnAt s told may_wait due.key old new) (new ≡ old)) (PutsOff told due old new) (has_time longs due old) t

@@ -1,14 +1,14 @@
 //! What a round does for the administration address.
 ghost use Rattle.std.specs.Prelude.{◌≡◌, ◌-◌, is_some, IsTrue, IsFalse};
 ghost use Rattle.slab.specs.Slab.{get};
-ghost use Rattle.admin_desk.specs.Desks.{BeginsAt};
+ghost use Rattle.admin_connections.specs.Desks.{BeginsAt};
 ghost use Rattle.admin_pages.specs.Standings.{takes_in};
 ghost use Rattle.event_loop.specs.Gauging.{TellsOf, figure_of, usage_in};
 ghost use Rattle.open_connections.specs.Opened.{connected_in};
 ghost use Rattle.open_connections.specs.Shares.{left_of, limit_of};
 
 use crate::rounds::Rounds;
-use admin_desk::PLACES;
+use admin_connections::PLACES;
 use admin_pages::Gauges;
 use open_connections::{Journal, LoopCore};
 use socket_poll::{Accepted, System, Time};
@@ -109,7 +109,7 @@ impl<S: System + Drop, C: LoopCore, T: Time + Drop> Rounds<S, C, T> {
         let (buffered, limit) = self.opened.memory();
         let waiting = self.opened.waiting();
         let (read, written) = self.opened.bytes();
-        let held = self.held();
+        let held = self.held_by_tenants();
         let collections = held.collections;
         let documents = held.documents;
         let texts = held.texts;
@@ -139,7 +139,7 @@ impl<S: System + Drop, C: LoopCore, T: Time + Drop> Rounds<S, C, T> {
     }
 
     // What each tenant holds, in the order of their keys.
-    fn held(&self) -> Held
+    fn held_by_tenants(&self) -> Held
         ensures collections { TellsOf (λ usage. usage.collections) (usage_in C.held self.now.keys.items self.now.opened.core) 256 result.collections }
         ensures documents { TellsOf (λ usage. usage.documents) (usage_in C.held self.now.keys.items self.now.opened.core) 256 result.documents }
         ensures texts { TellsOf (λ usage. usage.bytes) (usage_in C.held self.now.keys.items self.now.opened.core) 256 result.texts }

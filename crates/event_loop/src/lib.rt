@@ -5,11 +5,11 @@
 
 mod administering;
 mod fault;
+mod last_lines;
 mod parting;
 mod rounds;
 mod seconds;
 mod server;
-mod told;
 
 pub use admin_pages::About;
 pub use connection_turns::{Counts, End, Ending, Limits};

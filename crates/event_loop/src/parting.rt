@@ -1,6 +1,6 @@
 //! What a drain does: to connections that come, and to those that are open.
 ghost use Rattle.std.specs.Prelude.{◌≡◌, is_some, IfSome, IsTrue, IsFalse};
-ghost use Rattle.outbox.specs.Told.{IsUnused};
+ghost use Rattle.outbox.specs.Traffic.{IsUnused};
 ghost use Rattle.open_connections.specs.Looping.{Stays, DoesAtMost, LetGo};
 ghost use Rattle.open_connections.specs.Opened.{lanes_of, rests_at};
 ghost use Rattle.open_connections.specs.Woken.{StaysWoken};
@@ -83,7 +83,7 @@ impl<S: System + Drop, C: LoopCore, T: Time + Drop> Rounds<S, C, T> {
     {
         match self.parting() {
             Parting::Served => {}
-            Parting::Leaves => self.part(key, journal),
+            Parting::Leaves => self.part_with(key, journal),
             Parting::Cut => self.cut(key, journal),
         }
     }
@@ -99,7 +99,7 @@ impl<S: System + Drop, C: LoopCore, T: Time + Drop> Rounds<S, C, T> {
     }
 
     // One at rest is closed at once, and any other leaves.
-    fn part<J: Journal>(&mut self, key: usize, journal: &mut J)
+    fn part_with<J: Journal>(&mut self, key: usize, journal: &mut J)
         ensures lanes { DoesAtMost C.steps (LetGo key) (lanes_of S.Stream.told self.old.opened) (lanes_of S.Stream.told self.new.opened) }
         ensures busy { IsFalse (rests_at key self.old.opened) → LeavesAt S.Stream.told key self.old.opened self.new.opened }
         ensures woken { StaysWoken self.old.opened self.new.opened }

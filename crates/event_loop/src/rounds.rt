@@ -1,9 +1,10 @@
 //! The rounds of a loop: each waits for what is ready, takes connections in, and gives turns.
-ghost use Rattle.std.specs.Prelude.{◌≡◌, ◌<◌, ◌^◌, [], ℕ, None, is_some, IfOk, OnOk, IsFalse, IsTrue};
-ghost use Rattle.outbox.specs.Told.{IsUnused};
+ghost use Rattle.std.specs.Prelude.{◌≡◌, ◌<◌, ◌^◌, ◌&&◌, [], ℕ, None, is_some, not, IfOk, IfSome, OnOk, IsFalse, IsTrue};
+ghost use Rattle.outbox.specs.Traffic.{IsUnused};
 ghost use Rattle.open_connections.specs.Looping.{Stays, Does, DoesSome, DoesOn, DoesAtMost, TurnsAtMost, LetGo};
 ghost use Rattle.open_connections.specs.Opened.{lanes_of, connected_in, expiry_at, has_time, is_open_at, is_there, IsPutOff};
-ghost use Rattle.open_connections.specs.Shares.{fresh_budgets};
+ghost use Rattle.open_connections.specs.Joined.{Joined};
+ghost use Rattle.open_connections.specs.Shares.{claim_at, fresh_budgets};
 ghost use Rattle.event_loop.specs.Drains.{parting_of};
 ghost use Rattle.event_loop.specs.Turns.{Follows, GetsTurnAt, GoesRound, ServesOne, TakesTurnAt, TakesTurns};
 ghost use Rattle.open_connections.specs.Turns.{OthersStand, StatesStay};
@@ -11,10 +12,10 @@ ghost use Rattle.open_connections.specs.Woken.{IsWoken, Passes, Serves, StaysWok
 ghost use Rattle.event_loop.specs.Clocked.{IsNoted, IsRead, NotesMoved};
 
 use crate::fault::LoopFault;
+use crate::last_lines::{Holding, LastLines};
 use crate::parting::Parting;
 use crate::seconds::Seconds;
-use crate::told::{Holding, Told};
-use admin_desk::Desk;
+use admin_connections::Desk;
 use connection_turns::{Counts, End, Limits, Outcome};
 use open_connections::{Due, Journal, LoopCore, Open, Totals};
 use socket_poll::{Accepted, Report, System, Time, Woken};
@@ -23,7 +24,7 @@ use std::net::SocketAddr;
 use std::time::Duration;
 
 /// The most connections that are taken in between two waits.
-pub(crate) const ACCEPTS: u32 = 256;
+pub(crate) const ACCEPTS: u32 = 32;
 
 /// The least number of reports that a wait gives where so many connections are ready.
 const REPORTS: usize = 1_024;
@@ -49,7 +50,7 @@ pub(crate) struct Acceptor {
 
 /// Where there is room for one more connection.
 #[derive(Clone, Copy)]
-enum Place {
+enum Room {
     /// Beside those that are open.
     Free,
     /// In the place of the one with this key, which has been idle for long.
@@ -66,7 +67,7 @@ pub(crate) struct Rounds<S: System + Drop, C: LoopCore, T: Time + Drop> {
     pub opened: Open<S::Stream, C, T>,
     pub seconds: Seconds<T>,
     pub limits: Limits,
-    told: Told,
+    told: LastLines,
     // The connections of the administration address.
     pub desk: Desk<S::Stream>,
     // The keys of the tenants that a page of metrics tells of.
@@ -97,6 +98,7 @@ impl<S: System + Drop, C: LoopCore, T: Time + Drop> Rounds<S, C, T> {
         ensures none { IfOk result (λ rounds. (q : ℕ) → (lanes_of S.Stream.told rounds.opened).lines q ≡ None) }
         ensures budgets { IfOk result (λ rounds. rounds.opened.budgets ≡ fresh_budgets limits.memory) }
         ensures woken { IfOk result (λ rounds. IsWoken [] rounds.opened) }
+        ensures joined { IfOk result (λ rounds. Joined (claim_at rounds.opened.connections) rounds.opened.budgets) }
     {
         let opened = Open::new(alloc, turns, core, limits.memory)?;
         Ok(Rounds {
@@ -110,7 +112,7 @@ impl<S: System + Drop, C: LoopCore, T: Time + Drop> Rounds<S, C, T> {
             opened,
             seconds: Seconds::new(seconds),
             limits,
-            told: Told::new(),
+            told: LastLines::new(),
             desk: Desk::new(alloc),
             keys: Vec::new(alloc),
             drained: None,
@@ -220,7 +222,7 @@ impl<S: System + Drop, C: LoopCore, T: Time + Drop> Rounds<S, C, T> {
     {
         let woken = self.system.wait(most)?;
         self.heed(woken);
-        self.note();
+        self.note_reports();
         Ok(())
     }
 
@@ -236,7 +238,9 @@ impl<S: System + Drop, C: LoopCore, T: Time + Drop> Rounds<S, C, T> {
     }
 
     // Whether as many are open as may be.
-    fn is_full(&self) -> bool {
+    fn is_full(&self) -> bool
+        ensures { connected_in self.now.opened < self.now.limits.connections → IsFalse result }
+    {
         self.opened.count() >= self.limits.connections
     }
 
@@ -253,7 +257,7 @@ impl<S: System + Drop, C: LoopCore, T: Time + Drop> Rounds<S, C, T> {
     }
 
     // Notes what was reported.
-    fn note(&mut self)
+    fn note_reports(&mut self)
         ensures lanes { Stays (lanes_of S.Stream.told self.old.opened) (lanes_of S.Stream.told self.new.opened) }
         ensures woken { StaysWoken self.old.opened self.new.opened }
     {
@@ -261,8 +265,8 @@ impl<S: System + Drop, C: LoopCore, T: Time + Drop> Rounds<S, C, T> {
             let Some(report) = self.system.report(number) else {
                 return;
             };
-            if !self.desk.note(report) {
-                self.opened.note(report);
+            if !self.desk.note_report(report) {
+                self.opened.note_report(report);
             }
         }
     }
@@ -272,6 +276,7 @@ impl<S: System + Drop, C: LoopCore, T: Time + Drop> Rounds<S, C, T> {
         ensures lanes { DoesSome C.steps (lanes_of S.Stream.told self.old.opened) (lanes_of S.Stream.told self.new.opened) }
         ensures deaf { IsFalse self.old.acceptor.listens → Stays (lanes_of S.Stream.told self.old.opened) (lanes_of S.Stream.told self.new.opened) }
         ensures woken { StaysWoken self.old.opened self.new.opened }
+        ensures tried { IsTrue self.old.acceptor.listens → IsTrue self.old.acceptor.is_asked → connected_in self.old.opened < self.old.limits.connections → IfSome (S.tried self.new.system) IsTrue }
     {
         self.acceptor.is_refused = false;
         if !self.acceptor.listens {
@@ -284,50 +289,57 @@ impl<S: System + Drop, C: LoopCore, T: Time + Drop> Rounds<S, C, T> {
     fn accept_some<J: Journal>(&mut self, journal: &mut J)
         ensures lanes { DoesSome C.steps (lanes_of S.Stream.told self.old.opened) (lanes_of S.Stream.told self.new.opened) }
         ensures woken { StaysWoken self.old.opened self.new.opened }
+        ensures tried { IsTrue (self.old.acceptor.is_asked && not self.old.acceptor.is_refused) → connected_in self.old.opened < self.old.limits.connections → IfSome (S.tried self.new.system) IsTrue }
     {
-        'accepts: for _ in 0..ACCEPTS {
+        'accepts: for _accepted in 0..ACCEPTS {
             if !self.may_accept() {
                 return;
             }
             let place = self.place();
-            if matches!(place, Place::Full) {
+            if matches!(place, Room::Full) {
                 return;
             }
             self.accept_one(place, journal);
         }
     }
 
-    pub(crate) fn may_accept(&self) -> bool {
+    pub(crate) fn may_accept(&self) -> bool
+        ensures { result ≡ (self.now.acceptor.is_asked && not self.now.acceptor.is_refused) }
+    {
         self.acceptor.is_asked && !self.acceptor.is_refused
     }
 
     // Where there is room for one more.
-    fn place(&mut self) -> Place
+    fn place(&mut self) -> Room
         ensures lanes { Stays (lanes_of S.Stream.told self.old.opened) (lanes_of S.Stream.told self.new.opened) }
         ensures woken { StaysWoken self.old.opened self.new.opened }
+        ensures room { connected_in self.old.opened < self.old.limits.connections → result ≡ Room.Free }
+        ensures tried { S.tried self.new.system ≡ S.tried self.old.system }
     {
         if self.is_full() {
             self.spare()
         } else {
-            Place::Free
+            Room::Free
         }
     }
 
     // That of the one that has been idle longest.
-    fn spare(&mut self) -> Place
+    fn spare(&mut self) -> Room
         ensures lanes { Stays (lanes_of S.Stream.told self.old.opened) (lanes_of S.Stream.told self.new.opened) }
         ensures woken { StaysWoken self.old.opened self.new.opened }
+        ensures tried { S.tried self.new.system ≡ S.tried self.old.system }
     {
         match self.opened.spare(self.seconds.last(), &self.limits) {
-            Some(key) => Place::Idle(key),
-            None => Place::Full,
+            Some(key) => Room::Idle(key),
+            None => Room::Full,
         }
     }
 
     // Accepts one, in this place.
-    fn accept_one<J: Journal>(&mut self, place: Place, journal: &mut J)
+    fn accept_one<J: Journal>(&mut self, place: Room, journal: &mut J)
         ensures lanes { DoesSome C.steps (lanes_of S.Stream.told self.old.opened) (lanes_of S.Stream.told self.new.opened) }
         ensures woken { StaysWoken self.old.opened self.new.opened }
+        ensures tried { IfSome (S.tried self.new.system) IsTrue }
     {
         match self.system.accept() {
             Accepted::Stream(stream, peer) => self.admit(place, stream, peer, journal),
@@ -338,30 +350,32 @@ impl<S: System + Drop, C: LoopCore, T: Time + Drop> Rounds<S, C, T> {
     }
 
     // No descriptor or no memory is left: one that is idle makes room, and where none is, it is tried again after a wait.
-    fn make_room<J: Journal>(&mut self, place: Place, journal: &mut J)
+    fn make_room<J: Journal>(&mut self, place: Room, journal: &mut J)
         ensures lanes { DoesSome C.steps (lanes_of S.Stream.told self.old.opened) (lanes_of S.Stream.told self.new.opened) }
         ensures woken { StaysWoken self.old.opened self.new.opened }
+        ensures tried { S.tried self.new.system ≡ S.tried self.old.system }
     {
         let place = self.instead_of(place);
-        self.acceptor.is_refused = !matches!(place, Place::Idle(_));
+        self.acceptor.is_refused = !matches!(place, Room::Idle(_));
         self.displace(place, journal);
     }
 
     // A place that is not beside those that are open.
-    fn instead_of(&mut self, place: Place) -> Place
+    fn instead_of(&mut self, place: Room) -> Room
         ensures lanes { Stays (lanes_of S.Stream.told self.old.opened) (lanes_of S.Stream.told self.new.opened) }
         ensures woken { StaysWoken self.old.opened self.new.opened }
+        ensures tried { S.tried self.new.system ≡ S.tried self.old.system }
     {
         match place {
-            Place::Free => self.spare(),
-            Place::Idle(_) | Place::Full => place,
+            Room::Free => self.spare(),
+            Room::Idle(_) | Room::Full => place,
         }
     }
 
     // Takes a connection in, once the one in whose place it comes is closed.
     fn admit<J: Journal>(
         &mut self,
-        place: Place,
+        place: Room,
         stream: S::Stream,
         peer: SocketAddr,
         journal: &mut J,
@@ -369,19 +383,21 @@ impl<S: System + Drop, C: LoopCore, T: Time + Drop> Rounds<S, C, T> {
         requires { IsUnused (S.Stream.told stream) }
         ensures lanes { DoesSome C.steps (lanes_of S.Stream.told self.old.opened) (lanes_of S.Stream.told self.new.opened) }
         ensures woken { StaysWoken self.old.opened self.new.opened }
+        ensures tried { S.tried self.new.system ≡ S.tried self.old.system }
     {
         self.displace(place, journal);
         self.take_in(stream, peer);
     }
 
     // Closes one that makes room.
-    fn displace<J: Journal>(&mut self, place: Place, journal: &mut J)
+    fn displace<J: Journal>(&mut self, place: Room, journal: &mut J)
         ensures lanes { DoesSome C.steps (lanes_of S.Stream.told self.old.opened) (lanes_of S.Stream.told self.new.opened) }
         ensures woken { StaysWoken self.old.opened self.new.opened }
+        ensures tried { S.tried self.new.system ≡ S.tried self.old.system }
     {
         match place {
-            Place::Idle(key) => self.finish(key, End::Displaced, journal),
-            Place::Free | Place::Full => {}
+            Room::Idle(key) => self.finish(key, End::Displaced, journal),
+            Room::Free | Room::Full => {}
         }
     }
 
@@ -390,6 +406,7 @@ impl<S: System + Drop, C: LoopCore, T: Time + Drop> Rounds<S, C, T> {
         requires { IsUnused (S.Stream.told stream) }
         ensures lanes { DoesSome C.steps (lanes_of S.Stream.told self.old.opened) (lanes_of S.Stream.told self.new.opened) }
         ensures woken { StaysWoken self.old.opened self.new.opened }
+        ensures tried { S.tried self.new.system ≡ S.tried self.old.system }
     {
         let Some(key) = self.opened.vacant() else {
             return;
@@ -405,6 +422,7 @@ impl<S: System + Drop, C: LoopCore, T: Time + Drop> Rounds<S, C, T> {
         requires { IsUnused (S.Stream.told stream) }
         ensures lanes { DoesSome C.steps (lanes_of S.Stream.told self.old.opened) (lanes_of S.Stream.told self.new.opened) }
         ensures woken { StaysWoken self.old.opened self.new.opened }
+        ensures tried { S.tried self.new.system ≡ S.tried self.old.system }
     {
         let number = self.acceptor.taken;
         let is_taken = self
@@ -475,12 +493,12 @@ impl<S: System + Drop, C: LoopCore, T: Time + Drop> Rounds<S, C, T> {
         ensures woken { TakesOff key self.old.opened self.new.opened }
     {
         let (outcome, has_moved) = self.opened.turn(key, self.seconds.last());
-        self.mark(key, has_moved);
+        self.mark_moved(key, has_moved);
         outcome
     }
 
     // If bytes moved on a connection, notes when.
-    fn mark(&mut self, key: usize, has_moved: bool)
+    fn mark_moved(&mut self, key: usize, has_moved: bool)
         ensures lanes { Stays (lanes_of S.Stream.told self.old.opened) (lanes_of S.Stream.told self.new.opened) }
         ensures ready { StatesStay self.old.opened self.new.opened }
         ensures clock { IsTrue has_moved → IsNoted key self.new.opened self.new.seconds.counted self.new.seconds.last }
@@ -492,7 +510,7 @@ impl<S: System + Drop, C: LoopCore, T: Time + Drop> Rounds<S, C, T> {
             return;
         }
         let now = self.seconds.read_behind(self.opened.bytes());
-        self.opened.mark(key, now);
+        self.opened.mark_moved(key, now);
     }
 
     // What follows from a turn.
@@ -541,6 +559,7 @@ impl<S: System + Drop, C: LoopCore, T: Time + Drop> Rounds<S, C, T> {
         ensures others { OthersStand key self.old.opened self.new.opened }
         ensures closes { IsTrue (is_open_at key self.old.opened) → key < 2 ^ 32 → Does C.steps (LetGo key) (lanes_of S.Stream.told self.old.opened) (lanes_of S.Stream.told self.new.opened) }
         ensures woken { Wakes key self.old.opened self.new.opened }
+        ensures tried { S.tried self.new.system ≡ S.tried self.old.system }
     {
         self.tell_end(key, how, journal);
         match how {
@@ -561,6 +580,7 @@ impl<S: System + Drop, C: LoopCore, T: Time + Drop> Rounds<S, C, T> {
         ensures others { OthersStand key self.old.opened self.new.opened }
         ensures closes { IsTrue (is_open_at key self.old.opened) → key < 2 ^ 32 → Does C.steps (LetGo key) (lanes_of S.Stream.told self.old.opened) (lanes_of S.Stream.told self.new.opened) }
         ensures woken { Wakes key self.old.opened self.new.opened }
+        ensures tried { S.tried self.new.system ≡ S.tried self.old.system }
     {
         self.opened.linger(key, self.seconds.last());
     }
@@ -570,6 +590,7 @@ impl<S: System + Drop, C: LoopCore, T: Time + Drop> Rounds<S, C, T> {
         ensures others { OthersStand key self.old.opened self.new.opened }
         ensures closes { IsTrue (is_open_at key self.old.opened) → key < 2 ^ 32 → Does C.steps (LetGo key) (lanes_of S.Stream.told self.old.opened) (lanes_of S.Stream.told self.new.opened) }
         ensures woken { Wakes key self.old.opened self.new.opened }
+        ensures tried { S.tried self.new.system ≡ S.tried self.old.system }
     {
         self.opened.close(key, self.seconds.last());
     }
@@ -583,7 +604,7 @@ impl<S: System + Drop, C: LoopCore, T: Time + Drop> Rounds<S, C, T> {
             return;
         }
         self.tick(journal);
-        self.tell(journal);
+        self.tell_journal(journal);
     }
 
     // Closes the connections whose time is up.
@@ -617,13 +638,13 @@ impl<S: System + Drop, C: LoopCore, T: Time + Drop> Rounds<S, C, T> {
         ensures woken { StaysWoken self.old.opened self.new.opened }
     {
         if !self.opened.rests(key) {
-            self.opened.note(room_at(key));
+            self.opened.note_report(room_at(key));
         }
         self.drain(key, journal);
     }
 
     // Tells the journal what there is to tell.
-    fn tell<J: Journal>(&mut self, journal: &mut J)
+    fn tell_journal<J: Journal>(&mut self, journal: &mut J)
         ensures lanes { Stays (lanes_of S.Stream.told self.old.opened) (lanes_of S.Stream.told self.new.opened) }
         ensures woken { StaysWoken self.old.opened self.new.opened }
     {
@@ -634,7 +655,7 @@ impl<S: System + Drop, C: LoopCore, T: Time + Drop> Rounds<S, C, T> {
         };
         let totals = self.totals();
         self.told
-            .tell(self.seconds.last(), &holding, &totals, journal);
+            .tell_lines(self.seconds.last(), &holding, &totals, journal);
     }
 }
 

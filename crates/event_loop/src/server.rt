@@ -1,6 +1,6 @@
 //! A server of many connections.
 ghost use Rattle.std.specs.Prelude.{◌≡◌, ℕ, None, is_some, OnOk, IfOk, IsTrue, IsFalse};
-ghost use Rattle.event_loop.specs.Servers.{GivesTurns, GoesSomeRounds, IsOver, NobodyIsForgotten, StaysDeaf, lanes_in};
+ghost use Rattle.event_loop.specs.Servers.{AreJoined, GivesTurns, GoesSomeRounds, IsOver, NobodyIsForgotten, StaysDeaf, lanes_in};
 ghost use Rattle.open_connections.specs.Looping.{DoesSome};
 ghost use Rattle.open_connections.specs.Shares.{fresh_budgets, limits_in, IsWithin};
 
@@ -16,9 +16,10 @@ use std::marker::Model;
 use std::net::{Net, SocketAddr};
 use std::time::Clock;
 
-/// A server of many connections. Its value has whether it takes in connections, the grace of a drain that was asked for, its limits, and the budgets of
-/// memory. It has the core, with the bytes that each served connection is owed. It also has the bytes that moved on each stream, as far as that shows them.
-/// It also has how many connections are open and were accepted, and how many bytes were read and written.
+/// A server of many connections. Its value has whether it takes in connections, the grace of a drain that was asked for, and its limits. It has the
+/// budgets of memory, with what each connection claims of them. It has the core, with the bytes that each served connection is owed. It also has the
+/// bytes that moved on each stream, as far as that shows them. It also has how many connections are open and were accepted, and how many bytes were
+/// read and written.
 #[derive(Drop)]
 pub struct Server<S: System + Drop, C: LoopCore, T: Time + Drop> {
     rounds: Rounds<S, C, T>,
@@ -26,12 +27,12 @@ pub struct Server<S: System + Drop, C: LoopCore, T: Time + Drop> {
 
 impl<S: System + Drop, C: LoopCore, T: Time + Drop> Model for Server<S, C, T> {
     ghost use Rattle.event_loop.specs.Servers.{Serving};
-    ghost use Rattle.open_connections.specs.Opened.{listed, shown, connected_in};
+    ghost use Rattle.open_connections.specs.Opened.{claimed, listed, shown, connected_in};
     ghost use Rattle.event_loop.specs.Seats.{seats_of, turns_of};
 
     ghost Value = { Serving C };
 
-    ghost view = { λ s. record { listens = s.rounds.acceptor.listens; grace = s.rounds.desk.standing.grace; connected = connected_in s.rounds.opened; taken = s.rounds.acceptor.taken; read = s.rounds.opened.read; written = s.rounds.opened.written; limits = s.rounds.limits; budgets = s.rounds.opened.budgets; core = s.rounds.opened.core; lines = listed s.rounds.opened.connections; wires = shown S.Stream.told s.rounds.opened.connections; seats = seats_of s.rounds.opened.connections; turns = turns_of s.rounds.opened; bound = s.rounds.opened.bound; has_missed = s.rounds.opened.has_missed } };
+    ghost view = { λ s. record { listens = s.rounds.acceptor.listens; grace = s.rounds.desk.standing.grace; connected = connected_in s.rounds.opened; taken = s.rounds.acceptor.taken; read = s.rounds.opened.read; written = s.rounds.opened.written; limits = s.rounds.limits; budgets = s.rounds.opened.budgets; core = s.rounds.opened.core; lines = listed s.rounds.opened.connections; wires = shown S.Stream.told s.rounds.opened.connections; claims = claimed s.rounds.opened.connections; seats = seats_of s.rounds.opened.connections; turns = turns_of s.rounds.opened; bound = s.rounds.opened.bound; has_missed = s.rounds.opened.has_missed } };
 }
 
 impl<'r, R: Net + Clock + AllocGlobal, C: LoopCore> Server<Sockets, C, Since<'r, R>> {
@@ -54,6 +55,7 @@ impl<'r, R: Net + Clock + AllocGlobal, C: LoopCore> Server<Sockets, C, Since<'r,
         ensures none { IfOk result (λ server. (q : ℕ) → (lanes_in server).lines q ≡ None) }
         ensures budgets { IfOk result (λ server. server.budgets ≡ fresh_budgets limits.memory) }
         ensures woken { IfOk result (λ server. NobodyIsForgotten server) }
+        ensures joined { IfOk result (λ server. AreJoined server) }
     {
         let time = Since::new(rt)?;
         let system = Sockets::bind(rt, rt.alloc(), addr)?;
@@ -102,6 +104,7 @@ impl<S: System + Drop, C: LoopCore, T: Time + Drop> Server<S, C, T> {
         ensures none { IfOk result (λ server. (q : ℕ) → (lanes_in server).lines q ≡ None) }
         ensures budgets { IfOk result (λ server. server.budgets ≡ fresh_budgets limits.memory) }
         ensures woken { IfOk result (λ server. NobodyIsForgotten server) }
+        ensures joined { IfOk result (λ server. AreJoined server) }
     {
         let rounds = Rounds::new(alloc, system, seconds, turns, core, limits)?;
         Ok(Server { rounds })
@@ -148,6 +151,7 @@ impl<S: System + Drop, C: LoopCore, T: Time + Drop> Server<S, C, T> {
         ensures rounds { OnOk result (GoesSomeRounds S.Stream T C.steps S.Stream.told C.may_wait C.longs self.old self.new) }
         ensures deaf { IsFalse self.old.listens → StaysDeaf self.old self.new }
         ensures limits { limits_in self.new.budgets ≡ limits_in self.old.budgets }
+        ensures joined { AreJoined self.old → AreJoined self.new }
         ensures within { IsWithin self.new.budgets }
     {
         let done = self.run(journal);
@@ -200,6 +204,7 @@ impl<S: System + Drop, C: LoopCore, T: Time + Drop> Server<S, C, T> {
         ensures turns { OnOk result (GivesTurns S.Stream T C.steps S.Stream.told C.may_wait C.longs self.old self.new) }
         ensures woken { NobodyIsForgotten self.old → OnOk result (NobodyIsForgotten self.new) }
         ensures limits { limits_in self.new.budgets ≡ limits_in self.old.budgets }
+        ensures joined { AreJoined self.old → AreJoined self.new }
         ensures within { IsWithin self.new.budgets }
     {
         let done = self.round(journal);

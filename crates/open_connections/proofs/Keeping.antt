@@ -1,15 +1,28 @@
 -- What stays so of each connection.
-use Rattle.std.proofs.Common.{◌≡◌, ℕ, Bool, true, false, Option, Some, None, Result, Ok, Err, sym, ap, ◌∙◌, refl, subst}
-use Rattle.std.specs.Prelude.{◌==◌, IfOk, IfSome, IsTrue, is_some, if◌then◌else◌}
+use Rattle.std.proofs.Common.{◌≡◌, ◌≤◌, arith, min, ℕ, Bool, true, false, Option, Some, None, Result, Ok, Err, sym, ap, ◌∙◌, refl, subst}
+use Rattle.std.specs.Prelude.{◌==◌, ◌&&◌, nat_le, IfOk, IfSome, IsTrue, is_some, if◌then◌else◌}
 use Rattle.std.specs.Option.{option_and_then, option_map}
 use Rattle.slab.specs.Slab.{Slab, get, with_value, Updates}
+use Rattle.std.proofs.lemmas.Bool.Decides.{nat_tests}
+use Rattle.memory_budget.specs.declared.share.Grant.TheVariants.{Granted, Waits}
+use Rattle.memory_budget.specs.States.{State, at_once}
+use Rattle.connection_turns.specs.Held.{covers_in}
 use Rattle.connection_turns.specs.Planning.{granted}
+use Rattle.connection_turns.specs.declared.claim.Need.{Need}
+use Rattle.connection_turns.specs.declared.claim.Pool.{Pool}
+use Rattle.connection_turns.specs.declared.claim.Pool.TheVariants.{Tenants}
+use Rattle.connection_turns.specs.declared.claim.Purpose.{Purpose}
+use Rattle.connection_turns.specs.declared.claim.Purpose.TheVariants as purpose
+use Rattle.open_connections.specs.Joined.{claim_asked, claim_by, most_in, within}
+use Rattle.open_connections.specs.Shares.{in_pool, is_covered}
+use Rattle.open_connections.specs.declared.budgets.Budgets.{Budgets}
 use Rattle.connection_turns.specs.declared.claim.Claim.{Claim}
 use Rattle.connection_turns.specs.declared.connection.Connection.{Connection}
 use Rattle.outbox.specs.declared.readiness.Readiness.{Readiness}
 use Rattle.connection_turns.specs.declared.connection.Phase.{Phase}
 use Rattle.open_connections.specs.declared.open.Open.{Open}
-use Rattle.open_connections.specs.Turns.{Keep, OthersStand, StatesStay, is_queued_in, number_at, standing_of}
+use Rattle.open_connections.specs.Opened.{is_open_at}
+use Rattle.open_connections.specs.Turns.{Keep, OthersStand, StatesStay, asked_by, is_held_in, is_queued_in, number_at, standing_of}
 use Rattle.open_connections.proofs.Steps.{everywhere, written}
 
 pub keep_same : {S A : Type 0} (of : Connection S → A) (slab : Slab (Connection S)) → Keep of slab slab
@@ -31,13 +44,78 @@ pub alike : {A B C : Type 0} {a a' : A} {b b' : B} {c c' : C} → a' ≡ a → b
 alike e f g = cc
 
 -- a grant leaves what is asked for
-picked_some : (b : Bool) (x y : Claim) → is_some (if b then Some x else Some y) ≡ true
-picked_some true x y = refl
-picked_some false x y = refl
+picked_alike : (b : Bool) (x y : Claim) → asked_by x ≡ asked_by y → option_map asked_by (if b then Some x else Some y) ≡ Some (asked_by y)
+picked_alike true x y e = ap (λ (z : Claim). Some z) e
+picked_alike false x y e = refl
 
-pub granted_some : (ticket now : ℕ) (claim : Option Claim) → is_some (granted ticket now claim) ≡ is_some claim
-granted_some ticket now None = refl
-granted_some ticket now (Some claim) = picked_some (claim.ticket == ticket) (record claim { is_granted = true; since = now }) claim
+pub granted_alike : (ticket now : ℕ) (claim claim' : Option Claim) → claim' ≡ granted ticket now claim → option_map asked_by claim' ≡ option_map asked_by claim
+granted_alike ticket now claim claim' e = ap (λ (x : Option Claim). option_map asked_by x) e ∙ alike_so claim
+  where
+    alike_so : (claim : Option Claim) → option_map asked_by (granted ticket now claim) ≡ option_map asked_by claim
+    alike_so None = refl
+    alike_so (Some claim) = picked_alike (claim.ticket == ticket) (record claim { is_granted = true; since = now }) claim refl
+
+pub some_still : {S : Type 0} (slot slot' : Option (Connection S)) → option_map (λ c. option_map asked_by c.claim) slot' ≡ option_map (λ c. option_map asked_by c.claim) slot → option_map (λ c. is_some c.claim) slot ≡ Some true → option_map (λ c. is_some c.claim) slot' ≡ Some true
+some_still None slot' e h = absurd cc
+some_still (Some c) None e h = absurd cc
+some_still (Some c) (Some d) e h =
+    let same : option_map asked_by d.claim ≡ option_map asked_by c.claim = cc in
+    let was : is_some c.claim ≡ true = cc in
+    ap (λ (x : Bool). Some x) (as_some d.claim c.claim same was)
+  where
+    as_some : (x y : Option Claim) → option_map asked_by x ≡ option_map asked_by y → is_some y ≡ true → is_some x ≡ true
+    as_some (Some x) y e h = refl
+    as_some None None e h = h
+    as_some None (Some y) e h = absurd cc
+
+-- ---- What a claim covers
+
+pub claims_at : {S : Type 0} (slot slot' : Option (Connection S)) → option_map (λ c. option_map asked_by c.claim) slot' ≡ option_map (λ c. option_map asked_by c.claim) slot
+    → option_map asked_by (option_and_then (λ c. c.claim) slot') ≡ option_map asked_by (option_and_then (λ c. c.claim) slot)
+claims_at None None e = refl
+claims_at None (Some c) e = absurd cc
+claims_at (Some c) None e = absurd cc
+claims_at (Some c) (Some d) e = cc
+
+pub held_covers : (x y : Option Claim) (reply : ℕ) → option_map asked_by x ≡ option_map asked_by y → is_held_in x ≡ true → IfSome y (λ claim. covers_in claim.purpose claim.bytes reply ≡ true) → is_covered x reply ≡ true
+held_covers None y reply e h k = absurd cc
+held_covers (Some c) None reply e h k = absurd cc
+held_covers (Some c) (Some d) reply e h k =
+    let same : asked_by c ≡ asked_by d = cc in
+    let covers : covers_in c.purpose c.bytes reply ≡ true = ap (λ (z : Claim). covers_in z.purpose z.bytes reply) same ∙ k in
+    ap (λ (b : Bool). b && covers_in c.purpose c.bytes reply) h ∙ covers
+
+less_fits : (reply most bytes : ℕ) → nat_le reply bytes ≡ true → nat_le (min reply most) bytes ≡ true
+less_fits reply most bytes e = grind (arith, nat_tests)
+
+less_covers : (purpose : Purpose) (bytes reply most : ℕ) → covers_in purpose bytes reply ≡ true → covers_in purpose bytes (min reply most) ≡ true
+less_covers purpose.Frame bytes reply most e = refl
+less_covers purpose.Reply bytes reply most e = less_fits reply most bytes e
+less_covers purpose.Written bytes reply most e = e
+
+pub covered_less : (claim : Option Claim) (reply most : ℕ) → is_covered claim reply ≡ true → is_covered claim (min reply most) ≡ true
+covered_less None reply most e = less_fits reply most 16384 e
+covered_less (Some claim) reply most e = both claim.is_granted (covers_in claim.purpose claim.bytes reply) (covers_in claim.purpose claim.bytes (min reply most)) (less_covers claim.purpose claim.bytes reply most) e
+  where
+    both : (g x y : Bool) → (x ≡ true → y ≡ true) → (g && x) ≡ true → (g && y) ≡ true
+    both true x y f e = f e
+    both false x y f e = absurd cc
+
+asked_fits : (reply most limit : ℕ) → most ≤ limit → nat_le (min reply most) (min reply limit) ≡ true
+asked_fits reply most limit l = grind (arith, nat_tests)
+
+-- the claim of one that asks for a reply
+pub asked_covers : (need : Need) (now : ℕ) (budgets : Budgets) (most : ℕ) (claim : Claim) → most ≤ most_in budgets → need.pool ≡ Tenants → need.purpose ≡ purpose.Reply → claim ≡ claim_asked need now (in_pool need.pool budgets) → covers_in claim.purpose claim.bytes (min need.bytes most) ≡ true
+asked_covers need now budgets most claim l t r e =
+    let s : State = budgets.tenants in
+    let same : claim ≡ claim_asked need now s = e ∙ ap (λ (p : Pool). claim_asked need now (in_pool p budgets)) t in
+    ap (λ (z : Claim). covers_in z.purpose z.bytes (min need.bytes most)) same ∙ by_answer (at_once s need.party (within need s).bytes)
+    ∙ ap (λ (p : Purpose). covers_in p (within need s).bytes (min need.bytes most)) r ∙ asked_fits need.bytes most (most_in budgets) l
+  where
+    by_answer : (b : Bool) → covers_in (claim_by (within need budgets.tenants) (if b then Granted budgets.tenants.next else Waits budgets.tenants.next) now).purpose (claim_by (within need budgets.tenants) (if b then Granted budgets.tenants.next else Waits budgets.tenants.next) now).bytes (min need.bytes most)
+        ≡ covers_in need.purpose (within need budgets.tenants).bytes (min need.bytes most)
+    by_answer true = refl
+    by_answer false = refl
 
 -- a share that is not held is waited for
 pub queued_so : {S : Type 0} (slot : Option (Connection S)) → option_map (λ c. is_some c.claim) slot ≡ Some true
@@ -59,6 +137,19 @@ some_map P Q (Some x) f h = f h
 pub ok_map : {A E : Type 0} (P Q : A → Type 0) (r : Result A E) → ((x : A) → P x → Q x) → IfOk r P → IfOk r Q
 ok_map P Q (Ok x) f h = f x h
 ok_map P Q (Err e) f h = tt
+
+-- one is open just if it was, if all stay what they are
+pub open_alike : {S C T : Type 0} (key : ℕ) (a b : Open S C T) → StatesStay a b → is_open_at key b ≡ is_open_at key a
+open_alike {S} key a b h = still (get a.connections key) (get b.connections key) (h.at key)
+  where
+    still : (slot slot' : Option (Connection S)) → option_map standing_of slot' ≡ option_map standing_of slot → is_some slot' ≡ is_some slot
+    still None None e = refl
+    still None (Some c) e = absurd cc
+    still (Some c) None e = absurd cc
+    still (Some c) (Some d) e = refl
+
+pub open_still : {S C T : Type 0} (key : ℕ) (a b : Open S C T) → StatesStay a b → is_open_at key a ≡ true → is_open_at key b ≡ true
+open_still key a b h e = open_alike key a b h ∙ e
 
 -- ---- What becomes of the others
 

@@ -1,6 +1,7 @@
 pub mod Looping
 pub mod Steps
 pub mod Shares
+pub mod Joined
 pub mod Turns
 pub mod Keeping
 pub mod Waking

@@ -1,27 +1,32 @@
 -- What a change of one connection comes to.
 use Rattle.std.proofs.Common.{◌≡◌, ◌≢◌, ◌⊎◌, ℕ, List, [], ◌∷◌, Option, Some, None, sym, ap, ◌∙◌, refl, subst, inl, inr}
 use Rattle.std.specs.Prelude.{◌==◌, is_some, slice_index_or}
-use Rattle.std.specs.Option.{option_and_then}
+use Rattle.std.specs.Option.{option_and_then, option_map}
 use Rattle.std.proofs.lemmas.Bool.{cases_Bool, eqb-true, eqb-false}
 use Rattle.slab.specs.Slab.{Slab, get, with_value, Updates}
 use Rattle.slab.proofs.SlabLemmas.{Updates-with_value}
 use Rattle.std.proofs.Math.ListN.{get_or-map}
 use Rattle.connection_turns.specs.declared.connection.Connection.{Connection}
 use Rattle.outbox.specs.Lines.{Line, Event, Readable, Declined, Answered, Writable, Ends, Fails, Worked, after}
-use Rattle.outbox.specs.Told.{Told}
+use Rattle.outbox.specs.Traffic.{Traffic}
 use Rattle.outbox.specs.Turns.{DoesAll}
 use Rattle.connection_turns.specs.Cores.{CoreSteps}
 use Rattle.open_connections.specs.Looping.{Lanes, LetGo, Does, OthersStay, Stays}
 use Rattle.connection_turns.specs.Owed.{line_of, wire_of}
-use Rattle.open_connections.specs.Opened.{lines_in, wires_in, listed, shown}
+use Rattle.connection_turns.specs.declared.claim.Claim.{Claim}
+use Rattle.open_connections.specs.declared.budgets.Budgets.{Budgets}
+use Rattle.open_connections.specs.Joined.{Joined}
+use Rattle.open_connections.specs.Opened.{lines_in, wires_in, claimed, listed, shown}
+use Rattle.open_connections.specs.Shares.{claim_at, limits_in}
+use Rattle.open_connections.proofs.Joined.{claim_is, joined_alike, part_of, same_joined}
 
-abbrev pub lanes : {S C : Type 0} → (S → Option Told) → (limits bytes : ℕ × ℕ) → C → Slab (Connection S) → Lanes C
-lanes told limits bytes core slab = record { core = core; lines = lines_in slab; wires = wires_in told slab; limits = limits; bytes = bytes }
+abbrev pub lanes : {S C : Type 0} → (S → Option Traffic) → (budgets : Budgets) (bytes : ℕ × ℕ) → C → Slab (Connection S) → Lanes C
+lanes told budgets bytes core slab = record { core = core; lines = lines_in slab; wires = wires_in told slab; claims = claim_at slab; budgets = budgets; bytes = bytes }
 
 pub line_at : {S : Type 0} (x y : Option (Connection S)) → x ≡ y → option_and_then (λ c. line_of c) x ≡ option_and_then (λ c. line_of c) y
 line_at {S} x y e = ap (λ (z : Option (Connection S)). option_and_then (λ c. line_of c) z) e
 
-pub wire_at : {S : Type 0} (told : S → Option Told) (x y : Option (Connection S)) → x ≡ y → option_and_then (λ c. wire_of told c) x ≡ option_and_then (λ c. wire_of told c) y
+pub wire_at : {S : Type 0} (told : S → Option Traffic) (x y : Option (Connection S)) → x ≡ y → option_and_then (λ c. wire_of told c) x ≡ option_and_then (λ c. wire_of told c) y
 wire_at {S} told x y e = ap (λ (z : Option (Connection S)). option_and_then (λ c. wire_of told c) z) e
 
 -- a write to one that is there
@@ -35,26 +40,34 @@ everywhere {A} key f g here there q = elim (cases_Bool (q == key)) [
   | inr e ↦ there q (eqb-false q key e)
 ]
 
-pub others_stay : {S C : Type 0} (told : S → Option Told) (limits bytes bytes' : ℕ × ℕ) (core core' : C) (slab slab' : Slab (Connection S)) (key : ℕ) (slot : Option (Connection S)) → Updates slab slab' key slot
-    → OthersStay key (lanes told limits bytes core slab) (lanes told limits bytes' core' slab')
-others_stay told limits bytes bytes' core core' slab slab' key slot u = record {
+pub others_stay : {S C : Type 0} (told : S → Option Traffic) (budgets : Budgets) (bytes bytes' : ℕ × ℕ) (core core' : C) (slab slab' : Slab (Connection S)) (key : ℕ) (slot : Option (Connection S)) → Updates slab slab' key slot → (Joined (claim_at slab) budgets → Joined (claim_at slab') budgets)
+    → OthersStay key (lanes told budgets bytes core slab) (lanes told budgets bytes' core' slab')
+others_stay told budgets bytes bytes' core core' slab slab' key slot u j = record {
   lines_stay = λ q e. line_at (get slab' q) (get slab q) (u.others q e);
   wires_stay = λ q e. wire_at told (get slab' q) (get slab q) (u.others q e);
   limits_stay = refl;
+  joined = j;
 }
 
-pub stays_at : {S C : Type 0} (told : S → Option Told) (limits bytes : ℕ × ℕ) (core : C) (slab : Slab (Connection S)) (key : ℕ) (c c' : Connection S) → get slab key ≡ Some c → line_of c' ≡ line_of c → wire_of told c' ≡ wire_of told c
-    → Stays (lanes told limits bytes core slab) (lanes told limits bytes core (with_value slab key c'))
-stays_at {S} {C} told limits bytes core slab key c c' h l w =
+-- a connection and the budgets change, and nothing of that but what belongs together
+pub stays_with : {S C : Type 0} (told : S → Option Traffic) (budgets budgets' : Budgets) (bytes : ℕ × ℕ) (core : C) (slab : Slab (Connection S)) (key : ℕ) (c c' : Connection S) → get slab key ≡ Some c → line_of c' ≡ line_of c → wire_of told c' ≡ wire_of told c
+    → limits_in budgets' ≡ limits_in budgets → (Joined (claim_at slab) budgets → Joined (claim_at (with_value slab key c')) budgets') → Stays (lanes told budgets bytes core slab) (lanes told budgets' bytes core (with_value slab key c'))
+stays_with {S} {C} told budgets budgets' bytes core slab key c c' h l w m j =
     let slab' : Slab (Connection S) = with_value slab key c' in
     let u : Updates slab slab' key (Some c') = written slab key c c' h in
-    let o = others_stay told limits bytes bytes core core slab slab' key (Some c') u in record {
+    record {
       core_stays = refl;
-      limits_stay = refl;
+      limits_stay = m;
+      joined = j;
       bytes_stay = refl;
-      lines_stay = everywhere key (lines_in slab') (lines_in slab) (line_at (get slab' key) (Some c') u.changed ∙ l ∙ sym (line_at (get slab key) (Some c) h)) o.lines_stay;
-      wires_stay = everywhere key (wires_in told slab') (wires_in told slab) (wire_at told (get slab' key) (Some c') u.changed ∙ w ∙ sym (wire_at told (get slab key) (Some c) h)) o.wires_stay;
+      lines_stay = everywhere key (lines_in slab') (lines_in slab) (line_at (get slab' key) (Some c') u.changed ∙ l ∙ sym (line_at (get slab key) (Some c) h)) (λ q n. line_at (get slab' q) (get slab q) (u.others q n));
+      wires_stay = everywhere key (wires_in told slab') (wires_in told slab) (wire_at told (get slab' key) (Some c') u.changed ∙ w ∙ sym (wire_at told (get slab key) (Some c) h)) (λ q n. wire_at told (get slab' q) (get slab q) (u.others q n));
     }
+
+-- its share stays what it is
+pub stays_at : {S C : Type 0} (told : S → Option Traffic) (budgets : Budgets) (bytes : ℕ × ℕ) (core : C) (slab : Slab (Connection S)) (key : ℕ) (c c' : Connection S) → get slab key ≡ Some c → line_of c' ≡ line_of c → wire_of told c' ≡ wire_of told c
+    → option_map part_of c'.claim ≡ option_map part_of c.claim → Stays (lanes told budgets bytes core slab) (lanes told budgets bytes core (with_value slab key c'))
+stays_at told budgets bytes core slab key c c' h l w e = stays_with told budgets budgets bytes core slab key c c' h l w refl (same_joined slab (with_value slab key c') key (Some c') (written slab key c c' h) budgets (e ∙ ap (λ (x : Option Claim). option_map part_of x) (sym (claim_is slab key c c.claim h refl))))
 
 -- what a core that is counted has done, as a step has it
 pub does_all : {C : Type 0} (s : CoreSteps C) (conn : ℕ) (takes answers : C → List ℕ → C → Type 0) → ((old : C) (piece : List ℕ) (new : C) → takes old piece new → s.takes conn old piece new)
@@ -70,15 +83,15 @@ does_all s conn takes answers t a line (Fails ∷ es) old new d = (d.0, d.1, doe
 does_all s conn takes answers t a line (Worked ∷ es) old new d = (d.0, d.1, does_all s conn takes answers t a line es d.0 new d.2)
 
 -- one that is served no further: still there, with what moved so far, or gone
-pub gone_steps : {S C : Type 0} (s : CoreSteps C) (told : S → Option Told) (limits bytes : ℕ × ℕ) (core core' : C) (slab slab' : Slab (Connection S)) (key conn : ℕ) (slot : Option (Connection S)) → conn ≡ key → Updates slab slab' key slot
-    → option_and_then (λ c. line_of c) slot ≡ None → (option_and_then (λ c. wire_of told c) slot ≡ None) ⊎ (option_and_then (λ c. wire_of told c) slot ≡ wires_in told slab key) → s.closes conn core core' → Does s (LetGo key) (lanes told limits bytes core slab) (lanes told limits bytes core' slab')
-gone_steps {S} {C} s told limits bytes core core' slab slab' key conn slot n u h w k =
+pub gone_steps : {S C : Type 0} (s : CoreSteps C) (told : S → Option Traffic) (budgets : Budgets) (bytes : ℕ × ℕ) (core core' : C) (slab slab' : Slab (Connection S)) (key conn : ℕ) (slot : Option (Connection S)) → conn ≡ key → Updates slab slab' key slot
+    → option_and_then (λ c. line_of c) slot ≡ None → (option_and_then (λ c. wire_of told c) slot ≡ None) ⊎ (option_and_then (λ c. wire_of told c) slot ≡ wires_in told slab key) → s.closes conn core core' → (Joined (claim_at slab) budgets → Joined (claim_at slab') budgets) → Does s (LetGo key) (lanes told budgets bytes core slab) (lanes told budgets bytes core' slab')
+gone_steps {S} {C} s told budgets bytes core core' slab slab' key conn slot n u h w k j =
     let at : wires_in told slab' key ≡ option_and_then (λ c. wire_of told c) slot = wire_at told (get slab' key) slot u.changed in
     record {
       closes = subst (λ (m : ℕ). s.closes m core core') n k;
       is_gone = line_at (get slab' key) slot u.changed ∙ h;
       wire_stays = elim w [ inl e ↦ inl (at ∙ e) | inr e ↦ inr (at ∙ e) ];
-      others = others_stay told limits bytes bytes core core' slab slab' key slot u;
+      others = others_stay told budgets bytes bytes core core' slab slab' key slot u j;
       bytes_stay = refl;
     }
 
@@ -86,14 +99,17 @@ gone_steps {S} {C} s told limits bytes core core' slab slab' key conn slot n u h
 pub listed_at : {S : Type 0} (slab : Slab (Connection S)) (q : ℕ) → slice_index_or (listed slab) q None ≡ lines_in slab q
 listed_at {S} slab q = get_or-map (λ (slot : Option (Connection S)). option_and_then (λ c. line_of c) slot) slab.slots q None
 
-pub shown_at : {S : Type 0} (told : S → Option Told) (slab : Slab (Connection S)) (q : ℕ) → slice_index_or (shown told slab) q None ≡ wires_in told slab q
+pub shown_at : {S : Type 0} (told : S → Option Traffic) (slab : Slab (Connection S)) (q : ℕ) → slice_index_or (shown told slab) q None ≡ wires_in told slab q
 shown_at {S} told slab q = get_or-map (λ (slot : Option (Connection S)). option_and_then (λ c. wire_of told c) slot) slab.slots q None
 
-abbrev pub listed_lanes : {S C : Type 0} → (S → Option Told) → (limits bytes : ℕ × ℕ) → C → Slab (Connection S) → Lanes C
-listed_lanes told limits bytes core slab = record { core = core; lines = λ q. slice_index_or (listed slab) q None; wires = λ q. slice_index_or (shown told slab) q None; limits = limits; bytes = bytes }
+pub claimed_at : {S : Type 0} (slab : Slab (Connection S)) (q : ℕ) → slice_index_or (claimed slab) q None ≡ claim_at slab q
+claimed_at {S} slab q = get_or-map (λ (slot : Option (Connection S)). option_and_then (λ c. c.claim) slot) slab.slots q None
 
-pub from_lists : {S C : Type 0} (told : S → Option Told) (limits bytes : ℕ × ℕ) (core : C) (slab : Slab (Connection S)) → Stays (listed_lanes told limits bytes core slab) (lanes told limits bytes core slab)
-from_lists told limits bytes core slab = record { core_stays = refl; lines_stay = λ q. sym (listed_at slab q); wires_stay = λ q. sym (shown_at told slab q); limits_stay = refl; bytes_stay = refl }
+abbrev pub listed_lanes : {S C : Type 0} → (S → Option Traffic) → (budgets : Budgets) (bytes : ℕ × ℕ) → C → Slab (Connection S) → Lanes C
+listed_lanes told budgets bytes core slab = record { core = core; lines = λ q. slice_index_or (listed slab) q None; wires = λ q. slice_index_or (shown told slab) q None; claims = λ q. slice_index_or (claimed slab) q None; budgets = budgets; bytes = bytes }
 
-pub to_lists : {S C : Type 0} (told : S → Option Told) (limits bytes : ℕ × ℕ) (core : C) (slab : Slab (Connection S)) → Stays (lanes told limits bytes core slab) (listed_lanes told limits bytes core slab)
-to_lists told limits bytes core slab = record { core_stays = refl; lines_stay = λ q. listed_at slab q; wires_stay = λ q. shown_at told slab q; limits_stay = refl; bytes_stay = refl }
+pub from_lists : {S C : Type 0} (told : S → Option Traffic) (budgets : Budgets) (bytes : ℕ × ℕ) (core : C) (slab : Slab (Connection S)) → Stays (listed_lanes told budgets bytes core slab) (lanes told budgets bytes core slab)
+from_lists told budgets bytes core slab = record { core_stays = refl; lines_stay = λ q. sym (listed_at slab q); wires_stay = λ q. sym (shown_at told slab q); limits_stay = refl; joined = joined_alike _ _ budgets (λ q. ap (λ (x : Option Claim). option_map part_of x) (sym (claimed_at slab q))); bytes_stay = refl }
+
+pub to_lists : {S C : Type 0} (told : S → Option Traffic) (budgets : Budgets) (bytes : ℕ × ℕ) (core : C) (slab : Slab (Connection S)) → Stays (lanes told budgets bytes core slab) (listed_lanes told budgets bytes core slab)
+to_lists told budgets bytes core slab = record { core_stays = refl; lines_stay = λ q. listed_at slab q; wires_stay = λ q. shown_at told slab q; limits_stay = refl; joined = joined_alike _ _ budgets (λ q. ap (λ (x : Option Claim). option_map part_of x) (claimed_at slab q)); bytes_stay = refl }

@@ -1,39 +1,43 @@
 -- What a turn at one connection comes to.
-use Rattle.std.proofs.Common.{◌≡◌, ◌<◌, ◌^◌, ℕ, List, Bool, true, false, Option, Some, None, Result, Ok, Err, sym, ap, ◌∙◌, subst, inl, inr}
+use Rattle.std.proofs.Common.{refl, ◌≡◌, ◌<◌, ◌^◌, ℕ, List, Bool, true, false, Option, Some, None, Result, Ok, Err, sym, ap, ◌∙◌, subst, inl, inr}
 use Rattle.std.specs.Prelude.{IfSome, IsFalse}
 use Rattle.std.specs.Option.{option_map, option_map_or}
 use Rattle.slab.specs.Slab.{Slab, get, Updates}
 use Rattle.outbox.specs.Lines.{Event, is_over, read, sent}
-use Rattle.outbox.specs.Told.{Told, IsReadOn, moved}
+use Rattle.outbox.specs.Traffic.{Traffic, IsReadOn, moved}
 use Rattle.outbox.specs.Turns.{DoesAll}
 use Rattle.outbox.specs.declared.readiness.Readiness.{Readiness}
 use Rattle.connection_turns.specs.Owed.{is_lost, line_in, line_of, wire_of}
 use Rattle.connection_turns.specs.Planning.{can_go_by, ends, plan_of}
 use Rattle.connection_turns.specs.Turning.{DrainsOn, Progresses, moment_of}
+use Rattle.connection_turns.specs.declared.claim.Claim.{Claim}
 use Rattle.connection_turns.specs.declared.connection.Connection.{Connection}
 use Rattle.connection_turns.specs.declared.connection.Outcome.{Outcome}
 use Rattle.connection_turns.specs.declared.connection.Phase.{Phase}
 use Rattle.connection_turns.specs.declared.connection.Phase.TheVariants.{Served, Lingering}
-use Rattle.connection_turns.specs.declared.connection.Plan.{Plan}
+use Rattle.connection_turns.specs.declared.connection.TurnPlan.{TurnPlan}
+use Rattle.open_connections.specs.declared.budgets.Budgets.{Budgets}
 use Rattle.open_connections.specs.declared.open.Open.{Open}
 use Rattle.connection_turns.specs.Cores.{CoreSteps}
 use Rattle.open_connections.specs.Looping.{CountsMoved, Does, Drained, HasTurn, Stays}
 use Rattle.open_connections.specs.Opened.{bytes_of, lanes_of, wires_in}
-use Rattle.open_connections.specs.Shares.{limits_in}
+use Rattle.open_connections.specs.Joined.{Joined}
+use Rattle.open_connections.specs.Shares.{claim_at, limits_in}
 use Rattle.open_connections.specs.Turns.{DrainsAt, GetsTurn, GetsTurnIn, HasTurnBy, HasTurnIn, Prepares, StatesStay, TurnsBy, has_room, is_answering, plan_at, plan_in, standing_of}
+use Rattle.open_connections.proofs.Joined.{claim_is, part_of, same_joined}
 use Rattle.open_connections.proofs.Looping.{before_others, counts_from}
 use Rattle.open_connections.proofs.Steps.{does_all, lanes, line_at, others_stay, wire_at}
 
 -- the turn of one that is served, as a step has it
-pub turn_lanes : {S C : Type 0} (s : CoreSteps C) (told : S → Option Told) (can : Bool) (limits limits' bytes bytes' : ℕ × ℕ) (core core' : C) (slab slab' : Slab (Connection S)) (key conn : ℕ) (c c' : Connection S) (takes answers : C → List ℕ → C → Type 0)
+pub turn_lanes : {S C : Type 0} (s : CoreSteps C) (told : S → Option Traffic) (can : Bool) (budgets budgets' : Budgets) (bytes bytes' : ℕ × ℕ) (core core' : C) (slab slab' : Slab (Connection S)) (key conn : ℕ) (c c' : Connection S) (takes answers : C → List ℕ → C → Type 0)
     → ((old : C) (piece : List ℕ) (new : C) → takes old piece new → s.takes conn old piece new) → ((old : C) (reply : List ℕ) (new : C) → answers old reply new → s.answers conn old reply new)
-    → conn ≡ key → get slab key ≡ Some c → Updates slab slab' key (Some c') → limits' ≡ limits → c.phase ≡ Served → c'.phase ≡ c.phase
-    → Progresses takes answers can (moment_of told core c) (moment_of told core' c') → CountsMoved (wire_of told c) (wire_of told c') bytes bytes' → Does s (HasTurn key) (lanes told limits bytes core slab) (lanes told limits' bytes' core' slab')
-turn_lanes {S} {C} s told can limits limits' bytes bytes' core core' slab slab' key conn c c' takes answers t a n h u l p k d w =
+    → conn ≡ key → get slab key ≡ Some c → Updates slab slab' key (Some c') → budgets' ≡ budgets → c'.claim ≡ c.claim → c.phase ≡ Served → c'.phase ≡ c.phase
+    → Progresses takes answers can (moment_of told core c) (moment_of told core' c') → CountsMoved (wire_of told c) (wire_of told c') bytes bytes' → Does s (HasTurn key) (lanes told budgets bytes core slab) (lanes told budgets' bytes' core' slab')
+turn_lanes {S} {C} s told can budgets budgets' bytes bytes' core core' slab slab' key conn c c' takes answers t a n h u l q p k d w =
     let es : List Event = d.turn.events in
     let was : line_of c ≡ Some c.outbox = ap (λ (x : Phase). line_in x c.outbox) p in
     let is : line_of c' ≡ Some c'.outbox = ap (λ (x : Phase). line_in x c'.outbox) (k ∙ p) in
-    let others = others_stay told limits bytes bytes' core core' slab slab' key (Some c') u in
+    let others = others_stay told budgets bytes bytes' core core' slab slab' key (Some c') u (same_joined slab slab' key (Some c') u budgets (ap (λ (x : Option Claim). option_map part_of x) (q ∙ sym (claim_is slab key c c.claim h refl)))) in
     record {
       line = c.outbox;
       line' = c'.outbox;
@@ -42,22 +46,22 @@ turn_lanes {S} {C} s told can limits limits' bytes bytes' core core' slab slab' 
       takes_turn = record {
         events = es;
         line_is = d.turn.line_is;
-        wire_is = wire_at told (get slab' key) (Some c') u.changed ∙ d.turn.wire_is ∙ ap (λ (x : Option Told). moved (read c.outbox es) (sent c.outbox es) x) (sym (wire_at told (get slab key) (Some c) h));
+        wire_is = wire_at told (get slab' key) (Some c') u.changed ∙ d.turn.wire_is ∙ ap (λ (x : Option Traffic). moved (read c.outbox es) (sent c.outbox es) x) (sym (wire_at told (get slab key) (Some c) h));
         core_is = subst (λ (m : ℕ). DoesAll (s.takes m) (s.answers m) c.outbox es core core') n (does_all s conn takes answers t a c.outbox es core core' d.turn.core_is);
       };
-      counts = subst (λ (x : Option Told). CountsMoved x (wires_in told slab' key) bytes bytes') (sym (wire_at told (get slab key) (Some c) h)) (subst (λ (x : Option Told). CountsMoved (wire_of told c) x bytes bytes') (sym (wire_at told (get slab' key) (Some c') u.changed)) w);
-      others = record { lines_stay = others.lines_stay; wires_stay = others.wires_stay; limits_stay = l };
+      counts = subst (λ (x : Option Traffic). CountsMoved x (wires_in told slab' key) bytes bytes') (sym (wire_at told (get slab key) (Some c) h)) (subst (λ (x : Option Traffic). CountsMoved (wire_of told c) x bytes bytes') (sym (wire_at told (get slab' key) (Some c') u.changed)) w);
+      others = record { lines_stay = others.lines_stay; wires_stay = others.wires_stay; limits_stay = ap limits_in l; joined = subst (λ (b : Budgets). Joined (claim_at slab) budgets → Joined (claim_at slab') b) (sym l) others.joined };
     }
 
 -- one that is served has its turn by a plan
-pub turned_by : {S C T : Type 0} (s : CoreSteps C) (told : S → Option Told) (plan : Plan) (key conn : ℕ) (result : Outcome) (o o' : Open S C T) (c c' : Connection S) (takes answers : C → List ℕ → C → Type 0)
+pub turned_by : {S C T : Type 0} (s : CoreSteps C) (told : S → Option Traffic) (plan : TurnPlan) (key conn : ℕ) (result : Outcome) (o o' : Open S C T) (c c' : Connection S) (takes answers : C → List ℕ → C → Type 0)
     → ((old : C) (piece : List ℕ) (new : C) → takes old piece new → s.takes conn old piece new) → ((old : C) (reply : List ℕ) (new : C) → answers old reply new → s.answers conn old reply new)
-    → conn ≡ key → get o.connections key ≡ Some c → Updates o.connections o'.connections key (Some c') → limits_in o'.budgets ≡ limits_in o.budgets → c.phase ≡ Served → c'.phase ≡ c.phase
+    → conn ≡ key → get o.connections key ≡ Some c → Updates o.connections o'.connections key (Some c') → o'.budgets ≡ o.budgets → c'.claim ≡ c.claim → c.phase ≡ Served → c'.phase ≡ c.phase
     → Progresses takes answers (can_go_by plan c.ready c.outbox) (moment_of told o.core c) (moment_of told o'.core c') → CountsMoved (wire_of told c) (wire_of told c') (bytes_of o) (bytes_of o') → ends result ≡ is_over c'.outbox → TurnsBy s told plan key c.ready result o o'
 unfolding turn_lanes
-turned_by {S} s told plan key conn result o o' c c' takes answers t a n h u l p k d w e =
+turned_by {S} s told plan key conn result o o' c c' takes answers t a n h u l q p k d w e =
     record {
-      turn = turn_lanes s told (can_go_by plan c.ready c.outbox) (limits_in o.budgets) (limits_in o'.budgets) (bytes_of o) (bytes_of o') o.core o'.core o.connections o'.connections key conn c c' takes answers t a n h u l p k d w;
+      turn = turn_lanes s told (can_go_by plan c.ready c.outbox) o.budgets o'.budgets (bytes_of o) (bytes_of o') o.core o'.core o.connections o'.connections key conn c c' takes answers t a n h u l q p k d w;
       ready' = c'.ready;
       is_ready = ap (λ (x : Option (Connection S)). option_map {U = Phase × Readiness} (λ c. (c.phase, c.ready)) x) u.changed ∙ ap (λ (x : Phase). Some (x, c'.ready)) (k ∙ p);
       goes_on = d.goes_on;
@@ -66,37 +70,37 @@ turned_by {S} s told plan key conn result o o' c c' takes answers t a n h u l p 
     }
 
 -- one that lingers is read, as a step has it
-pub drain_lanes : {S C : Type 0} (s : CoreSteps C) (told : S → Option Told) (limits limits' bytes bytes' : ℕ × ℕ) (core core' : C) (slab slab' : Slab (Connection S)) (key : ℕ) (c c' : Connection S)
-    → get slab key ≡ Some c → Updates slab slab' key (Some c') → limits' ≡ limits → core' ≡ core → bytes' ≡ bytes → c.phase ≡ Lingering → line_of c' ≡ line_of c → IsReadOn (wire_of told c) (wire_of told c')
-    → Does s (Drained key) (lanes told limits bytes core slab) (lanes told limits' bytes' core' slab')
-drain_lanes {S} {C} s told limits limits' bytes bytes' core core' slab slab' key c c' h u l m b p e r =
+pub drain_lanes : {S C : Type 0} (s : CoreSteps C) (told : S → Option Traffic) (budgets budgets' : Budgets) (bytes bytes' : ℕ × ℕ) (core core' : C) (slab slab' : Slab (Connection S)) (key : ℕ) (c c' : Connection S)
+    → get slab key ≡ Some c → Updates slab slab' key (Some c') → budgets' ≡ budgets → c'.claim ≡ c.claim → core' ≡ core → bytes' ≡ bytes → c.phase ≡ Lingering → line_of c' ≡ line_of c → IsReadOn (wire_of told c) (wire_of told c')
+    → Does s (Drained key) (lanes told budgets bytes core slab) (lanes told budgets' bytes' core' slab')
+drain_lanes {S} {C} s told budgets budgets' bytes bytes' core core' slab slab' key c c' h u l q m b p e r =
     let none : line_of c ≡ None = ap (λ (x : Phase). line_in x c.outbox) p in
-    let others = others_stay told limits bytes bytes' core core' slab slab' key (Some c') u in
+    let others = others_stay told budgets bytes bytes' core core' slab slab' key (Some c') u (same_joined slab slab' key (Some c') u budgets (ap (λ (x : Option Claim). option_map part_of x) (q ∙ sym (claim_is slab key c c.claim h refl)))) in
     record {
       core_stays = m;
       was_gone = line_at (get slab key) (Some c) h ∙ none;
       is_gone = line_at (get slab' key) (Some c') u.changed ∙ e ∙ none;
-      reads_on = subst (λ (x : Option Told). IsReadOn x (wires_in told slab' key)) (sym (wire_at told (get slab key) (Some c) h)) (subst (λ (x : Option Told). IsReadOn (wire_of told c) x) (sym (wire_at told (get slab' key) (Some c') u.changed)) r);
-      others = record { lines_stay = others.lines_stay; wires_stay = others.wires_stay; limits_stay = l };
+      reads_on = subst (λ (x : Option Traffic). IsReadOn x (wires_in told slab' key)) (sym (wire_at told (get slab key) (Some c) h)) (subst (λ (x : Option Traffic). IsReadOn (wire_of told c) x) (sym (wire_at told (get slab' key) (Some c') u.changed)) r);
+      others = record { lines_stay = others.lines_stay; wires_stay = others.wires_stay; limits_stay = ap limits_in l; joined = subst (λ (b : Budgets). Joined (claim_at slab) budgets → Joined (claim_at slab') b) (sym l) others.joined };
       bytes_stay = b;
     }
 
 -- one that lingers is read
-pub drained_by : {S C T : Type 0} (s : CoreSteps C) (told : S → Option Told) (key : ℕ) (result : Outcome) (o o' : Open S C T) (c c' : Connection S)
-    → get o.connections key ≡ Some c → Updates o.connections o'.connections key (Some c') → limits_in o'.budgets ≡ limits_in o.budgets → o'.core ≡ o.core → bytes_of o' ≡ bytes_of o → c.phase ≡ Lingering → c'.phase ≡ c.phase
+pub drained_by : {S C T : Type 0} (s : CoreSteps C) (told : S → Option Traffic) (key : ℕ) (result : Outcome) (o o' : Open S C T) (c c' : Connection S)
+    → get o.connections key ≡ Some c → Updates o.connections o'.connections key (Some c') → o'.budgets ≡ o.budgets → c'.claim ≡ c.claim → o'.core ≡ o.core → bytes_of o' ≡ bytes_of o → c.phase ≡ Lingering → c'.phase ≡ c.phase
     → line_of c' ≡ line_of c → IsReadOn (wire_of told c) (wire_of told c') → DrainsOn (wire_of told c) (wire_of told c') c'.ready result → DrainsAt s told key result o o'
-drained_by {S} s told key result o o' c c' h u l m b p k e r d =
+drained_by {S} s told key result o o' c c' h u l q m b p k e r d =
     let from : wires_in told o.connections key ≡ wire_of told c = wire_at told (get o.connections key) (Some c) h in
     let to : wires_in told o'.connections key ≡ wire_of told c' = wire_at told (get o'.connections key) (Some c') u.changed in
     record {
-      drained = drain_lanes s told (limits_in o.budgets) (limits_in o'.budgets) (bytes_of o) (bytes_of o') o.core o'.core o.connections o'.connections key c c' h u l m b p e r;
+      drained = drain_lanes s told o.budgets o'.budgets (bytes_of o) (bytes_of o') o.core o'.core o.connections o'.connections key c c' h u l q m b p e r;
       ready' = c'.ready;
       is_ready = ap (λ (x : Option (Connection S)). option_map {U = Phase × Readiness} (λ c. (c.phase, c.ready)) x) u.changed ∙ ap (λ (x : Phase). Some (x, c'.ready)) (k ∙ p);
-      goes_on = subst (λ (x : Option Told). DrainsOn x (wires_in told o'.connections key) c'.ready result) (sym from) (subst (λ (x : Option Told). DrainsOn (wire_of told c) x c'.ready result) (sym to) d);
+      goes_on = subst (λ (x : Option Traffic). DrainsOn x (wires_in told o'.connections key) c'.ready result) (sym from) (subst (λ (x : Option Traffic). DrainsOn (wire_of told c) x c'.ready result) (sym to) d);
     }
 
 -- a turn from where nothing changed
-then_turned : {S C T : Type 0} (s : CoreSteps C) (told : S → Option Told) (plan : Plan) (key : ℕ) (ready : Readiness) (result : Outcome) (a b c : Open S C T)
+then_turned : {S C T : Type 0} (s : CoreSteps C) (told : S → Option Traffic) (plan : TurnPlan) (key : ℕ) (ready : Readiness) (result : Outcome) (a b c : Open S C T)
     → Stays (lanes_of told a) (lanes_of told b) → TurnsBy s told plan key ready result b c → TurnsBy s told plan key ready result a c
 then_turned {S} {C} s told plan key ready result a b c h d =
     let t = d.turn.takes_turn in
@@ -109,7 +113,7 @@ then_turned {S} {C} s told plan key ready result a b c h d =
         takes_turn = record {
           events = t.events;
           line_is = t.line_is;
-          wire_is = t.wire_is ∙ ap (λ (x : Option Told). moved (read d.turn.line t.events) (sent d.turn.line t.events) x) (h.wires_stay key);
+          wire_is = t.wire_is ∙ ap (λ (x : Option Traffic). moved (read d.turn.line t.events) (sent d.turn.line t.events) x) (h.wires_stay key);
           core_is = subst (λ (x : C). DoesAll (s.takes key) (s.answers key) d.turn.line t.events x c.core) h.core_stays t.core_is;
         };
         counts = counts_from key (lanes_of told a) (lanes_of told b) (lanes_of told c) h d.turn.counts;
@@ -122,39 +126,39 @@ then_turned {S} {C} s told plan key ready result a b c h d =
       over = d.over;
     }
 
-then_drained : {S C T : Type 0} (s : CoreSteps C) (told : S → Option Told) (key : ℕ) (result : Outcome) (a b c : Open S C T)
+then_drained : {S C T : Type 0} (s : CoreSteps C) (told : S → Option Traffic) (key : ℕ) (result : Outcome) (a b c : Open S C T)
     → Stays (lanes_of told a) (lanes_of told b) → DrainsAt s told key result b c → DrainsAt s told key result a c
 then_drained s told key result a b c h d = record {
   drained = record {
     core_stays = d.drained.core_stays ∙ h.core_stays;
     was_gone = sym (h.lines_stay key) ∙ d.drained.was_gone;
     is_gone = d.drained.is_gone;
-    reads_on = subst (λ (x : Option Told). IsReadOn x ((lanes_of told c).wires key)) (h.wires_stay key) d.drained.reads_on;
+    reads_on = subst (λ (x : Option Traffic). IsReadOn x ((lanes_of told c).wires key)) (h.wires_stay key) d.drained.reads_on;
     others = before_others key (lanes_of told a) (lanes_of told b) (lanes_of told c) h d.drained.others;
     bytes_stay = d.drained.bytes_stay ∙ h.bytes_stay;
   };
   ready' = d.ready';
   is_ready = d.is_ready;
-  goes_on = subst (λ (x : Option Told). DrainsOn x ((lanes_of told c).wires key) d.ready' result) (h.wires_stay key) d.goes_on;
+  goes_on = subst (λ (x : Option Traffic). DrainsOn x ((lanes_of told c).wires key) d.ready' result) (h.wires_stay key) d.goes_on;
 }
 
 -- what was prepared is done
-done_in : {S C T : Type 0} (phase : Phase) (s : CoreSteps C) (told : S → Option Told) (may_wait : ℕ → C → Bool) (plan next : Plan) (key : ℕ) (ready : Readiness) (result : Outcome) (a b c : Open S C T)
+done_in : {S C T : Type 0} (phase : Phase) (s : CoreSteps C) (told : S → Option Traffic) (may_wait : ℕ → C → Bool) (plan next : TurnPlan) (key : ℕ) (ready : Readiness) (result : Outcome) (a b c : Open S C T)
     → Stays (lanes_of told a) (lanes_of told b) → Prepares may_wait key (plan_in phase plan) (Ok next) a b → HasTurnIn phase s told next key ready result b c → GetsTurnIn phase s told may_wait (plan_in phase plan) key ready result a c
 done_in {S} {C} {T} Served s told may_wait plan next key ready result a b c h p d =
     let t : TurnsBy s told next key ready result a c = then_turned s told next key ready result a b c h d in
     elim p [
-      | inl e ↦ inl (subst (λ (x : Plan). TurnsBy s told x key ready result a c) e t)
-      | inr k ↦ inr (inl (k.1, subst (λ (x : Plan). TurnsBy s told x key ready result a c) k.0 t))
+      | inl e ↦ inl (subst (λ (x : TurnPlan). TurnsBy s told x key ready result a c) e t)
+      | inr k ↦ inr (inl (k.1, subst (λ (x : TurnPlan). TurnsBy s told x key ready result a c) k.0 t))
     ]
 done_in Lingering s told may_wait plan next key ready result a b c h p d = then_drained s told key result a b c h d
 
-left_in : {S C T : Type 0} (phase : Phase) (s : CoreSteps C) (told : S → Option Told) (may_wait : ℕ → C → Bool) (plan : Plan) (key : ℕ) (ready : Readiness) (result : Outcome) (a c : Open S C T)
+left_in : {S C T : Type 0} (phase : Phase) (s : CoreSteps C) (told : S → Option Traffic) (may_wait : ℕ → C → Bool) (plan : TurnPlan) (key : ℕ) (ready : Readiness) (result : Outcome) (a c : Open S C T)
     → Stays (lanes_of told a) (lanes_of told c) → StatesStay a c → Prepares may_wait key (plan_in phase plan) (Err result) a c → GetsTurnIn phase s told may_wait (plan_in phase plan) key ready result a c
 left_in Served s told may_wait plan key ready result a c h k p = inr (inr (h, k, p))
 left_in Lingering s told may_wait plan key ready result a c h k p = elim p [ inl e ↦ let f : false ≡ true = e.1 in absurd cc | inr e ↦ let f : false ≡ true = ap is_answering e.1 in absurd cc ]
 
-pub done_at : {S C T : Type 0} (s : CoreSteps C) (told : S → Option Told) (may_wait : ℕ → C → Bool) (next : Plan) (key : ℕ) (result : Outcome) (a b c : Open S C T) (slot slot' : Option (Connection S))
+pub done_at : {S C T : Type 0} (s : CoreSteps C) (told : S → Option Traffic) (may_wait : ℕ → C → Bool) (next : TurnPlan) (key : ℕ) (result : Outcome) (a b c : Open S C T) (slot slot' : Option (Connection S))
     → Stays (lanes_of told a) (lanes_of told b) → option_map standing_of slot' ≡ option_map standing_of slot
     → IfSome slot (λ x. key < 2 ^ 32 → Prepares may_wait key (plan_at x a) (Ok next) a b) → IfSome slot' (λ x. key < 2 ^ 32 → HasTurnBy s told next key x result b c)
     → IfSome slot (λ x. key < 2 ^ 32 → IsFalse (is_lost x) → GetsTurn s told may_wait key x result a c)
@@ -164,13 +168,13 @@ done_at {S} {C} {T} s told may_wait next key result a b c (Some x) (Some y) h e 
     let same : standing_of y ≡ standing_of x = cc in
     done_in x.phase s told may_wait (plan_of (has_room a.budgets) x) next key x.ready result a b c h (p k) (subst (λ (z : ℕ × Phase × Readiness). HasTurnIn z.1 s told next key z.2 result b c) same (d k))
 
-pub left_at : {S C T : Type 0} (s : CoreSteps C) (told : S → Option Told) (may_wait : ℕ → C → Bool) (key : ℕ) (result : Outcome) (a c : Open S C T) (slot : Option (Connection S)) → Stays (lanes_of told a) (lanes_of told c) → StatesStay a c
+pub left_at : {S C T : Type 0} (s : CoreSteps C) (told : S → Option Traffic) (may_wait : ℕ → C → Bool) (key : ℕ) (result : Outcome) (a c : Open S C T) (slot : Option (Connection S)) → Stays (lanes_of told a) (lanes_of told c) → StatesStay a c
     → IfSome slot (λ x. key < 2 ^ 32 → Prepares may_wait key (plan_at x a) (Err result) a c) → IfSome slot (λ x. key < 2 ^ 32 → IsFalse (is_lost x) → GetsTurn s told may_wait key x result a c)
 left_at s told may_wait key result a c None h t p = tt
 left_at s told may_wait key result a c (Some x) h t p = λ k l. left_in x.phase s told may_wait (plan_of (has_room a.budgets) x) key x.ready result a c h t (p k)
 
 -- one that is lost has none
-pub lost_in : {S C T : Type 0} (s : CoreSteps C) (told : S → Option Told) (may_wait : ℕ → C → Bool) (key : ℕ) (result : Outcome) (a c : Open S C T) (slot : Option (Connection S)) → option_map_or (λ x. is_lost x) slot false ≡ true
+pub lost_in : {S C T : Type 0} (s : CoreSteps C) (told : S → Option Traffic) (may_wait : ℕ → C → Bool) (key : ℕ) (result : Outcome) (a c : Open S C T) (slot : Option (Connection S)) → option_map_or (λ x. is_lost x) slot false ≡ true
     → IfSome slot (λ x. key < 2 ^ 32 → IsFalse (is_lost x) → GetsTurn s told may_wait key x result a c)
 lost_in s told may_wait key result a c None e = tt
 lost_in s told may_wait key result a c (Some x) e = λ k l. let f : true ≡ false = sym e ∙ l in absurd cc
@@ -180,10 +184,10 @@ pub at_slot : {A : Type 0} (P : A → Type 0) (slot : Option A) (x : A) → slot
 at_slot {A} P slot x e h = subst (λ (z : Option A). IfSome z P) (sym e) h
 
 -- what is prepared by the plan of the one that is there
-pub prepared : {S C T : Type 0} (may_wait : ℕ → C → Bool) (key : ℕ) (plan : Plan) (result : Result Plan Outcome) (old new : Open S C T) (slot : Option (Connection S)) → Some plan ≡ option_map (λ c. plan_at c old) slot
+pub prepared : {S C T : Type 0} (may_wait : ℕ → C → Bool) (key : ℕ) (plan : TurnPlan) (result : Result TurnPlan Outcome) (old new : Open S C T) (slot : Option (Connection S)) → Some plan ≡ option_map (λ c. plan_at c old) slot
     → IfSome slot (λ _. key < 2 ^ 32 → Prepares may_wait key plan result old new) → IfSome slot (λ c. key < 2 ^ 32 → Prepares may_wait key (plan_at c old) result old new)
 prepared may_wait key plan result old new None e h = tt
-prepared {S} {C} {T} may_wait key plan result old new (Some c) e h = let same : plan ≡ plan_at c old = cc in λ k. subst (λ (x : Plan). Prepares may_wait key x result old new) same (h k)
+prepared {S} {C} {T} may_wait key plan result old new (Some c) e h = let same : plan ≡ plan_at c old = cc in λ k. subst (λ (x : TurnPlan). Prepares may_wait key x result old new) same (h k)
 
 pub unplanned : {A B : Type 0} (of : A → B) (P : A → Type 0) (slot : Option A) → None ≡ option_map of slot → IfSome slot P
 unplanned of P None e = tt
@@ -194,8 +198,8 @@ pub at_any : {A : Type 0} (P : Type 0) (slot : Option A) → P → IfSome slot (
 at_any P None h = tt
 at_any P (Some x) h = h
 
-pub served_by : {S C T : Type 0} (s : CoreSteps C) (told : S → Option Told) (plan : Plan) (key : ℕ) (c : Connection S) (result : Outcome) (o o' : Open S C T) → c.phase ≡ Served → TurnsBy s told plan key c.ready result o o' → HasTurnBy s told plan key c result o o'
+pub served_by : {S C T : Type 0} (s : CoreSteps C) (told : S → Option Traffic) (plan : TurnPlan) (key : ℕ) (c : Connection S) (result : Outcome) (o o' : Open S C T) → c.phase ≡ Served → TurnsBy s told plan key c.ready result o o' → HasTurnBy s told plan key c result o o'
 served_by s told plan key c result o o' p t = subst (λ (x : Phase). HasTurnIn x s told plan key c.ready result o o') (sym p) t
 
-pub lingers_by : {S C T : Type 0} (s : CoreSteps C) (told : S → Option Told) (plan : Plan) (key : ℕ) (c : Connection S) (result : Outcome) (o o' : Open S C T) → c.phase ≡ Lingering → DrainsAt s told key result o o' → HasTurnBy s told plan key c result o o'
+pub lingers_by : {S C T : Type 0} (s : CoreSteps C) (told : S → Option Traffic) (plan : TurnPlan) (key : ℕ) (c : Connection S) (result : Outcome) (o o' : Open S C T) → c.phase ≡ Lingering → DrainsAt s told key result o o' → HasTurnBy s told plan key c result o o'
 lingers_by s told plan key c result o o' p t = subst (λ (x : Phase). HasTurnIn x s told plan key c.ready result o o') (sym p) t

@@ -10,8 +10,8 @@ use Rattle.connection_turns.specs.Owed.{is_lost}
 use Rattle.connection_turns.specs.Planning.{can_go_by, can_go_on, goes_in, next_of, owes_little, plan_in}
 use Rattle.connection_turns.specs.declared.claim.Claim.{Claim}
 use Rattle.connection_turns.specs.declared.connection.Connection.{Connection}
-use Rattle.connection_turns.specs.declared.connection.Plan.{Plan}
-use Rattle.connection_turns.specs.declared.connection.Plan.TheVariants.{Write, Read, Answer, All}
+use Rattle.connection_turns.specs.declared.connection.TurnPlan.{TurnPlan}
+use Rattle.connection_turns.specs.declared.connection.TurnPlan.TheVariants.{Write, Read, Answer, All}
 use Rattle.open_connections.proofs.Steps.{written}
 
 or_true : (x : Bool) → (x || true) ≡ true
@@ -22,7 +22,7 @@ or_false : (x : Bool) → (x || false) ≡ x
 or_false true = refl
 or_false false = refl
 
-over_if : (f : Plan → Bool) (b : Bool) (x y : Plan) → f (if b then x else y) ≡ (if b then f x else f y)
+over_if : (f : TurnPlan → Bool) (b : Bool) (x y : TurnPlan) → f (if b then x else y) ≡ (if b then f x else f y)
 over_if f true x y = refl
 over_if f false x y = refl
 
@@ -43,7 +43,7 @@ goes_with true true little ready line = refl
 goes_with true false false ready line = refl
 goes_with true false true ready line =
     let writes : Bool = turns.can_write ready line in
-    let goes : Plan → Bool = λ plan. can_go_by plan ready line in
+    let goes : TurnPlan → Bool = λ plan. can_go_by plan ready line in
     one_of_all ready.readable ready.waiting (reads line) writes
     ∙ sym (over_if goes (writes || false) Write (next_of ready) ∙ ap (λ (x : Bool). if writes || false then writes else x) (over_if goes ready.waiting Answer Read))
 

@@ -121,6 +121,13 @@ module _ {S : Type 0} (bound : ℕ) (missed : Bool) (first rest : List Due) wher
   pub large_woken : (slab : Slab (Connection S)) (key : ℕ) → 2 ^ 32 ≤ key → (fact : Fact) → is_so_in (sparing key fact) bound missed slab first rest ≡ true → is_so_in fact bound missed slab first rest ≡ true
   large_woken slab key l fact h = looked_at slab key (or_left (nat_le (2 ^ 32) key) (is_awake_in missed (get slab key)) (le-leb (2 ^ 32) key l)) fact h
 
+  -- all are looked at before the next round
+  pub missed_woken : (slab : Slab (Connection S)) (fact : Fact) → is_so_in fact bound missed slab first rest ≡ true → is_so_in fact bound true slab first rest ≡ true
+  missed_woken slab (Within q) e = e
+  missed_woken slab (Stands q number more) e = e
+  missed_woken slab (Listed s q more) e = e
+  missed_woken slab (Awake s q) e = or_right s (nat_le (2 ^ 32) q || true) (or_right (nat_le (2 ^ 32) q) true refl)
+
   -- it gets a turn just if it did
   pub others_woken : (slab : Slab (Connection S)) (key : ℕ) (c c' : Connection S) → get slab key ≡ Some c → KeepsTurn c c'
       → (fact : Fact) → is_so_in (sparing key fact) bound missed slab first rest ≡ true → is_so_in (sparing key fact) bound missed (with_value slab key c') first rest ≡ true

@@ -1,3 +1,4 @@
+pub mod Joined
 pub mod Looping
 pub mod Opened
 pub mod Shares

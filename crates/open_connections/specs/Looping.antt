@@ -1,16 +1,21 @@
 -- What a loop over one core does, a step at a time: this project's own.
 use Rattle.std.specs.Prelude.{◌≡◌, ◌≢◌, ◌⊎◌, ℕ, ◌+◌, ◌-◌, ◌^◌, min, List, [], ◌∷◌, Option, Some, None}
 use Rattle.outbox.specs.Lines.{Line, fresh}
-use Rattle.outbox.specs.Told.{Told, HasMoved, IsUnused, IsReadOn}
+use Rattle.outbox.specs.Traffic.{Traffic, HasMoved, IsUnused, IsReadOn}
 use Rattle.connection_turns.specs.Cores.{CoreSteps}
 use Rattle.connection_turns.specs.Turning.{TakesTurn}
+use Rattle.connection_turns.specs.declared.claim.Claim.{Claim}
+use Rattle.open_connections.specs.Joined.{Joined}
+use Rattle.open_connections.specs.Shares.{limits_in}
+use Rattle.open_connections.specs.declared.budgets.Budgets.{Budgets}
 
--- the core, what each connection that is served is owed, the bytes that moved on the streams of those that are open, as far as they are shown, the limits of the two budgets of memory, and how many bytes were read and written
+-- the core, what each connection that is served is owed, the bytes that moved on the streams of those that are open, as far as they are shown, what each claims of the budgets of memory, those budgets, and how many bytes were read and written
 pub record Lanes (C : Type 0) : Type 0 where
   pub core : C
   pub lines : ℕ → Option Line
-  pub wires : ℕ → Option Told
-  pub limits : ℕ × ℕ
+  pub wires : ℕ → Option Traffic
+  pub claims : ℕ → Option Claim
+  pub budgets : Budgets
   pub bytes : ℕ × ℕ
 
 -- so many bytes more: the number stops at the greatest of 64 bits
@@ -18,7 +23,7 @@ abbrev pub counted : (count more : ℕ) → ℕ
 counted count more = min (count + more) (2 ^ 64 - 1)
 
 -- the bytes that moved on a stream are counted, as far as it shows them
-pub record CountsMoved (old new : Option Told) (bytes bytes' : ℕ × ℕ) : Type 0 where
+pub record CountsMoved (old new : Option Traffic) (bytes bytes' : ℕ × ℕ) : Type 0 where
   pub read : ℕ
   pub written : ℕ
   pub moved : HasMoved old new read written
@@ -32,11 +37,12 @@ pub data Step : Type 0 where
   LetGo : (conn : ℕ) → Step
   Drained : (conn : ℕ) → Step
 
--- nothing changes for other connections, and no limit does
+-- Nothing changes for other connections, and no limit does. Claims and shares that belong together still do.
 pub record OthersStay {C : Type 0} (conn : ℕ) (old new : Lanes C) : Type 0 where
   pub lines_stay : (q : ℕ) → q ≢ conn → new.lines q ≡ old.lines q
   pub wires_stay : (q : ℕ) → q ≢ conn → new.wires q ≡ old.wires q
-  pub limits_stay : new.limits ≡ old.limits
+  pub limits_stay : limits_in new.budgets ≡ limits_in old.budgets
+  pub joined : Joined old.claims old.budgets → Joined new.claims new.budgets
 
 -- a connection is taken in that was not open, and nothing moved on its stream
 pub record TakesIn {C : Type 0} (s : CoreSteps C) (conn : ℕ) (old new : Lanes C) : Type 0 where
@@ -80,12 +86,13 @@ Does s (HasTurn conn) old new = TurnAt s conn old new
 Does s (LetGo conn) old new = LetsGo s conn old new
 Does s (Drained conn) old new = Drains conn old new
 
--- nothing of that changes
+-- Nothing of that changes but claims and shares, and those that belong together still do. No limit changes.
 pub record Stays {C : Type 0} (old new : Lanes C) : Type 0 where
   pub core_stays : new.core ≡ old.core
   pub lines_stay : (q : ℕ) → new.lines q ≡ old.lines q
   pub wires_stay : (q : ℕ) → new.wires q ≡ old.wires q
-  pub limits_stay : new.limits ≡ old.limits
+  pub limits_stay : limits_in new.budgets ≡ limits_in old.budgets
+  pub joined : Joined old.claims old.budgets → Joined new.claims new.budgets
   pub bytes_stay : new.bytes ≡ old.bytes
 
 abbrev pub DoesEach : {C : Type 0} → CoreSteps C → List Step → Lanes C → Lanes C → Type 0

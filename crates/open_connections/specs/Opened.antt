@@ -3,7 +3,8 @@ use Rattle.std.specs.Prelude.{◌≡◌, ℕ, List, [], ◌∷◌, ◌++◌, map
 use Rattle.std.specs.Option.{option_and_then, option_map_or}
 use Rattle.slab.specs.Slab.{Slab, get, slab_len}
 use Rattle.outbox.specs.Lines.{Line}
-use Rattle.outbox.specs.Told.{Told}
+use Rattle.outbox.specs.Traffic.{Traffic}
+use Rattle.connection_turns.specs.declared.claim.Claim.{Claim}
 use Rattle.connection_turns.specs.declared.connection.Connection.{Connection}
 use Rattle.open_connections.specs.declared.open.Open.{Open}
 use Rattle.due_list.specs.declared.due.Due.{Due}
@@ -20,20 +21,20 @@ use Rattle.connection_turns.specs.declared.connection.Phase.{Phase}
 use Rattle.connection_turns.specs.declared.connection.Phase.TheVariants.{Served, Lingering}
 use Rattle.connection_turns.specs.declared.ending.End.{End}
 use Rattle.connection_turns.specs.declared.limits.Limits.{Limits}
-use Rattle.open_connections.specs.Shares.{claim_at, in_pool, limits_in}
+use Rattle.open_connections.specs.Shares.{claim_at, in_pool}
 
 abbrev pub lines_in : {S : Type 0} → Slab (Connection S) → ℕ → Option Line
 lines_in slab q = option_and_then (λ c. line_of c) (get slab q)
 
-abbrev pub wires_in : {S : Type 0} → (S → Option Told) → Slab (Connection S) → ℕ → Option Told
+abbrev pub wires_in : {S : Type 0} → (S → Option Traffic) → Slab (Connection S) → ℕ → Option Traffic
 wires_in told slab q = option_and_then (λ c. wire_of told c) (get slab q)
 
 -- how many bytes were read and written
 abbrev pub bytes_of : {S C T : Type 0} → Open S C T → ℕ × ℕ
 bytes_of o = (o.read, o.written)
 
-abbrev pub lanes_of : {S C T : Type 0} → (S → Option Told) → Open S C T → Lanes C
-lanes_of told o = record { core = o.core; lines = lines_in o.connections; wires = wires_in told o.connections; limits = limits_in o.budgets; bytes = bytes_of o }
+abbrev pub lanes_of : {S C T : Type 0} → (S → Option Traffic) → Open S C T → Lanes C
+lanes_of told o = record { core = o.core; lines = lines_in o.connections; wires = wires_in told o.connections; claims = claim_at o.connections; budgets = o.budgets; bytes = bytes_of o }
 
 -- more than 64 KiB are owed on the connection
 abbrev pub owes_much : {S C T : Type 0} → (key : ℕ) → Open S C T → Bool
@@ -83,8 +84,12 @@ connected_in o = slab_len o.connections
 abbrev pub listed : {S : Type 0} → Slab (Connection S) → List (Option Line)
 listed slab = map (λ slot. option_and_then (λ c. line_of c) slot) slab.slots
 
-abbrev pub shown : {S : Type 0} → (S → Option Told) → Slab (Connection S) → List (Option Told)
+abbrev pub shown : {S : Type 0} → (S → Option Traffic) → Slab (Connection S) → List (Option Traffic)
 shown told slab = map (λ slot. option_and_then (λ c. wire_of told c) slot) slab.slots
+
+-- what each claims of the budgets
+abbrev pub claimed : {S : Type 0} → Slab (Connection S) → List (Option Claim)
+claimed slab = map (λ slot. option_and_then (λ c. c.claim) slot) slab.slots
 
 -- the second by which the connection with this key is idle is this one, if it is there
 abbrev pub IsMarked : {S C T : Type 0} → Open S C T → (key second : ℕ) → Type 0

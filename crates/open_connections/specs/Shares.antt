@@ -1,10 +1,11 @@
 -- What a connection has of the budgets of memory, and that it is given back: this project's own.
-use Rattle.std.specs.Prelude.{◌≡◌, ◌≤◌, ◌+◌, ◌-◌, ◌/◌, ◌^◌, ℕ, max, min, [], ◌++◌, Option, Some, None}
+use Rattle.std.specs.Prelude.{◌≡◌, ◌≤◌, ◌+◌, ◌-◌, ◌/◌, ◌^◌, ℕ, max, min, nat_le, Bool, [], ◌++◌, Option, Some, None}
 use Rattle.std.specs.Option.{option_and_then}
 use Rattle.slab.specs.Slab.{Slab, get}
 use Rattle.memory_budget.specs.States.{State, fresh, own, party_at, all_held, left}
 use Rattle.due_list.specs.Rounds.{party_of}
 use Rattle.wire_frames.specs.declared.parts.TheConstants.{LONGEST_FRAME, MOST_REPLY}
+use Rattle.connection_turns.specs.Held.{covers}
 use Rattle.connection_turns.specs.declared.claim.Claim.{Claim}
 use Rattle.connection_turns.specs.declared.claim.Pool.{Pool}
 use Rattle.connection_turns.specs.declared.claim.Pool.TheVariants.{Tenants, Strangers}
@@ -62,3 +63,8 @@ IsGivenBack (Some claim) budgets = IsFree claim.party claim.ticket (in_pool clai
 -- the share of the connection under a key
 abbrev pub claim_at : {S : Type 0} → Slab (Connection S) → ℕ → Option Claim
 claim_at slab key = option_and_then (λ c. c.claim) (get slab key)
+
+-- whether a reply of so many bytes may be given: within what each may buffer without a share, or with a granted share
+abbrev pub is_covered : Option Claim → (reply : ℕ) → Bool
+is_covered None reply = nat_le reply 16384
+is_covered (Some claim) reply = covers claim reply

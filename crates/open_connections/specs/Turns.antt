@@ -1,19 +1,23 @@
 -- What becomes of a connection in its turn: this project's own.
-use Rattle.std.specs.Prelude.{◌≡◌, ◌≢◌, ◌⊎◌, ℕ, ◌+◌, Option, Some, None, IfSome, is_some, Result, Ok, Err, Bool, true, false, not, ◌&&◌, IsTrue}
+use Rattle.std.specs.Prelude.{◌≡◌, ◌≢◌, ◌⊎◌, ℕ, ◌+◌, min, Option, Some, None, IfSome, is_some, Result, Ok, Err, Bool, true, false, not, ◌&&◌, IsTrue}
 use Rattle.std.specs.Option.{option_map}
 use Rattle.slab.specs.Slab.{Slab, get}
 use Rattle.memory_budget.specs.States.{may_grow}
 use Rattle.wire_frames.specs.declared.parts.TheConstants.{MOST_REPLY}
 use Rattle.outbox.specs.Lines.{cap, is_over}
-use Rattle.outbox.specs.Told.{Told}
+use Rattle.outbox.specs.Traffic.{Traffic}
 use Rattle.outbox.specs.Turns.{HasFallen, HasNotRisen, moves}
 use Rattle.outbox.specs.declared.readiness.Readiness.{Readiness}
+use Rattle.connection_turns.specs.Held.{covers_in}
 use Rattle.connection_turns.specs.declared.claim.Claim.{Claim}
+use Rattle.connection_turns.specs.declared.claim.Need.{Need}
+use Rattle.connection_turns.specs.declared.claim.Pool.TheVariants.{Tenants}
+use Rattle.connection_turns.specs.declared.claim.Purpose.TheVariants.{Reply}
 use Rattle.connection_turns.specs.declared.connection.Connection.{Connection}
 use Rattle.connection_turns.specs.declared.connection.Phase.{Phase}
 use Rattle.connection_turns.specs.declared.connection.Phase.TheVariants.{Served, Lingering}
-use Rattle.connection_turns.specs.declared.connection.Plan.{Plan}
-use Rattle.connection_turns.specs.declared.connection.Plan.TheVariants.{Write, Read, Answer, All}
+use Rattle.connection_turns.specs.declared.connection.TurnPlan.{TurnPlan}
+use Rattle.connection_turns.specs.declared.connection.TurnPlan.TheVariants.{Write, Read, Answer, All}
 use Rattle.connection_turns.specs.declared.connection.Outcome.{Outcome}
 use Rattle.connection_turns.specs.declared.connection.Outcome.TheVariants as outcome
 use Rattle.connection_turns.specs.declared.ending.End.TheVariants as end
@@ -24,6 +28,7 @@ use Rattle.open_connections.specs.declared.open.Open.{Open}
 use Rattle.connection_turns.specs.Cores.{CoreSteps}
 use Rattle.open_connections.specs.Looping.{Drained, HasTurn, Does, Stays}
 use Rattle.open_connections.specs.Opened.{lanes_of}
+use Rattle.open_connections.specs.Shares.{claim_at, is_covered}
 
 -- whether there is room for any reply
 abbrev pub has_room : Budgets → Bool
@@ -53,9 +58,13 @@ pub record OthersStand {S C T : Type 0} (key : ℕ) (old new : Open S C T) : Typ
   pub stand : (q : ℕ) → q ≢ key → option_map standing_of (get new.connections q) ≡ option_map standing_of (get old.connections q)
   pub none_comes : IfSome (get new.connections key) (λ c. number_at old.connections key ≡ Some c.number)
 
--- whether each has a share of memory, or waits for one
+-- what a claim asks for, whether it is granted or not
+abbrev pub asked_by : Claim → Claim
+asked_by claim = record claim { is_granted = false; since = 0 }
+
+-- what each has of memory, or waits for: it may be granted
 abbrev pub ClaimsStay : {S C T : Type 0} → Open S C T → Open S C T → Type 0
-ClaimsStay old new = Keep (λ c. is_some c.claim) old.connections new.connections
+ClaimsStay old new = Keep (λ c. option_map asked_by c.claim) old.connections new.connections
 
 -- the one with this key has a share of memory, or waits for one
 abbrev pub HasClaim : {S C T : Type 0} → (key : ℕ) → Open S C T → Type 0
@@ -69,8 +78,25 @@ is_queued_in (Some claim) = not claim.is_granted
 abbrev pub IsQueued : {S C T : Type 0} → (key : ℕ) → Open S C T → Type 0
 IsQueued key o = option_map (λ c. is_queued_in c.claim) (get o.connections key) ≡ Some true
 
+-- it is granted
+abbrev pub is_held_in : Option Claim → Bool
+is_held_in None = false
+is_held_in (Some claim) = claim.is_granted
+
+-- A reply of so many bytes may be given on the one with this key. No reply is longer than the longest.
+abbrev pub IsCovered : {S C T : Type 0} → (key reply : ℕ) → Open S C T → Type 0
+IsCovered key reply o = IsTrue (is_covered (claim_at o.connections key) (min reply MOST_REPLY))
+
+-- it may be given once its claim is granted
+abbrev pub WillCover : {S C T : Type 0} → (key reply : ℕ) → Open S C T → Type 0
+WillCover key reply o = IfSome (claim_at o.connections key) (λ claim. IsTrue (covers_in claim.purpose claim.bytes (min reply MOST_REPLY)))
+
+-- so much as a reply needs is asked for of the tenants' budget
+abbrev pub IsForReply : Need → Type 0
+IsForReply need = (need.pool ≡ Tenants) × (need.purpose ≡ Reply)
+
 -- whether a turn by this plan answers
-abbrev pub is_answering : Plan → Bool
+abbrev pub is_answering : TurnPlan → Bool
 is_answering Write = false
 is_answering Read = false
 is_answering Answer = true
@@ -78,7 +104,7 @@ is_answering All = true
 
 -- One that is served has its turn by this plan. If that can do something, bytes or requests of this turn move, or what might have been done wants a wait. It is over if nothing is
 -- read or written any more. If they move nothing, nothing may be done now that might not be before.
-pub record TurnsBy {S C T : Type 0} (s : CoreSteps C) (told : S → Option Told) (plan : Plan) (key : ℕ) (ready : Readiness) (result : Outcome) (old new : Open S C T) : Type 0 where
+pub record TurnsBy {S C T : Type 0} (s : CoreSteps C) (told : S → Option Traffic) (plan : TurnPlan) (key : ℕ) (ready : Readiness) (result : Outcome) (old new : Open S C T) : Type 0 where
   pub turn : Does s (HasTurn key) (lanes_of told old) (lanes_of told new)
   pub ready' : Readiness
   pub is_ready : state_at key new ≡ Some (Served, ready')
@@ -87,47 +113,47 @@ pub record TurnsBy {S C T : Type 0} (s : CoreSteps C) (told : S → Option Told)
   pub over : ends result ≡ is_over turn.line'
 
 -- What still comes on one that is served no further is thrown away: bytes came, or a read would wait, or the connection is to be closed.
-pub record DrainsAt {S C T : Type 0} (s : CoreSteps C) (told : S → Option Told) (key : ℕ) (result : Outcome) (old new : Open S C T) : Type 0 where
+pub record DrainsAt {S C T : Type 0} (s : CoreSteps C) (told : S → Option Traffic) (key : ℕ) (result : Outcome) (old new : Open S C T) : Type 0 where
   pub drained : Does s (Drained key) (lanes_of told old) (lanes_of told new)
   pub ready' : Readiness
   pub is_ready : state_at key new ≡ Some (Lingering, ready')
   pub goes_on : DrainsOn ((lanes_of told old).wires key) ((lanes_of told new).wires key) ready' result
 
 -- a turn by a plan
-abbrev pub HasTurnIn : {S C T : Type 0} → Phase → CoreSteps C → (S → Option Told) → Plan → (key : ℕ) → Readiness → Outcome → Open S C T → Open S C T → Type 0
+abbrev pub HasTurnIn : {S C T : Type 0} → Phase → CoreSteps C → (S → Option Traffic) → TurnPlan → (key : ℕ) → Readiness → Outcome → Open S C T → Open S C T → Type 0
 HasTurnIn Served s told plan key ready result old new = TurnsBy s told plan key ready result old new
 HasTurnIn Lingering s told plan key ready result old new = DrainsAt s told key result old new
 
-abbrev pub HasTurnBy : {S C T : Type 0} → CoreSteps C → (S → Option Told) → Plan → (key : ℕ) → Connection S → Outcome → Open S C T → Open S C T → Type 0
+abbrev pub HasTurnBy : {S C T : Type 0} → CoreSteps C → (S → Option Traffic) → TurnPlan → (key : ℕ) → Connection S → Outcome → Open S C T → Open S C T → Type 0
 HasTurnBy s told plan key c result old new = HasTurnIn c.phase s told plan key c.ready result old new
 
 -- the plan of the connection's next turn: one that lingers is read
-abbrev pub plan_in : Phase → Plan → Plan
+abbrev pub plan_in : Phase → TurnPlan → TurnPlan
 plan_in Served plan = plan
 plan_in Lingering plan = Read
 
-abbrev pub plan_at : {S C T : Type 0} → Connection S → Open S C T → Plan
+abbrev pub plan_at : {S C T : Type 0} → Connection S → Open S C T → TurnPlan
 plan_at c o = plan_in c.phase (plan_of (has_room o.budgets) c)
 
 -- the plan answers, and the request may wait for a query of its tenant
-abbrev pub StandsBy : {S C T : Type 0} → (ℕ → C → Bool) → (key : ℕ) → Plan → Open S C T → Type 0
+abbrev pub StandsBy : {S C T : Type 0} → (ℕ → C → Bool) → (key : ℕ) → TurnPlan → Open S C T → Type 0
 StandsBy may_wait key plan o = IsTrue (is_answering plan && may_wait key o.core)
 
 -- What comes of a turn before it begins: its plan, or a write alone where it stands by. If it answers, memory may be refused for it. If it answers one request, the reply may wait
 -- for a share.
-abbrev pub Prepares : {S C T : Type 0} → (ℕ → C → Bool) → (key : ℕ) → Plan → Result Plan Outcome → Open S C T → Open S C T → Type 0
+abbrev pub Prepares : {S C T : Type 0} → (ℕ → C → Bool) → (key : ℕ) → TurnPlan → Result TurnPlan Outcome → Open S C T → Open S C T → Type 0
 Prepares may_wait key plan (Ok next) old new = (next ≡ plan) ⊎ ((next ≡ Write) × StandsBy may_wait key plan old)
 Prepares may_wait key plan (Err result) old new =
     ((result ≡ outcome.Over end.Memory) × IsTrue (is_answering plan)) ⊎ ((result ≡ outcome.Open) × (plan ≡ Answer) × IsQueued key new)
 
 -- One that is served has its turn by its plan. If the plan answers, what is owed may be written in place of that, where the request may wait for a query. Or nothing is done: memory is
 -- refused, or the reply waits for a share.
-abbrev pub GetsTurnIn : {S C T : Type 0} → Phase → CoreSteps C → (S → Option Told) → (ℕ → C → Bool) → Plan → (key : ℕ) → Readiness → Outcome → Open S C T → Open S C T → Type 0
+abbrev pub GetsTurnIn : {S C T : Type 0} → Phase → CoreSteps C → (S → Option Traffic) → (ℕ → C → Bool) → TurnPlan → (key : ℕ) → Readiness → Outcome → Open S C T → Open S C T → Type 0
 GetsTurnIn Served s told may_wait plan key ready result old new =
     TurnsBy s told plan key ready result old new
     ⊎ ((StandsBy may_wait key plan old × TurnsBy s told Write key ready result old new)
     ⊎ (Stays (lanes_of told old) (lanes_of told new) × StatesStay old new × Prepares may_wait key plan (Err result) old new))
 GetsTurnIn Lingering s told may_wait plan key ready result old new = DrainsAt s told key result old new
 
-abbrev pub GetsTurn : {S C T : Type 0} → CoreSteps C → (S → Option Told) → (ℕ → C → Bool) → (key : ℕ) → Connection S → Outcome → Open S C T → Open S C T → Type 0
+abbrev pub GetsTurn : {S C T : Type 0} → CoreSteps C → (S → Option Traffic) → (ℕ → C → Bool) → (key : ℕ) → Connection S → Outcome → Open S C T → Open S C T → Type 0
 GetsTurn s told may_wait key c result old new = GetsTurnIn c.phase s told may_wait (plan_at c old) key c.ready result old new

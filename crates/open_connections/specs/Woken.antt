@@ -73,7 +73,7 @@ StaysWoken old new = (fact : Fact) → IsTrue (is_so fact old) → IsTrue (is_so
 abbrev pub TurnsStay : {S C T : Type 0} → Open S C T → Open S C T → Type 0
 TurnsStay old new = (key number : ℕ) → IsTrue (is_so (Stands key number []) old) → IsTrue (is_so (Stands key number []) new)
 
--- the same of all but one connection, which may be forgotten
+-- what is so stays so, but for one connection, which may be forgotten
 abbrev pub WakesOthers : {S C T : Type 0} → (key : ℕ) → Open S C T → Open S C T → Type 0
 WakesOthers key old new = (fact : Fact) → IsTrue (is_so (sparing key fact) old) → IsTrue (is_so (sparing key fact) new)
 

@@ -1,11 +1,12 @@
 //! The budgets of memory that connections share.
-ghost use Rattle.std.specs.Prelude.{◌≡◌, ◌-◌, IfOk, OnOk, min};
-ghost use Rattle.memory_budget.specs.States.{Asks, after, is_waited_for, may_grow};
+ghost use Rattle.std.specs.Prelude.{◌≡◌, ◌-◌, [], map, IfOk, OnOk, OnErr, MatchOption};
+ghost use Rattle.memory_budget.specs.States.{Asks, after, is_waited_for, lowered, may_grow};
+ghost use Rattle.open_connections.specs.Joined.{ChangesAt, Comes, Holds, IsAsked, claim_asked, claim_by, place_of, shares_at, within};
 ghost use Rattle.open_connections.specs.Shares.{fresh_budgets, in_pool, left_of, limit_of, limits_in, spare_of, IsFree, IsWithin, StayFree};
 
-use connection_turns::{Claim, Pool};
+use connection_turns::{Claim, Need, Pool};
 use due_list::PARTIES;
-use memory_budget::{Answer, Budget, Share, keeps};
+use memory_budget::{Budget, Grant, Share, by_ticket, keeps};
 use std::alloc::{AllocError, Global};
 use wire_frames::{LONGEST_FRAME, MOST_REPLY};
 
@@ -40,7 +41,7 @@ impl Budgets {
     }
 
     /// The bytes that are held, and those that there are.
-    pub fn held(&self) -> (usize, usize)
+    pub fn held_and_limit(&self) -> (usize, usize)
         ensures { result ≡ (limit_of self.now - left_of self.now, limit_of self.now) }
     {
         let limit = self.tenants.limit().saturating_add(self.strangers.limit());
@@ -58,20 +59,17 @@ impl Budgets {
         }
     }
 
-    /// Has a party ask for so many bytes, or for the most that it may ask for where that is less.
-    pub fn ask(
-        &mut self,
-        pool: Pool,
-        party: usize,
-        key: usize,
-        bytes: usize,
-    ) -> Result<Answer, AllocError>
+    /// Has a connection ask for what it needs, or for the most that may be asked for where that is less.
+    pub fn ask(&mut self, key: usize, need: &Need, now: u64) -> Result<Claim, AllocError>
         ensures limits { limits_in self.new ≡ limits_in self.old }
-        ensures asked { OnOk result (let old = in_pool pool self.old in in_pool pool self.new ≡ after old (Asks party key (min bytes (old.limit - old.spare)))) }
+        ensures asked { OnOk result (let old = in_pool need.now.pool self.old in in_pool need.now.pool self.new ≡ after old (Asks need.now.party key (within need.now old).bytes)) }
+        ensures claim { IfOk result (λ claim. claim ≡ claim_asked need.now now (in_pool need.now.pool self.old)) }
+        ensures comes { IfOk result (λ claim. Comes key claim self.old self.new) }
+        ensures unchanged { OnErr result (self.new ≡ self.old) }
     {
-        match pool {
-            Pool::Tenants => asked(&mut self.tenants, party, key, bytes),
-            Pool::Strangers => asked(&mut self.strangers, party, key, bytes),
+        match need.pool {
+            Pool::Tenants => asked(&mut self.tenants, key, need, now),
+            Pool::Strangers => asked(&mut self.strangers, key, need, now),
         }
     }
 
@@ -79,8 +77,10 @@ impl Budgets {
     pub fn release(&mut self, claim: &Claim)
         ensures free { IsFree claim.now.party claim.now.ticket (in_pool claim.now.pool self.new) }
         ensures limits { limits_in self.new ≡ limits_in self.old }
+        ensures gone { ChangesAt (place_of claim.now) ([], []) self.old self.new }
     {
         keeps();
+        by_ticket();
         match claim.pool {
             Pool::Tenants => self.tenants.release(claim.party, claim.ticket),
             Pool::Strangers => self.strangers.release(claim.party, claim.ticket),
@@ -89,8 +89,11 @@ impl Budgets {
 
     /// Keeps at most so many bytes of a share.
     pub fn shrink(&mut self, claim: &Claim, to: usize)
-        ensures { limits_in self.new ≡ limits_in self.old }
+        ensures limits { limits_in self.new ≡ limits_in self.old }
+        ensures lowered { let shares = shares_at (place_of claim.now) self.old in ChangesAt (place_of claim.now) (map (lowered claim.now.ticket to) shares.0, shares.1) self.old self.new }
     {
+        keeps();
+        by_ticket();
         match claim.pool {
             Pool::Tenants => self.tenants.shrink(claim.party, claim.ticket, to),
             Pool::Strangers => self.strangers.shrink(claim.party, claim.ticket, to),
@@ -101,8 +104,10 @@ impl Budgets {
     pub fn next(&mut self) -> Option<Share>
         ensures free { StayFree self.old self.new }
         ensures limits { limits_in self.new ≡ limits_in self.old }
+        ensures granted { MatchOption result (self.new ≡ self.old) (λ share. Holds share self.old self.new) }
     {
         keeps();
+        by_ticket();
         match self.tenants.next() {
             Some(share) => Some(share),
             None => self.strangers.next(),
@@ -118,16 +123,35 @@ impl Budgets {
     }
 }
 
-// Has a party of a budget ask for so many bytes, or for the most that it may ask for.
-fn asked(budget: &mut Budget, party: usize, key: usize, bytes: usize) -> Result<Answer, AllocError>
+// Has a connection ask a budget for what it needs, or for the most that may be asked for.
+fn asked(budget: &mut Budget, key: usize, need: &Need, now: u64) -> Result<Claim, AllocError>
     ensures limit { budget.new.limit ≡ budget.old.limit }
-    ensures asked { OnOk result (budget.new ≡ after budget.old (Asks party key (min bytes (budget.old.limit - budget.old.spare)))) }
+    ensures asked { OnOk result (budget.new ≡ after budget.old (Asks need.now.party key (within need.now budget.old).bytes)) }
+    ensures claim { IfOk result (λ claim. claim ≡ claim_asked need.now now budget.old) }
+    ensures comes { IfOk result (λ claim. IsAsked key need.now claim budget.old budget.new) }
+    ensures unchanged { OnErr result (budget.new ≡ budget.old) }
 {
     keeps();
-    if party >= budget.parties() {
+    by_ticket();
+    if need.party >= budget.parties() {
         return Err(AllocError);
     }
-    budget.ask(party, key, bytes.min(budget.most()))
+    let need = Need {
+        bytes: need.bytes.min(budget.most()),
+        ..*need
+    };
+    let grant = budget.ask(need.party, key, need.bytes)?;
+    Ok(claim_by(&need, grant, now))
+}
+
+// The claim that comes of asking.
+fn claim_by(need: &Need, grant: Grant, now: u64) -> Claim
+    ensures { result ≡ claim_by need.now grant now }
+{
+    match grant {
+        Grant::Granted(ticket) => need.claim(ticket, true, now),
+        Grant::Waits(ticket) => need.claim(ticket, false, now),
+    }
 }
 
 // What a tenant that holds something leaves to those that hold nothing: an eighth, or a longest reply where that is more, as far as a longest reply can be

@@ -1,18 +1,19 @@
 //! What connections hold of the memory that all share: what is asked for, granted and given back.
-ghost use Rattle.std.specs.Prelude.{◌<◌, ◌≡◌, ◌^◌, length, Some, IfOk, IfSome, IsFalse, IsTrue, OnOk};
+ghost use Rattle.std.specs.Prelude.{◌<◌, ◌≡◌, ◌^◌, length, None, Some, IfOk, IfSome, IsFalse, IsTrue, MatchOption, OnOk};
 ghost use Rattle.slab.specs.Slab.{get};
 ghost use Rattle.connection_turns.specs.Held.{share_after};
+ghost use Rattle.connection_turns.specs.declared.ahead.Ahead.{Ahead};
+ghost use Rattle.open_connections.specs.Joined.{Joined};
 ghost use Rattle.open_connections.specs.Looping.{Stays};
 ghost use Rattle.open_connections.specs.Opened.{lanes_of};
 ghost use Rattle.open_connections.specs.Shares.{StayFree, IsGivenBack, claim_at};
-ghost use Rattle.open_connections.specs.Turns.{ClaimsStay, HasClaim, IsQueued, StatesStay};
-ghost use Rattle.open_connections.specs.Woken.{StaysWoken, WakesOthers, is_awake};
+ghost use Rattle.open_connections.specs.Turns.{ClaimsStay, HasClaim, IsCovered, IsForReply, IsQueued, StatesStay, WillCover};
+ghost use Rattle.open_connections.specs.Woken.{StaysWoken, WakesOthers};
 
 use crate::needs::{covers, is_for_reply, is_held, need, need_of_reply};
 use crate::numbers::conn_of;
 use crate::open::Open;
 use connection_turns::{After, Ahead, Claim, LoopCore, Need, Purpose};
-use memory_budget::Answer;
 use socket_poll::{Peer, Time};
 use std::alloc::AllocError;
 
@@ -23,6 +24,7 @@ impl<S: Peer, C: LoopCore, T: Time + Drop> Open<S, C, T> {
         ensures lanes { Stays (lanes_of S.told self.old) (lanes_of S.told self.new) }
         ensures ready { StatesStay self.old self.new }
         ensures queued { IfOk result (λ may. IsFalse may → key < 2 ^ 32 → IfSome (get self.old.connections key) (λ _. IsQueued key self.new)) }
+        ensures covered { IfOk result (λ may. IsTrue may → Joined (claim_at self.old.connections) self.old.budgets → (ahead : Ahead) × C.aheads key self.old.core ahead × IsCovered key ahead.most_reply self.new) }
         ensures woken { WakesOthers key self.old self.new }
     {
         let Some(conn) = conn_of(key) else {
@@ -59,14 +61,29 @@ impl<S: Peer, C: LoopCore, T: Time + Drop> Open<S, C, T> {
     fn yield_share(&mut self, key: usize, now: u64)
         ensures lanes { Stays (lanes_of S.told self.old) (lanes_of S.told self.new) }
         ensures ready { StatesStay self.old self.new }
+        ensures given { IsGivenBack (claim_at self.old.connections key) self.new.budgets }
+        ensures woken { WakesOthers key self.old self.new }
+    {
+        self.release(key);
+        self.grant(now);
+    }
+
+    // Gives back the share that a connection has or waits for. What it leaves is granted by [`Open::grant`].
+    pub(crate) fn release(&mut self, key: usize)
+        ensures lanes { Stays (lanes_of S.told self.old) (lanes_of S.told self.new) }
+        ensures ready { StatesStay self.old self.new }
+        ensures given { IsGivenBack (claim_at self.old.connections key) self.new.budgets }
+        ensures none { claim_at self.new.connections key ≡ None }
         ensures woken { WakesOthers key self.old self.new }
     {
         let Some(connection) = self.connections.get_mut(key) else {
             return;
         };
-        let claim = connection.claim;
+        let Some(claim) = connection.claim else {
+            return;
+        };
         connection.claim = None;
-        self.give_up(claim, now);
+        self.budgets.release(&claim);
     }
 
     pub(crate) fn claim_of(&self, key: usize) -> Option<Claim>
@@ -75,14 +92,17 @@ impl<S: Peer, C: LoopCore, T: Time + Drop> Open<S, C, T> {
         self.connections.get(key)?.claim
     }
 
-    // Gives back what is done with of a share.
-    pub(crate) fn settle_claim(&mut self, key: usize, claim: &Claim, has_answered: bool, now: u64)
+    // Gives back what is done with of a connection's share.
+    pub(crate) fn settle_claim(&mut self, key: usize, has_answered: bool, now: u64)
         ensures lanes { Stays (lanes_of S.told self.old) (lanes_of S.told self.new) }
         ensures ready { StatesStay self.old self.new }
-        ensures given { IfSome (get self.old.connections key) (λ c. share_after claim.now (length c.outbox.owed) has_answered ≡ After.Released → IsGivenBack (Some claim.now) self.new.budgets) }
+        ensures given { IfSome (get self.old.connections key) (λ c. IfSome c.claim (λ claim. share_after claim (length c.outbox.owed) has_answered ≡ After.Released → IsGivenBack (Some claim) self.new.budgets)) }
         ensures woken { WakesOthers key self.old self.new }
     {
         let Some(connection) = self.connections.get_mut(key) else {
+            return;
+        };
+        let Some(claim) = connection.claim else {
             return;
         };
         let owed = connection.outbox.owed().len();
@@ -91,16 +111,13 @@ impl<S: Peer, C: LoopCore, T: Time + Drop> Open<S, C, T> {
             After::Written => {
                 connection.claim = Some(Claim {
                     purpose: Purpose::Written,
-                    ..*claim
+                    bytes: claim.bytes.min(owed),
+                    ..claim
                 });
-                self.budgets.shrink(claim, owed);
+                self.budgets.shrink(&claim, owed);
                 self.grant(now);
             }
-            After::Released => {
-                connection.claim = None;
-                self.budgets.release(claim);
-                self.grant(now);
-            }
+            After::Released => self.yield_share(key, now),
         }
     }
 
@@ -129,6 +146,7 @@ impl<S: Peer, C: LoopCore, T: Time + Drop> Open<S, C, T> {
         ensures lanes { Stays (lanes_of S.told self.old) (lanes_of S.told self.new) }
         ensures ready { StatesStay self.old self.new }
         ensures queued { IfOk result (λ held. IsFalse held → IfSome (get self.old.connections key) (λ _. IsQueued key self.new)) }
+        ensures covered { IfOk result (λ held. IsTrue held → Joined (claim_at self.old.connections) self.old.budgets → IsForReply need.now → IsCovered key need.now.bytes self.new) }
         ensures woken { WakesOthers key self.old self.new }
     {
         self.ask_for(key, need, now)?;
@@ -136,25 +154,25 @@ impl<S: Peer, C: LoopCore, T: Time + Drop> Open<S, C, T> {
         Ok(is_held(self.claim_of(key)))
     }
 
-    // Asks for a share.
+    // Asks for a share in the place of the one that the connection has.
     fn ask_for(&mut self, key: usize, need: &Need, now: u64) -> Result<(), AllocError>
         ensures lanes { Stays (lanes_of S.told self.old) (lanes_of S.told self.new) }
         ensures ready { StatesStay self.old self.new }
         ensures claims { OnOk result (IfSome (get self.old.connections key) (λ _. HasClaim key self.new)) }
+        ensures covers { OnOk result (Joined (claim_at self.old.connections) self.old.budgets → IsForReply need.now → WillCover key need.now.bytes self.new) }
         ensures woken { WakesOthers key self.old self.new }
     {
-        let (ticket, is_granted) = match self.budgets.ask(need.pool, need.party, key, need.bytes)? {
-            Answer::Granted(ticket) => (ticket, true),
-            Answer::Waits(ticket) => (ticket, false),
+        self.release(key);
+        let Some(connection) = self.connections.get_mut(key) else {
+            return Ok(());
         };
-        if let Some(connection) = self.connections.get_mut(key) {
-            connection.claim = Some(need.claim(ticket, is_granted, now));
-        }
+        let claim = self.budgets.ask(key, need, now)?;
+        connection.claim = Some(claim);
         Ok(())
     }
 
-    // Grants what there is room for, in order.
-    fn grant(&mut self, now: u64)
+    // Grants what there is room for, in order. Those that hold their shares now get turns.
+    pub(crate) fn grant(&mut self, now: u64)
         ensures lanes { Stays (lanes_of S.told self.old) (lanes_of S.told self.new) }
         ensures free { StayFree self.old.budgets self.new.budgets }
         ensures ready { StatesStay self.old self.new }
@@ -162,49 +180,25 @@ impl<S: Peer, C: LoopCore, T: Time + Drop> Open<S, C, T> {
         ensures woken { StaysWoken self.old self.new }
     {
         'shares: for _ in 0..u64::MAX {
-            let Some(share) = self.budgets.next() else {
+            let Some(key) = self.grant_next(now) else {
                 return;
             };
-            self.wake(share.owner, share.ticket, now);
+            self.give_turn(key);
         }
     }
 
-    // A connection holds its share now.
-    fn wake(&mut self, key: usize, ticket: u64, now: u64)
+    // Grants the next share that there is room for, and tells which connection holds it now.
+    fn grant_next(&mut self, now: u64) -> Option<usize>
         ensures lanes { Stays (lanes_of S.told self.old) (lanes_of S.told self.new) }
-        ensures budgets { self.new.budgets ≡ self.old.budgets }
+        ensures free { StayFree self.old.budgets self.new.budgets }
         ensures ready { StatesStay self.old self.new }
         ensures claims { ClaimsStay self.old self.new }
-        ensures awake { IsTrue (is_awake key self.new) }
-        ensures woken { StaysWoken self.old self.new }
+        ensures woken { MatchOption result (StaysWoken self.old self.new) (λ key. WakesOthers key self.old self.new) }
     {
-        self.hold(key, ticket, now);
-        self.give_turn(key);
-    }
-
-    // Notes that a connection holds its share.
-    fn hold(&mut self, key: usize, ticket: u64, now: u64)
-        ensures lanes { Stays (lanes_of S.told self.old) (lanes_of S.told self.new) }
-        ensures budgets { self.new.budgets ≡ self.old.budgets }
-        ensures ready { StatesStay self.old self.new }
-        ensures claims { ClaimsStay self.old self.new }
-        ensures woken { WakesOthers key self.old self.new }
-    {
-        if let Some(connection) = self.connections.get_mut(key) {
-            connection.hold(ticket, now);
+        let share = self.budgets.next()?;
+        if let Some(connection) = self.connections.get_mut(share.owner) {
+            connection.hold(share.ticket, now);
         }
-    }
-
-    // Gives a share back that a connection had.
-    pub(crate) fn give_up(&mut self, claim: Option<Claim>, now: u64)
-        ensures lanes { Stays (lanes_of S.told self.old) (lanes_of S.told self.new) }
-        ensures given { IsGivenBack claim self.new.budgets }
-        ensures ready { StatesStay self.old self.new }
-        ensures woken { StaysWoken self.old self.new }
-    {
-        if let Some(claim) = claim {
-            self.budgets.release(&claim);
-            self.grant(now);
-        }
+        Some(share.owner)
     }
 }

@@ -3,6 +3,7 @@
 //! [`Open`] takes connections in, gives each a turn and lets it go. The core is anything that does what [`LoopCore`] says.
 #![tactic(auto)]
 
+mod bounds;
 mod budgets;
 mod claims;
 mod needs;

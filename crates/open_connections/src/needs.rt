@@ -2,18 +2,20 @@
 ghost use Rattle.std.specs.Prelude.{◌≡◌, ◌<◌, ◌≤◌, IfSome, IsFalse, IsTrue, is_some};
 ghost use Rattle.std.specs.Option.{option_and_then};
 ghost use Rattle.due_list.specs.Rounds.{party_of};
-ghost use Rattle.open_connections.specs.Shares.{IsOfFront};
-ghost use Rattle.open_connections.specs.Turns.{is_queued_in};
+ghost use Rattle.open_connections.specs.Shares.{IsOfFront, is_covered};
+ghost use Rattle.open_connections.specs.Turns.{is_held_in, is_queued_in};
 
 use crate::open::PIECE;
 use connection_turns::{
-    ALLOWANCE, Ahead, Claim, Connection, LoopCore, Need, OWED, Plan, Pool, Purpose,
+    ALLOWANCE, Ahead, Claim, Connection, LoopCore, Need, OWED, Pool, Purpose, TurnPlan,
 };
 use due_list::party_of;
 use socket_poll::Peer;
 
 /// Whether a reply of so many bytes may be given with this share, or with none.
-pub(crate) fn covers(claim: Option<Claim>, reply: usize) -> bool {
+pub(crate) fn covers(claim: Option<Claim>, reply: usize) -> bool
+    ensures { result ≡ is_covered claim reply }
+{
     match claim {
         Some(claim) => claim.covers(reply),
         None => reply <= ALLOWANCE,
@@ -30,7 +32,8 @@ pub(crate) fn is_for_reply(claim: Option<Claim>) -> bool {
 
 /// Whether a share is held, and waits no more.
 pub(crate) fn is_held(claim: Option<Claim>) -> bool
-    ensures { IsFalse result → IsTrue (is_some claim) → IsTrue (is_queued_in claim) }
+    ensures held { result ≡ is_held_in claim }
+    ensures queued { IsFalse result → IsTrue (is_some claim) → IsTrue (is_queued_in claim) }
 {
     match claim {
         Some(claim) => claim.is_granted,
@@ -49,14 +52,14 @@ pub(crate) fn has_part(front: Option<Ahead>) -> bool {
 /// The most bytes that a turn reads: what is left of a frame that there is room for, and else what each may have.
 pub(crate) fn piece_of<S: Peer, C: LoopCore>(
     connection: &Connection<S>,
-    plan: Plan,
+    plan: TurnPlan,
     core: &C,
     conn: u32,
 ) -> usize
     ensures some { 0 < result }
     ensures within { result ≤ 65536 }
 {
-    if plan == Plan::Read && connection.claim.is_some() {
+    if plan == TurnPlan::Read && connection.claim.is_some() {
         match core.front(conn).part {
             Some(part) => part.left.min(PIECE).max(1),
             None => ALLOWANCE,

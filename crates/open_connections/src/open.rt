@@ -1,26 +1,27 @@
 //! The connections that are open, the core that answers them, and the memory that they share.
-ghost use Rattle.std.specs.Prelude.{Bool, ◌≡◌, ◌<◌, ◌-◌, ◌^◌, ◌++◌, ◌&&◌, [], ℕ, None, IfOk, OnOk, IfSome, IsTrue, IsFalse, if◌then◌else◌, nat_lt, not};
+ghost use Rattle.std.specs.Prelude.{Bool, ◌≡◌, ◌<◌, ◌-◌, ◌^◌, ◌++◌, ◌&&◌, [], ℕ, None, IfOk, OnOk, IfSome, IsTrue, IsFalse};
 ghost use Rattle.std.specs.Option.{option_map};
 ghost use Rattle.slab.specs.Slab.{get, slab_len};
 ghost use Rattle.open_connections.specs.Looping.{Stays, Does, DoesAtMost, TurnsAtMost, TakenIn, LetGo};
 ghost use Rattle.std.specs.Bool.{MatchBool};
-ghost use Rattle.outbox.specs.Told.{IsUnused};
+ghost use Rattle.outbox.specs.Traffic.{IsUnused};
 ghost use Rattle.connection_turns.specs.Owed.{is_lost};
 ghost use Rattle.due_list.specs.Long.{begun, is_crowded};
 ghost use Rattle.due_list.specs.Rounds.{IsFresh, after_turn, party_of};
 ghost use Rattle.open_connections.specs.Opened.{lanes_of, bytes_of, expiry_at, has_time, is_long, is_there, is_open_at, owes_much, IsMarked, IsPutOff, IsStanding, IsListed, IsAsDue, HasLeft, lost_at, rests_at, tenant_at};
+ghost use Rattle.open_connections.specs.Joined.{Joined};
 ghost use Rattle.open_connections.specs.Shares.{fresh_budgets, left_of, limit_of, IsWithin, IsGivenBack, claim_at};
 ghost use Rattle.open_connections.specs.Turns.{ClaimsStay, GetsTurn, HasTurnBy, OthersStand, Prepares, StatesStay, is_answering, plan_at};
 ghost use Rattle.open_connections.specs.Woken.{Hands, IsWoken, Passes, Recalls, StaysWoken, TakesOff, TurnsStay, Wakes, WakesOthers, is_awake};
 
+use crate::bounds::share_of;
 use crate::budgets::Budgets;
 use crate::needs::{has_part, piece_of};
 use crate::numbers::{added, conn_of, has_moved};
 use crate::waiting::{Waiting, waiting_among};
 use admin_pages::Metrics;
 use connection_turns::{
-    Ahead, Claim, Connection, Counted, End, Ending, Limits, LoopCore, Outcome, Phase, Plan, Pool,
-    Share, Slow, Work,
+    Ahead, Connection, Counted, End, Ending, Limits, LoopCore, Outcome, Phase, Pool, Slow, TurnPlan,
 };
 use due_list::{Due, DueList};
 use outbox::CAP;
@@ -39,12 +40,6 @@ const KEYS: usize = 1 << 32;
 
 /// The room in which a turn may answer whatever waits: it answers while less than the cap is owed.
 const ROOM: usize = CAP + MOST_REPLY;
-
-/// The units for which a query goes on where others wait for turns.
-const SHARE: u64 = 400;
-
-/// The units for which it goes on where nobody does.
-const LONG_SHARE: u64 = 10_000;
 
 /// The connections that are open.
 #[derive(Drop)]
@@ -78,6 +73,7 @@ impl<S: Peer, C: LoopCore, T: Time + Drop> Open<S, C, T> {
         ensures none { IfOk result (λ opened. (q : ℕ) → (lanes_of S.told opened).lines q ≡ None) }
         ensures budgets { IfOk result (λ opened. opened.budgets ≡ fresh_budgets memory) }
         ensures woken { IfOk result (λ opened. IsWoken [] opened) }
+        ensures joined { IfOk result (λ opened. Joined (claim_at opened.connections) opened.budgets) }
     {
         let buffer = match Box::new(alloc, [0; PIECE]) {
             Ok(buffer) => buffer,
@@ -151,7 +147,7 @@ impl<S: Peer, C: LoopCore, T: Time + Drop> Open<S, C, T> {
     pub fn memory(&self) -> (usize, usize)
         ensures { result ≡ (limit_of self.now.budgets - left_of self.now.budgets, limit_of self.now.budgets) }
     {
-        self.budgets.held()
+        self.budgets.held_and_limit()
     }
 
     /// How many connections wait for some.
@@ -221,7 +217,7 @@ impl<S: Peer, C: LoopCore, T: Time + Drop> Open<S, C, T> {
     }
 
     /// Notes a report, and that the connection gets a turn.
-    pub fn note(&mut self, report: Report)
+    pub fn note_report(&mut self, report: Report)
         ensures lanes { Stays (lanes_of S.told self.old) (lanes_of S.told self.new) }
         ensures awake { IsTrue (is_awake report.key self.new) }
         ensures woken { Wakes report.key self.old self.new }
@@ -236,7 +232,7 @@ impl<S: Peer, C: LoopCore, T: Time + Drop> Open<S, C, T> {
         ensures woken { WakesOthers report.key self.old self.new }
     {
         if let Some(connection) = self.connections.get_mut(report.key) {
-            connection.note(report);
+            connection.note_report(report);
         }
     }
 
@@ -371,7 +367,7 @@ impl<S: Peer, C: LoopCore, T: Time + Drop> Open<S, C, T> {
     }
 
     // What the turn of a connection does, which is due no more; an error is what comes of one that does nothing.
-    fn prepare(&mut self, key: usize, now: u64) -> Result<Plan, Outcome>
+    fn prepare(&mut self, key: usize, now: u64) -> Result<TurnPlan, Outcome>
         ensures lanes { Stays (lanes_of S.told self.old) (lanes_of S.told self.new) }
         ensures ready { StatesStay self.old self.new }
         ensures plan { IfSome (get self.old.connections key) (λ c. key < 2 ^ 32 → Prepares C.may_wait key (plan_at c self.old) result self.old self.new) }
@@ -382,30 +378,30 @@ impl<S: Peer, C: LoopCore, T: Time + Drop> Open<S, C, T> {
         };
         if self.stands_by(key, plan) {
             self.yield_reply(key, now);
-            return Ok(Plan::Write);
+            return Ok(TurnPlan::Write);
         }
         match plan {
-            Plan::Answer => self.prepare_answer(key, now),
-            Plan::Write | Plan::Read | Plan::All => Ok(plan),
+            TurnPlan::Answer => self.prepare_answer(key, now),
+            TurnPlan::Write | TurnPlan::Read | TurnPlan::All => Ok(plan),
         }
     }
 
     // The turn of a connection that answers one request, if there is memory for the reply.
-    fn prepare_answer(&mut self, key: usize, now: u64) -> Result<Plan, Outcome>
+    fn prepare_answer(&mut self, key: usize, now: u64) -> Result<TurnPlan, Outcome>
         ensures lanes { Stays (lanes_of S.told self.old) (lanes_of S.told self.new) }
         ensures ready { StatesStay self.old self.new }
-        ensures plan { IfSome (get self.old.connections key) (λ _. key < 2 ^ 32 → Prepares C.may_wait key Plan.Answer result self.old self.new) }
+        ensures plan { IfSome (get self.old.connections key) (λ _. key < 2 ^ 32 → Prepares C.may_wait key TurnPlan.Answer result self.old self.new) }
         ensures woken { WakesOthers key self.old self.new }
     {
         match self.may_answer(key, now) {
-            Ok(true) => Ok(Plan::Answer),
+            Ok(true) => Ok(TurnPlan::Answer),
             Ok(false) => Err(Outcome::Open),
             Err(_) => Err(Outcome::Over(End::Memory)),
         }
     }
 
     // What a connection's turn would do, which begins. It is due no more.
-    fn plan(&mut self, key: usize) -> Option<Plan>
+    fn plan(&mut self, key: usize) -> Option<TurnPlan>
         ensures lanes { Stays (lanes_of S.told self.old) (lanes_of S.told self.new) }
         ensures ready { StatesStay self.old self.new }
         ensures plan { result ≡ option_map (λ c. plan_at c self.old) (get self.old.connections key) }
@@ -420,24 +416,25 @@ impl<S: Peer, C: LoopCore, T: Time + Drop> Open<S, C, T> {
         self.core.prepare();
         match connection.phase {
             Phase::Served => Some(connection.plan(has_room)),
-            Phase::Lingering => Some(Plan::Read),
+            Phase::Lingering => Some(TurnPlan::Read),
         }
     }
 
     // Whether a turn would answer a request that waits for a query of its tenant, which another connection has under way.
-    fn stands_by(&self, key: usize, plan: Plan) -> bool
+    fn stands_by(&self, key: usize, plan: TurnPlan) -> bool
         ensures { IsTrue result → IsTrue (is_answering plan && C.may_wait key self.now.core) }
     {
         match conn_of(key) {
             Some(conn) => {
-                matches!(plan, Plan::Answer | Plan::All) && self.core.inner().front(conn).waits
+                matches!(plan, TurnPlan::Answer | TurnPlan::All)
+                    && self.core.inner().front(conn).waits
             }
             None => false,
         }
     }
 
     // One turn by a plan.
-    fn work(&mut self, key: usize, plan: Plan) -> (Outcome, bool)
+    fn work(&mut self, key: usize, plan: TurnPlan) -> (Outcome, bool)
         ensures lanes { TurnsAtMost C.steps key (lanes_of S.told self.old) (lanes_of S.told self.new) }
         ensures others { OthersStand key self.old self.new }
         ensures bytes { IsFalse result.1 → bytes_of self.new ≡ bytes_of self.old }
@@ -472,7 +469,7 @@ impl<S: Peer, C: LoopCore, T: Time + Drop> Open<S, C, T> {
     }
 
     /// Notes the second in which bytes moved.
-    pub fn mark(&mut self, key: usize, now: u64)
+    pub fn mark_moved(&mut self, key: usize, now: u64)
         ensures lanes { Stays (lanes_of S.told self.old) (lanes_of S.told self.new) }
         ensures ready { StatesStay self.old self.new }
         ensures marked { IsMarked self.new key now }
@@ -513,13 +510,11 @@ impl<S: Peer, C: LoopCore, T: Time + Drop> Open<S, C, T> {
         let front = self.front_of_part(key, conn);
         self.note_part(key, front);
         let has_answered = self.core.done().answered > 0;
-        match self.claim_of(key) {
-            Some(claim) => {
-                self.settle_claim(key, &claim, has_answered, now);
-                Ok(())
-            }
-            None => self.ask(key, front, now),
+        if self.claim_of(key).is_none() {
+            return self.ask(key, front, now);
         }
+        self.settle_claim(key, has_answered, now);
+        Ok(())
     }
 
     // What is in front on a connection, unless it may be answered.
@@ -592,9 +587,11 @@ impl<S: Peer, C: LoopCore, T: Time + Drop> Open<S, C, T> {
         ensures due { self.new.due ≡ self.old.due }
         ensures woken { WakesOthers key self.old self.new }
     {
-        let has_worked = self.core.done().has_worked;
+        if !self.core.done().has_worked {
+            return;
+        }
         if let Some(connection) = self.connections.get_mut(key) {
-            if has_worked && connection.is_working {
+            if connection.is_working {
                 connection.renew(now);
             }
         }
@@ -678,7 +675,7 @@ impl<S: Peer, C: LoopCore, T: Time + Drop> Open<S, C, T> {
         ensures left { HasLeft key self.new }
         ensures woken { Wakes key self.old self.new }
     {
-        self.note(Report::ended(key));
+        self.note_report(Report::ended(key));
         if let Some(connection) = self.connections.get_mut(key) {
             connection.leave();
         }
@@ -693,25 +690,28 @@ impl<S: Peer, C: LoopCore, T: Time + Drop> Open<S, C, T> {
         ensures awake { IsTrue (is_awake key self.new) }
         ensures woken { Wakes key self.old self.new }
     {
-        let claim = self.end(key, now);
-        self.give_up(claim, now);
+        self.end(key, now);
+        self.grant(now);
         self.give_turn(key);
     }
 
-    // Ends a connection's session, and hands out its share.
-    fn end(&mut self, key: usize, now: u64) -> Option<Claim>
+    // Ends a connection's session, and gives its share back.
+    fn end(&mut self, key: usize, now: u64)
         ensures lanes { DoesAtMost C.steps (LetGo key) (lanes_of S.told self.old) (lanes_of S.told self.new) }
         ensures others { OthersStand key self.old self.new }
-        ensures claim { key < 2 ^ 32 → result ≡ claim_at self.old.connections key }
+        ensures share { key < 2 ^ 32 → IsGivenBack (claim_at self.old.connections key) self.new.budgets }
         ensures closes { IsTrue (is_open_at key self.old) → key < 2 ^ 32 → Does C.steps (LetGo key) (lanes_of S.told self.old) (lanes_of S.told self.new) }
         ensures woken { WakesOthers key self.old self.new }
     {
-        let conn = conn_of(key)?;
-        let connection = self.connections.get_mut(key)?;
-        let claim = connection.claim;
+        let Some(conn) = conn_of(key) else {
+            return;
+        };
+        let Some(connection) = self.connections.get_mut(key) else {
+            return;
+        };
         connection.linger(now);
         self.core.disconnect(conn);
-        claim
+        self.release(key);
     }
 
     /// Closes a connection.
@@ -722,22 +722,26 @@ impl<S: Peer, C: LoopCore, T: Time + Drop> Open<S, C, T> {
         ensures closes { IsTrue (is_open_at key self.old) → key < 2 ^ 32 → Does C.steps (LetGo key) (lanes_of S.told self.old) (lanes_of S.told self.new) }
         ensures woken { Wakes key self.old self.new }
     {
-        let claim = self.let_go(key);
-        self.give_up(claim, now);
+        self.let_go(key);
+        self.grant(now);
     }
 
-    // Takes a connection off, and hands out its share.
-    fn let_go(&mut self, key: usize) -> Option<Claim>
+    // Takes a connection off, and gives its share back.
+    fn let_go(&mut self, key: usize)
         ensures lanes { DoesAtMost C.steps (LetGo key) (lanes_of S.told self.old) (lanes_of S.told self.new) }
         ensures others { OthersStand key self.old self.new }
-        ensures claim { key < 2 ^ 32 → result ≡ claim_at self.old.connections key }
+        ensures share { key < 2 ^ 32 → IsGivenBack (claim_at self.old.connections key) self.new.budgets }
         ensures closes { IsTrue (is_open_at key self.old) → key < 2 ^ 32 → Does C.steps (LetGo key) (lanes_of S.told self.old) (lanes_of S.told self.new) }
         ensures woken { Wakes key self.old self.new }
     {
-        let conn = conn_of(key)?;
-        let connection = self.connections.try_remove(key)?;
+        let Some(conn) = conn_of(key) else {
+            return;
+        };
+        self.release(key);
+        let Some(_removed) = self.connections.try_remove(key) else {
+            return;
+        };
         self.core.disconnect(conn);
-        connection.claim
     }
 
     /// Whether a connection is open and served.
@@ -774,25 +778,5 @@ impl<S: Peer, C: LoopCore, T: Time + Drop> Open<S, C, T> {
                 }
             }
         }
-    }
-}
-
-// How much a turn may do, for whose next request earlier ones took so many microseconds. Where others wait for turns, a query goes on for few units at a time,
-// and the turn ends behind them.
-fn share_of(due: &DueList, micros: u64) -> Share
-    ensures shared { result.is_shared ≡ nat_lt due.now.since_shared 16 }
-    ensures units { result.work.units ≡ (if nat_lt due.now.since_shared 16 then 400 else 10000) }
-    ensures brief { result.work.is_brief ≡ (is_crowded due.now.longs && not due.now.longs.is_under_way) }
-    ensures micros { result.work.micros ≡ micros }
-{
-    let is_shared = due.is_shared();
-    Share {
-        work: Work {
-            units: if is_shared { SHARE } else { LONG_SHARE },
-            is_brief: due.is_brief(),
-            micros,
-            since: None,
-        },
-        is_shared,
     }
 }

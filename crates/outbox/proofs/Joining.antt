@@ -3,7 +3,7 @@ use Rattle.std.proofs.Common.{◌≡◌, ℕ, ◌+◌, ◌≤◌, List, [], ◌�
 use Rattle.std.specs.Prelude.{Option, Some, None, ◌||◌, ◌&&◌, not, ◌⊎◌}
 use Rattle.std.proofs.lemmas.Bool.{cases_Bool}
 use Rattle.outbox.specs.Lines.{Line, Event, after, run, gathered, read_at, sent_at, read, sent, reads}
-use Rattle.outbox.specs.Told.{Told, moved}
+use Rattle.outbox.specs.Traffic.{Traffic, moved}
 use Rattle.outbox.specs.Turns.{Turned, Moment, DoesAll, moves, moves_at, HasFallen, HasNotRisen, count_of, pieces_at, answers_at, most_requests, can_write, can_read, can_answer, can_go_on}
 use Rattle.outbox.specs.declared.readiness.Readiness.{Readiness}
 
@@ -31,7 +31,7 @@ does_both : {C : Type 0} (T R : C → List ℕ → C → Type 0) (line : Line) (
 does_both {C} T R line [] fs a b c h k = subst (λ (x : C). DoesAll T R line fs x c) h k
 does_both {C} T R line (e ∷ es) fs a b c h k = (h.0, h.1, does_both T R (after line e) es fs h.0 b c h.2 k)
 
-pub moved_twice : (o : Option Told) (p q s t : List ℕ) → moved q t (moved p s o) ≡ moved (p ++ q) (s ++ t) o
+pub moved_twice : (o : Option Traffic) (p q s t : List ℕ) → moved q t (moved p s o) ≡ moved (p ++ q) (s ++ t) o
 moved_twice None p q s t = refl
 moved_twice (Some o) p q s t = ap (λ (xs : List ℕ). Some (record { read = xs; written = (o.written ++ s) ++ t })) (append_assoc o.read p q) ∙ ap (λ (xs : List ℕ). Some (record { read = o.read ++ (p ++ q); written = xs })) (append_assoc o.written s t)
 
@@ -105,7 +105,7 @@ both {C} m n m' n' T R I O p q a b c x y = record {
   line_is = y.line_is ∙ ap (λ (l : Line). run l y.events) x.line_is ∙ sym (run-append a.line x.events y.events);
   wire_is = y.wire_is
       ∙ ap (λ (l : Line). moved (read l y.events) (sent l y.events) b.wire) x.line_is
-      ∙ ap (λ (w : Option Told). moved (read (run a.line x.events) y.events) (sent (run a.line x.events) y.events) w) x.wire_is
+      ∙ ap (λ (w : Option Traffic). moved (read (run a.line x.events) y.events) (sent (run a.line x.events) y.events) w) x.wire_is
       ∙ moved_twice a.wire (read a.line x.events) (read (run a.line x.events) y.events) (sent a.line x.events) (sent (run a.line x.events) y.events)
       ∙ ap (λ (xs : List ℕ). moved xs (sent a.line x.events ++ sent (run a.line x.events) y.events) a.wire) (sym (gathered-append read_at a.line x.events y.events))
       ∙ ap (λ (xs : List ℕ). moved (read a.line (x.events ++ y.events)) xs a.wire) (sym (gathered-append sent_at a.line x.events y.events));
@@ -128,7 +128,7 @@ both {C} m n m' n' T R I O p q a b c x y = record {
   ended = λ h. y.ended (x.ended h);
 }
 
--- the same where it could go on under another name
+-- a turn, where it could go on under another name
 pub renamed : {C : Type 0} (m n : ℕ) (T R : C → List ℕ → C → Type 0) (I : C → Type 0) (O : C → Bool) (p q : Readiness → Line → Bool) (a b : Moment C) → p a.ready a.line ≡ q a.ready a.line → Turned m n T R I O p a b → Turned m n T R I O q a b
 renamed m n T R I O p q a b e x = record {
   events = x.events;
@@ -144,7 +144,7 @@ renamed m n T R I O p q a b e x = record {
   ended = x.ended;
 }
 
--- the same with more
+-- a turn with more that it may have read and written
 pub loosened : {C : Type 0} (m n m' n' : ℕ) (T R : C → List ℕ → C → Type 0) (I : C → Type 0) (O : C → Bool) (p : Readiness → Line → Bool) (a b : Moment C) → m ≤ m' → n ≤ n' → Turned m n T R I O p a b → Turned m' n' T R I O p a b
 loosened m n m' n' T R I O p a b h k x = record {
   events = x.events;

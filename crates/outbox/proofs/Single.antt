@@ -4,7 +4,7 @@ use Rattle.std.specs.Prelude.{Option, Some, None, ◌||◌, ◌&&◌, not, nat_l
 use Rattle.std.proofs.lemmas.List.{append-nil, length-take-le}
 use Rattle.std.proofs.lemmas.Bool.{cases_Bool, lt-ltb, MatchBool-at_true, MatchBool-at_false}
 use Rattle.outbox.specs.Lines.{Line, Event, Readable, Declined, Answered, Writable, Ends, Fails, Worked, after, is_open, ended as ended_stage, owes, reads, cap, read_at, sent_at}
-use Rattle.outbox.specs.Told.{Told, moved, with_read, with_written}
+use Rattle.outbox.specs.Traffic.{Traffic, moved, with_read, with_written}
 use Rattle.outbox.specs.Turns.{Turned, Moment, here, DoesAt, moves_at, pieces_at, answers_at, HasFallen, HasNotRisen, IsTold, IsEnded, WritesOnce, Flushes, can_write, can_read, can_answer}
 use Rattle.outbox.specs.Appends.{with_reply}
 use Rattle.outbox.proofs.Joining.{both, either, renamed, true_or, or_true}
@@ -18,15 +18,15 @@ closed Open = refl
 closed Ending = refl
 closed Broken = refl
 
-pub moved_none : (o : Option Told) → o ≡ moved [] [] o
+pub moved_none : (o : Option Traffic) → o ≡ moved [] [] o
 moved_none None = refl
 moved_none (Some o) = ap (λ (xs : List ℕ). Some (record { read = xs; written = o.written })) (sym (append-nil o.read)) ∙ ap (λ (xs : List ℕ). Some (record { read = o.read ++ []; written = xs })) (sym (append-nil o.written))
 
-pub moved_read : (o : Option Told) (piece : List ℕ) → with_read piece o ≡ moved (piece ++ []) [] o
+pub moved_read : (o : Option Traffic) (piece : List ℕ) → with_read piece o ≡ moved (piece ++ []) [] o
 moved_read None piece = refl
 moved_read (Some o) piece = ap (λ (xs : List ℕ). Some (record { read = o.read ++ xs; written = o.written })) (sym (append-nil piece)) ∙ ap (λ (xs : List ℕ). Some (record { read = o.read ++ (piece ++ []); written = xs })) (sym (append-nil o.written))
 
-pub moved_written : (o : Option Told) (bytes : List ℕ) → with_written bytes o ≡ moved [] (bytes ++ []) o
+pub moved_written : (o : Option Traffic) (bytes : List ℕ) → with_written bytes o ≡ moved [] (bytes ++ []) o
 moved_written None bytes = refl
 moved_written (Some o) bytes = ap (λ (xs : List ℕ). Some (record { read = xs; written = o.written ++ bytes })) (sym (append-nil o.read)) ∙ ap (λ (xs : List ℕ). Some (record { read = o.read ++ []; written = o.written ++ xs })) (sym (append-nil bytes))
 
@@ -73,7 +73,7 @@ one m n T R I O can a b e line wire does moves could told ends few some = record
 }
 
 -- something turned out to want a wait
-pub fallen : {C : Type 0} (m n : ℕ) (T R : C → List ℕ → C → Type 0) (I : C → Type 0) (O : C → Bool) (can : Readiness → Line → Bool) (l : Line) (w : Option Told) (c : C) (r r' : Readiness)
+pub fallen : {C : Type 0} (m n : ℕ) (T R : C → List ℕ → C → Type 0) (I : C → Type 0) (O : C → Bool) (can : Readiness → Line → Bool) (l : Line) (w : Option Traffic) (c : C) (r r' : Readiness)
     → HasFallen r r' → HasNotRisen r r' → can r l ≡ true → (IsTold I (here l w c r) → IsTold I (here l w c r')) → Turned m n T R I O can (here l w c r) (here l w c r')
 fallen m n T R I O can l w c r r' f down could told = record {
   events = [];
@@ -107,7 +107,7 @@ nothing m n T R I O can a not' = record {
 
 -- ---- A write
 
-pub written : {C : Type 0} (T R : C → List ℕ → C → Type 0) (I : C → Type 0) (O : C → Bool) (l l' : Line) (w w' : Option Told) (r r' : Readiness) (c : C)
+pub written : {C : Type 0} (T R : C → List ℕ → C → Type 0) (I : C → Type 0) (O : C → Bool) (l l' : Line) (w w' : Option Traffic) (r r' : Readiness) (c : C)
     → can_write r l ≡ true → WritesOnce l w r l' w' r' → Turned 0 0 T R I O can_write (here l w c r) (here l' w' c r')
 written T R I O l l' w w' r r' c can (inl x) = one 0 0 T R I O can_write (here l w c r) (here l' w' c r') (Writable x.0) x.2
     (x.3 ∙ moved_written w (take x.0 l.owed)) refl (both_true (nat_lt 0 x.0) (owes l) (lt-ltb 0 x.0 x.1) (right_true r.writable (owes l) can)) can
@@ -118,7 +118,7 @@ written T R I O l l' w w' r r' c can (inr (inr x)) = one 0 0 T R I O can_write (
     (x.1 ∙ moved_none w) refl (or_true (is_open l.stage) (owes l) (right_true r.writable (owes l) can)) can
     (λ h e. h (ap (λ (s : Readiness). s.waiting) (sym x.2) ∙ e)) (λ h o. ap (λ (y : Line). is_open y.stage) x.0) (omega arith) (omega arith)
 
-pub flushed : {C : Type 0} (T R : C → List ℕ → C → Type 0) (I : C → Type 0) (O : C → Bool) (l l' : Line) (w w' : Option Told) (r r' : Readiness) (c : C)
+pub flushed : {C : Type 0} (T R : C → List ℕ → C → Type 0) (I : C → Type 0) (O : C → Bool) (l l' : Line) (w w' : Option Traffic) (r r' : Readiness) (c : C)
     → Flushes l w r l' w' r' → Turned 0 0 T R I O can_write (here l w c r) (here l' w' c r')
 flushed T R I O l l' w w' r r' c h = elim (cases_Bool (can_write r l)) [
   | inl e ↦ written T R I O l l' w w' r r' c e (MatchBool-at_true (WritesOnce l w r l' w' r') ((l' ≡ l) × (w' ≡ w) × (r' ≡ r)) e h)
@@ -132,7 +132,7 @@ flushed T R I O l l' w w' r r' c h = elim (cases_Bool (can_write r l)) [
 pub some_taken : (n : ℕ) (bytes : List ℕ) → n ≤ length bytes → 0 < n → 0 < length (take n bytes)
 some_taken n bytes within some = rw (length-take-le n bytes within) some
 
-pub took : {C : Type 0} (T R : C → List ℕ → C → Type 0) (I : C → Type 0) (O : C → Bool) (l : Line) (w w' : Option Told) (r : Readiness) (c c' : C) (piece : List ℕ)
+pub took : {C : Type 0} (T R : C → List ℕ → C → Type 0) (I : C → Type 0) (O : C → Bool) (l : Line) (w w' : Option Traffic) (r : Readiness) (c c' : C) (piece : List ℕ)
     → can_read r l ≡ true → 0 < length piece → w' ≡ with_read piece w → T c piece c' × (O c' ≡ O c) → Turned 1 0 T R I O can_read (here l w c r) (here l w' c' (record r { waiting = true }))
 took T R I O l w w' r c c' piece can some k t =
     let open' : reads l ≡ true = right_true (r.readable && not r.waiting) (reads l) can in
@@ -140,7 +140,7 @@ took T R I O l w w' r c c' piece can some k t =
     (k ∙ moved_read w piece ∙ ap (λ (xs : List ℕ). moved (xs ++ []) [] w) (sym (picked (reads l) piece [] open')))
     (open', t.0) (lt-ltb 0 (length piece) some) can (λ h e. absurd cc) (λ h o. h (sym t.1 ∙ o)) (omega arith) (omega arith)
 
-pub declined : {C : Type 0} (T R : C → List ℕ → C → Type 0) (I : C → Type 0) (O : C → Bool) (l l' : Line) (w w' : Option Told) (r : Readiness) (c c' : C) (piece : List ℕ)
+pub declined : {C : Type 0} (T R : C → List ℕ → C → Type 0) (I : C → Type 0) (O : C → Bool) (l l' : Line) (w w' : Option Traffic) (r : Readiness) (c c' : C) (piece : List ℕ)
     → can_read r l ≡ true → l' ≡ after l Ends → w' ≡ with_read piece w → c' ≡ c → Turned 1 0 T R I O can_read (here l w c r) (here l' w' c' r)
 declined T R I O l l' w w' r c c' piece can line k same =
     let open' : reads l ≡ true = right_true (r.readable && not r.waiting) (reads l) can in
@@ -148,20 +148,20 @@ declined T R I O l l' w w' r c c' piece can line k same =
     (k ∙ moved_read w piece ∙ ap (λ (xs : List ℕ). moved (xs ++ []) [] w) (sym (picked (reads l) piece [] open')))
     (open', same) (left_true (is_open l.stage) (nat_lt (length l.owed) cap) open') can (λ h e. subst I (sym same) (h e)) (λ h o. ap (λ (x : Line). is_open x.stage) line ∙ closed l.stage) (omega arith) (omega arith)
 
-pub ended_now : {C : Type 0} (T R : C → List ℕ → C → Type 0) (I : C → Type 0) (O : C → Bool) (l l' : Line) (w w' : Option Told) (r : Readiness) (c : C)
+pub ended_now : {C : Type 0} (T R : C → List ℕ → C → Type 0) (I : C → Type 0) (O : C → Bool) (l l' : Line) (w w' : Option Traffic) (r : Readiness) (c : C)
     → can_read r l ≡ true → l' ≡ after l Ends → w' ≡ w → Turned 1 0 T R I O can_read (here l w c r) (here l' w' c r)
 ended_now T R I O l l' w w' r c can line k =
     let open' : reads l ≡ true = right_true (r.readable && not r.waiting) (reads l) can in
     one 1 0 T R I O can_read (here l w c r) (here l' w' c r) Ends line (k ∙ moved_none w) refl (left_true (is_open l.stage) (nat_lt (length l.owed) cap) open') can (λ h. h) (λ h o. ap (λ (x : Line). is_open x.stage) line ∙ closed l.stage) (omega arith) (omega arith)
 
-pub failed_now : {C : Type 0} (T R : C → List ℕ → C → Type 0) (I : C → Type 0) (O : C → Bool) (l l' : Line) (w w' : Option Told) (r : Readiness) (c : C)
+pub failed_now : {C : Type 0} (T R : C → List ℕ → C → Type 0) (I : C → Type 0) (O : C → Bool) (l l' : Line) (w w' : Option Traffic) (r : Readiness) (c : C)
     → can_read r l ≡ true → l' ≡ after l Fails → w' ≡ w → Turned 1 0 T R I O can_read (here l w c r) (here l' w' c r)
 failed_now T R I O l l' w w' r c can line k =
     let open' : reads l ≡ true = right_true (r.readable && not r.waiting) (reads l) can in
     one 1 0 T R I O can_read (here l w c r) (here l' w' c r) Fails line (k ∙ moved_none w) refl
     (true_or (is_open l.stage) (owes l) (left_true (is_open l.stage) (nat_lt (length l.owed) cap) open')) can (λ h. h) (λ h o. ap (λ (x : Line). is_open x.stage) line) (omega arith) (omega arith)
 
-pub blocked_now : {C : Type 0} (T R : C → List ℕ → C → Type 0) (I : C → Type 0) (O : C → Bool) (l : Line) (w w' : Option Told) (r : Readiness) (c : C)
+pub blocked_now : {C : Type 0} (T R : C → List ℕ → C → Type 0) (I : C → Type 0) (O : C → Bool) (l : Line) (w w' : Option Traffic) (r : Readiness) (c : C)
     → can_read r l ≡ true → w' ≡ w → Turned 1 0 T R I O can_read (here l w c r) (here l w' c (record r { readable = false }))
 blocked_now T R I O l w w' r c can k = rw k (fallen 1 0 T R I O can_read l w c r (record r { readable = false })
     (inl (left_true r.readable (not r.waiting) (left_true (r.readable && not r.waiting) (reads l) can), refl))
@@ -172,7 +172,7 @@ blocked_now T R I O l w w' r c can k = rw k (fallen 1 0 T R I O can_read l w c r
 waits : {X : Type 0} (r : Readiness) (l : Line) → can_answer r l ≡ true → r.waiting ≡ false → X
 waits r l can e = clash r.waiting (left_true r.waiting (reads l) can) e
 
-pub replied_one : {C : Type 0} (T R : C → List ℕ → C → Type 0) (I : C → Type 0) (O : C → Bool) (l l' : Line) (w : Option Told) (r : Readiness) (c c' : C) (reply : List ℕ)
+pub replied_one : {C : Type 0} (T R : C → List ℕ → C → Type 0) (I : C → Type 0) (O : C → Bool) (l l' : Line) (w : Option Traffic) (r : Readiness) (c c' : C) (reply : List ℕ)
     → can_answer r l ≡ true → l' ≡ with_reply l reply → R c reply c' → O c' ≡ false → Turned 0 1 T R I O can_answer (here l w c r) (here l' w c' r)
 replied_one T R I O l l' w r c c' reply can line t goes =
     let open' : reads l ≡ true = right_true r.waiting (reads l) can in
@@ -180,17 +180,17 @@ replied_one T R I O l l' w r c c' reply can line t goes =
     (line ∙ sym (picked (reads l) (with_reply l reply) l open')) (moved_none w) (open', t) refl can
     (λ h e. waits r l can e) (λ h o. clash (O c') o goes) (omega arith) (omega arith)
 
-pub worked_one : {C : Type 0} (T R : C → List ℕ → C → Type 0) (I : C → Type 0) (O : C → Bool) (l l' : Line) (w : Option Told) (r : Readiness) (c c' : C)
+pub worked_one : {C : Type 0} (T R : C → List ℕ → C → Type 0) (I : C → Type 0) (O : C → Bool) (l l' : Line) (w : Option Traffic) (r : Readiness) (c c' : C)
     → can_answer r l ≡ true → l' ≡ l → c' ≡ c → Turned 0 1 T R I O can_answer (here l w c r) (here l' w c' r)
 worked_one T R I O l l' w r c c' can line same = one 0 1 T R I O can_answer (here l w c r) (here l' w c' r) Worked line (moved_none w) same refl can
     (λ h e. waits r l can e) (λ h o. ap (λ (x : Line). is_open x.stage) line ∙ h (ap O (sym same) ∙ o)) (omega arith) (omega arith)
 
-pub idle_one : {C : Type 0} (T R : C → List ℕ → C → Type 0) (I : C → Type 0) (O : C → Bool) (l l' : Line) (w : Option Told) (r : Readiness) (c c' : C)
+pub idle_one : {C : Type 0} (T R : C → List ℕ → C → Type 0) (I : C → Type 0) (O : C → Bool) (l l' : Line) (w : Option Traffic) (r : Readiness) (c c' : C)
     → can_answer r l ≡ true → I c → l' ≡ l → c' ≡ c → Turned 0 1 T R I O can_answer (here l w c r) (here l' w c' (record r { waiting = false }))
 idle_one T R I O l l' w r c c' can none line same = rw (line, same) (fallen 0 1 T R I O can_answer l w c r (record r { waiting = false })
     (inr (inr (left_true r.waiting (reads l) can, refl))) (record { readable = λ e. e; writable = λ e. e; waiting = λ e. refl }) can (λ h e. none))
 
-pub refused_one : {C : Type 0} (T R : C → List ℕ → C → Type 0) (I : C → Type 0) (O : C → Bool) (l m l' : Line) (w : Option Told) (r : Readiness) (c c' : C)
+pub refused_one : {C : Type 0} (T R : C → List ℕ → C → Type 0) (I : C → Type 0) (O : C → Bool) (l m l' : Line) (w : Option Traffic) (r : Readiness) (c c' : C)
     → can_answer r l ≡ true → m ≡ l → l' ≡ after m Ends → c' ≡ c → Turned 0 1 T R I O can_answer (here l w c r) (here l' w c' r)
 refused_one T R I O l m l' w r c c' can mid line same =
     let open' : reads l ≡ true = right_true r.waiting (reads l) can in
@@ -224,7 +224,7 @@ with_end m n T R I O can a b done x = record {
   ended = λ h o. done;
 }
 
-pub last_one : {C : Type 0} (T R : C → List ℕ → C → Type 0) (I : C → Type 0) (O : C → Bool) (l m l' : Line) (w : Option Told) (r : Readiness) (c c' : C) (reply : List ℕ)
+pub last_one : {C : Type 0} (T R : C → List ℕ → C → Type 0) (I : C → Type 0) (O : C → Bool) (l m l' : Line) (w : Option Traffic) (r : Readiness) (c c' : C) (reply : List ℕ)
     → can_answer r l ≡ true → m ≡ with_reply l reply → R c reply c' → l' ≡ after m Ends → Turned 0 1 T R I O can_answer (here l w c r) (here l' w c' r)
 last_one T R I O l m l' w r c c' reply can mid t line =
     let open' : is_open m.stage ≡ true = ap (λ (x : Line). is_open x.stage) mid ∙ left_true (is_open l.stage) (nat_lt (length l.owed) cap) (right_true r.waiting (reads l) can) in

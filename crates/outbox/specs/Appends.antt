@@ -23,6 +23,6 @@ Appends answers idle over step old before after new = Steps answers idle over (�
 abbrev pub with_reply : Line → List ℕ → Line
 with_reply line reply = record line { owed = line.owed ++ reply }
 
--- the same of what a line owes
+-- what a line owes behind a step
 abbrev pub Owes : {C : Type 0} → (C → List ℕ → C → Type 0) → (C → Type 0) → (C → Bool) → Step → C → Line → Line → C → Type 0
 Owes answers idle over step old before after new = Steps answers idle over with_reply step old before after new

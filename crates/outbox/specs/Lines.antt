@@ -103,7 +103,7 @@ lost_at line Ends = []
 lost_at line Fails = line.owed
 lost_at line Worked = []
 
--- the same of all events
+-- a line behind all events
 abbrev pub run : Line → List Event → Line
 run line [] = line
 run line (e ∷ es) = run (after line e) es

@@ -3,7 +3,7 @@ use Rattle.std.specs.Prelude.{◌≡◌, ◌⊎◌, ℕ, ◌+◌, ◌<◌, ◌�
 use Rattle.std.specs.Bool.{MatchBool}
 use Rattle.outbox.specs.declared.readiness.Readiness.{Readiness}
 use Rattle.outbox.specs.Lines.{Line, Event, Readable, Declined, Answered, Writable, Ends, Fails, Worked, after, run, read, sent, reads, owes, is_open}
-use Rattle.outbox.specs.Told.{Told, moved, with_written}
+use Rattle.outbox.specs.Traffic.{Traffic, moved, with_written}
 
 -- the core took this piece, which was read, or answered so
 abbrev pub DoesAt : {C : Type 0} → (C → List ℕ → C → Type 0) → (C → List ℕ → C → Type 0) → Line → Event → C → C → Type 0
@@ -59,11 +59,11 @@ pub record HasNotRisen (old new : Readiness) : Type 0 where
 -- all of it at one moment
 pub record Moment (C : Type 0) : Type 0 where
   pub line : Line
-  pub wire : Option Told
+  pub wire : Option Traffic
   pub core : C
   pub ready : Readiness
 
-abbrev pub here : {C : Type 0} → Line → Option Told → C → Readiness → Moment C
+abbrev pub here : {C : Type 0} → Line → Option Traffic → C → Readiness → Moment C
 here line wire core ready = record { line = line; wire = wire; core = core; ready = ready }
 
 -- where no request is said to wait, none does
@@ -116,13 +116,13 @@ pub record Turned {C : Type 0} (most_pieces most_answers : ℕ) (takes answers :
   pub ended : IsEnded over old → IsEnded over new
 
 -- One write: some bytes went out, or there is no room, or a fault came.
-abbrev pub WritesOnce : Line → Option Told → Readiness → Line → Option Told → Readiness → Type 0
+abbrev pub WritesOnce : Line → Option Traffic → Readiness → Line → Option Traffic → Readiness → Type 0
 WritesOnce line wire ready line' wire' ready' =
     ((n : ℕ) × (0 < n) × (line' ≡ after line (Writable n)) × (wire' ≡ with_written (take n line.owed) wire) × (ready' ≡ ready))
     ⊎ (((line' ≡ line) × (wire' ≡ wire) × (ready' ≡ record ready { writable = false }))
     ⊎ ((line' ≡ after line Fails) × (wire' ≡ wire) × (ready' ≡ ready)))
 
-abbrev pub Flushes : Line → Option Told → Readiness → Line → Option Told → Readiness → Type 0
+abbrev pub Flushes : Line → Option Traffic → Readiness → Line → Option Traffic → Readiness → Type 0
 Flushes line wire ready line' wire' ready' = MatchBool (can_write ready line)
     (WritesOnce line wire ready line' wire' ready')
     ((line' ≡ line) × (wire' ≡ wire) × (ready' ≡ ready))

@@ -1,6 +1,6 @@
 //! One turn on one connection.
 ghost use Rattle.std.specs.Prelude.{◌<◌, length, Option};
-ghost use Rattle.outbox.specs.Told.{HasMoved, Told};
+ghost use Rattle.outbox.specs.Traffic.{HasMoved, Traffic};
 ghost use Rattle.outbox.specs.Turns.{Turned, Flushes, here, can_read, can_answer, can_go_on, most_requests};
 
 use crate::answers::{Core, Step};
@@ -109,7 +109,7 @@ pub fn feed<W: Wire, C: Core>(
 
 // Answers some of the requests that wait.
 fn answer<C: Core>(outbox: &mut Outbox, core: &mut C, conn: u32, ready: &mut Readiness)
-    ensures { (wire : Option Told) → Turned 0 most_requests (C.takes conn) (C.answers conn) (C.idle conn) (C.over conn) can_answer
+    ensures { (wire : Option Traffic) → Turned 0 most_requests (C.takes conn) (C.answers conn) (C.idle conn) (C.over conn) can_answer
         (here outbox.old wire core.old ready.old) (here outbox.new wire core.new ready.new) }
 {
     answer_one(outbox, core, conn, ready);
@@ -126,7 +126,7 @@ fn answer<C: Core>(outbox: &mut Outbox, core: &mut C, conn: u32, ready: &mut Rea
 
 // Answers one of them.
 fn answer_one<C: Core>(outbox: &mut Outbox, core: &mut C, conn: u32, ready: &mut Readiness)
-    ensures { (wire : Option Told) → Turned 0 1 (C.takes conn) (C.answers conn) (C.idle conn) (C.over conn) can_answer
+    ensures { (wire : Option Traffic) → Turned 0 1 (C.takes conn) (C.answers conn) (C.idle conn) (C.over conn) can_answer
         (here outbox.old wire core.old ready.old) (here outbox.new wire core.new ready.new) }
 {
     if !ready.can_answer(outbox) {

@@ -1,6 +1,6 @@
 //! Connections that never wait.
 ghost use Rattle.std.specs.Prelude.{Option};
-ghost use Rattle.outbox.specs.Told.{Told};
+ghost use Rattle.outbox.specs.Traffic.{Traffic};
 ghost use Rattle.outbox.specs.Moves.{Gives, Takes};
 
 /// The outcome of a read.
@@ -30,7 +30,7 @@ pub enum Taken {
 /// A connection whose reads and writes return at once.
 pub trait Wire {
     /// The bytes that went each way, if the wire shows them: one over memory does, one over a socket does not.
-    ghost told: { Self → Option Told };
+    ghost told: { Self → Option Traffic };
 
     /// Reads into the front of a buffer: at least one byte, if the buffer is not empty.
     fn read(&mut self, buffer: &mut [u8]) -> Given

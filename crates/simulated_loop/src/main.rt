@@ -21,7 +21,7 @@ use std::{env, io};
 
 fn main(rt: HostRuntime) -> ExitCode {
     match read_words(&rt) {
-        Ok(words) => ExitCode::from(tell(&rt, &run(&rt, words))),
+        Ok(words) => ExitCode::from(tell_outcome(&rt, &run(&rt, words))),
         Err(error) => {
             let _ = eprintln!(rt; "simulated_loop: {error}");
             ExitCode::from(3)
@@ -49,7 +49,7 @@ fn number_of(word: Option<String>) -> u64 {
 }
 
 // Says what came of it on standard error, and answers the exit status.
-fn tell<R: Eprint>(rt: &R, outcome: &Outcome) -> u8 {
+fn tell_outcome<R: Eprint>(rt: &R, outcome: &Outcome) -> u8 {
     let _ = eprintln!(rt; "{outcome}");
     if outcome.is_good() { 0 } else { 1 }
 }

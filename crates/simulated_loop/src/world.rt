@@ -1,12 +1,14 @@
 //! The system, its peers, and a run.
 
+ghost use Rattle.std.specs.Prelude.{Some};
+
 use event_loop::{
     Accepted, Ending, Held, Journal, LEAST_MEMORY, Limits, Report, Server, System, Time, Totals,
     Woken,
 };
-use hub_metrics::{MeasuredHub, step};
+use hub_core::HubCore;
+use hub_server::{MeasuredHub, step};
 use path_hub::Hub;
-use path_listen::HubCore;
 use simulated_peers::{Chance, End, Peer, Pipe, Shared, TENANTS, Tally, Times, key_of};
 use std::alloc::{AllocError, Global};
 use std::cell::{Cell, RefCell};
@@ -115,12 +117,14 @@ struct Pipes<'w> {
     // Where the next wait and the next accept begin to look.
     waits_from: usize,
     accepts_from: usize,
+    // An accept was asked for since the last wait.
+    has_tried: bool,
     reports: Vec<Report>,
 }
 
 impl<'w> Pipes<'w> {
     // Notes what is to be reported of a pipe.
-    fn note(&mut self, place: usize) {
+    fn note_pipe(&mut self, place: usize) {
         let Some(mut pipe) = borrow(self.pipes, place) else {
             return;
         };
@@ -157,6 +161,8 @@ fn borrow(pipes: &[RefCell<Pipe>], place: usize) -> Option<std::cell::RefMut<'_,
 impl<'w> System for Pipes<'w> {
     type Stream = End<'w>;
 
+    ghost tried = { λ pipes. Some pipes.has_tried };
+
     fn wait(&mut self, _most: Duration) -> Result<Woken, ErrorKind> {
         self.reports.clear();
         let count = self.pipes.len();
@@ -166,9 +172,10 @@ impl<'w> System for Pipes<'w> {
                 break 'pipes;
             }
             let place = from.saturating_add(step) % count.max(1);
-            self.note(place);
+            self.note_pipe(place);
             self.waits_from = place.saturating_add(1);
         }
+        self.has_tried = false;
         Ok(Woken {
             is_asked: true,
             is_closed: false,
@@ -180,10 +187,12 @@ impl<'w> System for Pipes<'w> {
     }
 
     fn accept(&mut self) -> Accepted<End<'w>> {
+        let asking = self.next_asking();
+        self.has_tried = true;
         if self.chance.once_in(50) {
             return Accepted::Refused;
         }
-        let Some(place) = self.next_asking() else {
+        let Some(place) = asking else {
             return Accepted::Blocked;
         };
         let Some(pipe) = self.pipes.get(place) else {
@@ -236,7 +245,7 @@ impl Journal for Ends<'_> {
 
     fn counted(&mut self, _totals: &Totals) {}
 
-    fn held(&mut self, _limit: Held, _totals: &Totals) {}
+    fn tell_held(&mut self, _limit: Held, _totals: &Totals) {}
 
     fn ticked(&mut self) {}
 }
@@ -383,9 +392,9 @@ impl<'w> Stage<'w> {
         'rounds: for round in 0..rounds {
             outcome.rounds = round.saturating_add(1);
             play_round(peers, self.room.pipes, shared);
-            mark(rt, shared.is_scarce);
+            print_mark(rt, shared.is_scarce);
             let done = self.step();
-            mark(rt, shared.is_scarce);
+            print_mark(rt, shared.is_scarce);
             done?;
         }
         Ok(())
@@ -415,7 +424,7 @@ impl<'w> Stage<'w> {
 }
 
 // A line of standard output: growths are refused between an odd one and the next.
-fn mark<R: Print>(rt: &R, is_scarce: bool) {
+fn print_mark<R: Print>(rt: &R, is_scarce: bool) {
     if is_scarce {
         let _ = println!(rt; "round");
     }
@@ -546,6 +555,7 @@ fn server<'w>(
         watched: 0,
         waits_from: 0,
         accepts_from: 0,
+        has_tried: false,
         reports,
     };
     let watch = Watch {

@@ -101,7 +101,7 @@ pub struct Shared {
 
 /// A request that was begun: what its reply must be, and the texts before it.
 #[derive(Clone, Copy)]
-struct Asked {
+struct Expected {
     wanted: Wanted,
     before: [Option<Text>; TEXTS],
 }
@@ -114,7 +114,7 @@ pub struct Peer {
     texts: [Option<Text>; TEXTS],
     // What is to be sent of the last request, and those that have no reply.
     script: VecDeque<u8>,
-    wanted: VecDeque<Asked>,
+    wanted: VecDeque<Expected>,
     // How much of a reply came, what it has in all, its head, and whether it was as wanted.
     came: usize,
     length: usize,
@@ -580,7 +580,7 @@ impl Peer {
 
     fn want(&mut self, wanted: Wanted) {
         let before = self.texts;
-        let _ = self.wanted.push_back(Asked { wanted, before });
+        let _ = self.wanted.push_back(Expected { wanted, before });
     }
 
     fn say_text(&mut self, text: Text) {

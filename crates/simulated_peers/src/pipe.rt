@@ -1,6 +1,6 @@
 //! One connection: what its peer sent and takes, and what the system reports of it.
 ghost use Rattle.std.specs.Prelude.{◌≡◌};
-ghost use Rattle.outbox.specs.Told.{IsUnused};
+ghost use Rattle.outbox.specs.Traffic.{IsUnused};
 ghost use Rattle.simulated_peers.specs.Pieces.{HasGiven, HasTaken};
 
 use event_loop::{End as How, Peer, Report};

@@ -1,5 +1,7 @@
 //! The system of TCP sockets and `epoll`.
 
+ghost use Rattle.std.specs.Prelude.{None};
+
 use crate::stream::Stream;
 use crate::system::{Accepted, Peer, Report, System, Time, Woken};
 use mio::event::Event;
@@ -110,6 +112,8 @@ fn listen<R: Net>(rt: &R, addr: SocketAddr) -> io::Result<(Poll, TcpListener)> {
 impl System for Sockets {
     type Stream = Stream<TcpStream>;
 
+    ghost tried = { λ _. None };
+
     fn wait(&mut self, most: Duration) -> Result<Woken, ErrorKind> {
         if let Err(error) = self.poll.poll(&mut self.events, Some(most)) {
             return Err(error.kind());
@@ -216,7 +220,7 @@ impl<'r, R: Clock> Since<'r, R> {
         Ok(Since { rt, start })
     }
 
-    /// The same clock once more.
+    /// One more clock that counts from the same moment.
     pub fn again(&self) -> Since<'r, R> {
         Since {
             rt: self.rt,

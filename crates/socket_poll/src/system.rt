@@ -1,5 +1,5 @@
 //! What a loop needs of the operating system: what is ready, who connects, and the time.
-ghost use Rattle.std.specs.Prelude.{◌≡◌, ⊤, Option};
+ghost use Rattle.std.specs.Prelude.{◌≡◌, ⊤, Bool, Option, IfSome, IsFalse, IsTrue};
 ghost use Rattle.socket_poll.specs.Streams.{IsNew};
 ghost use Rattle.socket_poll.specs.Reports.{ended_at};
 
@@ -75,26 +75,33 @@ pub trait System {
     /// A connection's stream.
     type Stream: Peer;
 
+    /// Whether it was asked for a connection since the last wait, if it shows that.
+    ghost tried: { Self → Option Bool };
+
     /// Waits until something is ready, for at most this time. An error is the system's reason.
-    fn wait(&mut self, most: Duration) -> Result<Woken, ErrorKind>;
+    fn wait(&mut self, most: Duration) -> Result<Woken, ErrorKind>
+        ensures { IfSome (tried self.new) IsFalse };
 
     /// The report of the last wait with this number, from 0.
     fn report(&self, number: usize) -> Option<Report>;
 
     /// Accepts a connection.
     fn accept(&mut self) -> Accepted<Self::Stream>
-        ensures { IsNew Self.Stream.told result };
+        ensures unused { IsNew Self.Stream.told result }
+        ensures tried { IfSome (tried self.new) IsTrue };
 
     /// Accepts a connection of the administration address. None waits if there is no such address.
     fn accept_caller(&mut self) -> Accepted<Self::Stream>
-        ensures { IsNew Self.Stream.told result }
+        ensures unused { IsNew Self.Stream.told result }
+        ensures tried { tried self.new ≡ tried self.old }
     {
         Accepted::Blocked
     }
 
     /// Has a stream reported under this key when it is ready. `false` if the system refuses.
     fn watch(&mut self, stream: &mut Self::Stream, key: usize) -> bool
-        ensures { Self.Stream.told stream.new ≡ Self.Stream.told stream.old };
+        ensures stream { Self.Stream.told stream.new ≡ Self.Stream.told stream.old }
+        ensures tried { tried self.new ≡ tried self.old };
 
     /// The address that connections come to. An error is the system's reason.
     fn local_addr(&self) -> Result<SocketAddr, ErrorKind>;

@@ -1,8 +1,7 @@
 use Rattle.std.proofs.Common.{inl, inr}
 use Rattle.open_connections.specs.Looping.{LetGo}
 use Rattle.open_connections.proofs.Looping.{before_step, stays_then, then_at_most}
-use Rattle.open_connections.proofs.Keeping.{keep_then, others_stand, others_then}
-use Rattle.event_loop.proofs.Serving.{open_still}
+use Rattle.open_connections.proofs.Keeping.{keep_then, open_still, others_stand, others_then}
 use Rattle.open_connections.specs.Woken.{sparing}
 use Rattle.event_loop.proofs.rounds.Rounds.go_on.Goals as goal
 

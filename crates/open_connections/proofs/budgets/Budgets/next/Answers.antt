@@ -1,5 +1,5 @@
 use Rattle.std.proofs.Common.{ℕ, ap, ◌∙◌}
-use Rattle.open_connections.proofs.Shares.{granted, granted_within, stay}
+use Rattle.open_connections.proofs.Shares.{granted, granted_within, held_tenants, next_strangers, stay}
 use Rattle.open_connections.proofs.budgets.Budgets.next.Goals as goal
 
 pub returns-in-Some-clause-free : goal.returns-in-Some-clause-free
@@ -13,3 +13,9 @@ returns-in-None-clause-free c = stay _ _ (granted c.keeps.ensures.moved _ _ c.ne
 
 pub returns-in-None-clause-limits : goal.returns-in-None-clause-limits
 returns-in-None-clause-limits c = ap (λ (x : ℕ). (x, c.next-in-None.new.self.limit)) (granted_within c.keeps.ensures.limits c.args.self.now.tenants c.next.new.self c.next.ensures.after) ∙ ap (λ (x : ℕ). (c.args.self.now.tenants.limit, x)) (granted_within c.keeps.ensures.limits c.args.self.now.strangers c.next-in-None.new.self c.next-in-None.ensures.after)
+
+pub returns-in-Some-clause-granted : goal.returns-in-Some-clause-granted
+returns-in-Some-clause-granted c = held_tenants c.by_ticket.ensures.granted c.keeps.ensures.limits _ c.args.self.now _ c.in-Some.ensures.granted c.next.ensures.after
+
+pub returns-in-None-clause-granted : goal.returns-in-None-clause-granted
+returns-in-None-clause-granted c = next_strangers c.by_ticket.ensures.granted c.by_ticket.ensures.still c.keeps.ensures.limits _ c.args.self.now _ _ c.in-None.ensures.granted c.next.ensures.after c.next-in-None.ensures.granted c.next-in-None.ensures.after

@@ -1,6 +1,7 @@
 use Rattle.open_connections.proofs.Keeping.{keep_same, keep_then}
-use Rattle.open_connections.proofs.Looping.{stays, stays_in, stays_then}
+use Rattle.open_connections.proofs.Looping.{stays, stays_then}
 use Rattle.open_connections.proofs.Shares.{free_then}
+use Rattle.open_connections.proofs.Woken.{spared}
 use Rattle.open_connections.proofs.open.Open.grant.Goals as goal
 
 pub shares-init : goal.shares-init
@@ -8,9 +9,9 @@ shares-init g c = record { lanes = stays _; free = λ pool q t h. h; ready = kee
 
 pub shares-preserved : goal.shares-preserved
 shares-preserved g c = record {
-  lanes = stays_then _ _ _ c.shares.invariant.lanes (stays_then _ _ _ (stays_in _ _ _ _ _ _ c.next.ensures.limits) c.wake.ensures.lanes);
-  free = free_then _ _ _ _ c.shares.invariant.free c.next.ensures.free c.wake.ensures.budgets;
-  ready = keep_then _ _ _ _ c.shares.invariant.ready c.wake.ensures.ready;
-  claims = keep_then _ _ _ _ c.shares.invariant.claims c.wake.ensures.claims;
-  woken = λ fact h. c.wake.ensures.woken fact (c.shares.invariant.woken fact h);
+  lanes = stays_then _ _ _ c.shares.invariant.lanes (stays_then _ _ _ c.grant_next.ensures.lanes c.give_turn.ensures.lanes);
+  free = free_then _ _ _ _ c.shares.invariant.free c.grant_next.ensures.free c.give_turn.ensures.budgets;
+  ready = keep_then _ _ _ _ c.shares.invariant.ready (keep_then _ _ _ _ c.grant_next.ensures.ready c.give_turn.ensures.ready);
+  claims = keep_then _ _ _ _ c.shares.invariant.claims (keep_then _ _ _ _ c.grant_next.ensures.claims c.give_turn.ensures.claims);
+  woken = λ fact h. c.give_turn.ensures.woken fact (c.in-Some.ensures.woken fact (spared _ _ _ _ c.shares.self.connections c.in-Some.key fact (c.shares.invariant.woken fact h)));
 }

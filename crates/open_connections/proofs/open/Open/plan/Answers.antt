@@ -1,5 +1,7 @@
-use Rattle.std.proofs.Common.{refl, sym}
+use Rattle.std.proofs.Common.{false, refl, sym}
 use Rattle.open_connections.proofs.Keeping.{keep_at}
+use Rattle.open_connections.specs.Opened.{bytes_of}
+use Rattle.open_connections.proofs.Steps.{stays_at}
 use Rattle.open_connections.proofs.Woken.{taken_off}
 use Rattle.open_connections.proofs.open.Open.plan.Goals as goal
 
@@ -18,3 +20,15 @@ pub returns-in-Lingering-clause-woken : goal.returns-in-Lingering-clause-woken
 returns-in-Lingering-clause-woken g c = λ fact h.
     let o = c.args.self.now in
     rw (c.begin.ensures.first, c.begin.ensures.rest) (taken_off o.bound o.has_missed o.due.first.items o.due.rest.items o.connections c.args.key c.in_ok-connection.connection.now _ (sym c.in_ok-connection.ensures.value) refl fact h)
+
+pub returns-in-Served-clause-lanes : goal.returns-in-Served-clause-lanes
+returns-in-Served-clause-lanes g c =
+    let o = c.args.self.now in
+    let connection = c.in_ok-connection.connection.now in
+    rw c.prepare.ensures (stays_at g.S.Wire.told o.budgets (bytes_of o) o.core o.connections c.args.key connection (record connection { is_due = false }) (sym c.in_ok-connection.ensures.value) refl refl refl)
+
+pub returns-in-Lingering-clause-lanes : goal.returns-in-Lingering-clause-lanes
+returns-in-Lingering-clause-lanes g c =
+    let o = c.args.self.now in
+    let connection = c.in_ok-connection.connection.now in
+    rw c.prepare.ensures (stays_at g.S.Wire.told o.budgets (bytes_of o) o.core o.connections c.args.key connection (record connection { is_due = false }) (sym c.in_ok-connection.ensures.value) refl refl refl)

@@ -1,8 +1,8 @@
-use Rattle.std.proofs.Common.{inr}
+use Rattle.std.proofs.Common.{inr, ◌∙◌}
 use Rattle.slab.specs.Slab.{get}
 use Rattle.open_connections.proofs.Looping.{then_turn}
 use Rattle.open_connections.proofs.Turns.{done_at, left_at}
-use Rattle.open_connections.proofs.Keeping.{others_stand, others_then}
+use Rattle.open_connections.proofs.Keeping.{open_alike, others_stand, others_then}
 use Rattle.open_connections.proofs.open.Open.turn.Goals as goal
 
 pub returns-in-Ok-clause-lanes : goal.returns-in-Ok-clause-lanes
@@ -23,3 +23,12 @@ returns-in-Ok-clause-others g c = others_then c.args.key _ _ _ (others_stand c.a
 
 pub returns-in-Err-clause-others : goal.returns-in-Err-clause-others
 returns-in-Err-clause-others g c = others_stand c.args.key _ _ c.prepare.ensures.ready
+
+pub returns-in-Ok-clause-bytes : goal.returns-in-Ok-clause-bytes
+returns-in-Ok-clause-bytes g c = λ e. c.work.ensures.bytes e ∙ c.prepare.ensures.lanes.bytes_stay
+
+pub returns-in-Ok-clause-there : goal.returns-in-Ok-clause-there
+returns-in-Ok-clause-there g c = c.work.ensures.there ∙ open_alike c.args.key c.args.self.now c.prepare.new.self c.prepare.ensures.ready
+
+pub returns-in-Ok-clause-woken : goal.returns-in-Ok-clause-woken
+returns-in-Ok-clause-woken g c = λ fact h. c.work.ensures.woken fact (c.prepare.ensures.woken fact h)

@@ -1,7 +1,6 @@
 use Rattle.std.proofs.Common.{arith, inl, inr, refl, sym, rules}
 use Rattle.connection_turns.specs.Planning.{can_go_by}
 use Rattle.open_connections.specs.Opened.{bytes_of}
-use Rattle.open_connections.specs.Shares.{limits_in}
 use Rattle.open_connections.proofs.Steps.{written}
 use Rattle.open_connections.proofs.Turns.{at_slot, drain_lanes, drained_by, lingers_by, served_by, turn_lanes, turned_by}
 use Rattle.open_connections.proofs.Keeping.{one_changes}
@@ -10,27 +9,27 @@ use Rattle.open_connections.proofs.open.Open.work.Goals as goal
 
 pub returns-in-Lingering-clause-lanes : goal.returns-in-Lingering-clause-lanes
 returns-in-Lingering-clause-lanes g c =
-    inr (inl (drain_lanes g.C.LoopCore.steps g.S.Wire.told (limits_in c.args.self.now.budgets) _ (bytes_of c.args.self.now) _ c.args.self.now.core _ c.args.self.now.connections _ c.args.key c.in-Some-get_mut.connection.now c.drain.new.self (sym c.in-Some-get_mut.ensures.value)
-    (written c.args.self.now.connections c.args.key c.in-Some-get_mut.connection.now c.drain.new.self (sym c.in-Some-get_mut.ensures.value)) refl refl refl c.in-Lingering.is c.drain.ensures.line c.drain.ensures.wire))
+    inr (inl (drain_lanes g.C.LoopCore.steps g.S.Wire.told c.args.self.now.budgets _ (bytes_of c.args.self.now) _ c.args.self.now.core _ c.args.self.now.connections _ c.args.key c.in-Some-get_mut.connection.now c.drain.new.self (sym c.in-Some-get_mut.ensures.value)
+    (written c.args.self.now.connections c.args.key c.in-Some-get_mut.connection.now c.drain.new.self (sym c.in-Some-get_mut.ensures.value)) refl c.drain.ensures.claim refl refl c.in-Lingering.is c.drain.ensures.line c.drain.ensures.wire))
 
 pub returns-in-Lingering-clause-given : goal.returns-in-Lingering-clause-given
 returns-in-Lingering-clause-given g c =
     at_slot _ _ c.in-Some-get_mut.connection.now (sym c.in-Some-get_mut.ensures.value) (λ k. lingers_by g.C.LoopCore.steps g.S.Wire.told c.args.plan c.args.key c.in-Some-get_mut.connection.now _ c.args.self.now _ c.in-Lingering.is
     (drained_by g.C.LoopCore.steps g.S.Wire.told c.args.key _ c.args.self.now _ c.in-Some-get_mut.connection.now c.drain.new.self (sym c.in-Some-get_mut.ensures.value)
-    (written c.args.self.now.connections c.args.key c.in-Some-get_mut.connection.now c.drain.new.self (sym c.in-Some-get_mut.ensures.value)) refl refl refl c.in-Lingering.is c.drain.ensures.phase c.drain.ensures.line c.drain.ensures.wire (c.drain.ensures.goes_on (search arith))))
+    (written c.args.self.now.connections c.args.key c.in-Some-get_mut.connection.now c.drain.new.self (sym c.in-Some-get_mut.ensures.value)) refl c.drain.ensures.claim refl refl c.in-Lingering.is c.drain.ensures.phase c.drain.ensures.line c.drain.ensures.wire (c.drain.ensures.goes_on (search arith))))
 
 pub returns-in-Served-clause-lanes : goal.returns-in-Served-clause-lanes
 returns-in-Served-clause-lanes g c =
-    inl (turn_lanes g.C.LoopCore.steps g.S.Wire.told (can_go_by c.args.plan c.in-Some-get_mut.connection.now.ready c.in-Some-get_mut.connection.now.outbox) (limits_in c.args.self.now.budgets) _ (bytes_of c.args.self.now) _ c.args.self.now.core c.turn-read.new.core c.args.self.now.connections _ c.args.key c.in-Some.conn c.in-Some-get_mut.connection.now c.turn-read.new.self _ _
+    inl (turn_lanes g.C.LoopCore.steps g.S.Wire.told (can_go_by c.args.plan c.in-Some-get_mut.connection.now.ready c.in-Some-get_mut.connection.now.outbox) c.args.self.now.budgets _ (bytes_of c.args.self.now) _ c.args.self.now.core c.turn-read.new.core c.args.self.now.connections _ c.args.key c.in-Some.conn c.in-Some-get_mut.connection.now c.turn-read.new.self _ _
     (λ old piece new t. t) (λ old reply new a. a) c.in-Some.ensures.same (sym c.in-Some-get_mut.ensures.value)
-    (written c.args.self.now.connections c.args.key c.in-Some-get_mut.connection.now c.turn-read.new.self (sym c.in-Some-get_mut.ensures.value)) refl c.in-Served.is c.turn-read.ensures.phase c.turn-read.ensures.turn
+    (written c.args.self.now.connections c.args.key c.in-Some-get_mut.connection.now c.turn-read.new.self (sym c.in-Some-get_mut.ensures.value)) refl c.turn-read.ensures.claim c.in-Served.is c.turn-read.ensures.phase c.turn-read.ensures.turn
     (record { read = c.turn-read.result.0; written = c.turn-read.result.1; moved = c.turn-read.ensures.moved; read_is = c.added-self.ensures.all; written_is = c.added-self-in-Served.ensures.all }))
 
 pub returns-in-Served-clause-given : goal.returns-in-Served-clause-given
 returns-in-Served-clause-given g c =
     at_slot _ _ c.in-Some-get_mut.connection.now (sym c.in-Some-get_mut.ensures.value) (λ k. served_by g.C.LoopCore.steps g.S.Wire.told c.args.plan c.args.key c.in-Some-get_mut.connection.now _ c.args.self.now _ c.in-Served.is
     (turned_by g.C.LoopCore.steps g.S.Wire.told c.args.plan c.args.key c.in-Some.conn _ c.args.self.now _ c.in-Some-get_mut.connection.now c.turn-read.new.self _ _ (λ old piece new t. t) (λ old reply new a. a) c.in-Some.ensures.same (sym c.in-Some-get_mut.ensures.value)
-    (written c.args.self.now.connections c.args.key c.in-Some-get_mut.connection.now c.turn-read.new.self (sym c.in-Some-get_mut.ensures.value)) refl c.in-Served.is c.turn-read.ensures.phase c.turn-read.ensures.turn
+    (written c.args.self.now.connections c.args.key c.in-Some-get_mut.connection.now c.turn-read.new.self (sym c.in-Some-get_mut.ensures.value)) refl c.turn-read.ensures.claim c.in-Served.is c.turn-read.ensures.phase c.turn-read.ensures.turn
     (record { read = c.turn-read.result.0; written = c.turn-read.result.1; moved = c.turn-read.ensures.moved; read_is = c.added-self.ensures.all; written_is = c.added-self-in-Served.ensures.all }) c.outcome.ensures.over))
 
 pub returns-in-Lingering-clause-others : goal.returns-in-Lingering-clause-others

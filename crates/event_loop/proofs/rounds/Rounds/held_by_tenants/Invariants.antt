@@ -1,6 +1,6 @@
 use Rattle.std.specs.Prelude.{◌≡◌, length}
 use Rattle.event_loop.specs.Gauging.{TellsOf, usage_in}
-use Rattle.event_loop.proofs.rounds.Rounds.held.Given as goal
+use Rattle.event_loop.proofs.rounds.Rounds.held_by_tenants.Given as goal
 
 -- those of the places so far are told
 abbrev pub invariant-places : goal.invariant-places

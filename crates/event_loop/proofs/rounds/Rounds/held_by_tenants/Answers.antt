@@ -2,7 +2,7 @@ use Rattle.std.proofs.Common.{arith, ap, ◌∙◌}
 use Rattle.std.proofs.lemmas.List.{length-set}
 use Rattle.event_loop.specs.Gauging.{figure_of, usage_in}
 use Rattle.event_loop.proofs.Gauging.{one_told}
-use Rattle.event_loop.proofs.rounds.Rounds.held.Goals as goal
+use Rattle.event_loop.proofs.rounds.Rounds.held_by_tenants.Goals as goal
 
 pub places-preserved : goal.places-preserved
 places-preserved g c = record {

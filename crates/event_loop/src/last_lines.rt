@@ -7,7 +7,7 @@ const MINUTE: u64 = 60;
 
 /// The seconds in which the counts and each limit were last told of.
 #[derive(Clone, Copy)]
-pub(crate) struct Told {
+pub(crate) struct LastLines {
     counts: u64,
     connections: Option<u64>,
     descriptors: Option<u64>,
@@ -22,10 +22,10 @@ pub(crate) struct Holding {
     pub memory: bool,
 }
 
-impl Told {
+impl LastLines {
     /// Nothing was told.
-    pub fn new() -> Told {
-        Told {
+    pub fn new() -> LastLines {
+        LastLines {
             counts: 0,
             connections: None,
             descriptors: None,
@@ -35,7 +35,7 @@ impl Told {
 
     /// Tells that a second passed, the counts where a minute did, and each limit that holds somebody back and was not told of within the last
     /// minute.
-    pub fn tell<J: Journal>(
+    pub fn tell_lines<J: Journal>(
         &mut self,
         now: u64,
         holding: &Holding,
@@ -48,13 +48,13 @@ impl Told {
             journal.counted(totals);
         }
         if holding.connections && is_new(&mut self.connections, now) {
-            journal.held(Held::Connections, totals);
+            journal.tell_held(Held::Connections, totals);
         }
         if holding.descriptors && is_new(&mut self.descriptors, now) {
-            journal.held(Held::Descriptors, totals);
+            journal.tell_held(Held::Descriptors, totals);
         }
         if holding.memory && is_new(&mut self.memory, now) {
-            journal.held(Held::Memory, totals);
+            journal.tell_held(Held::Memory, totals);
         }
     }
 }

@@ -1,7 +1,7 @@
 use Rattle.open_connections.specs.Looping.{Stays}
 use Rattle.open_connections.specs.Opened.{lanes_of}
 use Rattle.open_connections.specs.Woken.{StaysWoken}
-use Rattle.event_loop.proofs.rounds.Rounds.note.Given as goal
+use Rattle.event_loop.proofs.rounds.Rounds.note_reports.Given as goal
 
 -- what was done so far, and that nobody is forgotten
 abbrev pub invariant-reports : goal.invariant-reports
